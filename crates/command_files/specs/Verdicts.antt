@@ -2,11 +2,13 @@
 use Rattle.std.specs.Prelude.{◌≡◌, ℕ, Bool, true, false, List, ◌++◌, codes, Option, Some, None}
 use Rattle.std.specs.Fmt.{decimal}
 use Rattle.command_line.specs.declared.fault.DatabaseFault.{DatabaseFault}
-use Rattle.command_line.specs.declared.fault.DatabaseFault.TheVariants.{Missing, Empty, NotADatabase, Foreign, AutoVacuum, Damaged, Unsummed}
+use Rattle.command_line.specs.declared.fault.DatabaseFault.TheVariants.{Missing, Empty, NotADatabase, Foreign}
+use Rattle.command_line.specs.declared.fault.DatabaseFault.TheVariants.{AutoVacuum, Damaged, Unsummed}
 use Rattle.command_files.specs.declared.verdict.Verdict.{Verdict}
 use Rattle.command_files.specs.declared.verdict.Verdict.TheVariants as verdict
 
--- what a file is that was not opened for this cause, if that says so: pages that are wrong are damage before the first row
+-- what a file is that was not opened for this cause, if that says so: pages that are wrong are damage before the first
+-- row
 abbrev pub verdict_of : DatabaseFault → Option Verdict
 verdict_of Missing = Some verdict.NotOurs
 verdict_of Empty = Some verdict.NotOurs

@@ -9,7 +9,9 @@ module _ {R : Type 0} (left : R → Option (List ℕ)) (failures : R → ℕ) wh
   reads_none reader = refl
 
   -- one more
-  pub reads_more : (count count' : ℕ) (before between after : R) → count' ≡ count + 1 → ReadsGive left failures count before between → GivesBytes left failures between after → ReadsGive left failures count' before after
+  pub reads_more : (count count' : ℕ) (before between after : R) → count' ≡ count + 1
+      → ReadsGive left failures count before between → GivesBytes left failures between after
+      → ReadsGive left failures count' before after
   unfolding ReadsGive
   reads_more count count' before between after next reads gives =
       let next' : suc count ≡ count' = omega (arith, next) in

@@ -1,5 +1,5 @@
--- What reading up to a length does, and why it fails. Own rules, over those of a reader. First comes what contracts see of it: the bytes
--- that it has left, and how many of its reads have failed.
+-- What reading up to a length does, and why it fails. Own rules, over those of a reader. First comes what contracts see
+-- of it: the bytes that it has left, and how many of its reads have failed.
 use Rattle.std.specs.Prelude.{◌≡◌, ℕ, zero, suc, ◌+◌, ◌<◌, ◌≤◌, List, length, Option}
 use Rattle.std.specs.Io.KnownBytes.{Consumes, IsAtEnd}
 use Rattle.http_messages.specs.Reads.{max_reads}
@@ -22,7 +22,8 @@ ReadsGive {R} left failures (suc count) before after =
     (between : R) × ReadsGive left failures count before between × GivesBytes left failures between after
 
 -- all reads were made, and what they gave is less than what is wanted
-pub record IsReadTooOften {R : Type 0} (left : R → Option (List ℕ)) (failures : R → ℕ) (wanted : ℕ) (before after : R) : Type 0 where
+pub record IsReadTooOften {R : Type 0} (left : R → Option (List ℕ)) (failures : R
+    → ℕ) (wanted : ℕ) (before after : R) : Type 0 where
   pub reads : ReadsGive left failures max_reads before after
   pub fine : failures after ≡ failures before
   pub bytes : List ℕ

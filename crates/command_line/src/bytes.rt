@@ -1,6 +1,7 @@
 //! Reading an input of bytes whole, up to a length.
 
-ghost use Rattle.std.specs.Prelude.{◌≡◌, ◌++◌, ◌+◌, ◌-◌, ◌^◌, ◌<◌, ◌≤◌, drop, slice_range, vec_len, None, IfSome, IfOk, IfErr, OnOk, Ok};
+ghost use Rattle.std.specs.Prelude.{◌≡◌, ◌++◌, ◌+◌, ◌-◌, ◌^◌, ◌<◌, ◌≤◌, drop, slice_range, vec_len, None, IfSome, IfOk};
+ghost use Rattle.std.specs.Prelude.{IfErr, OnOk, Ok};
 ghost use Rattle.std.specs.Io.KnownBytes.{Consumes, IsAtEnd};
 ghost use Rattle.http_wire.specs.Device.{HasFailed};
 ghost use Rattle.http_messages.specs.Reads.{max_reads};

@@ -66,8 +66,8 @@ impl DatabaseFault {
     ghost use Rattle.std.specs.Prelude.{◌≡◌};
     ghost use Rattle.command_line.specs.Status.{database_status};
 
-    /// The status that a program ends with: 1 for a file that is not there or is no sound database of the program's, and
-    /// else 3.
+    /// The status that a program ends with: 1 for a file that is not there or is no sound database of the program's,
+    /// and else 3.
     pub fn status(self) -> u8
         ensures { result ≡ database_status self }
     {

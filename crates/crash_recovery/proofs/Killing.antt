@@ -21,28 +21,52 @@ use Rattle.crash_recovery.specs.Left.{IsHonest}
 use Rattle.crash_recovery.specs.Registers.{HoldRegisterWithLog, OpensAsRegister}
 
 module _ {D : Type 0} (g : Ghosts D) where
-  pub begins : IsHonest g → (conn : Held (FileStore D g)) (limit early : ℕ) (requests : List Request) (intake : Intake (FileStore D g)) (totals : Totals) → OpensAsRegister conn early requests → firsts requests ≡ requests
-      → FindsIntake over_files conn limit intake totals → HoldsAs over_files limit early requests intake × AreTotals requests totals
-  begins honest conn limit early requests intake totals opens once begun = begun (always_clean honest intake.store.conn) early requests once opens.rows
+  pub begins : IsHonest g → (conn : Held (FileStore D g)) (limit old_style : ℕ) (requests : List Request)
+      (intake : Intake (FileStore D g)) (totals : Totals) → OpensAsRegister conn old_style requests
+      → firsts requests ≡ requests
+      → FindsIntake over_files conn limit intake totals
+      → HoldsAs over_files limit old_style requests intake × AreTotals requests totals
+  begins honest conn limit old_style requests intake totals opens once begun =
+      begun (always_clean honest intake.store.conn) old_style requests once opens.rows
 
-  module _ (limit : ℕ) (old : Situation) (delivery : Delivery) (on : ComesOn limit old delivery) (after : List Request) where
+  module _ (limit : ℕ) (old : Situation) (delivery : Delivery) (on : ComesOn limit old delivery)
+      (after : List Request) where
     kept_now : List ℕ → Situation
-    kept_now written = record old { requests = after; answers = old.answers ++ record { item = delivery.item; bytes = written } ∷ [] }
+    kept_now written =
+        record old { requests = after; answers = old.answers ++ record { item = delivery.item; bytes = written } ∷ [] }
 
-    pub cut : (marks : List Mark) (written : List ℕ) (files : Files D) → IsCutShort (keeping on.keys [] old.requests after) (read_on on) marks written → HoldRegisterWithLog g files 0 after
+    pub cut : (marks : List Mark) (written : List ℕ) (files : Files D)
+        → IsCutShort (keeping on.keys [] old.requests after) (read_on on) marks written
+        → HoldRegisterWithLog g files 0 after
         → HappenedIn g files limit old (Serving delivery (cut_off (read_on on) marks written))
     unfolding kept_now
     cut marks written files is held = record {
       new = kept_now written;
-      makes = record { came = record { from = on.from; here = on.here; read = refl }; keys = on.keys; few = on.few; serves = is; becomes = refl };
+      makes = record {
+        came = record { from = on.from; here = on.here; read = refl };
+        keys = on.keys;
+        few =
+            on.few;
+        serves = is;
+        becomes = refl;
+      };
       held = held;
     }
 
-    pub killed : (crash : Crash) (marks : List Mark) (written : List ℕ) (files : Files D) → StopsIn g files 0 (keeping on.keys [] old.requests after) (read_on on) crash marks written
+    pub killed : (crash : Crash) (marks : List Mark) (written : List ℕ) (files : Files D)
+        → StopsIn g files 0 (keeping on.keys [] old.requests after) (read_on on) crash marks written
         → HappenedIn g files limit old (Killing delivery crash marks written)
     unfolding kept_now
     killed crash marks written files stops = record {
       new = kept_now written;
-      makes = record { from = on.from; here = on.here; keys = on.keys; within = on.few; stopped = stops.stopped; becomes = refl };
+      makes = record {
+        from = on.from;
+        here = on.here;
+        keys = on.keys;
+        within = on.few;
+        stopped =
+            stops.stopped;
+        becomes = refl;
+      };
       held = stops.held;
     }

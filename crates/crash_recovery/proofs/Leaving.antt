@@ -31,10 +31,13 @@ use Rattle.database_places.specs.Closing.{IsNotClosed}
 use Rattle.crash_recovery.specs.Left.{IsHonest, AreLeftByKill, AreLeftByStop, AreLeftBy, IsNumbered, IsLastOf, EndsIn}
 
 -- the pages that an image recovers to are known, since there is one such map at most
-pages_of : {X : PageMap → Type 0} (size : ℕ) (left : Image) → ∥ ((pages : PageMap) × Recovers size left pages × X pages) ∥₁
+pages_of : {X : PageMap → Type 0} (size : ℕ) (left : Image)
+    → ∥ ((pages : PageMap) × Recovers size left pages × X pages) ∥₁
     → (pages : PageMap) × ∥ Recovers size left pages ∥₁
 pages_of size left found =
-    ∥∥₁_elim found (λ a b. Σ_prop_path (λ pages. squash₁) (pages_from a.0 b.0 a.1 (λ x. pages_from a.0 b.0 b.1 (λ y. recovers_once size left a.0 b.0 x y)))) (λ it. (it.0, ∣ it.1 ∣₁))
+    ∥∥₁_elim found (λ a b. Σ_prop_path (λ pages. squash₁)
+    (pages_from a.0 b.0 a.1 (λ x. pages_from a.0 b.0 b.1 (λ y. recovers_once size left a.0 b.0 x y))))
+    (λ it. (it.0, ∣ it.1 ∣₁))
 
 module _ {D : Type 0} {g : Ghosts D} where
   pub store_is_clean : IsHonest g → (it : FileStore D g) → IsClean (view it)
@@ -52,9 +55,11 @@ module _ {D : Type 0} {g : Ghosts D} where
         let schema = sound db allowed in (
           db,
           allowed,
-          ∥∥₁_elim it.safe squash₁ (λ all. let ours = all left may in ∥∥₁_elim found.1 squash₁ (λ recovered. ∥∥₁_elim (size_is_allowed it.pool) squash₁ (λ size.
+          ∥∥₁_elim it.safe squash₁ (λ all. let ours = all left may in
+              ∥∥₁_elim found.1 squash₁ (λ recovered. ∥∥₁_elim (size_is_allowed it.pool) squash₁ (λ size.
               let same : ours.0 ≡ found.0 = recovers_once (state it).page_size left ours.0 found.0 ours.1 recovered in
-              ∥∥₁_map (subst (λ pages. ∥ IsOurs (state it).page_size it.is_numbered (schema_in it pages) pages ∥₁) same ours.2) (λ is. let r : HoldsDatabase left db = (
+              ∥∥₁_map (subst (λ pages. ∥ IsOurs (state it).page_size it.is_numbered (schema_in it pages) pages ∥₁) same
+              ours.2) (λ is. let r : HoldsDatabase left db = (
                 (state it).page_size,
                 size,
                 record {
@@ -79,36 +84,49 @@ module _ {D : Type 0} {g : Ghosts D} where
 
     module _ (honest : IsHonest g) (stays : SeenMayStay g) (files : Files D) where
       stopped_may_be_left : AreLeftByStop it files → (state it).may_leave (image_of g files)
-      stopped_may_be_left left = may_leave_is it.pool (image_of g files) (are_clean g honest (store.files it).0 (store.files it).1) (left.log, left.db)
+      stopped_may_be_left left =
+          may_leave_is it.pool (image_of g files) (are_clean g honest (store.files it).0 (store.files it).1) (
+            left.log,
+            left.db,
+          )
 
       may_be_left : AreLeftBy it files → (state it).may_leave (image_of g files)
       may_be_left (inl killed) = stopped_may_be_left (killed_as_stopped stays files killed)
       may_be_left (inr stopped) = stopped_may_be_left stopped
 
       -- The files hold one of the databases that the store allows, and of it holds what is known of each of these.
-      holds_one : IsNumbered it → AreLeftBy it files → {X : Trees → Type 0} → ((db : Trees) → recovers it db → X db) → ((db : Trees) → X db → (schema : Schema) × IsSound schema db)
+      holds_one : IsNumbered it → AreLeftBy it files → {X : Trees → Type 0} → ((db : Trees) → recovers it db → X db)
+          → ((db : Trees) → X db → (schema : Schema) × IsSound schema db)
           → (db : Trees) × X db × ∥ HoldsDatabase (image_of g files) db ∥₁
       holds_one numbered left each sound =
-          let found = leaves_one numbered (λ db allowed. sound db (each db allowed)) (image_of g files) (may_be_left left) in (found.0, each found.0 found.1, found.2)
+          let found =
+          leaves_one numbered (λ db allowed. sound db (each db allowed)) (image_of g files) (may_be_left left) in
+          (found.0, each found.0 found.1, found.2)
 
   -- a close that failed leaves what a kill of the process after it leaves
-  pub closed_as_killed : (conn : Held (FileStore D g)) (files : Files D) (error : Error) (failed : IsNotClosed conn files error) → AreLeftByKill failed.last files
+  pub closed_as_killed : (conn : Held (FileStore D g)) (files : Files D) (error : Error)
+      (failed : IsNotClosed conn files error) → AreLeftByKill failed.last files
   closed_as_killed conn files error failed = record {
     log = ap (λ (p : D × D). g.seen p.0) (sym failed.same);
     db = ap (λ (p : D × D). g.seen p.1) (sym failed.same);
   }
 
   module _ (honest : IsHonest g) (stays : SeenMayStay g) (conn : Held (FileStore D g)) where
-    last_recovers : (last : FileStore D g) → IsLastOf conn last → (db : Trees) → recovers last db → recovers conn.store db
+    last_recovers : (last : FileStore D g) → IsLastOf conn last → (db : Trees) → recovers last db
+        → recovers conn.store db
     last_recovers last (inl same) db allowed = subst (λ it. recovers it db) same allowed
     last_recovers last (inr closed) db allowed = closed.quiet.outcomes db allowed
 
     -- The files that a connection's process leaves hold one of the databases that a crash leaves of it.
-    pub ends_with_one : (files : Files D) → EndsIn conn files → {X : Trees → Type 0} → ((db : Trees) → recovers conn.store db → X db) → ((db : Trees) → X db → (schema : Schema) × IsSound schema db)
+    pub ends_with_one : (files : Files D) → EndsIn conn files → {X : Trees → Type 0}
+        → ((db : Trees) → recovers conn.store db → X db) → ((db : Trees) → X db → (schema : Schema) × IsSound schema db)
         → (db : Trees) × X db × ∥ HoldsDatabase (image_of g files) db ∥₁
     ends_with_one files ends each sound =
-        holds_one ends.last honest stays files ends.numbered ends.left (λ db allowed. each db (last_recovers ends.last ends.is_last db allowed)) sound
+        holds_one ends.last honest stays files ends.numbered ends.left
+        (λ db allowed. each db (last_recovers ends.last ends.is_last db allowed)) sound
 
     -- while the connection is open, what was committed is all that a crash leaves
-    pub leaves_now : IsTrue (file_state conn).is_open → (file_state conn).committed ≡ (file_state conn).now → (db : Trees) → recovers conn.store db → db ≡ (file_state conn).now.trees
-    leaves_now is_open committed db allowed = settled_at conn.store stays db is_open allowed ∙ ap (λ (d : Database). d.trees) committed
+    pub leaves_now : IsTrue (file_state conn).is_open → (file_state conn).committed ≡ (file_state conn).now
+        → (db : Trees) → recovers conn.store db → db ≡ (file_state conn).now.trees
+    leaves_now is_open committed db allowed =
+        settled_at conn.store stays db is_open allowed ∙ ap (λ (d : Database). d.trees) committed

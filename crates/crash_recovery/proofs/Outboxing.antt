@@ -16,9 +16,9 @@ use Rattle.filing_model.specs.Outbox.{Entry, moved}
 use Rattle.table_rows.specs.Standing.{HasCommitted, CommitsNothing}
 use Rattle.table_rows.proofs.CleanLemmas.{always_clean}
 use Rattle.database_places.specs.Opening.{IsFoundIn}
-use Rattle.outbox_opening.specs.declared.fault.OutboxFault.{OutboxFault}
-use Rattle.outbox_opening.specs.Entries.{Contents, entry_at}
-use Rattle.outbox_opening.specs.Rows.{IsOutboxOf, LeavesOutbox}
+use Rattle.outbox_tables.specs.declared.fault.OutboxFault.{OutboxFault}
+use Rattle.outbox_tables.specs.Entries.{Contents, entry_at}
+use Rattle.outbox_tables.specs.Rows.{IsOutboxOf, LeavesOutbox}
 use Rattle.outbox_core.specs.Entries.{with_state}
 use Rattle.outbox_core.specs.OutboxParts.{OutboxParts, HasEntries, LeavesMoved}
 use Rattle.outbox_core.specs.Files.{HoldOutbox}
@@ -32,8 +32,15 @@ sound_if : (it : Contents) (trees : Trees) → LeavesOutbox it trees → (schema
 sound_if it trees leaves = (leaves.db.schema, subst (IsSound leaves.db.schema) (sym leaves.is) leaves.outbox.sound)
 
 module _ {D : Type 0} (g : Ghosts D) where
-  hold : (files : Files D) (it : Contents) (trees : Trees) → LeavesOutbox it trees → ∥ HoldsDatabase (image_of g files) trees ∥₁ → HoldOutboxWithLog g files it
-  hold files it trees leaves held = record { db = leaves.db; outbox = leaves.outbox; held = subst (λ t. ∥ HoldsDatabase (image_of g files) t ∥₁) leaves.is held }
+  hold : (files : Files D) (it : Contents) (trees : Trees) → LeavesOutbox it trees
+      → ∥ HoldsDatabase (image_of g files) trees ∥₁ → HoldOutboxWithLog g files it
+  hold files it trees leaves held =
+      record {
+        db = leaves.db;
+        outbox = leaves.outbox;
+        held =
+            subst (λ t. ∥ HoldsDatabase (image_of g files) t ∥₁) leaves.is held;
+      }
 
   -- files that were closed hold it so, since the database file does alone
   pub closed : (files : Files D) (it : Contents) → HoldOutbox g files it → HoldOutboxWithLog g files it
@@ -41,16 +48,20 @@ module _ {D : Type 0} (g : Ghosts D) where
 
   module _ (honest : IsHonest g) where
     opened_outbox : (conn : Held (FileStore D g)) (it : Contents) → IsOutboxOf it (file_state conn).now
-        → (result : Result (OutboxParts (FileStore D g)) (OutboxFault × Held (FileStore D g))) → FindsOrGivesBack over_files conn result
+        → (result : Result (OutboxParts (FileStore D g)) (OutboxFault × Held (FileStore D g)))
+        → FindsOrGivesBack over_files conn result
         → IfOk result (λ outbox. (outbox.filer ≡ it.filer) × HasEntries over_files outbox it.entries)
     opened_outbox conn it rows (Ok outbox) opens = opens.outcome.same (always_clean honest outbox.conn) it rows
     opened_outbox conn it rows (Err refusal) opens = tt
 
     -- files that hold the outbox are found so
-    pub found : (files : Files D) (it : Contents) → HoldOutboxWithLog g files it → (conn : Held (FileStore D g)) → IsFoundIn files conn → OpensAsOutbox conn it
+    pub found : (files : Files D) (it : Contents) → HoldOutboxWithLog g files it → (conn : Held (FileStore D g))
+        → IsFoundIn files conn → OpensAsOutbox conn it
     found files it held conn is =
         let both = is (always_clean honest conn) in
-        let rows : IsOutboxOf it (file_state conn).now = subst (IsOutboxOf it) (sym (found_there files conn both.0 both.1 held.db held.outbox.sound held.held)) held.outbox in
+        let rows : IsOutboxOf it (file_state conn).now =
+        subst (IsOutboxOf it) (sym (found_there files conn both.0 both.1 held.db held.outbox.sound held.held))
+        held.outbox in
         record { rows = rows; outbox = opened_outbox conn it rows }
 
     module _ (stays : SeenMayStay g) where
@@ -61,7 +72,8 @@ module _ {D : Type 0} (g : Ghosts D) where
           let one = ends_with_one honest stays conn files ends each (sound_if it) in hold files it one.0 one.1 one.2
 
       -- while it is open and between calls, a crash leaves the outbox that is committed
-      pub rests : (conn : Held (FileStore D g)) (it : Contents) → HasCommitted (IsOutboxOf it) (file_state conn) → IsTrue (file_state conn).is_open
+      pub rests : (conn : Held (FileStore D g)) (it : Contents) → HasCommitted (IsOutboxOf it) (file_state conn)
+          → IsTrue (file_state conn).is_open
           → (db : Trees) → recovers conn.store db → LeavesOutbox it db
       rests conn it stands is_open db allowed = record {
         db = (file_state conn).now;
@@ -69,35 +81,58 @@ module _ {D : Type 0} (g : Ghosts D) where
         outbox = stands.now is_open;
       }
 
-      -- After a call that commits one of these changes at most, or inside it, the outbox of before, or that after one of them.
-      outlives_one : (old new : Held (FileStore D g)) (it : Contents) {I : Type 0} (after : I → Contents) {Commits : Trees → Type 0}
-          → HasCommitted (IsOutboxOf it) (file_state old) → IsTrue (file_state old).is_open → Survives (file_state old) (file_state new) Commits
+      -- After a call that commits one of these changes at most, or inside it, the outbox of before, or that after one
+      -- of them.
+      outlives_one : (old new : Held (FileStore D g)) (it : Contents) {I : Type 0} (after : I
+          → Contents) {Commits : Trees → Type 0}
+          → HasCommitted (IsOutboxOf it) (file_state old) → IsTrue (file_state old).is_open
+          → Survives (file_state old) (file_state new) Commits
           → ((db : Trees) → Commits db → (i : I) × LeavesOutbox (after i) db) → (files : Files D) → EndsIn new files
           → HoldOutboxWithLog g files it ⊎ ((i : I) × HoldOutboxWithLog g files (after i))
       outlives_one old new it {I} after stands is_open survives commits files ends =
           let each : (db : Trees) → recovers new.store db → LeavesOutbox it db ⊎ ((i : I) × LeavesOutbox (after i) db) =
-          λ db allowed. elim (survives.crash (always_clean honest new) db allowed) [ inl was ↦ inl (rests old it stands is_open db was) | inr done ↦ inr (commits db done) ] in
-          let one = ends_with_one honest stays new files ends each (λ db. elim [ inl was ↦ sound_if it db was | inr done ↦ sound_if (after done.0) db done.1 ]) in
-          elim one.1 [ inl was ↦ inl (hold files it one.0 was one.2) | inr done ↦ inr (done.0, hold files (after done.0) one.0 done.1 one.2) ]
+          λ db allowed. elim (survives.crash (always_clean honest new) db allowed)
+          [ inl was ↦ inl (rests old it stands is_open db was) | inr done ↦ inr (commits db done) ] in
+          let one =
+          ends_with_one honest stays new files ends each
+          (λ db. elim [ inl was ↦ sound_if it db was | inr done ↦ sound_if (after done.0) db done.1 ]) in
+          elim one.1 [
+            | inl was ↦ inl (hold files it one.0 was one.2)
+            | inr done ↦ inr (
+              done.0,
+              hold files (after done.0) one.0 done.1 one.2,
+            )
+          ]
 
       -- a call that commits nothing
-      pub outlives_reading : (old new : Held (FileStore D g)) (it : Contents) → HasCommitted (IsOutboxOf it) (file_state old) → IsTrue (file_state old).is_open
-          → CommitsNothing (file_state old) (file_state new) → (files : Files D) → EndsIn new files → HoldOutboxWithLog g files it
+      pub outlives_reading : (old new : Held (FileStore D g)) (it : Contents)
+          → HasCommitted (IsOutboxOf it) (file_state old) → IsTrue (file_state old).is_open
+          → CommitsNothing (file_state old) (file_state new) → (files : Files D) → EndsIn new files
+          → HoldOutboxWithLog g files it
       outlives_reading old new it stands is_open survives files ends =
-          leaves_outbox new files it ends (λ db allowed. elim (survives.crash (always_clean honest new) db allowed) [ inl was ↦ rests old it stands is_open db was | inr none ↦ absurd none ])
+          leaves_outbox new files it ends (λ db allowed. elim (survives.crash (always_clean honest new) db allowed)
+          [ inl was ↦ rests old it stands is_open db was | inr none ↦ absurd none ])
 
       -- a call that puts an entry in
       pub outlives_put : (old new : Held (FileStore D g)) (it after : Contents) {Commits : Trees → Type 0}
-          → HasCommitted (IsOutboxOf it) (file_state old) → IsTrue (file_state old).is_open → Survives (file_state old) (file_state new) Commits
-          → ((db : Trees) → Commits db → LeavesOutbox after db) → (files : Files D) → EndsIn new files → HoldEitherOutbox g files it after
+          → HasCommitted (IsOutboxOf it) (file_state old) → IsTrue (file_state old).is_open
+          → Survives (file_state old) (file_state new) Commits
+          → ((db : Trees) → Commits db → LeavesOutbox after db) → (files : Files D) → EndsIn new files
+          → HoldEitherOutbox g files it after
       outlives_put old new it after stands is_open survives commits files ends =
-          elim (outlives_one old new it {I = Unit {0}} (λ i. after) stands is_open survives (λ db done. (tt, commits db done)) files ends) [ inl was ↦ inl was | inr done ↦ inr done.1 ]
+          elim (outlives_one old new it {I = Unit {0}} (λ i. after) stands is_open survives
+          (λ db done. (tt, commits db done)) files ends) [ inl was ↦ inl was | inr done ↦ inr done.1 ]
 
       -- a call that moves one
-      pub outlives_move : (old new : Held (FileStore D g)) (it : Contents) (id : ℕ) (reply : ReplyParts) {Commits : Trees → Type 0}
-          → HasCommitted (IsOutboxOf it) (file_state old) → IsTrue (file_state old).is_open → Survives (file_state old) (file_state new) Commits
+      pub outlives_move : (old new : Held (FileStore D g)) (it : Contents) (id : ℕ) (reply : ReplyParts)
+          {Commits : Trees → Type 0}
+          → HasCommitted (IsOutboxOf it) (file_state old) → IsTrue (file_state old).is_open
+          → Survives (file_state old) (file_state new) Commits
           → ((db : Trees) → Commits db → LeavesMoved it id reply db) → (files : Files D) → EndsIn new files
           → HoldOutboxWithLog g files it ⊎ HoldMovedOutbox g files it id reply
       outlives_move old new it id reply stands is_open survives commits files ends =
-          elim (outlives_one old new it {I = (e : Entry) × (entry_at it.entries id ≡ Some e)} (λ i. with_state it id (moved i.0.state reply)) stands is_open survives
-          (λ db done. let m = commits db done in ((m.0, m.1), m.2)) files ends) [ inl was ↦ inl was | inr done ↦ inr (done.0.0, done.0.1, done.1) ]
+          elim (outlives_one old new it {I = (e : Entry)
+          × (entry_at it.entries id ≡ Some e)} (λ i. with_state it id (moved i.0.state reply)) stands is_open
+          survives
+          (λ db done. let m = commits db done in ((m.0, m.1), m.2)) files ends)
+          [ inl was ↦ inl was | inr done ↦ inr (done.0.0, done.0.1, done.1) ]

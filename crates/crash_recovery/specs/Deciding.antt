@@ -13,30 +13,34 @@ use Rattle.filing_model.specs.Text.{FileReport, route, completed, text_with}
 use Rattle.intake_core.specs.Held.{with_request}
 use Rattle.crash_recovery.specs.Registers.{HoldRegisterWithLog}
 
--- The arrivals before the last were decided and answered, and the last asks to file this request, of which nothing was marked. Its interim
--- response was written, if it asks for one.
-pub record IsDeciding (requests : Keeping) (bytes : List ℕ) (marks : List Mark) (out : List ℕ) (r : Request) : Type 0 where
+-- The arrivals before the last were decided and answered, and the last asks to file this request, of which nothing was
+-- marked. Its interim response was written, if it asks for one.
+pub record IsDeciding (requests : Keeping) (bytes : List ℕ) (marks : List Mark) (out : List ℕ) (r
+    : Request) : Type 0 where
   pub arrivals : List Arrival
   pub message : Message
   pub asks : route message ≡ FileReport r
   pub begins : BeginsArrivals bytes (arrivals ++ Read message ∷ []) Ending.Closed
   pub marked : AreMarked requests.limit requests.before arrivals marks
-  pub written : out ≡ text_with requests.early requests.before (arrivals ++ Read message ∷ []) Ending.Closed marks
+  pub written : out ≡ text_with requests.old_style requests.before (arrivals ++ Read message ∷ []) Ending.Closed marks
   pub kept : requests.after ≡ kept_by requests.before (completed arrivals marks)
 
 -- it is a repeat, or one more may be kept
 abbrev pub HasRoom : ℕ → List Request → Request → Type 0
 HasRoom limit requests r = (has_key requests r ≡ true) ⊎ (length requests < limit)
 
-module _ {D : Type 0} (g : Ghosts D) (files : Files D) (early : ℕ) where
-  -- What was read and written on a connection is what the model has that is stopped so, and the files hold what is kept then.
-  pub record StopsIn (requests : Keeping) (bytes : List ℕ) (crash : Crash) (marks : List Mark) (out : List ℕ) : Type 0 where
+module _ {D : Type 0} (g : Ghosts D) (files : Files D) (old_style : ℕ) where
+  -- What was read and written on a connection is what the model has that is stopped so, and the files hold what is kept
+  -- then.
+  pub record StopsIn (requests : Keeping) (bytes : List ℕ) (crash : Crash) (marks : List Mark) (out : List ℕ)
+      : Type 0 where
     pub stopped : IsStopped requests bytes crash marks out
-    pub held : HoldRegisterWithLog g files early requests.after
+    pub held : HoldRegisterWithLog g files old_style requests.after
 
-  -- It is stopped before the request is decided, which is the next one to be marked, or after that, where it is kept and nothing of its
-  -- reply was written.
+  -- It is stopped before the request is decided, which is the next one to be marked, or after that, where it is kept
+  -- and nothing of its reply was written.
   abbrev pub StopsAtRequest : Keeping → List ℕ → List Mark → List ℕ → Request → Type 0
   StopsAtRequest requests bytes marks out r =
       StopsIn requests bytes (Before (length marks + 1)) marks out
-      ⊎ StopsIn (record requests { after = with_request requests.after r }) bytes (After (length marks + 1)) (marks ++ Done ∷ []) out
+      ⊎ StopsIn (record requests { after = with_request requests.after r }) bytes (After (length marks + 1))
+      (marks ++ Done ∷ []) out

@@ -23,10 +23,12 @@ read_on {delivery = delivery} on = take delivery.given on.from.bytes
 
 -- a connection that was cut off is told as one for which memory ran out
 abbrev pub cut_off : List ℕ → List Mark → List ℕ → Connection
-cut_off read marks written = record { read = read; output = record { marks = marks; ended = Fault Memory; bytes = written } }
+cut_off read marks written =
+    record { read = read; output = record { marks = marks; ended = Fault Memory; bytes = written } }
 
 -- This happened, and the files hold the register of what is kept then.
-pub record HappenedIn {D : Type 0} (g : Ghosts D) (files : Files D) (limit : ℕ) (old : Situation) (happening : Happening) : Type 0 where
+pub record HappenedIn {D : Type 0} (g : Ghosts D) (files : Files D) (limit : ℕ) (old : Situation)
+    (happening : Happening) : Type 0 where
   pub new : Situation
   pub makes : Makes limit old happening new
   pub held : HoldRegisterWithLog g files 0 new.requests

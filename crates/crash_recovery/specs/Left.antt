@@ -18,13 +18,14 @@ abbrev pub IsHonest : {D : Type 0} → Ghosts D → Type 0
 IsHonest {D} g = (disk : D) → g.is_clean disk ≡ true
 
 module _ {D : Type 0} {g : Ghosts D} where
-  -- The process was killed: a read of each file returns what it returned before. Nothing was copied, cut or synced first.
+  -- The process was killed: a read of each file returns what it returned before. Nothing was copied, cut or synced
+  -- first.
   pub record AreLeftByKill (it : FileStore D g) (files : Files D) : Type 0 where
     pub log : g.seen files.log ≡ g.seen (store.files it).0
     pub db : g.seen files.db ≡ g.seen (store.files it).1
 
-  -- The machine stopped: each file has contents that the disk may have then, whatever the other has. What was written since the
-  -- file's last sync may be there in part, and the end of the log may be torn.
+  -- The machine stopped: each file has contents that the disk may have then, whatever the other has. What was written
+  -- since the file's last sync may be there in part, and the end of the log may be torn.
   pub record AreLeftByStop (it : FileStore D g) (files : Files D) : Type 0 where
     pub log : g.may_leave (store.files it).0 (g.seen files.log)
     pub db : g.may_leave (store.files it).1 (g.seen files.db)

@@ -8,9 +8,9 @@ use Rattle.sqlite.specs.Held.{Held}
 use Rattle.sqlite.specs.Files.{image_of, over_files, file_state, HoldsDatabase}
 use Rattle.http_messages.specs.Reply.{ReplyParts}
 use Rattle.filing_model.specs.Outbox.{Entry, moved}
-use Rattle.outbox_opening.specs.declared.fault.OutboxFault.{OutboxFault}
-use Rattle.outbox_opening.specs.Entries.{Contents, entry_at}
-use Rattle.outbox_opening.specs.Rows.{IsOutboxOf}
+use Rattle.outbox_tables.specs.declared.fault.OutboxFault.{OutboxFault}
+use Rattle.outbox_tables.specs.Entries.{Contents, entry_at}
+use Rattle.outbox_tables.specs.Rows.{IsOutboxOf}
 use Rattle.outbox_core.specs.Entries.{with_state}
 use Rattle.outbox_core.specs.OutboxParts.{OutboxParts, HasEntries}
 use Rattle.outbox_core.specs.HandedOut.{FindsOrGivesBack}
@@ -28,9 +28,11 @@ HoldEitherOutbox g files before after = HoldOutboxWithLog g files before ⊎ Hol
 -- the id names an entry, and it is the outbox after the move of that entry by the reply
 abbrev pub HoldMovedOutbox : {D : Type 0} → Ghosts D → Files D → Contents → ℕ → ReplyParts → Type 0
 HoldMovedOutbox g files before id reply =
-    (e : Entry) × (entry_at before.entries id ≡ Some e) × HoldOutboxWithLog g files (with_state before id (moved e.state reply))
+    (e : Entry) × (entry_at before.entries id ≡ Some e)
+    × HoldOutboxWithLog g files (with_state before id (moved e.state reply))
 
--- The connection is to the outbox of these contents, and an outbox that is opened over it has these entries and no others.
+-- The connection is to the outbox of these contents, and an outbox that is opened over it has these entries and no
+-- others.
 pub record OpensAsOutbox {D : Type 0} {g : Ghosts D} (conn : Held (FileStore D g)) (it : Contents) : Type 0 where
   pub rows : IsOutboxOf it (file_state conn).now
   pub outbox : (result : Result (OutboxParts (FileStore D g)) (OutboxFault × Held (FileStore D g)))

@@ -7,23 +7,29 @@ use Rattle.sqlite.specs.Effect.{Database}
 use Rattle.sqlite.specs.Held.{Held}
 use Rattle.sqlite.specs.Files.{image_of, over_files, file_state, HoldsDatabase}
 use Rattle.filing_model.specs.Request.{Request}
-use Rattle.register_opening.specs.declared.fault.OpenFault.{OpenFault}
-use Rattle.register_opening.specs.Registers.{IsRegisterOf}
+use Rattle.register_tables.specs.declared.fault.OpenFault.{OpenFault}
+use Rattle.register_tables.specs.Registers.{IsRegisterOf}
 use Rattle.register_store.specs.Store.{StoreParts, HasRequests}
 use Rattle.register_store.specs.Calls.{OpensOrGivesBack}
 
--- The log and the database file together hold the register of these requests: what was committed and is in the log alone counts.
-pub record HoldRegisterWithLog {D : Type 0} (g : Ghosts D) (files : Files D) (early : ℕ) (requests : List Request) : Type 0 where
+-- The log and the database file together hold the register of these requests: what was committed and is in the log
+-- alone counts.
+pub record HoldRegisterWithLog {D : Type 0} (g : Ghosts D) (files : Files D) (old_style : ℕ)
+    (requests : List Request) : Type 0 where
   pub db : Database
-  pub register : IsRegisterOf early requests db
+  pub register : IsRegisterOf old_style requests db
   pub held : ∥ HoldsDatabase (image_of g files) db.trees ∥₁
 
 -- that of these requests, or that of those
 abbrev pub HoldEitherRegister : {D : Type 0} → Ghosts D → Files D → ℕ → List Request → List Request → Type 0
-HoldEitherRegister g files early before after = HoldRegisterWithLog g files early before ⊎ HoldRegisterWithLog g files early after
+HoldEitherRegister g files old_style before after =
+    HoldRegisterWithLog g files old_style before ⊎ HoldRegisterWithLog g files old_style after
 
--- The connection is to the register of these requests, and a store or an intake that is opened over it has these and no others.
-pub record OpensAsRegister {D : Type 0} {g : Ghosts D} (conn : Held (FileStore D g)) (early : ℕ) (requests : List Request) : Type 0 where
-  pub rows : IsRegisterOf early requests (file_state conn).now
-  pub store : (result : Result (StoreParts (FileStore D g)) (OpenFault × Held (FileStore D g))) → OpensOrGivesBack over_files conn result
-      → IfOk result (λ store. (store.early ≡ early) × HasRequests over_files store requests)
+-- The connection is to the register of these requests, and a store or an intake that is opened over it has these and no
+-- others.
+pub record OpensAsRegister {D : Type 0} {g : Ghosts D} (conn : Held (FileStore D g)) (old_style : ℕ)
+    (requests : List Request) : Type 0 where
+  pub rows : IsRegisterOf old_style requests (file_state conn).now
+  pub store : (result : Result (StoreParts (FileStore D g)) (OpenFault × Held (FileStore D g)))
+      → OpensOrGivesBack over_files conn result
+      → IfOk result (λ store. (store.old_style ≡ old_style) × HasRequests over_files store requests)

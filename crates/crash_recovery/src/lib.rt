@@ -49,7 +49,7 @@ ghost use Rattle.filing_model.specs.Stopping.{Crash};
 ghost use Rattle.filing_model.specs.Views.{the_request};
 ghost use Rattle.table_rows.specs.declared.fault.StoreFault.{StoreFault};
 ghost use Rattle.table_rows.specs.Standing.{CommitsNothing, HasCommitted};
-ghost use Rattle.register_opening.specs.Registers.{IsRegisterOf};
+ghost use Rattle.register_tables.specs.Registers.{IsRegisterOf};
 ghost use Rattle.register_store.specs.declared.outcome.NewRow.{NewRow};
 ghost use Rattle.register_store.specs.declared.outcome.Outcome.{Outcome};
 ghost use Rattle.register_store.specs.Store.{StoreParts, HasRequests, ForNew};
@@ -58,11 +58,11 @@ ghost use Rattle.register_store.specs.Calls.{AddsRequest};
 ghost use Rattle.register_store.specs.Files.{HoldRegister};
 ghost use Rattle.intake_core.specs.declared.intake.Intake.{Intake};
 ghost use Rattle.intake_core.specs.declared.intake.Unavailable.{Unavailable};
-ghost use Rattle.intake_core.specs.Held.{store_of, early_of, HoldsRequests, with_request};
+ghost use Rattle.intake_core.specs.Held.{store_of, old_style_of, HoldsRequests, with_request};
 ghost use Rattle.intake_core.specs.Held as intake;
 ghost use Rattle.intake_core.specs.Calls.{DecidesRequest};
-ghost use Rattle.outbox_opening.specs.Entries.{Contents};
-ghost use Rattle.outbox_opening.specs.Rows.{IsOutboxOf};
+ghost use Rattle.outbox_tables.specs.Entries.{Contents};
+ghost use Rattle.outbox_tables.specs.Rows.{IsOutboxOf};
 ghost use Rattle.outbox_core.specs.declared.fault.PutFault.{PutFault};
 ghost use Rattle.outbox_core.specs.declared.fault.TakeFault.{TakeFault};
 ghost use Rattle.outbox_core.specs.Entries.{opened};
@@ -104,34 +104,35 @@ pub fn each_connection_is_numbered<D: Disk + Drop>(conn: Connection<FileStore<D>
 /// An opening of files that hold a register by their log and their database file together is to that register, and is
 /// not refused for what they hold. Files that were closed hold it so.
 pub fn a_register_with_its_log_is_found<D: Disk + Drop>()
-    ensures found { IsHonest D.Disk → (files : Files D) (early : ℕ) (requests : List Request)
-        → HoldRegisterWithLog D.Disk files early requests → (conn : Held (Stored D D.Disk)) → IsFoundIn files conn
-        → OpensAsRegister conn early requests }
-    ensures refused { (files : Files D) (early : ℕ) (requests : List Request)
-        → HoldRegisterWithLog D.Disk files early requests → (left : Leftover D D.Disk) (error : Error)
+    ensures found { IsHonest D.Disk → (files : Files D) (old_style : ℕ) (requests : List Request)
+        → HoldRegisterWithLog D.Disk files old_style requests → (conn : Held (Stored D D.Disk)) → IsFoundIn files conn
+        → OpensAsRegister conn old_style requests }
+    ensures refused { (files : Files D) (old_style : ℕ) (requests : List Request)
+        → HoldRegisterWithLog D.Disk files old_style requests → (left : Leftover D D.Disk) (error : Error)
         → FailsToOpenFiles files left error → FailsForCause files left error }
-    ensures closed { (files : Files D) (early : ℕ) (requests : List Request) → HoldRegister D.Disk files early requests
-        → HoldRegisterWithLog D.Disk files early requests }
+    ensures closed { (files : Files D) (old_style : ℕ) (requests : List Request)
+        → HoldRegister D.Disk files old_style requests
+        → HoldRegisterWithLog D.Disk files old_style requests }
 {}
 
 /// A register that is open, and between two calls, leaves its requests, and so does one that was just answered.
 pub fn a_register_outlives_its_process<D: Disk + Drop>()
     ensures rest { IsHonest D.Disk → (store : StoreParts (Stored D D.Disk)) (requests : List Request) (files : Files D)
         → IsTrue (register.shows over_files store).is_open → HasRequests over_files store requests
-        → EndsIn store.conn files → HoldRegisterWithLog D.Disk files store.early requests }
-    ensures durable { IsHonest D.Disk → (store : StoreParts (Stored D D.Disk)) (early : ℕ) (requests : List Request)
-        (files : Files D) → register.IsDurableAs over_files store early requests
-        → EndsIn store.conn files → HoldRegisterWithLog D.Disk files early requests }
+        → EndsIn store.conn files → HoldRegisterWithLog D.Disk files store.old_style requests }
+    ensures durable { IsHonest D.Disk → (store : StoreParts (Stored D D.Disk)) (old_style : ℕ) (requests : List Request)
+        (files : Files D) → register.IsDurableAs over_files store old_style requests
+        → EndsIn store.conn files → HoldRegisterWithLog D.Disk files old_style requests }
 {}
 
 /// A register that was open as a call began which commits nothing leaves its requests, as a process that ends while it
 /// is opened or read.
 pub fn a_register_outlives_a_reading<D: Disk + Drop>()
-    ensures { IsHonest D.Disk → (old new : Held (Stored D D.Disk)) (early : ℕ) (requests : List Request)
+    ensures { IsHonest D.Disk → (old new : Held (Stored D D.Disk)) (old_style : ℕ) (requests : List Request)
         (files : Files D) → IsTrue (file_state old).is_open
-        → HasCommitted (IsRegisterOf early requests) (file_state old)
+        → HasCommitted (IsRegisterOf old_style requests) (file_state old)
         → CommitsNothing (file_state old) (file_state new) → EndsIn new files
-        → HoldRegisterWithLog D.Disk files early requests }
+        → HoldRegisterWithLog D.Disk files old_style requests }
 {}
 
 /// A register that was open as `Store::add` began leaves its requests, or these and the one that was added.
@@ -141,7 +142,7 @@ pub fn a_register_outlives_an_addition<D: Disk + Drop>()
         → AddsRequest over_files row old new result → IsTrue (register.shows over_files old).is_open
         → HasRequests over_files old requests → EndsIn new.conn files
         → ForNew requests (the_request row.filer.now row.key.now row.target row.body.now) row.judged.now (λ r.
-        HoldEitherRegister D.Disk files old.early requests (requests ++ r ∷ [])) }
+        HoldEitherRegister D.Disk files old.old_style requests (requests ++ r ∷ [])) }
 {}
 
 /// A register that was open as `Intake::submit` began leaves the requests of before, or those with the one that was
@@ -151,25 +152,25 @@ pub fn a_register_outlives_a_decision<D: Disk + Drop>()
         (result : Result Answer Unavailable) (requests : List Request) (files : Files D)
         → DecidesRequest over_files r old new result → IsTrue (intake.shows over_files old).is_open
         → HoldsRequests over_files old requests → EndsIn (store_of new).conn files
-        → HoldEitherRegister D.Disk files (early_of old) requests (with_request requests r) }
+        → HoldEitherRegister D.Disk files (old_style_of old) requests (with_request requests r) }
 {}
 
 /// A register that ends as a request that came on a connection is decided, and for which there is room, holds what the
 /// model has that is stopped at this request, before it is decided or after it.
 pub fn a_decision_that_ends_is_a_stop<D: Disk + Drop>()
     ensures { (requests : Keeping) (bytes : List ℕ) (marks : List Mark) (out : List ℕ) (r : Request) (files : Files D)
-        (early : ℕ) → IsDeciding requests bytes marks out r → firsts requests.after ≡ requests.after
+        (old_style : ℕ) → IsDeciding requests bytes marks out r → firsts requests.after ≡ requests.after
         → HasRoom requests.limit requests.after r
-        → HoldEitherRegister D.Disk files early requests.after (with_request requests.after r)
-        → StopsAtRequest D.Disk files early requests bytes marks out r }
+        → HoldEitherRegister D.Disk files old_style requests.after (with_request requests.after r)
+        → StopsAtRequest D.Disk files old_style requests bytes marks out r }
 {}
 
 /// An intake that begins over a connection to a register holds its requests.
 pub fn an_intake_begins_with_them<D: Disk + Drop>()
-    ensures { IsHonest D.Disk → (conn : Held (Stored D D.Disk)) (limit early : ℕ) (requests : List Request)
-        (intake : Intake (Stored D D.Disk)) (totals : Totals) → OpensAsRegister conn early requests
+    ensures { IsHonest D.Disk → (conn : Held (Stored D D.Disk)) (limit old_style : ℕ) (requests : List Request)
+        (intake : Intake (Stored D D.Disk)) (totals : Totals) → OpensAsRegister conn old_style requests
         → firsts requests ≡ requests → FindsIntake over_files conn limit intake totals
-        → HoldsAs over_files limit early requests intake × AreTotals requests totals }
+        → HoldsAs over_files limit old_style requests intake × AreTotals requests totals }
 {}
 
 /// A run of `intake serve` that is killed as it decides a request is among what programs do, and leaves what is kept

@@ -14,12 +14,13 @@ use Rattle.sqlite.specs.Files.{file_state, IsClosed, FailsToClose}
 use Rattle.sqlite.specs.declared.error.Error.{Error}
 use Rattle.table_rows.specs.Files.{HoldsDatabase, AreUsable}
 
--- The files can be opened. Where the disk gave back what was written, the connection was open, and they hold what it had committed, the
--- database file alone as well.
+-- The files can be opened. Where the disk gave back what was written, the connection was open, and they hold what it
+-- had committed, the database file alone as well.
 pub record IsClosedIn {D : Type 0} (g : Ghosts D) (conn : Held (FileStore D g)) (files : Files D) : Type 0 where
   pub usable : AreUsable g files
   pub copied : AreClean g files.log files.db → IsCopied conn files
-  pub holds : AreClean g files.log files.db → (db : Database) → IsDatabase db → (file_state conn).committed ≡ db → HoldsDatabase g files db
+  pub holds : AreClean g files.log files.db → (db : Database) → IsDatabase db → (file_state conn).committed ≡ db
+      → HoldsDatabase g files db
 
 module _ {D : Type 0} {g : Ghosts D} where
   -- These are the files as the connection left them: a crash leaves no more than one before could.

@@ -4,7 +4,8 @@ use Rattle.sqlite.specs.declared.error.Error.{Error}
 use Rattle.sqlite.specs.declared.error.Error.TheVariants.{SqliteFailure}
 use Rattle.sqlite.specs.declared.error.ErrorCode.TheVariants as code
 use Rattle.command_line.specs.declared.fault.DatabaseFault.{DatabaseFault}
-use Rattle.command_line.specs.declared.fault.DatabaseFault.TheVariants.{Missing, Empty, NotADatabase, Damaged, Busy, Memory, Full, Disk}
+use Rattle.command_line.specs.declared.fault.DatabaseFault.TheVariants.{Missing, Empty, NotADatabase, Damaged, Busy}
+use Rattle.command_line.specs.declared.fault.DatabaseFault.TheVariants.{Memory, Full, Disk}
 
 abbrev pub database_fault : Error → DatabaseFault
 database_fault (SqliteFailure code.NotADatabase) = NotADatabase

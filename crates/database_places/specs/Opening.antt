@@ -6,7 +6,8 @@ use Rattle.sqlite_store.specs.declared.store.FileStore.{FileStore}
 use Rattle.sqlite.specs.Held.{Held}
 use Rattle.sqlite.specs.State.{HasCleanDisk}
 use Rattle.sqlite.specs.Closing.{files_left}
-use Rattle.sqlite.specs.Files.{file_state, image_of, Finds, IsOpened, IsNothing, FailsToOpenFiles, LeavesFiles, IsCleanLeft}
+use Rattle.sqlite.specs.Files.{file_state, image_of, Finds, IsOpened, IsNothing, FailsToOpenFiles, LeavesFiles}
+use Rattle.sqlite.specs.Files.{IsCleanLeft}
 use Rattle.sqlite.specs.declared.error.Error.{Error}
 use Rattle.sqlite.specs.declared.file.Leftover.{Leftover}
 use Rattle.command_line.specs.declared.fault.DatabaseFault.{DatabaseFault}
@@ -35,15 +36,16 @@ module _ {D : Type 0} {g : Ghosts D} where
   abbrev pub IsFoundIn : Files D → Held (FileStore D g) → Type 0
   IsFoundIn files conn = HasCleanDisk (file_state conn) → Finds files conn × IsOpened conn
 
-  -- The files that lay there are out, and the connection is to these; where there were none, it is to new ones, which hold nothing. Of an
-  -- unknown place is said that the connection is open.
+  -- The files that lay there are out, and the connection is to these; where there were none, it is to new ones, which
+  -- hold nothing. Of an unknown place is said that the connection is open.
   abbrev pub ComesFrom : Option (Option (Files D)) → Option (Option (Files D)) → Held (FileStore D g) → Type 0
   ComesFrom None new conn = HasCleanDisk (file_state conn) → IsOpened conn
-  ComesFrom (Some None) new conn = (new ≡ Some None) × (files : Files D) × IsNothing (image_of g files) × IsFoundIn files conn
+  ComesFrom (Some None) new conn =
+      (new ≡ Some None) × (files : Files D) × IsNothing (image_of g files) × IsFoundIn files conn
   ComesFrom (Some (Some files)) new conn = (new ≡ Some None) × IsFoundIn files conn
 
--- The database of these files was not opened, the fault says why, and what was left of them is these. Where the disk gave back what was
--- written, the database that they held, if they held one, is in them still.
+-- The database of these files was not opened, the fault says why, and what was left of them is these. Where the disk
+-- gave back what was written, the database that they held, if they held one, is in them still.
 pub record IsRefused {D : Type 0} (g : Ghosts D) (files there : Files D) (fault : DatabaseFault) : Type 0 where
   pub error : Error
   pub told : fault ≡ database_fault error
@@ -53,19 +55,23 @@ pub record IsRefused {D : Type 0} (g : Ghosts D) (files there : Files D) (fault 
   pub unharmed : IsCleanLeft left → LeavesFiles files left
 
 -- nothing was taken out, or what a refused opening left lies there again
-abbrev pub StaysIn : {D : Type 0} → Ghosts D → Option (Option (Files D)) → Option (Option (Files D)) → DatabaseFault → Type 0
+abbrev pub StaysIn : {D : Type 0} → Ghosts D → Option (Option (Files D)) → Option (Option (Files D)) → DatabaseFault
+    → Type 0
 StaysIn g None new fault = ⊤
 StaysIn {D} g (Some None) new fault =
-    (new ≡ Some None) ⊎ ((files : Files D) × (there : Files D) × IsNothing (image_of g files) × (new ≡ Some (Some there)) × IsRefused g files there fault)
+    (new ≡ Some None) ⊎ ((files : Files D) × (there : Files D) × IsNothing (image_of g files)
+    × (new ≡ Some (Some there)) × IsRefused g files there fault)
 StaysIn {D} g (Some (Some files)) new fault =
     (new ≡ Some (Some files)) ⊎ ((there : Files D) × (new ≡ Some (Some there)) × IsRefused g files there fault)
 
--- What opening the database of a place does, which has to be there or is made, by the files that lie there before and after.
-pub record OpensPlace {D : Type 0} (g : Ghosts D) (has_to_be_there : Bool) (old new : Option (Option (Files D))) (result : Result (Held (FileStore D g)) DatabaseFault) : Type 0 where
+-- What opening the database of a place does, which has to be there or is made, by the files that lie there before and
+-- after.
+pub record OpensPlace {D : Type 0} (g : Ghosts D) (has_to_be_there : Bool) (old new : Option (Option (Files D)))
+    (result : Result (Held (FileStore D g)) DatabaseFault) : Type 0 where
   pub comes : IfOk result (ComesFrom old new)
   pub refused : IfErr result (StaysIn g old new)
-  -- Missing comes if nothing lies there and it has to be there, and only then. So does Empty, for a file without bytes, but an opening
-  -- may find out otherwise that there are none.
+  -- Missing comes if nothing lies there and it has to be there, and only then. So does Empty, for a file without bytes,
+  -- but an opening may find out otherwise that there are none.
   pub absent : has_to_be_there ≡ true → old ≡ Some None → result ≡ Err Missing
   pub missing : result ≡ Err Missing → (has_to_be_there ≡ true) × LacksFiles old
   pub empty : result ≡ Err Empty → (has_to_be_there ≡ true) × LacksBytes g old

@@ -1,4 +1,5 @@
--- What is taken out of a place and put into it, by the files that lie there, if there are some, where that is known; own rules.
+-- What is taken out of a place and put into it, by the files that lie there, if there are some, where that is known;
+-- own rules.
 use Rattle.std.specs.Prelude.{◌≡◌, ◌↔◌, Bool, true, [], Option, Some, None, Result, IfOk, OnErr, ⊤}
 use Rattle.sqlite_disk.specs.declared.Disk.{Ghosts}
 use Rattle.sqlite_disk.specs.declared.Files.{Files}
@@ -15,10 +16,13 @@ TellsEmpty g (Some (Some files)) told = told ≡ true → g.seen files.db ≡ []
 TellsEmpty g _ told = ⊤
 
 -- The files are these, and are taken out; where there were none, they are new. A refusal takes nothing.
-abbrev pub Takes : {D E : Type 0} → Ghosts D → Option (Option (Files D)) → Option (Option (Files D)) → Result (Files D) E → Type 0
+abbrev pub Takes : {D E : Type 0} → Ghosts D → Option (Option (Files D)) → Option (Option (Files D))
+    → Result (Files D) E → Type 0
 Takes g None new result = ⊤
-Takes g (Some (Some there)) new result = IfOk result (λ files. (files ≡ there) × (new ≡ Some None)) × OnErr result (new ≡ Some (Some there))
-Takes g (Some None) new result = IfOk result (λ files. IsNothing (image_of g files) × (new ≡ Some None)) × OnErr result (new ≡ Some None)
+Takes g (Some (Some there)) new result =
+    IfOk result (λ files. (files ≡ there) × (new ≡ Some None)) × OnErr result (new ≡ Some (Some there))
+Takes g (Some None) new result =
+    IfOk result (λ files. IsNothing (image_of g files) × (new ≡ Some None)) × OnErr result (new ≡ Some None)
 
 -- these files lie there now
 abbrev pub Leaves : {D : Type 0} → Option (Option (Files D)) → Option (Option (Files D)) → Files D → Type 0

@@ -13,8 +13,8 @@ use Rattle.schedule.specs.Ending.{EndsBy}
 use Rattle.drill_commands.specs.declared.fault.Fault.{Fault}
 use Rattle.drill_commands.specs.declared.fault.Fault.TheVariants as fault
 
--- The reader of a script, of which contracts see the bytes that it has left and its failures, had more bytes than a script may have; or so many
--- and one more, by which that is seen, were not read.
+-- The reader of a script, of which contracts see the bytes that it has left and its failures, had more bytes than a
+-- script may have; or so many and one more, by which that is seen, were not read.
 abbrev pub IsNotRead : {R : Type 0} → (R → Option (List ℕ)) → (R → ℕ) → R → R → Fault → Type 0
 IsNotRead left failures before after (fault.Read why) = IsReadFailure left failures 8388609 before after why
 IsNotRead left failures before after fault.TooLong = IsLonger (left before) (left after) 8388608
@@ -30,7 +30,9 @@ IsNotRead left failures before after (fault.Key why) = ⊥
 abbrev pub IsNotPlayed : List ℕ → Fault → Type 0
 IsNotPlayed bytes fault.NotText = ¬ (IsUtf8 bytes)
 IsNotPlayed bytes (fault.Script why) = IsFaultOf (script_of bytes) why
-IsNotPlayed bytes (fault.World why) = (script : Script) × (script_of bytes ≡ Ok script) × EndsBy (start script.filers script.limit) (restarted script).events why
+IsNotPlayed bytes (fault.World why) =
+    (script : Script) × (script_of bytes ≡ Ok script)
+    × EndsBy (start script.filers script.limit) (restarted script).events why
 IsNotPlayed bytes (fault.Command why) = why ≡ Memory
 IsNotPlayed bytes (fault.Read why) = ⊥
 IsNotPlayed bytes fault.TooLong = ⊥

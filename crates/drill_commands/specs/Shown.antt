@@ -20,11 +20,13 @@ entry_shown (outbox, number, state) = entry_line outbox number state
 
 -- a line for each filing and for each entry, and one that counts the completed requests
 abbrev pub world_shown : World → List ℕ
-world_shown world = flat_map filing_shown (register world.done) ++ flat_map entry_shown (states world) ++ done_line (length world.done)
+world_shown world =
+    flat_map filing_shown (register world.done) ++ flat_map entry_shown (states world) ++ done_line (length world.done)
 
 -- ---- scripts
 
--- The lines of the world to which the events of the script lead that these bytes spell, with a restart of every end behind them.
+-- The lines of the world to which the events of the script lead that these bytes spell, with a restart of every end
+-- behind them.
 pub record IsShownOf (bytes text : List ℕ) : Type 0 where
   pub script : Script
   pub world : World

@@ -18,9 +18,12 @@ none_without false x = refl
 -- a word alone says no limit
 pub line_limit-alone : (line : List ℕ) → position_or_len is_space line ≡ length line → line_limit line ≡ None
 unfolding line_limit number_up_to
-line_limit-alone line none = rw (after_first-alone is_space line none) (none_of_both {A = ℕ} (bytes_eq (first_word line) (codes "limit")))
+line_limit-alone line none =
+    rw (after_first-alone is_space line none) (none_of_both {A = ℕ} (bytes_eq (first_word line) (codes "limit")))
 
 -- nor an outbox
 pub line_filer-alone : (line : List ℕ) → position_or_len is_space line ≡ length line → line_filer line ≡ None
 unfolding line_filer is_filer
-line_filer-alone line none = rw (after_first-alone is_space line none) (none_without {A = List ℕ} (bytes_eq (first_word line) (codes "outbox")) [])
+line_filer-alone line none =
+    rw (after_first-alone is_space line none) (none_without {A =
+    List ℕ} (bytes_eq (first_word line) (codes "outbox")) [])

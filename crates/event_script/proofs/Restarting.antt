@@ -11,7 +11,9 @@ use Rattle.event_script.specs.Scripts.{Script}
 restarts_targets : (outboxes : ℕ) → HaveTargets (restarts outboxes)
 restarts_targets outboxes =
     let numbers = range_with_len 1 outboxes in
-    All-cons HasTarget Event.RestartServer (map Event.RestartOutbox numbers) tt (All-map HasTarget Event.RestartOutbox numbers (λ k d low. tt))
+    All-cons HasTarget Event.RestartServer (map Event.RestartOutbox numbers) tt
+    (All-map HasTarget Event.RestartOutbox numbers (λ k d low. tt))
 
 pub restarted_targets : (script : Script) → HaveTargets script.events → HaveTargets (restarted script).events
-restarted_targets script have = All-append HasTarget script.events (restarts (length script.filers)) have (restarts_targets (length script.filers))
+restarted_targets script have =
+    All-append HasTarget script.events (restarts (length script.filers)) have (restarts_targets (length script.filers))

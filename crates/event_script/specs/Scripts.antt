@@ -1,5 +1,7 @@
--- Scripts: lines that each end in a line feed, the last one too. There may be a limit in the first; then one outbox or more; then events.
-use Rattle.std.specs.Prelude.{◌≡◌, ℕ, suc, ◌+◌, ⊤, List, [], ◌∷◌, length, map, drop, string_bytes, ◌==◌, Option, Some, None, Result, Ok, Err, if◌then◌else◌}
+-- Scripts: lines that each end in a line feed, the last one too. There may be a limit in the first; then one outbox or
+-- more; then events.
+use Rattle.std.specs.Prelude.{◌≡◌, ℕ, suc, ◌+◌, ⊤, List, [], ◌∷◌, length, map, drop, string_bytes, ◌==◌, Option, Some}
+use Rattle.std.specs.Prelude.{None, Result, Ok, Err, if◌then◌else◌}
 use Rattle.filing_world.specs.World.{Event}
 use Rattle.event_script.specs.declared.fault.ScriptFault.{ScriptFault}
 use Rattle.event_script.specs.declared.fault.ScriptFault.TheVariants.{Unreadable, Memory}

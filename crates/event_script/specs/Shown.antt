@@ -1,4 +1,5 @@
--- The lines that show what came of a script: one for each filing, one for each entry, and one that counts the completed requests.
+-- The lines that show what came of a script: one for each filing, one for each entry, and one that counts the completed
+-- requests.
 use Rattle.std.specs.Prelude.{ℕ, List, [], ◌++◌, codes, Option, Some, None}
 use Rattle.std.specs.Fmt.{decimal}
 use Rattle.key_string.specs.Key.{spelling}
@@ -12,7 +13,8 @@ replaces_words (Some number) = codes " replaces " ++ decimal number
 -- filing N FILER KEY, and which one it replaces
 abbrev pub filing_line : ℕ → List ℕ → List ℕ → Option ℕ → List ℕ
 filing_line number filer key replaces =
-    codes "filing " ++ decimal number ++ codes " " ++ filer ++ codes " " ++ spelling key ++ replaces_words replaces ++ codes "\n"
+    codes "filing " ++ decimal number ++ codes " " ++ filer ++ codes " " ++ spelling key ++ replaces_words replaces
+    ++ codes "\n"
 
 -- entry O ID STATE
 abbrev pub entry_line : ℕ → ℕ → State → List ℕ

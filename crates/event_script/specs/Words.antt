@@ -1,5 +1,6 @@
 -- The words of a line, and the numbers that words write.
-use Rattle.std.specs.Prelude.{ℕ, ◌-◌, ◌^◌, Bool, ◌&&◌, not, List, length, slice_index, codes, bytes_eq, nat_lt, nat_le, ◌==◌, Option, Some, None, if◌then◌else◌, option_and_then}
+use Rattle.std.specs.Prelude.{ℕ, ◌-◌, ◌^◌, Bool, ◌&&◌, not, List, length, slice_index, codes, bytes_eq, nat_lt, nat_le}
+use Rattle.std.specs.Prelude.{◌==◌, Option, Some, None, if◌then◌else◌, option_and_then}
 use Rattle.std.specs.Char.{is_ascii_digit}
 use Rattle.std.specs.List.{list_all, list_any, slice_split, before_first, after_first}
 use Rattle.std.specs.Str.Parse.{digits_value}
@@ -31,7 +32,8 @@ is_decimal word = nat_lt 0 (length word) && list_all is_ascii_digit word && not 
 
 -- the number that a word writes in decimal, up to the greatest that may stand there
 unfoldable pub number_up_to : ℕ → List ℕ → Option ℕ
-number_up_to greatest word = if is_decimal word && nat_le (digits_value 10 word) greatest then Some (digits_value 10 word) else None
+number_up_to greatest word =
+    if is_decimal word && nat_le (digits_value 10 word) greatest then Some (digits_value 10 word) else None
 
 -- the number of an outbox, an entry, an item, an output, or of bytes
 abbrev pub number : List ℕ → Option ℕ

@@ -2,7 +2,8 @@
 
 ghost use Rattle.std.specs.Prelude.{◌≡◌, map, option_map, option_copied, IfOk, IfSome};
 ghost use Rattle.event_script.specs.Events.{view_crash, view_event, HasTarget};
-ghost use Rattle.event_script.specs.Lines.{send_of, crash_at, delivery_stop, deliver_of, handing_stop, hand_of, restart_of, event_named, line_event, line_limit, line_filer};
+ghost use Rattle.event_script.specs.Lines.{send_of, crash_at, delivery_stop, deliver_of, handing_stop, hand_of};
+ghost use Rattle.event_script.specs.Lines.{restart_of, event_named, line_event, line_limit, line_filer};
 
 use crate::event::{Crash, Event};
 use crate::put::{read_amend, read_put};

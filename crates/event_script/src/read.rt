@@ -1,10 +1,12 @@
 //! How a text is read as a script.
 
-ghost use Rattle.std.specs.Prelude.{◌≡◌, ◌+◌, ◌^◌, ◌<◌, ◌≤◌, ◌∷◌, [], length, map, drop, string_bytes, IfOk, IfErr, IfSome, MatchOption};
+ghost use Rattle.std.specs.Prelude.{◌≡◌, ◌+◌, ◌^◌, ◌<◌, ◌≤◌, ◌∷◌, [], length, map, drop, string_bytes, IfOk, IfErr};
+ghost use Rattle.std.specs.Prelude.{IfSome, MatchOption};
 ghost use Rattle.filing_world.specs.Headline.{AreFilers};
 ghost use Rattle.event_script.specs.Events.{view_event, HaveTargets};
 ghost use Rattle.event_script.specs.Text.{lines_of};
-ghost use Rattle.event_script.specs.Scripts.{events_from, filers_of, limit_of, script_from, script_of, view_script, IsFaultOf};
+ghost use Rattle.event_script.specs.Scripts.{events_from, filers_of, limit_of, script_from, script_of, view_script};
+ghost use Rattle.event_script.specs.Scripts.{IsFaultOf};
 
 use crate::event::Event;
 use crate::fault::ScriptFault;

@@ -3,7 +3,8 @@
 ghost use Rattle.std.specs.Prelude.{◌≡◌, map, IfOk};
 ghost use Rattle.std.specs.Char.{is_ascii_digit};
 ghost use Rattle.std.specs.List.{list_all};
-ghost use Rattle.event_script.specs.Words.{words, has_leading_zero, is_decimal, number_up_to, number, filing_number, arrival_number, amount};
+ghost use Rattle.event_script.specs.Words.{words, has_leading_zero, is_decimal, number_up_to, number, filing_number};
+ghost use Rattle.event_script.specs.Words.{arrival_number, amount};
 
 use std::alloc::{AllocError, Global};
 

@@ -85,14 +85,17 @@ fields form head fact = record {
 -- fields with commas between them, and CR LF at the end
 unfoldable pub csv_record : Fields → List ℕ
 csv_record f =
-    f.number ++ codes "," ++ f.filer ++ codes "," ++ f.key ++ codes "," ++ f.concept ++ codes "," ++ f.period ++ codes "," ++ f.unit ++ codes "," ++ f.entity ++ codes "," ++ f.value
+    f.number ++ codes "," ++ f.filer ++ codes "," ++ f.key ++ codes "," ++ f.concept ++ codes "," ++ f.period
+    ++ codes "," ++ f.unit ++ codes "," ++ f.entity ++ codes "," ++ f.value
     ++ codes "," ++ f.decimals ++ codes "," ++ f.replaced_by ++ codes "\r\n"
 
 -- an object with members of these names, in this order, and LF at the end
 unfoldable pub json_line : Fields → List ℕ
 json_line f =
-    codes "{\"number\":" ++ f.number ++ codes ",\"filer\":" ++ f.filer ++ codes ",\"key\":" ++ f.key ++ codes ",\"concept\":" ++ f.concept
-    ++ codes ",\"period\":" ++ f.period ++ codes ",\"unit\":" ++ f.unit ++ codes ",\"entity\":" ++ f.entity ++ codes ",\"value\":" ++ f.value
+    codes "{\"number\":" ++ f.number ++ codes ",\"filer\":" ++ f.filer ++ codes ",\"key\":" ++ f.key
+    ++ codes ",\"concept\":" ++ f.concept
+    ++ codes ",\"period\":" ++ f.period ++ codes ",\"unit\":" ++ f.unit ++ codes ",\"entity\":" ++ f.entity
+    ++ codes ",\"value\":" ++ f.value
     ++ codes ",\"decimals\":" ++ f.decimals ++ codes ",\"replaced_by\":" ++ f.replaced_by ++ codes "}\n"
 
 abbrev pub record_of : Form → Fields → List ℕ

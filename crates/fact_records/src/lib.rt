@@ -1,5 +1,5 @@
-//! Facts as records of CSV and as lines of JSON. What may live here: what a record of a fact holds, and how it is written.
-//! Where the facts come from is not known here.
+//! Facts as records of CSV and as lines of JSON. What may live here: what a record of a fact holds, and how it is
+//! written. Where the facts come from is not known here.
 #![tactic(auto)]
 
 mod aspects;

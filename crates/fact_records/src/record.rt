@@ -1,7 +1,8 @@
 //! The record of a fact.
 
 ghost use Rattle.std.specs.Prelude.{◌≡◌, ◌++◌, IfOk, OnOk};
-ghost use Rattle.fact_records.specs.Fields.{csv_record, fields, first_line, json_line, record_text, view_fields, view_head};
+ghost use Rattle.fact_records.specs.Fields.{csv_record, fields, first_line, json_line, record_text, view_fields};
+ghost use Rattle.fact_records.specs.Fields.{view_head};
 
 use crate::aspects::read_aspects;
 use crate::field::{integer_or_absent, number, number_or_absent, text, text_or_absent};

@@ -14,8 +14,10 @@ use Rattle.filer_client.specs.declared.fault.ExchangeFault.TheVariants.{Take}
 use Rattle.filer_client.specs.Calls.{HandsOver}
 
 -- the entry moved
-pub hands_over-moved : {S R : Type 0} (g : Ghosts S) (r : Reads R) (old new : OutboxParts S) (id : ℕ) (reader reader' : R) (reply : ReplyParts) (to : State)
-    → HasGiven (r.left reader) (r.left reader') (λ bytes. GivesReply bytes reply) → r.read_failures reader' ≡ r.read_failures reader → MovesEntry g old new id reply (Ok to)
+pub hands_over-moved : {S R : Type 0} (g : Ghosts S) (r : Reads R) (old new : OutboxParts S) (id : ℕ)
+    (reader reader' : R) (reply : ReplyParts) (to : State)
+    → HasGiven (r.left reader) (r.left reader') (λ bytes. GivesReply bytes reply)
+    → r.read_failures reader' ≡ r.read_failures reader → MovesEntry g old new id reply (Ok to)
     → HandsOver g r old new id reader reader' (Ok to)
 hands_over-moved g r old new id reader reader' reply to heard fine it = record {
   moved = λ clean entries had. let moves = it.moved clean entries had in ((reply, heard, moves.0), moves.1);
@@ -26,13 +28,16 @@ hands_over-moved g r old new id reader reader' reply to heard fine it = record {
   stopped = λ failed. let stopped = it.stopped failed in (cc, stopped.1);
   stops = λ fails. (λ down. let stopped = it.stops.0 down in cc, λ refused. cc);
   filer = it.filer;
-  crash = survives_weaker (shows g old) (shows g new) _ _ (λ _ trees moves entries had alive. (reply, heard, moves entries had alive)) it.crash;
+  crash = survives_weaker (shows g old) (shows g new) _ _
+      (λ _ trees moves entries had alive. (reply, heard, moves entries had alive)) it.crash;
   durable = it.durable;
 }
 
 -- it did not move
-pub hands_over-refused : {S R : Type 0} (g : Ghosts S) (r : Reads R) (old new : OutboxParts S) (id : ℕ) (reader reader' : R) (reply : ReplyParts) (fault : TakeFault)
-    → HasGiven (r.left reader) (r.left reader') (λ bytes. GivesReply bytes reply) → r.read_failures reader' ≡ r.read_failures reader
+pub hands_over-refused : {S R : Type 0} (g : Ghosts S) (r : Reads R) (old new : OutboxParts S) (id : ℕ)
+    (reader reader' : R) (reply : ReplyParts) (fault : TakeFault)
+    → HasGiven (r.left reader) (r.left reader') (λ bytes. GivesReply bytes reply)
+    → r.read_failures reader' ≡ r.read_failures reader
     → MovesEntry g old new id reply (Err fault) → HandsOver g r old new id reader reader' (Err (Take fault))
 hands_over-refused g r old new id reader reader' reply fault heard fine it = record {
   moved = λ clean entries had. tt;
@@ -43,6 +48,7 @@ hands_over-refused g r old new id reader reader' reply fault heard fine it = rec
   stopped = λ failed. let stopped = it.stopped failed in (inl cc, stopped.1);
   stops = λ fails. (λ down. let stopped = it.stops.0 down in cc, λ refused. it.stops.1 cc);
   filer = it.filer;
-  crash = survives_weaker (shows g old) (shows g new) _ _ (λ _ trees moves entries had alive. (reply, heard, moves entries had alive)) it.crash;
+  crash = survives_weaker (shows g old) (shows g new) _ _
+      (λ _ trees moves entries had alive. (reply, heard, moves entries had alive)) it.crash;
   durable = λ clean entries had. tt;
 }

@@ -6,5 +6,7 @@ use Rattle.outbox_core.proofs.EntryLemmas.{same_state}
 use Rattle.filer_client.specs.Exchange.{IsSettled}
 
 -- the entries with it in its own state are the same
-pub set_settled : (entries : List Entry) (id : ℕ) (state : State) → IsSettled entries id state → set_state entries id state ≡ entries
-set_settled entries id state it = same_state entries id state (ap (option_map (λ (e : Entry). e.state)) it.at ∙ ap Some it.state_is)
+pub set_settled : (entries : List Entry) (id : ℕ) (state : State) → IsSettled entries id state
+    → set_state entries id state ≡ entries
+set_settled entries id state it =
+    same_state entries id state (ap (option_map (λ (e : Entry). e.state)) it.at ∙ ap Some it.state_is)

@@ -1,5 +1,6 @@
 -- What an exchange writes and reads, and what it makes of an entry.
-use Rattle.std.specs.Prelude.{◌≡◌, ◌≢◌, ◌⊎◌, ◌≤◌, ℕ, List, [], length, take, Option, Some, None, option_map, Result, OnOk}
+use Rattle.std.specs.Prelude.{◌≡◌, ◌≢◌, ◌⊎◌, ◌≤◌, ℕ, List, [], length, take, Option, Some, None, option_map, Result}
+use Rattle.std.specs.Prelude.{OnOk}
 use Rattle.std.specs.Io.KnownBytes.{Appends}
 use Rattle.http_wire.specs.declared.device.Source.{Ghosts as Reads}
 use Rattle.http_wire.specs.Device.{HasFailed}
@@ -9,7 +10,7 @@ use Rattle.http_messages.specs.Response.{GivesReply}
 use Rattle.sqlite.specs.Store.{Ghosts}
 use Rattle.filing_model.specs.Outbox.{Entry, State, Open, bytes_of, request_of, moved}
 use Rattle.outbox_core.specs.declared.fault.TakeFault.TheVariants.{NoEntry, Memory, Store}
-use Rattle.outbox_opening.specs.Entries.{entry_at}
+use Rattle.outbox_tables.specs.Entries.{entry_at}
 use Rattle.outbox_core.specs.OutboxParts.{OutboxParts, contents, ForEntries, IsDurableAs}
 use Rattle.filing_model.specs.Views.{view_state}
 use Rattle.filer_client.specs.declared.fault.ExchangeFault.{ExchangeFault}
@@ -58,39 +59,50 @@ moved_at entries id reply = option_map (λ e. moved e.state reply) (entry_at ent
 
 -- ---- the whole exchange, over what was written and what is left to read, before and after
 
--- An entry that is not open is told as it is: nothing is written or read. Of an open one the whole request is written, and it moves by
--- the reply that is read.
-abbrev pub IsExchanged : List ℕ → List Entry → ℕ → Option (List ℕ) → Option (List ℕ) → Option (List ℕ) → Option (List ℕ) → State → Type 0
+-- An entry that is not open is told as it is: nothing is written or read. Of an open one the whole request is written,
+-- and it moves by the reply that is read.
+abbrev pub IsExchanged : List ℕ → List Entry → ℕ → Option (List ℕ) → Option (List ℕ) → Option (List ℕ) → Option (List ℕ)
+    → State → Type 0
 IsExchanged filer entries id written written' left left' to =
     (IsSettled entries id to × Appends written written' [] × (left' ≡ left))
-    ⊎ ((text : List ℕ) × IsOpenRequest filer entries id text × Appends written written' text × Hears left left' (λ reply. to ≡ moved Open reply))
+    ⊎ ((text : List ℕ) × IsOpenRequest filer entries id text × Appends written written' text
+    × Hears left left' (λ reply. to ≡ moved Open reply))
 
 -- the whole request of an open entry was written
 abbrev pub WritesRequest : List ℕ → List Entry → ℕ → Option (List ℕ) → Option (List ℕ) → Type 0
-WritesRequest filer entries id written written' = (text : List ℕ) × IsOpenRequest filer entries id text × Appends written written' text
+WritesRequest filer entries id written written' =
+    (text : List ℕ) × IsOpenRequest filer entries id text × Appends written written' text
 
--- What was written where it failed: the first `sent` bytes of an open entry's request; all of it; nothing, where there is no entry; or else
--- all of it or nothing.
+-- What was written where it failed: the first `sent` bytes of an open entry's request; all of it; nothing, where there
+-- is no entry; or else all of it or nothing.
 abbrev pub WritesBefore : List ℕ → List Entry → ℕ → Option (List ℕ) → Option (List ℕ) → ExchangeFault → Type 0
-WritesBefore filer entries id written written' (Write sent) = (text : List ℕ) × IsOpenRequest filer entries id text × (sent ≤ length text) × Appends written written' (take sent text)
+WritesBefore filer entries id written written' (Write sent) =
+    (text : List ℕ) × IsOpenRequest filer entries id text × (sent ≤ length text)
+    × Appends written written' (take sent text)
 WritesBefore filer entries id written written' (Reply fault) = WritesRequest filer entries id written written'
-WritesBefore filer entries id written written' (Take NoEntry) = (entry_at entries id ≡ None) × Appends written written' []
-WritesBefore filer entries id written written' (Take Memory) = Appends written written' [] ⊎ WritesRequest filer entries id written written'
-WritesBefore filer entries id written written' (Take Store) = Appends written written' [] ⊎ WritesRequest filer entries id written written'
+WritesBefore filer entries id written written' (Take NoEntry) =
+    (entry_at entries id ≡ None) × Appends written written' []
+WritesBefore filer entries id written written' (Take Memory) =
+    Appends written written' [] ⊎ WritesRequest filer entries id written written'
+WritesBefore filer entries id written written' (Take Store) =
+    Appends written written' [] ⊎ WritesRequest filer entries id written written'
 
--- Why it failed, as far as the reader and the writer tell, by how many of their calls had failed before and after: a device fails only
--- where its failure is told.
+-- Why it failed, as far as the reader and the writer tell, by how many of their calls had failed before and after: a
+-- device fails only where its failure is told.
 abbrev pub IsFault : Option (List ℕ) → Option (List ℕ) → ℕ → ℕ → ℕ → ℕ → ExchangeFault → Type 0
 IsFault left left' reads reads' writes writes' (Write sent) = HasFailed writes writes' × (reads' ≡ reads)
-IsFault left left' reads reads' writes writes' (Reply fault) = IsReplyFailure left left' reads reads' fault × (writes' ≡ writes)
+IsFault left left' reads reads' writes writes' (Reply fault) =
+    IsReplyFailure left left' reads reads' fault × (writes' ≡ writes)
 IsFault left left' reads reads' writes writes' (Take fault) = (reads' ≡ reads) × (writes' ≡ writes)
 
 -- so it is where this is the reader
 abbrev pub IsFaultOf : {R : Type 0} → Reads R → R → R → ℕ → ℕ → ExchangeFault → Type 0
-IsFaultOf g old new writes writes' fault = IsFault (g.left old) (g.left new) (g.read_failures old) (g.read_failures new) writes writes' fault
+IsFaultOf g old new writes writes' fault =
+    IsFault (g.left old) (g.left new) (g.read_failures old) (g.read_failures new) writes writes' fault
 
 -- ---- what stands after a crash
 
 -- where it is answered, a crash leaves the entries of before alone
 abbrev pub IsDurableOnOk : {S X E : Type 0} → Ghosts S → OutboxParts S → OutboxParts S → Result X E → Type 0
-IsDurableOnOk g old new result = ForEntries g old new (λ entries. OnOk result (IsDurableAs g new (contents new entries)))
+IsDurableOnOk g old new result =
+    ForEntries g old new (λ entries. OnOk result (IsDurableAs g new (contents new entries)))

@@ -1,5 +1,6 @@
 -- Lists with the same firsts give the same answers, marks and text.
-use Rattle.std.proofs.Common.{◌≡◌, ℕ, ◌<◌, true, not, List, [], ◌∷◌, ◌++◌, length, refl, sym, ap, ◌∙◌, subst, ⊎_elim, inl, inr}
+use Rattle.std.proofs.Common.{◌≡◌, ℕ, ◌<◌, true, not, List, [], ◌∷◌, ◌++◌, length, refl, sym, ap, ◌∙◌, subst, ⊎_elim}
+use Rattle.std.proofs.Common.{inl, inr}
 use Rattle.std.specs.Prelude.{filter}
 use Rattle.std.proofs.lemmas.List.Elements.{filter_agree}
 use Rattle.http_messages.specs.Head.{closes}
@@ -14,7 +15,8 @@ use Rattle.filing_model.specs.Style.{style_of}
 use Rattle.filing_model.specs.Reply.{reply_as, list_reply}
 use Rattle.filing_model.specs.declared.served.Mark.{Mark}
 use Rattle.filing_model.specs.declared.served.Mark.TheVariants.{Done, Unavailable, NotFiled}
-use Rattle.filing_model.specs.Text.{Route, Reject, ListFilings, FileReport, route, RouteFits, MarkFits, MarksFit, completed_at, reply_with, reply_on, reply_text_with, text_with, interim_of}
+use Rattle.filing_model.specs.Text.{Route, Reject, ListFilings, FileReport, route, RouteFits, MarkFits, MarksFit}
+use Rattle.filing_model.specs.Text.{completed_at, reply_with, reply_on, reply_text_with, text_with, interim_of}
 use Rattle.filing_model.proofs.Firsts.{has_key-firsts, firsts-append}
 use Rattle.filing_model.proofs.Answers.{answer-firsts, register-firsts}
 
@@ -25,7 +27,8 @@ module _ (old new : List Request) (same : firsts old ≡ firsts new) where
   pub firsts_alike : (more : List Request) → firsts (old ++ more) ≡ firsts (new ++ more)
   firsts_alike more =
       firsts-append old more
-      ∙ ap (λ rs. firsts old ++ rs) (filter_agree (λ s. not (has_key old s)) (λ s. not (has_key new s)) (λ s. ap not (has_key_alike s)) (firsts more))
+      ∙ ap (λ rs. firsts old ++ rs) (filter_agree (λ s. not (has_key old s)) (λ s. not (has_key new s))
+      (λ s. ap not (has_key_alike s)) (firsts more))
       ∙ ap (λ rs. rs ++ filter (λ s. not (has_key new s)) (firsts more)) same
       ∙ sym (firsts-append new more)
 
@@ -35,19 +38,20 @@ module _ (old new : List Request) (same : firsts old ≡ firsts new) where
   pub register_alike : register old ≡ register new
   register_alike = sym (register-firsts old) ∙ ap register same ∙ register-firsts new
 
-  reply_on_alike : (early : List Request) (to : Route) → reply_on early old to ≡ reply_on early new to
-  reply_on_alike early (Reject reply) = refl
-  reply_on_alike early (ListFilings filer number) = ap (λ fs. list_reply (listings filer number fs)) register_alike
-  reply_on_alike early (FileReport r) = ap (reply_as (style_of early r)) (answer_alike r)
+  reply_on_alike : (old_style : List Request) (to : Route) → reply_on old_style old to ≡ reply_on old_style new to
+  reply_on_alike old_style (Reject reply) = refl
+  reply_on_alike old_style (ListFilings filer number) = ap (λ fs. list_reply (listings filer number fs)) register_alike
+  reply_on_alike old_style (FileReport r) = ap (reply_as (style_of old_style r)) (answer_alike r)
 
-  pub reply_alike : (early : List Request) (m : Message) → reply_with early old m ≡ reply_with early new m
-  reply_alike early m = reply_on_alike early (route m)
+  pub reply_alike : (old_style : List Request) (m : Message) → reply_with old_style old m ≡ reply_with old_style new m
+  reply_alike old_style m = reply_on_alike old_style (route m)
 
-  reply_text_alike : (early : List Request) (arrival : Arrival) (mark : Mark) → reply_text_with early old arrival mark ≡ reply_text_with early new arrival mark
-  reply_text_alike early (Arrival.Read m) Unavailable = refl
-  reply_text_alike early (Arrival.Read m) Done = ap (λ x. render x (closes m.head)) (reply_alike early m)
-  reply_text_alike early (Arrival.Read m) NotFiled = ap (λ x. render x (closes m.head)) (reply_alike early m)
-  reply_text_alike early (Arrival.Refused refusal) mark = refl
+  reply_text_alike : (old_style : List Request) (arrival : Arrival) (mark : Mark)
+      → reply_text_with old_style old arrival mark ≡ reply_text_with old_style new arrival mark
+  reply_text_alike old_style (Arrival.Read m) Unavailable = refl
+  reply_text_alike old_style (Arrival.Read m) Done = ap (λ x. render x (closes m.head)) (reply_alike old_style m)
+  reply_text_alike old_style (Arrival.Read m) NotFiled = ap (λ x. render x (closes m.head)) (reply_alike old_style m)
+  reply_text_alike old_style (Arrival.Refused refusal) mark = refl
 
   route_fits_alike : (limit : ℕ) (to : Route) (mark : Mark) → RouteFits limit old to mark → RouteFits limit new to mark
   route_fits_alike limit (FileReport r) Done fit = ⊎_elim
@@ -63,23 +67,35 @@ module _ (old new : List Request) (same : firsts old ≡ firsts new) where
   route_fits_alike limit (Reject reply) Unavailable fit = fit
   route_fits_alike limit (Reject reply) NotFiled fit = fit
 
-  mark_fits_alike : (limit : ℕ) (arrival : Arrival) (mark : Mark) → MarkFits limit old arrival mark → MarkFits limit new arrival mark
+  mark_fits_alike : (limit : ℕ) (arrival : Arrival) (mark : Mark) → MarkFits limit old arrival mark
+      → MarkFits limit new arrival mark
   mark_fits_alike limit (Arrival.Read m) mark fit = route_fits_alike limit (route m) mark fit
   mark_fits_alike limit (Arrival.Refused refusal) Done fit = fit
   mark_fits_alike limit (Arrival.Refused refusal) Unavailable fit = fit
   mark_fits_alike limit (Arrival.Refused refusal) NotFiled fit = fit
 
-pub text_alike : (early old new : List Request) → firsts old ≡ firsts new → (arrivals : List Arrival) (ending : Ending) (marks : List Mark) → text_with early old arrivals ending marks ≡ text_with early new arrivals ending marks
+pub text_alike : (old_style old new : List Request) → firsts old ≡ firsts new
+    → (arrivals : List Arrival) (ending : Ending) (marks : List Mark)
+    → text_with old_style old arrivals ending marks ≡ text_with old_style new arrivals ending marks
 unfolding text_with
-text_alike early old new same arrivals ending [] = refl
-text_alike early old new same [] ending (mark ∷ marks) = refl
-text_alike early old new same (arrival ∷ arrivals) ending (mark ∷ marks) =
-    ap (λ reply. interim_of arrival ++ (reply ++ text_with early (old ++ completed_at arrival mark) arrivals ending marks)) (reply_text_alike old new same early arrival mark)
-    ∙ ap (λ rest. interim_of arrival ++ (reply_text_with early new arrival mark ++ rest)) (text_alike early (old ++ completed_at arrival mark) (new ++ completed_at arrival mark) (firsts_alike old new same (completed_at arrival mark)) arrivals ending marks)
+text_alike old_style old new same arrivals ending [] = refl
+text_alike old_style old new same [] ending (mark ∷ marks) = refl
+text_alike old_style old new same (arrival ∷ arrivals) ending (mark ∷ marks) =
+    ap (λ reply. interim_of arrival
+    ++ (reply ++ text_with old_style (old ++ completed_at arrival mark) arrivals ending marks))
+    (reply_text_alike old new same old_style arrival mark)
+    ∙ ap (λ rest. interim_of arrival ++ (reply_text_with old_style new arrival mark ++ rest))
+    (text_alike old_style (old ++ completed_at arrival mark) (new ++ completed_at arrival mark)
+    (firsts_alike old new same (completed_at arrival mark)) arrivals ending marks)
 
-pub marks_fit_alike : (limit : ℕ) (old new : List Request) → firsts old ≡ firsts new → (arrivals : List Arrival) (marks : List Mark) → MarksFit limit old arrivals marks → MarksFit limit new arrivals marks
+pub marks_fit_alike : (limit : ℕ) (old new : List Request) → firsts old ≡ firsts new
+    → (arrivals : List Arrival) (marks : List Mark) → MarksFit limit old arrivals marks
+    → MarksFit limit new arrivals marks
 unfolding MarksFit
 marks_fit_alike limit old new same arrivals [] fit = fit
 marks_fit_alike limit old new same [] (mark ∷ marks) fit = fit
-marks_fit_alike limit old new same (arrival ∷ arrivals) (mark ∷ marks) fit =
-    (mark_fits_alike old new same limit arrival mark fit.0, marks_fit_alike limit (old ++ completed_at arrival mark) (new ++ completed_at arrival mark) (firsts_alike old new same (completed_at arrival mark)) arrivals marks fit.1)
+marks_fit_alike limit old new same (arrival ∷ arrivals) (mark ∷ marks) fit = (
+  mark_fits_alike old new same limit arrival mark fit.0,
+  marks_fit_alike limit (old ++ completed_at arrival mark) (new ++ completed_at arrival mark)
+      (firsts_alike old new same (completed_at arrival mark)) arrivals marks fit.1,
+)

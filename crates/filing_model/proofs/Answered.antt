@@ -11,7 +11,8 @@ use Rattle.filing_model.specs.declared.served.Ended.TheVariants.{Fault}
 use Rattle.filing_model.specs.Request.{Request}
 use Rattle.filing_model.specs.Laws.{IsAnswered}
 use Rattle.filing_model.specs.Serving.{end_of}
-use Rattle.filing_model.specs.Stopping.{Crash, No, Before, After, marked, answered, ended_by, IsWhole, IsCut, ServesUntil}
+use Rattle.filing_model.specs.Stopping.{Crash, No, Before, After, marked, answered, ended_by, IsWhole, IsCut}
+use Rattle.filing_model.specs.Stopping.{ServesUntil}
 use Rattle.filing_model.specs.Text.{text}
 use Rattle.filing_model.proofs.Lists.{take_all}
 
@@ -21,16 +22,33 @@ record IsUnstopped (crash : Crash) (n : ℕ) (ending : Ending) (ended : Ended) :
   answered_all : answered crash n ≡ n
   end : ended ≡ end_of ending
 
-unstopped : (crash : Crash) (n : ℕ) (ending : Ending) (ended : Ended) → Some ended ≡ ended_by crash n ending → IsUnstopped crash n ending ended
+unstopped : (crash : Crash) (n : ℕ) (ending : Ending) (ended : Ended) → Some ended ≡ ended_by crash n ending
+    → IsUnstopped crash n ending ended
 unstopped No n ending ended e = record { marked_all = refl; answered_all = refl; end = cc }
-unstopped (Before j) n ending ended e = record { marked_all = grind (arith, nat_tests, e); answered_all = grind (arith, nat_tests, e); end = grind (arith, nat_tests, e) }
-unstopped (After j) n ending ended e = record { marked_all = grind (arith, nat_tests, e); answered_all = grind (arith, nat_tests, e); end = grind (arith, nat_tests, e) }
+unstopped (Before j) n ending ended e =
+    record {
+      marked_all = grind (arith, nat_tests, e);
+      answered_all = grind (arith, nat_tests, e);
+      end =
+          grind (arith, nat_tests, e);
+    }
+unstopped (After j) n ending ended e =
+    record {
+      marked_all = grind (arith, nat_tests, e);
+      answered_all = grind (arith, nat_tests, e);
+      end =
+          grind (arith, nat_tests, e);
+    }
 
-pub answered_all : (limit : ℕ) (done : List Request) (bytes : List ℕ) (crash : Crash) (arrivals : List Arrival) (marks : List Mark) (ended : Ended) (out : List ℕ)
-    → ServesUntil limit done bytes crash arrivals marks (Some ended) out → ((fault : ConnFault) → ended ≢ Fault fault) → IsAnswered done bytes arrivals marks ended out
-answered_all limit done bytes crash arrivals marks ended out serves none = ⊎_elim whole (λ c. absurd (cut c)) serves.gives
+pub answered_all : (limit : ℕ) (done : List Request) (bytes : List ℕ) (crash : Crash) (arrivals : List Arrival)
+    (marks : List Mark) (ended : Ended) (out : List ℕ)
+    → ServesUntil limit done bytes crash arrivals marks (Some ended) out → ((fault : ConnFault) → ended ≢ Fault fault)
+    → IsAnswered done bytes arrivals marks ended out
+answered_all limit done bytes crash arrivals marks ended out serves none =
+    ⊎_elim whole (λ c. absurd (cut c)) serves.gives
   where
-    whole : IsWhole done bytes crash arrivals serves.ending marks (Some ended) out → IsAnswered done bytes arrivals marks ended out
+    whole : IsWhole done bytes crash arrivals serves.ending marks (Some ended) out
+        → IsAnswered done bytes arrivals marks ended out
     whole w =
         let all = unstopped crash (length arrivals) serves.ending ended w.end in
         let count : length marks ≡ length arrivals = w.all ∙ all.marked_all in
@@ -38,7 +56,9 @@ answered_all limit done bytes crash arrivals marks ended out serves none = ⊎_e
           ending = serves.ending;
           splits = w.splits;
           all = count;
-          written = w.written ∙ ap (λ ms. text done arrivals serves.ending ms) (ap (λ n. take n marks) (all.answered_all ∙ sym count) ∙ take_all marks);
+          written =
+              w.written ∙ ap (λ ms. text done arrivals serves.ending ms)
+              (ap (λ n. take n marks) (all.answered_all ∙ sym count) ∙ take_all marks);
           end = all.end;
         }
 

@@ -1,5 +1,6 @@
 -- Each reply to a filed request is one that a client reads, and a number is told in one way.
-use Rattle.std.proofs.Common.{◌≡◌, ◌≢◌, ℕ, suc, ◌^◌, ◌<◌, ◌≤◌, Bool, true, false, cond, List, [], ◌∷◌, ◌++◌, length, Some, refl, sym, ap, ◌∙◌, subst, ⊎_elim, arith}
+use Rattle.std.proofs.Common.{◌≡◌, ◌≢◌, ℕ, suc, ◌^◌, ◌<◌, ◌≤◌, Bool, true, false, cond, List, [], ◌∷◌, ◌++◌, length}
+use Rattle.std.proofs.Common.{Some, refl, sym, ap, ◌∙◌, subst, ⊎_elim, arith}
 use Rattle.std.specs.Prelude.{nat_eq, nat_le, nat_lt, ◌&&◌, IsSome}
 use Rattle.std.specs.Fmt.{digits}
 use Rattle.std.specs.List.{AllByRecursion}
@@ -36,39 +37,55 @@ judged-fits before r =
     let free = is_free (filings before) r.filer r.target in
     by_findings (amendment_findings r.filer r.body free) (amendment_findings-fits r.filer r.body free)
   where
-    by_findings : (all : List Pair) → fits all ≡ true → (found : List Pair) → outcome_by all (suc (length (filings before))) ≡ Outcome.Refused found → fits found ≡ true
+    by_findings : (all : List Pair) → fits all ≡ true → (found : List Pair)
+        → outcome_by all (suc (length (filings before))) ≡ Outcome.Refused found → fits found ≡ true
     by_findings [] fit found e = absurd (cc)
     by_findings (f ∷ all) fit found e =
         let same : f ∷ all ≡ found = cc in
         subst (λ fs. fits fs ≡ true) same fit
 
-fitting_after : (before : List Kept) (requests : List Request) → AllByRecursion IsFitting before → AllByRecursion IsFitting (kept_after before requests)
+fitting_after : (before : List Kept) (requests : List Request) → AllByRecursion IsFitting before
+    → AllByRecursion IsFitting (kept_after before requests)
 unfolding kept_after
 fitting_after before [] all = all
-fitting_after before (r ∷ requests) all = fitting_after (before ++ judged before r ∷ []) requests (all_push IsFitting before (judged before r) all (judged-fits before r))
+fitting_after before (r ∷ requests) all =
+    fitting_after (before ++ judged before r ∷ []) requests
+    (all_push IsFitting before (judged before r) all (judged-fits before r))
 
-answer-fits : (requests : List Request) (r : Request) (found : List Pair) (repeat : Bool) → answer requests r ≡ Answer.Refused found repeat → fits found ≡ true
+answer-fits : (requests : List Request) (r : Request) (found : List Pair) (repeat : Bool)
+    → answer requests r ≡ Answer.Refused found repeat → fits found ≡ true
 unfolding answer
 answer-fits requests r found repeat told =
     let first = kept_found (requests ++ r ∷ []) r (has_key_itself requests r) in
-    let fitting = all_found IsFitting _ (kept (requests ++ r ∷ [])) first.0 (fitting_after [] (firsts (requests ++ r ∷ [])) tt) first.1 in
+    let fitting =
+    all_found IsFitting _ (kept (requests ++ r ∷ [])) first.0 (fitting_after [] (firsts (requests ++ r ∷ [])) tt)
+    first.1 in
     by_first first.0 fitting (sym (ap (λ k. answer_from k r (has_key requests r)) first.1) ∙ told)
   where
-    by_outcome : (o : Outcome) (b : Bool) → ((all : List Pair) → o ≡ Outcome.Refused all → fits all ≡ true) → answer_by o b ≡ Answer.Refused found repeat → fits found ≡ true
+    by_outcome : (o : Outcome) (b : Bool) → ((all : List Pair) → o ≡ Outcome.Refused all → fits all ≡ true)
+        → answer_by o b ≡ Answer.Refused found repeat → fits found ≡ true
     by_outcome (Outcome.Registered n) b fitting e = absurd (cc)
     by_outcome (Outcome.Refused all) b fitting e =
         let same : all ≡ found = cc in
         subst (λ fs. fits fs ≡ true) same (fitting all refl)
 
-    by_first : (k : Kept) → IsFitting k → answer_from (Some k) r (has_key requests r) ≡ Answer.Refused found repeat → fits found ≡ true
+    by_first : (k : Kept) → IsFitting k → answer_from (Some k) r (has_key requests r) ≡ Answer.Refused found repeat
+        → fits found ≡ true
     by_first k fitting e = ⊎_elim
         (λ (h : same_content k.request r ≡ true). by_outcome k.outcome (has_key requests r) fitting (rw h at e))
-        (λ (h : same_content k.request r ≡ false). absurd (let other : Answer.KeyReused ≡ Answer.Refused found repeat = rw h at e in cc))
+        (λ (h : same_content k.request r ≡ false). absurd (let other : Answer.KeyReused ≡ Answer.Refused found repeat =
+        rw h at e in cc))
         (cases_Bool (same_content k.request r))
 
 -- the number that an answer tells is at most the number of first requests
-pub answer_number : (requests : List Request) (r : Request) (n : ℕ) (repeat : Bool) → answer requests r ≡ Answer.Registered n repeat → n ≤ suc (length (firsts requests))
-answer_number requests r n repeat told = omega (arith, registered_bound (requests ++ r ∷ []) r n (answer_registered requests r n repeat told), firsts_one_more requests r)
+pub answer_number : (requests : List Request) (r : Request) (n : ℕ) (repeat : Bool)
+    → answer requests r ≡ Answer.Registered n repeat → n ≤ suc (length (firsts requests))
+answer_number requests r n repeat told =
+    omega (
+      arith,
+      registered_bound (requests ++ r ∷ []) r n (answer_registered requests r n repeat told),
+      firsts_one_more requests r,
+    )
 
 -- ---- replies
 
@@ -97,7 +114,8 @@ short_reused Old = omega arith
 short_reused Problem = omega arith
 
 -- an answer whose number and findings are within the limits has a reply that a client reads
-reply-readable : (style : Style) (a : Answer) → ((n : ℕ) (b : Bool) → a ≡ Answer.Registered n b → n < 2 ^ 64) → ((found : List Pair) (b : Bool) → a ≡ Answer.Refused found b → fits found ≡ true) → IsReadable (reply_as style a)
+reply-readable : (style : Style) (a : Answer) → ((n : ℕ) (b : Bool) → a ≡ Answer.Registered n b → n < 2 ^ 64)
+    → ((found : List Pair) (b : Bool) → a ≡ Answer.Refused found b → fits found ≡ true) → IsReadable (reply_as style a)
 unfolding reply_as phrase
 reply-readable style (Answer.Registered n b) number fit = record {
   named = refl;
@@ -119,7 +137,8 @@ reply-readable style Answer.KeyReused number fit = record {
 }
 
 -- The reply to a filed request, and the one where it could not be decided, are ones that a client reads.
-pub answer-readable : (style : Style) (requests : List Request) (r : Request) → length (firsts requests) ≤ 2 ^ 62 → IsReadable (reply_as style (answer requests r))
+pub answer-readable : (style : Style) (requests : List Request) (r : Request) → length (firsts requests) ≤ 2 ^ 62
+    → IsReadable (reply_as style (answer requests r))
 answer-readable style requests r few = reply-readable style (answer requests r)
     (λ n b told. omega (arith, few, answer_number requests r n b told))
     (λ found b told. answer-fits requests r found b told)
@@ -136,12 +155,16 @@ unavailable-readable = record {
 -- ---- numbers
 
 -- the reply that tells a number confirms it, and no other
-pub told-exactly : (style : Style) (m n : ℕ) (repeat : Bool) → m < 2 ^ 63 → moved Open (reply_as style (Answer.Registered m repeat)) ≡ Confirmed n → m ≡ n
-told-exactly style m n repeat small h = by_test (nat_le 1 m && nat_lt m (2 ^ 63)) (sym (moved-registered style m repeat (omega (arith, small))) ∙ h)
+pub told-exactly : (style : Style) (m n : ℕ) (repeat : Bool) → m < 2 ^ 63
+    → moved Open (reply_as style (Answer.Registered m repeat)) ≡ Confirmed n → m ≡ n
+told-exactly style m n repeat small h =
+    by_test (nat_le 1 m && nat_lt m (2 ^ 63)) (sym (moved-registered style m repeat (omega (arith, small))) ∙ h)
   where
     by_test : (b : Bool) → cond b (Confirmed m) Open ≡ Confirmed n → m ≡ n
     by_test true e = cc
     by_test false e = absurd (cc)
 
-pub told-confirms : (style : Style) (m : ℕ) (repeat : Bool) → 1 ≤ m → m < 2 ^ 63 → moved Open (reply_as style (Answer.Registered m repeat)) ≡ Confirmed m
-told-confirms style m repeat some small = moved-registered style m repeat (omega (arith, small)) ∙ rw (le-leb 1 m some, lt-ltb m (2 ^ 63) small) refl
+pub told-confirms : (style : Style) (m : ℕ) (repeat : Bool) → 1 ≤ m → m < 2 ^ 63
+    → moved Open (reply_as style (Answer.Registered m repeat)) ≡ Confirmed m
+told-confirms style m repeat some small =
+    moved-registered style m repeat (omega (arith, small)) ∙ rw (le-leb 1 m some, lt-ltb m (2 ^ 63) small) refl

@@ -1,5 +1,6 @@
 -- Stops that let as much be marked and answered, and that end alike, are alike.
-use Rattle.std.proofs.Common.{◌≡◌, ℕ, ◌≤◌, List, length, take, Option, Some, None, refl, sym, ap, ◌∙◌, subst, ⊎_elim, inl, inr, arith}
+use Rattle.std.proofs.Common.{◌≡◌, ℕ, ◌≤◌, List, length, take, Option, Some, None, refl, sym, ap, ◌∙◌, subst, ⊎_elim}
+use Rattle.std.proofs.Common.{inl, inr, arith}
 use Rattle.std.proofs.lemmas.Bool.Decides.{nat_tests}
 use Rattle.http_messages.specs.Message.{Arrival, Ending}
 use Rattle.filing_model.specs.declared.served.Mark.{Mark}
@@ -8,7 +9,8 @@ use Rattle.filing_model.specs.Laws.{StopAlike}
 use Rattle.filing_model.specs.Prefix.{IsPrefixOf}
 use Rattle.filing_model.specs.Request.{Request}
 use Rattle.filing_model.specs.Serving.{Keeping}
-use Rattle.filing_model.specs.Stopping.{Crash, Before, After, marked, answered, ended_by, IsWhole, IsCut, ServesUntil, IsStopAt, ComeBefore, StopsOrServes}
+use Rattle.filing_model.specs.Stopping.{Crash, Before, After, marked, answered, ended_by, IsWhole, IsCut, ServesUntil}
+use Rattle.filing_model.specs.Stopping.{IsStopAt, ComeBefore, StopsOrServes}
 use Rattle.filing_model.specs.Text.{text, text_with}
 
 -- of any arrivals the one lets through what the other does, and it stops where the other does
@@ -19,7 +21,10 @@ record IsLike (one other : Crash) : Type 0 where
   here : (n : ℕ) → IsStopAt one n → IsStopAt other n
   before : (n : ℕ) → ComeBefore one n → ComeBefore other n
 
-serves_alike : (one other : Crash) → IsLike one other → (limit : ℕ) (done : List Request) (bytes : List ℕ) (arrivals : List Arrival) (marks : List Mark) (ended : Option Ended) (out : List ℕ) → ServesUntil limit done bytes one arrivals marks ended out → ServesUntil limit done bytes other arrivals marks ended out
+serves_alike : (one other : Crash) → IsLike one other
+    → (limit : ℕ) (done : List Request) (bytes : List ℕ) (arrivals : List Arrival) (marks : List Mark)
+    (ended : Option Ended) (out : List ℕ) → ServesUntil limit done bytes one arrivals marks ended out
+    → ServesUntil limit done bytes other arrivals marks ended out
 serves_alike one other like limit done bytes arrivals marks ended out serves =
     let ending = serves.ending in
     let n = length arrivals in
@@ -42,22 +47,32 @@ serves_alike one other like limit done bytes arrivals marks ended out serves =
           serves.gives;
     }
 
-stops_alike : (one other : Crash) → IsLike one other → (requests : Keeping) (bytes : List ℕ) (marks : List Mark) (ended : Option Ended) (out : List ℕ) → StopsOrServes requests bytes one marks ended out → StopsOrServes requests bytes other marks ended out
+stops_alike : (one other : Crash) → IsLike one other
+    → (requests : Keeping) (bytes : List ℕ) (marks : List Mark) (ended : Option Ended) (out : List ℕ)
+    → StopsOrServes requests bytes one marks ended out → StopsOrServes requests bytes other marks ended out
 stops_alike one other like requests bytes marks None out s = record {
   arrivals = s.arrivals;
   begins = s.begins;
   here = like.here (length s.arrivals) s.here;
   all = s.all ∙ like.marks (length s.arrivals);
   fit = s.fit;
-  written = s.written ∙ ap (λ k. text_with requests.early requests.before s.arrivals Ending.Closed (take k marks)) (like.answers (length s.arrivals));
+  written =
+      s.written ∙ ap (λ k. text_with requests.old_style requests.before s.arrivals Ending.Closed (take k marks))
+      (like.answers (length s.arrivals));
   kept = s.kept;
 }
 stops_alike one other like requests bytes marks (Some ended) out s = (s.0, like.before (length marks) s.1)
 
 alike : (one other : Crash) → IsLike one other → IsLike other one → StopAlike one other
 alike one other there back = record {
-  serves = λ limit done bytes arrivals marks ended out. (serves_alike one other there limit done bytes arrivals marks ended out, serves_alike other one back limit done bytes arrivals marks ended out);
-  stops = λ requests bytes marks ended out. (stops_alike one other there requests bytes marks ended out, stops_alike other one back requests bytes marks ended out);
+  serves = λ limit done bytes arrivals marks ended out. (
+    serves_alike one other there limit done bytes arrivals marks ended out,
+    serves_alike other one back limit done bytes arrivals marks ended out,
+  );
+  stops = λ requests bytes marks ended out. (
+    stops_alike one other there requests bytes marks ended out,
+    stops_alike other one back requests bytes marks ended out,
+  );
 }
 
 before_like : IsLike (Before 0) (Before 1)

@@ -5,8 +5,8 @@ use Rattle.filing_model.specs.declared.served.Style.TheVariants.{Old, Problem}
 use Rattle.filing_model.specs.Request.{Request, has_key}
 use Rattle.filing_model.specs.Style.{style_of}
 
-pub style-old : (early : List Request) (r : Request) → (style_of early r ≡ Old) ↔ (has_key early r ≡ true)
-style-old early r = by_test (has_key early r)
+pub style-old : (old_style : List Request) (r : Request) → (style_of old_style r ≡ Old) ↔ (has_key old_style r ≡ true)
+style-old old_style r = by_test (has_key old_style r)
   where
     by_test : (b : Bool) → (cond b Old Problem ≡ Old) ↔ (b ≡ true)
     by_test true = ((λ e. refl), (λ e. refl))

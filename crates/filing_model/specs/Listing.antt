@@ -16,7 +16,14 @@ replacing filings n = option_map (λ f. f.number) (find (is_amendment_of n) fili
 
 -- a filing as it is listed among these
 abbrev pub listing : List Filing → Filing → Listing
-listing filings f = record { number = f.number; facts = fact_count f.request.body; replaced_by = replacing filings f.number; replaces = f.request.target }
+listing filings f =
+    record {
+      number = f.number;
+      facts = fact_count f.request.body;
+      replaced_by = replacing filings f.number;
+      replaces =
+          f.request.target;
+    }
 
 -- every filing of the filer, or the one of this number alone
 abbrev pub is_listed : List ℕ → Option ℕ → Filing → Bool

@@ -1,5 +1,7 @@
 -- The reports that a filer has to send, and what a reply says of each.
-use Rattle.std.specs.Prelude.{◌≡◌, ℕ, ◌^◌, ◌≤◌, ◌==◌, Bool, true, false, ◌&&◌, ◌||◌, List, ◌++◌, length, codes, nat_le, nat_lt, bytes_eq, Option, Some, None, option_map, option_and_then, unwrap_or, if◌then◌else◌}
+use Rattle.std.specs.Prelude.{◌≡◌, ℕ, ◌^◌, ◌≤◌, ◌==◌, Bool, true, false, ◌&&◌, ◌||◌, List, ◌++◌, length, codes, nat_le}
+use Rattle.std.specs.Prelude.{nat_lt, bytes_eq, Option, Some, None, option_map, option_and_then, unwrap_or}
+use Rattle.std.specs.Prelude.{if◌then◌else◌}
 use Rattle.std.specs.Fmt.{decimal}
 use Rattle.serde_json.specs.Data.{Data}
 use Rattle.serde_json.specs.Find.{get, as_str, as_number, as_u64}
@@ -11,7 +13,8 @@ use Rattle.http_messages.specs.Posting.{IsTarget, render_post}
 use Rattle.http_messages.specs.Reply.{ReplyParts}
 use Rattle.filing_model.specs.Request.{Request}
 
--- what is known of a report: nothing yet; its number in the register; that it was refused; or that its key stands for another body
+-- what is known of a report: nothing yet; its number in the register; that it was refused; or that its key stands for
+-- another body
 pub data State : Type 0 where
   Open : State
   Confirmed : ℕ → State

@@ -1,5 +1,6 @@
 -- The outcomes of the first requests, and the register of the valid ones.
-use Rattle.std.specs.Prelude.{ℕ, suc, Bool, true, ◌&&◌, not, map, filter, List, [], ◌∷◌, ◌++◌, length, Option, Some, None, filter_map, bytes_eq, nat_eq}
+use Rattle.std.specs.Prelude.{ℕ, suc, Bool, true, ◌&&◌, not, map, filter, List, [], ◌∷◌, ◌++◌, length, Option, Some}
+use Rattle.std.specs.Prelude.{None, filter_map, bytes_eq, nat_eq}
 use Rattle.std.specs.List.{list_any}
 use Rattle.xbrl_report.specs.Amendment.{amendment_findings}
 use Rattle.xbrl_report.specs.Pair.{Pair}
@@ -57,7 +58,8 @@ outcome_by (f ∷ fs) next = Refused (f ∷ fs)
 
 -- a request with its outcome after these
 abbrev pub judged : List Kept → Request → Kept
-judged before r = record { request = r; outcome = outcome_by (verdict (filings before) r) (suc (length (filings before))) }
+judged before r =
+    record { request = r; outcome = outcome_by (verdict (filings before) r) (suc (length (filings before))) }
 
 -- these, and then each request with its outcome after the ones before it
 unfoldable pub kept_after : List Kept → List Request → List Kept

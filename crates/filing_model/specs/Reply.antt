@@ -19,7 +19,8 @@ status_member word = member (codes "status") (string word) no_members
 
 -- a finding: its code's word, and its place as a JSON Pointer (RFC 6901)
 abbrev pub finding_data : Pair → Data
-finding_data f = object (member (codes "code") (string (text_of f.code)) (member (codes "place") (string f.place) no_members))
+finding_data f =
+    object (member (codes "code") (string (text_of f.code)) (member (codes "place") (string f.place) no_members))
 
 -- findings, in order
 abbrev pub findings_data : List Pair → Data
@@ -36,8 +37,8 @@ answer_status (Answer.Registered n repeat) = 201
 answer_status (Answer.Refused findings repeat) = refused_status findings
 answer_status Answer.KeyReused = 422
 
--- The members of problem details (RFC 9457, section 3.1), in order of their names. The title is the status's phrase (section 4.2.1), and
--- `reason` is an extension (section 3.2).
+-- The members of problem details (RFC 9457, section 3.1), in order of their names. The title is the status's phrase
+-- (section 4.2.1), and `reason` is an extension (section 3.2).
 abbrev pub problem_members : ℕ → List ℕ → Members
 problem_members status reason =
     member (codes "reason") (string reason)
@@ -57,8 +58,11 @@ refusal_kind Problem = Kind.Problem
 
 -- the content of an answer; a repeat has no other
 abbrev pub answer_data : Style → Answer → Data
-answer_data style (Answer.Registered n repeat) = object (member (codes "number") (number (unsigned n)) (status_member (codes "registered")))
-answer_data style (Answer.Refused findings repeat) = object (member (codes "findings") (findings_data findings) (refusal_members style (refused_status findings) (codes "refused")))
+answer_data style (Answer.Registered n repeat) =
+    object (member (codes "number") (number (unsigned n)) (status_member (codes "registered")))
+answer_data style (Answer.Refused findings repeat) =
+    object (member (codes "findings") (findings_data findings)
+    (refusal_members style (refused_status findings) (codes "refused")))
 answer_data style Answer.KeyReused = object (refusal_members style 422 (codes "key-reused"))
 
 -- what that content is
@@ -69,7 +73,8 @@ answer_kind style Answer.KeyReused = refusal_kind style
 
 -- the reply to an answer, in this style
 unfoldable pub reply_as : Style → Answer → ReplyParts
-reply_as style a = record { status = answer_status a; content = compact_text (answer_data style a); kind = answer_kind style a }
+reply_as style a =
+    record { status = answer_status a; content = compact_text (answer_data style a); kind = answer_kind style a }
 
 -- the reply to an answer, for every key that was not kept before there were problem details
 abbrev pub reply_of : Answer → ReplyParts
@@ -100,7 +105,8 @@ list_reply ls = record { status = 200; content = compact_text (list_data ls); ki
 
 -- the refusal for this reason, as problem details
 abbrev pub word_reply : ℕ → List ℕ → ReplyParts
-word_reply status word = record { status = status; content = compact_text (object (problem_members status word)); kind = Kind.Problem }
+word_reply status word =
+    record { status = status; content = compact_text (object (problem_members status word)); kind = Kind.Problem }
 
 -- where a request could not be decided now (RFC 9110, section 15.6.4)
 abbrev pub unavailable : ReplyParts

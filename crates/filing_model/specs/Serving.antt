@@ -8,16 +8,16 @@ use Rattle.filing_model.specs.Prefix.{IsPrefixOf}
 use Rattle.filing_model.specs.Request.{Request, firsts}
 use Rattle.filing_model.specs.Text.{MarksFit, completed, text_with}
 
--- How requests are kept while a connection is served: how many keys may be kept, the early ones, which were kept before there were
--- problem details, and all that are kept before and after.
+-- How requests are kept while a connection is served: how many keys may be kept, the old-style ones, which were kept
+-- before there were problem details, and all that are kept before and after.
 pub record Keeping : Type 0 where
   pub limit : ℕ
-  pub early : List Request
+  pub old_style : List Request
   pub before : List Request
   pub after : List Request
 
 abbrev pub keeping : ℕ → List Request → List Request → List Request → Keeping
-keeping limit early before after = record { limit = limit; early = early; before = before; after = after }
+keeping limit old_style before after = record { limit = limit; old_style = old_style; before = before; after = after }
 
 -- every arrival has a mark that it may be given
 pub record AreMarked (limit : ℕ) (before : List Request) (arrivals : List Arrival) (marks : List Mark) : Type 0 where
@@ -36,12 +36,13 @@ kept_by before [] = before
 kept_by before (r ∷ requests) = firsts (before ++ r ∷ requests)
 
 -- All arrivals are marked and answered, and what is kept `after` follows from what was kept `before`.
-pub record IsServed (requests : Keeping) (bytes : List ℕ) (marks : List Mark) (ended : Ended) (out : List ℕ) : Type 0 where
+pub record IsServed (requests : Keeping) (bytes : List ℕ) (marks : List Mark) (ended : Ended) (out : List ℕ)
+    : Type 0 where
   pub arrivals : List Arrival
   pub ending : Ending
   pub splits : HasArrivals bytes arrivals ending
   pub marked : AreMarked requests.limit requests.before arrivals marks
-  pub written : out ≡ text_with requests.early requests.before arrivals ending marks
+  pub written : out ≡ text_with requests.old_style requests.before arrivals ending marks
   pub kept : requests.after ≡ kept_by requests.before (completed arrivals marks)
   pub end : ended ≡ end_of ending
 
@@ -55,14 +56,14 @@ AnyFollows bytes (Rest false) = Unit {0}
 abbrev pub BeginsArrivals : List ℕ → List Arrival → Ending → Type 0
 BeginsArrivals bytes arrivals ending = ArrivalsThen AnyFollows bytes arrivals ending
 
--- A fault ended early: the first arrivals are marked, and what went out begins their text, with the interim response that may be
--- asked for after them.
+-- A fault ended early: the first arrivals are marked, and what went out begins their text, with the interim response
+-- that may be asked for after them.
 pub record IsCutShort (requests : Keeping) (bytes : List ℕ) (marks : List Mark) (out : List ℕ) : Type 0 where
   pub arrivals : List Arrival
   pub ending : Ending
   pub begins : BeginsArrivals bytes arrivals ending
   pub marked : AreMarked requests.limit requests.before arrivals marks
-  pub written : IsPrefixOf out (text_with requests.early requests.before arrivals ending marks)
+  pub written : IsPrefixOf out (text_with requests.old_style requests.before arrivals ending marks)
   pub kept : requests.after ≡ kept_by requests.before (completed arrivals marks)
 
 -- what serving these bytes may mark, write, keep and end with

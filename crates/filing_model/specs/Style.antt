@@ -8,7 +8,7 @@ use Rattle.filing_model.specs.Request.{Request, has_key}
 
 -- the style of a filer's key, where these were kept before: theirs stays as it was
 abbrev pub style_of : List Request → Request → Style
-style_of early r = if has_key early r then Old else Problem
+style_of old_style r = if has_key old_style r then Old else Problem
 
 -- the answer is told in this style; how a number is told has none
 abbrev pub HasStyle : Style → Answer → Type 0

@@ -2,7 +2,8 @@
 //! live here: functions that do nothing, each with a law about the definitions as its contract. The
 //! code that decides requests has contracts by the same definitions.
 
-ghost use Rattle.std.specs.Prelude.{◌≡◌, ◌≢◌, ◌↔◌, ℕ, ◌^◌, ◌<◌, ◌≤◌, Bool, true, List, [], ◌++◌, length, filter, codes, Option, Some};
+ghost use Rattle.std.specs.Prelude.{◌≡◌, ◌≢◌, ◌↔◌, ℕ, ◌^◌, ◌<◌, ◌≤◌, Bool, true, List, [], ◌++◌, length, filter, codes};
+ghost use Rattle.std.specs.Prelude.{Option, Some};
 ghost use Rattle.http_messages.specs.declared.refusal.ConnFault.{ConnFault};
 ghost use Rattle.http_messages.specs.declared.reply.Kind.TheVariants.{Problem};
 ghost use Rattle.http_messages.specs.Head.{closes};
@@ -23,9 +24,12 @@ ghost use Rattle.filing_model.specs.Outbox.{Open, Confirmed, Clashed, moved};
 ghost use Rattle.filing_model.specs.Style.{style_of};
 ghost use Rattle.filing_model.specs.Reply.{reply_as, unavailable};
 ghost use Rattle.filing_model.specs.Serving.{keeping, Serves};
-ghost use Rattle.filing_model.specs.Stopping.{Crash, No, Before, After, IsEndOf, IsEndOrStopOf, ServesUntil, StopsOrServes};
+ghost use Rattle.filing_model.specs.Stopping.{Crash, No, Before, After, IsEndOf, IsEndOrStopOf, ServesUntil};
+ghost use Rattle.filing_model.specs.Stopping.{StopsOrServes};
 ghost use Rattle.filing_model.specs.Text.{MarkFits, completed, reply_with, reply_text_with};
-ghost use Rattle.filing_model.specs.Laws.{IsAnswered, IsRegisterOf, ListsTheFilers, RepeatChangesNothing, RegisterGrows, ReplaceTheirOwn, RepeatGetsTheFirst, StaysRegistered, StopAlike};
+ghost use Rattle.filing_model.specs.Laws.{IsAnswered, IsRegisterOf, ListsTheFilers, RepeatChangesNothing};
+ghost use Rattle.filing_model.specs.Laws.{RegisterGrows, ReplaceTheirOwn, RepeatGetsTheFirst, StaysRegistered};
+ghost use Rattle.filing_model.specs.Laws.{StopAlike};
 
 /// The register is the valid ones among the first request of each filer and key, numbered 1, 2, ..
 /// in the order in which they came, without a gap.
@@ -84,7 +88,8 @@ pub fn every_reply_is_read()
     ensures undecided { IsReadable unavailable }
 {}
 
-/// A number is heard as it was told, in either style: the reply that tells it moves an open entry to it, and to no other.
+/// A number is heard as it was told, in either style: the reply that tells it moves an open entry to it, and to no
+/// other.
 pub fn a_number_is_heard_as_told()
     ensures confirms { (style : Style) (m : ℕ) (repeat : Bool) → 1 ≤ m → m < 2 ^ 63
         → moved Open (reply_as style (Registered m repeat)) ≡ Confirmed m }
@@ -99,8 +104,8 @@ pub fn a_used_key_is_heard()
 
 /// A filer's key is answered in the old style exactly where it is among those that were kept before
 /// there were problem details.
-pub fn early_keys_are_answered_in_the_old_style()
-    ensures { (early : List Request) (r : Request) → (style_of early r ≡ Old) ↔ (has_key early r ≡ true) }
+pub fn old_requests_are_answered_in_the_old_style()
+    ensures { (old_style : List Request) (r : Request) → (style_of old_style r ≡ Old) ↔ (has_key old_style r ≡ true) }
 {}
 
 /// What was served of the bytes that were read is what may be served of all that were given, after any
@@ -136,19 +141,20 @@ pub fn a_stop_at_0_is_one_at_1()
 pub fn serves_all_without_a_fault()
     ensures { (limit : ℕ) (done : List Request) (bytes : List ℕ) (crash : Crash) (arrivals : List Arrival)
         (marks : List Mark) (ended : Ended) (out : List ℕ)
-        → ServesUntil limit done bytes crash arrivals marks (Some ended) out → ((fault : ConnFault) → ended ≢ Fault fault)
+        → ServesUntil limit done bytes crash arrivals marks (Some ended) out
+        → ((fault : ConnFault) → ended ≢ Fault fault)
         → IsAnswered done bytes arrivals marks ended out }
 {}
 
 /// The reply to a HEAD has no content (RFC 9110, section 9.3.2), whatever its path, and so whatever
 /// mark its arrival may have. It is a refusal, and has the kind of one.
 pub fn head_is_answered_without_content()
-    ensures reply { (early requests : List Request) (m : Message) → m.head.method ≡ codes "HEAD"
-        → (reply_with early requests m).content ≡ [] }
-    ensures kind { (early requests : List Request) (m : Message) → m.head.method ≡ codes "HEAD"
-        → (reply_with early requests m).kind ≡ Problem }
-    ensures written { (limit : ℕ) (early requests : List Request) (m : Message) (mark : Mark)
+    ensures reply { (old_style requests : List Request) (m : Message) → m.head.method ≡ codes "HEAD"
+        → (reply_with old_style requests m).content ≡ [] }
+    ensures kind { (old_style requests : List Request) (m : Message) → m.head.method ≡ codes "HEAD"
+        → (reply_with old_style requests m).kind ≡ Problem }
+    ensures written { (limit : ℕ) (old_style requests : List Request) (m : Message) (mark : Mark)
         → m.head.method ≡ codes "HEAD" → MarkFits limit requests (Arrival.Read m) mark
-        → reply_text_with early requests (Arrival.Read m) mark ≡ render
-        (record { status = (reply_with early requests m).status; content = []; kind = Problem }) (closes m.head) }
+        → reply_text_with old_style requests (Arrival.Read m) mark ≡ render
+        (record { status = (reply_with old_style requests m).status; content = []; kind = Problem }) (closes m.head) }
 {}

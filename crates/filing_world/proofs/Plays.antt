@@ -1,5 +1,6 @@
 -- Events on outboxes of one entry each, and what the world is after them.
-use Rattle.std.proofs.Common.{◌≡◌, ◌⊎◌, ℕ, ◌<◌, ◌≤◌, Bool, true, false, List, [], ◌∷◌, ◌++◌, length, take, Option, Some, None, refl, sym, ap, ◌∙◌, subst, inl, arith}
+use Rattle.std.proofs.Common.{◌≡◌, ◌⊎◌, ℕ, ◌<◌, ◌≤◌, Bool, true, false, List, [], ◌∷◌, ◌++◌, length, take, Option, Some}
+use Rattle.std.proofs.Common.{None, refl, sym, ap, ◌∙◌, subst, inl, arith}
 use Rattle.std.proofs.lemmas.Bool.{both_ways, le-leb}
 use Rattle.std.proofs.lemmas.Grind.{common_steps}
 use Rattle.http_messages.specs.Head.{closes, max_body_len}
@@ -16,10 +17,12 @@ use Rattle.filing_model.specs.Answer.{answer}
 use Rattle.filing_model.specs.Reply.{reply_of}
 use Rattle.filing_model.specs.Outbox.{State, Open, moved, bytes_of, IsSendable}
 use Rattle.filing_model.specs.Stopping.{No, Before, After, ServesUntil}
-use Rattle.filing_model.specs.Text.{RouteFits, requests_of_route, completed, MarksFit, interim_of, reply_text_with, text, text_with}
+use Rattle.filing_model.specs.Text.{RouteFits, requests_of_route, completed, MarksFit, interim_of, reply_text_with}
+use Rattle.filing_model.specs.Text.{text, text_with}
 use Rattle.filing_model.proofs.Lists.{append_nil, prefix_trans, take_within}
 use Rattle.filing_model.proofs.Stopping.{HasArrivals-begins}
-use Rattle.filing_world.specs.World.{Output, World, Put, Send, Deliver, Hand, RestartOutbox, numbered, renewed, new_outbox}
+use Rattle.filing_world.specs.World.{Output, World, Put, Send, Deliver, Hand, RestartOutbox, numbered, renewed}
+use Rattle.filing_world.specs.World.{new_outbox}
 use Rattle.filing_world.proofs.Single.{entry_with, outbox_with, sent_by, item_of}
 use Rattle.filing_world.specs.Step.{Step}
 use Rattle.filing_world.proofs.Posting.{posted, head_is, never_refused, never_whole}
@@ -30,7 +33,9 @@ use Rattle.filing_world.proofs.Posting.{IsPosted}
 abbrev pub after_put : World → ℕ → Request → World
 after_put old outbox r = record old { outboxes = renewed old.outboxes outbox (outbox_with r Open) }
 
-pub plays_put : (old : World) (outbox : ℕ) (r : Request) → IsSendable r → numbered old.outboxes outbox ≡ Some (new_outbox r.filer) → Step old (Put outbox r.key r.target r.body) (after_put old outbox r)
+pub plays_put : (old : World) (outbox : ℕ) (r : Request) → IsSendable r
+    → numbered old.outboxes outbox ≡ Some (new_outbox r.filer)
+    → Step old (Put outbox r.key r.target r.body) (after_put old outbox r)
 plays_put old outbox r sendable here = record {
   is_key = sendable.key;
   is_target = sendable.target;
@@ -43,8 +48,18 @@ plays_put old outbox r sendable here = record {
 abbrev pub after_send : World → ℕ → Request → World
 after_send old outbox r = record old { sent = old.sent ++ item_of outbox r ∷ [] }
 
-pub plays_send : (old : World) (outbox : ℕ) (r : Request) (state : State) → numbered old.outboxes outbox ≡ Some (outbox_with r state) → Step old (Send outbox 1) (after_send old outbox r)
-plays_send old outbox r state here = record { box = outbox_with r state; here = here; up = refl; what = entry_with r state; there = refl; becomes = refl }
+pub plays_send : (old : World) (outbox : ℕ) (r : Request) (state : State)
+    → numbered old.outboxes outbox ≡ Some (outbox_with r state) → Step old (Send outbox 1) (after_send old outbox r)
+plays_send old outbox r state here =
+    record {
+      box = outbox_with r state;
+      here = here;
+      up = refl;
+      what = entry_with r state;
+      there = refl;
+      becomes =
+          refl;
+    }
 
 -- a stranger sends the request
 abbrev pub after_stranger : World → Request → World
@@ -56,15 +71,21 @@ after_restart old = record old { up = true }
 abbrev pub after_outbox : World → ℕ → Request → State → World
 after_outbox old outbox r state = record old { outboxes = renewed old.outboxes outbox (outbox_with r state) }
 
-pub plays_outbox : (old : World) (outbox : ℕ) (r : Request) (state : State) → numbered old.outboxes outbox ≡ Some (outbox_with r state) → Step old (RestartOutbox outbox) (after_outbox old outbox r state)
+pub plays_outbox : (old : World) (outbox : ℕ) (r : Request) (state : State)
+    → numbered old.outboxes outbox ≡ Some (outbox_with r state)
+    → Step old (RestartOutbox outbox) (after_outbox old outbox r state)
 plays_outbox old outbox r state here = record { box = outbox_with r state; here = here; becomes = refl }
 
 -- the same where the outbox is down
 abbrev pub after_fall : World → ℕ → Request → State → World
-after_fall old outbox r state = record old { outboxes = renewed old.outboxes outbox (record (outbox_with r state) { up = false }) }
+after_fall old outbox r state =
+    record old { outboxes = renewed old.outboxes outbox (record (outbox_with r state) { up = false }) }
 
-pub plays_rise : (old : World) (outbox : ℕ) (r : Request) (state : State) → numbered old.outboxes outbox ≡ Some (record (outbox_with r state) { up = false }) → Step old (RestartOutbox outbox) (after_outbox old outbox r state)
-plays_rise old outbox r state here = record { box = record (outbox_with r state) { up = false }; here = here; becomes = refl }
+pub plays_rise : (old : World) (outbox : ℕ) (r : Request) (state : State)
+    → numbered old.outboxes outbox ≡ Some (record (outbox_with r state) { up = false })
+    → Step old (RestartOutbox outbox) (after_outbox old outbox r state)
+plays_rise old outbox r state here =
+    record { box = record (outbox_with r state) { up = false }; here = here; becomes = refl }
 
 -- ---- a delivery
 
@@ -76,7 +97,12 @@ module _ (r : Request) (sendable : IsSendable r) where
   bytes = bytes_of r
 
   arrivals_whole : HasArrivals bytes (Read is.message ∷ []) Ending.Closed
-  arrivals_whole = (length bytes, is.spells, (λ _. (refl, refl)), λ (open' : closes is.message.head ≡ false). absurd (both_ways _ open' is.closes'))
+  arrivals_whole = (
+    length bytes,
+    is.spells,
+    (λ _. (refl, refl)),
+    λ (open' : closes is.message.head ≡ false). absurd (both_ways _ open' is.closes'),
+  )
 
   -- a part that is not the whole holds nothing
   arrivals_part : (n : ℕ) → n < length bytes → HasArrivals (take n bytes) [] (Rest false)
@@ -94,7 +120,8 @@ module _ (r : Request) (sendable : IsSendable r) where
   silent : interim_of (Read is.message) ≡ []
   silent = rw is.alone.silent refl
 
-  fit_one : (limit : ℕ) (done : List Request) → (has_key done r ≡ true) ⊎ (length (firsts done) < limit) → MarksFit limit done (Read is.message ∷ []) (Done ∷ [])
+  fit_one : (limit : ℕ) (done : List Request) → (has_key done r ≡ true) ⊎ (length (firsts done) < limit)
+      → MarksFit limit done (Read is.message ∷ []) (Done ∷ [])
   unfolding MarksFit
   fit_one limit done room = (subst (λ to. RouteFits limit done to Done) (sym is.alone.filed) room, tt)
 
@@ -102,10 +129,12 @@ module _ (r : Request) (sendable : IsSendable r) where
   unfolding MarksFit
   fit_none limit done = tt
 
-  text_one : (done : List Request) → render (reply_of (answer done r)) true ≡ text done (Read is.message ∷ []) Ending.Closed (Done ∷ [])
+  text_one : (done : List Request) → render (reply_of (answer done r)) true
+      ≡ text done (Read is.message ∷ []) Ending.Closed (Done ∷ [])
   unfolding text_with
   text_one done =
-      let reply : reply_text_with [] done (Read is.message) Done ≡ render (reply_of (answer done r)) true = rw (is.closes', is.alone.filed) refl in
+      let reply : reply_text_with [] done (Read is.message) Done ≡ render (reply_of (answer done r)) true =
+      rw (is.closes', is.alone.filed) refl in
       sym (ap (λ front. front ++ (reply_text_with [] done (Read is.message) Done ++ [])) silent ∙ append_nil _ ∙ reply)
 
   text_none : (done : List Request) → [] ≡ text done (Read is.message ∷ []) Ending.Closed []
@@ -113,28 +142,45 @@ module _ (r : Request) (sendable : IsSendable r) where
   text_none done = sym silent
 
   -- the whole request was served, and perhaps stopped
-  serves_done : (limit : ℕ) (done : List Request) → (has_key done r ≡ true) ⊎ (length (firsts done) < limit) → ServesUntil limit done bytes No (Read is.message ∷ []) (Done ∷ []) (Some Closed) (render (reply_of (answer done r)) true)
+  serves_done : (limit : ℕ) (done : List Request) → (has_key done r ≡ true) ⊎ (length (firsts done) < limit)
+      → ServesUntil limit done bytes No (Read is.message ∷ []) (Done ∷ []) (Some Closed)
+      (render (reply_of (answer done r)) true)
   serves_done limit done room = record {
     ending = Ending.Closed;
     fit = fit_one limit done room;
     gives = inl (record { splits = arrivals_whole; all = refl; written = text_one done; end = refl });
   }
 
-  serves_after : (limit : ℕ) (done : List Request) → (has_key done r ≡ true) ⊎ (length (firsts done) < limit) → ServesUntil limit done bytes (After 1) (Read is.message ∷ []) (Done ∷ []) None []
+  serves_after : (limit : ℕ) (done : List Request) → (has_key done r ≡ true) ⊎ (length (firsts done) < limit)
+      → ServesUntil limit done bytes (After 1) (Read is.message ∷ []) (Done ∷ []) None []
   serves_after limit done room = record {
     ending = Ending.Closed;
     fit = fit_one limit done room;
-    gives = inl (record { splits = HasArrivals-begins bytes (Read is.message ∷ []) Ending.Closed arrivals_whole; all = refl; written = text_none done; end = refl });
+    gives = inl (record {
+      splits = HasArrivals-begins bytes (Read is.message ∷ []) Ending.Closed arrivals_whole;
+      all =
+          refl;
+      written = text_none done;
+      end = refl;
+    });
   }
 
-  serves_before : (limit : ℕ) (done : List Request) → ServesUntil limit done bytes (Before 1) (Read is.message ∷ []) [] None []
+  serves_before : (limit : ℕ) (done : List Request)
+      → ServesUntil limit done bytes (Before 1) (Read is.message ∷ []) [] None []
   serves_before limit done = record {
     ending = Ending.Closed;
     fit = fit_none limit done;
-    gives = inl (record { splits = HasArrivals-begins bytes (Read is.message ∷ []) Ending.Closed arrivals_whole; all = refl; written = text_none done; end = refl });
+    gives = inl (record {
+      splits = HasArrivals-begins bytes (Read is.message ∷ []) Ending.Closed arrivals_whole;
+      all =
+          refl;
+      written = text_none done;
+      end = refl;
+    });
   }
 
-  serves_part : (limit : ℕ) (done : List Request) (n : ℕ) → n < length bytes → ServesUntil limit done (take n bytes) No [] [] (Some InputEnded) []
+  serves_part : (limit : ℕ) (done : List Request) (n : ℕ) → n < length bytes
+      → ServesUntil limit done (take n bytes) No [] [] (Some InputEnded) []
   unfolding text_with MarksFit
   serves_part limit done n short = record {
     ending = Rest false;
@@ -154,7 +200,16 @@ part_of n xs short = grind (arith, common_steps)
 abbrev pub after_done : World → ℕ → Request → World
 after_done old item r = record old {
   done = old.done ++ r ∷ [];
-  outputs = old.outputs ++ record { item = item; given = length (bytes_of r); before = length old.done; marks = Done ∷ []; ended = Some Closed; bytes = render (reply_of (answer old.done r)) true } ∷ [];
+  outputs =
+      old.outputs ++ record {
+        item = item;
+        given = length (bytes_of r);
+        before = length old.done;
+        marks =
+            Done ∷ [];
+        ended = Some Closed;
+        bytes = render (reply_of (answer old.done r)) true;
+      } ∷ [];
   up = true;
 }
 
@@ -162,26 +217,55 @@ after_done old item r = record old {
 abbrev pub after_commit : World → ℕ → Request → World
 after_commit old item r = record old {
   done = old.done ++ r ∷ [];
-  outputs = old.outputs ++ record { item = item; given = length (bytes_of r); before = length old.done; marks = Done ∷ []; ended = None; bytes = [] } ∷ [];
+  outputs =
+      old.outputs ++ record {
+        item = item;
+        given = length (bytes_of r);
+        before = length old.done;
+        marks =
+            Done ∷ [];
+        ended = None;
+        bytes = [];
+      } ∷ [];
   up = false;
 }
 
 -- not completed, since the intake stopped before it
 abbrev pub after_stop : World → ℕ → Request → World
 after_stop old item r = record old {
-  outputs = old.outputs ++ record { item = item; given = length (bytes_of r); before = length old.done; marks = []; ended = None; bytes = [] } ∷ [];
+  outputs =
+      old.outputs ++ record {
+        item = item;
+        given = length (bytes_of r);
+        before = length old.done;
+        marks = [];
+        ended =
+            None;
+        bytes = [];
+      } ∷ [];
   up = false;
 }
 
 -- a part of the request came
 abbrev pub after_part : World → ℕ → ℕ → World
 after_part old item n = record old {
-  outputs = old.outputs ++ record { item = item; given = n; before = length old.done; marks = []; ended = Some InputEnded; bytes = [] } ∷ [];
+  outputs =
+      old.outputs ++ record {
+        item = item;
+        given = n;
+        before = length old.done;
+        marks = [];
+        ended =
+            Some InputEnded;
+        bytes = [];
+      } ∷ [];
   up = true;
 }
 
-module _ (old : World) (item : ℕ) (sender : Option (ℕ × ℕ)) (all : ℕ) (r : Request) (sendable : IsSendable r) (up : old.up ≡ true) (here : numbered old.sent item ≡ Some (sent_by sender r)) where
-  pub plays_done : length (bytes_of r) ≤ all → (has_key old.done r ≡ true) ⊎ (length (firsts old.done) < old.limit) → Step old (Deliver item all No) (after_done old item r)
+module _ (old : World) (item : ℕ) (sender : Option (ℕ × ℕ)) (all : ℕ) (r : Request) (sendable : IsSendable r)
+    (up : old.up ≡ true) (here : numbered old.sent item ≡ Some (sent_by sender r)) where
+  pub plays_done : length (bytes_of r) ≤ all → (has_key old.done r ≡ true) ⊎ (length (firsts old.done) < old.limit)
+      → Step old (Deliver item all No) (after_done old item r)
   plays_done enough room = record {
     up = up;
     from = sent_by sender r;
@@ -190,15 +274,28 @@ module _ (old : World) (item : ℕ) (sender : Option (ℕ × ℕ)) (all : ℕ) (
     marks = Done ∷ [];
     ended = Some Closed;
     out = render (reply_of (answer old.done r)) true;
-    serves = subst (λ bs. ServesUntil old.limit old.done bs No (Read (is r sendable).message ∷ []) (Done ∷ []) (Some Closed) (render (reply_of (answer old.done r)) true)) (all_of all (bytes_of r) enough) (serves_done r sendable old.limit old.done room);
+    serves = subst (λ bs. ServesUntil old.limit old.done bs No (Read (is r sendable).message ∷ []) (Done ∷ [])
+        (Some Closed) (render (reply_of (answer old.done r)) true)) (all_of all (bytes_of r) enough)
+        (serves_done r sendable old.limit old.done room);
     becomes = λ i. record old {
       done = old.done ++ sym (completed_one r sendable) i;
-      outputs = old.outputs ++ record { item = item; given = length (all_of all (bytes_of r) enough i); before = length old.done; marks = Done ∷ []; ended = Some Closed; bytes = render (reply_of (answer old.done r)) true } ∷ [];
+      outputs =
+          old.outputs ++ record {
+            item = item;
+            given = length (all_of all (bytes_of r) enough i);
+            before =
+                length old.done;
+            marks = Done ∷ [];
+            ended = Some Closed;
+            bytes =
+                render (reply_of (answer old.done r)) true;
+          } ∷ [];
       up = true;
     };
   }
 
-  pub plays_commit : length (bytes_of r) ≤ all → (has_key old.done r ≡ true) ⊎ (length (firsts old.done) < old.limit) → Step old (Deliver item all (After 1)) (after_commit old item r)
+  pub plays_commit : length (bytes_of r) ≤ all → (has_key old.done r ≡ true) ⊎ (length (firsts old.done) < old.limit)
+      → Step old (Deliver item all (After 1)) (after_commit old item r)
   plays_commit enough room = record {
     up = up;
     from = sent_by sender r;
@@ -207,10 +304,20 @@ module _ (old : World) (item : ℕ) (sender : Option (ℕ × ℕ)) (all : ℕ) (
     marks = Done ∷ [];
     ended = None;
     out = [];
-    serves = subst (λ bs. ServesUntil old.limit old.done bs (After 1) (Read (is r sendable).message ∷ []) (Done ∷ []) None []) (all_of all (bytes_of r) enough) (serves_after r sendable old.limit old.done room);
+    serves = subst (λ bs. ServesUntil old.limit old.done bs (After 1) (Read (is r sendable).message ∷ []) (Done ∷ [])
+        None []) (all_of all (bytes_of r) enough) (serves_after r sendable old.limit old.done room);
     becomes = λ i. record old {
       done = old.done ++ sym (completed_one r sendable) i;
-      outputs = old.outputs ++ record { item = item; given = length (all_of all (bytes_of r) enough i); before = length old.done; marks = Done ∷ []; ended = None; bytes = [] } ∷ [];
+      outputs =
+          old.outputs ++ record {
+            item = item;
+            given = length (all_of all (bytes_of r) enough i);
+            before =
+                length old.done;
+            marks = Done ∷ [];
+            ended = None;
+            bytes = [];
+          } ∷ [];
       up = false;
     };
   }
@@ -225,10 +332,20 @@ module _ (old : World) (item : ℕ) (sender : Option (ℕ × ℕ)) (all : ℕ) (
     marks = [];
     ended = None;
     out = [];
-    serves = subst (λ bs. ServesUntil old.limit old.done bs (Before 1) (Read (is r sendable).message ∷ []) [] None []) (all_of all (bytes_of r) enough) (serves_before r sendable old.limit old.done);
+    serves = subst (λ bs. ServesUntil old.limit old.done bs (Before 1) (Read (is r sendable).message ∷ []) [] None [])
+        (all_of all (bytes_of r) enough) (serves_before r sendable old.limit old.done);
     becomes = λ i. record old {
       done = sym (append_nil old.done) i;
-      outputs = old.outputs ++ record { item = item; given = length (all_of all (bytes_of r) enough i); before = length old.done; marks = []; ended = None; bytes = [] } ∷ [];
+      outputs =
+          old.outputs ++ record {
+            item = item;
+            given = length (all_of all (bytes_of r) enough i);
+            before =
+                length old.done;
+            marks = [];
+            ended = None;
+            bytes = [];
+          } ∷ [];
       up = false;
     };
   }
@@ -246,16 +363,28 @@ module _ (old : World) (item : ℕ) (sender : Option (ℕ × ℕ)) (all : ℕ) (
     serves = serves_part r sendable old.limit old.done n short;
     becomes = λ i. record old {
       done = sym (append_nil old.done) i;
-      outputs = old.outputs ++ record { item = item; given = part_of n (bytes_of r) short i; before = length old.done; marks = []; ended = Some InputEnded; bytes = [] } ∷ [];
+      outputs =
+          old.outputs ++ record {
+            item = item;
+            given = part_of n (bytes_of r) short i;
+            before = length old.done;
+            marks =
+                [];
+            ended = Some InputEnded;
+            bytes = [];
+          } ∷ [];
       up = true;
     };
   }
 
 -- ---- a reply
 
-module _ (old : World) (output outbox given : ℕ) (r : Request) (state : State) (from : Output) (here : numbered old.outputs output ≡ Some from) (item_here : numbered old.sent from.item ≡ Some (item_of outbox r)) (box_here : numbered old.outboxes outbox ≡ Some (outbox_with r state)) where
+module _ (old : World) (output outbox given : ℕ) (r : Request) (state : State) (from : Output)
+    (here : numbered old.outputs output ≡ Some from) (item_here : numbered old.sent from.item ≡ Some (item_of outbox r))
+    (box_here : numbered old.outboxes outbox ≡ Some (outbox_with r state)) where
   -- a reply is heard, and moves the entry
-  pub plays_hand : (reply : ReplyParts) (to : State) → GivesReply (take given from.bytes) reply → moved state reply ≡ to → Step old (Hand output given No) (after_outbox old outbox r to)
+  pub plays_hand : (reply : ReplyParts) (to : State) → GivesReply (take given from.bytes) reply → moved state reply ≡ to
+      → Step old (Hand output given No) (after_outbox old outbox r to)
   plays_hand reply to gives moves = record {
     from = from;
     here = here;
@@ -275,7 +404,8 @@ module _ (old : World) (output outbox given : ℕ) (r : Request) (state : State)
   }
 
   -- it is heard, and the outbox stops
-  pub plays_heard : (reply : ReplyParts) (to : State) → GivesReply (take given from.bytes) reply → moved state reply ≡ to → Step old (Hand output given (After 1)) (after_fall old outbox r to)
+  pub plays_heard : (reply : ReplyParts) (to : State) → GivesReply (take given from.bytes) reply
+      → moved state reply ≡ to → Step old (Hand output given (After 1)) (after_fall old outbox r to)
   plays_heard reply to gives moves = record {
     from = from;
     here = here;
@@ -315,7 +445,8 @@ module _ (old : World) (output outbox given : ℕ) (r : Request) (state : State)
   }
 
   -- none is heard
-  pub plays_deaf : ((reply : ReplyParts) → ¬ (GivesReply (take given from.bytes) reply)) → Step old (Hand output given No) (after_outbox old outbox r state)
+  pub plays_deaf : ((reply : ReplyParts) → ¬ (GivesReply (take given from.bytes) reply))
+      → Step old (Hand output given No) (after_outbox old outbox r state)
   plays_deaf silent = record {
     from = from;
     here = here;
@@ -335,24 +466,32 @@ module _ (old : World) (output outbox given : ℕ) (r : Request) (state : State)
   }
 
 -- the whole of a written reply gives it
-pub gives_whole : (reply : ReplyParts) (close : Bool) (all : ℕ) → IsReadable reply → length (render reply close) ≤ all → GivesReply (take all (render reply close)) reply
+pub gives_whole : (reply : ReplyParts) (close : Bool) (all : ℕ) → IsReadable reply → length (render reply close) ≤ all
+    → GivesReply (take all (render reply close)) reply
 gives_whole reply close all readable enough =
     let whole = all_of all (render reply close) enough in
     (all, subst (λ bs. SpellsReply bs reply) (whole ∙ ap (take all) whole) (reply-spells reply close readable))
 
 -- and a part that is not the whole gives none
-pub gives_none : (reply other : ReplyParts) (close : Bool) (part : List ℕ) → IsReadable reply → IsPrefixOf part (render reply close) → length part < length (render reply close) → ¬ (GivesReply part other)
+pub gives_none : (reply other : ReplyParts) (close : Bool) (part : List ℕ) → IsReadable reply
+    → IsPrefixOf part (render reply close) → length part < length (render reply close) → ¬ (GivesReply part other)
 gives_none reply other close part readable begins short gives =
     let whole = render reply close in
     let given = take gives.0 part in
     let front = prefix_trans given part whole (take_within gives.0 part) begins in
-    let long = subst (λ bs. BeginsReply bs other (length given)) (sym front.1) (BeginsReply-more given front.0 other (length given) gives.1) in
-    let same = (BeginsReply-unique whole other reply (length given) (length whole) long (reply-spells reply close readable)).1 in
+    let long =
+    subst (λ bs. BeginsReply bs other (length given)) (sym front.1)
+    (BeginsReply-more given front.0 other (length given) gives.1) in
+    let same =
+    (BeginsReply-unique whole other reply (length given) (length whole) long
+    (reply-spells reply close readable)).1 in
     let size : length given ≤ length part = grind (arith, common_steps) in
     omega (arith, same, size, short)
 
 -- as its first bytes
-pub gives_none_first : (reply other : ReplyParts) (close : Bool) (n : ℕ) → IsReadable reply → n < length (render reply close) → ¬ (GivesReply (take n (render reply close)) other)
+pub gives_none_first : (reply other : ReplyParts) (close : Bool) (n : ℕ) → IsReadable reply
+    → n < length (render reply close) → ¬ (GivesReply (take n (render reply close)) other)
 gives_none_first reply other close n readable short =
     let size : length (take n (render reply close)) ≤ n = grind (arith, common_steps) in
-    gives_none reply other close (take n (render reply close)) readable (take_within n (render reply close)) (omega (arith, size, short))
+    gives_none reply other close (take n (render reply close)) readable (take_within n (render reply close))
+    (omega (arith, size, short))

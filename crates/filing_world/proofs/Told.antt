@@ -1,5 +1,6 @@
 -- What the first request of a filer and key is told, and what a second one is.
-use Rattle.std.proofs.Common.{◌≡◌, ◌≢◌, ◌≤◌, true, false, List, [], ◌∷◌, length, Some, refl, sym, ap, ◌∙◌, ⊎_elim, arith}
+use Rattle.std.proofs.Common.{◌≡◌, ◌≢◌, ◌≤◌, true, false, List, [], ◌∷◌, length, Some, refl, sym, ap, ◌∙◌, ⊎_elim}
+use Rattle.std.proofs.Common.{arith}
 use Rattle.std.specs.Prelude.{bytes_eq}
 use Rattle.std.proofs.lemmas.Bool.{cases_Bool}
 use Rattle.std.proofs.lemmas.Slice.Eq.{bytes_eq-Decides}
@@ -27,7 +28,8 @@ module _ (r : Request) (good : IsGood r) where
   answer_first = answer_new [] r refl ∙ rw (good.untargeted, free-findings r.filer r.body, good.valid) refl
 
   pub told_first : moved Open (reply_of (answer [] r)) ≡ Confirmed 1
-  told_first = ap (λ a. moved Open (reply_of a)) answer_first ∙ told-confirms Problem 1 false (omega arith) (omega arith)
+  told_first =
+      ap (λ a. moved Open (reply_of a)) answer_first ∙ told-confirms Problem 1 false (omega arith) (omega arith)
 
   pub registered_one : register (r ∷ []) ≡ filing_of r ∷ []
   unfolding firsts kept_after filings verdict
@@ -44,7 +46,9 @@ module _ (r : Request) (good : IsGood r) where
   written_first = ap (λ a. render (reply_of a) true) answer_first
 
   pub written_again : render (reply_of (answer (r ∷ []) r)) true ≡ registered_bytes
-  written_again = ap (λ a. render (reply_of a) true) answer_again ∙ ap (λ x. render x true) (reply_as-as_repeat Problem (Answer.Registered 1 false))
+  written_again =
+      ap (λ a. render (reply_of a) true) answer_again
+      ∙ ap (λ x. render x true) (reply_as-as_repeat Problem (Answer.Registered 1 false))
 
 -- ---- a second one under the same key
 
@@ -64,7 +68,8 @@ module _ (first second : Request) (filer : first.filer ≡ second.filer) (key : 
 
   differs : second.body ≢ first.body → same_content first second ≡ false
   differs other = ⊎_elim
-      (λ (h : bytes_eq first.body second.body ≡ true). absurd (other (sym ((bytes_eq-Decides first.body second.body).0 h))))
+      (λ (h : bytes_eq first.body second.body ≡ true).
+      absurd (other (sym ((bytes_eq-Decides first.body second.body).0 h))))
       (λ (h : bytes_eq first.body second.body ≡ false). rw h refl)
       (cases_Bool (bytes_eq first.body second.body))
 

@@ -20,7 +20,13 @@ pub record IsGood (r : Request) : Type 0 where
 
 -- a small report of this kind
 abbrev pub small : Request
-small = record { filer = codes "ACME"; key = codes "k-1"; target = None; body = codes "{\"documentInfo\":{\"documentType\":\"https://xbrl.org/2021/xbrl-json\",\"taxonomy\":[\"t\"]}}" }
+small = record {
+  filer = codes "ACME";
+  key = codes "k-1";
+  target = None;
+  body =
+      codes "{\"documentInfo\":{\"documentType\":\"https://xbrl.org/2021/xbrl-json\",\"taxonomy\":[\"t\"]}}";
+}
 
 -- the filing of a report, where it is the first
 abbrev pub filing_of : Request → Filing
@@ -40,8 +46,10 @@ pub record IsAll (all : ℕ) (r : Request) : Type 0 where
   pub reply : length registered_bytes ≤ all
   pub clash : length clash_bytes ≤ all
 
--- what a world holds at last: so many completed requests, these filings, these bytes of outputs and these states of entries
-pub record EndsWith (world : World) (done : ℕ) (filings : List Filing) (outputs : List (List ℕ)) (known : List (ℕ × ℕ × State)) : Type 0 where
+-- what a world holds at last: so many completed requests, these filings, these bytes of outputs and these states of
+-- entries
+pub record EndsWith (world : World) (done : ℕ) (filings : List Filing) (outputs : List (List ℕ))
+    (known : List (ℕ × ℕ × State)) : Type 0 where
   pub count : length world.done ≡ done
   pub registered : register world.done ≡ filings
   pub written : map (λ o. o.bytes) world.outputs ≡ outputs
@@ -49,16 +57,19 @@ pub record EndsWith (world : World) (done : ℕ) (filings : List Filing) (output
 
 -- some run of these events leaves that
 abbrev pub MayLeave : World → List Event → ℕ → List Filing → List (List ℕ) → List (ℕ × ℕ × State) → Type 0
-MayLeave old events done filings outputs known = (new : World) × Run old events new × EndsWith new done filings outputs known
+MayLeave old events done filings outputs known =
+    (new : World) × Run old events new × EndsWith new done filings outputs known
 
 -- one outbox, with its report in it, sent once
 abbrev pub sent_once : Request → List Event → List Event
 sent_once r events = Put 1 r.key r.target r.body ∷ Send 1 1 ∷ events
 
--- the intake is stopped behind its commit, and both ends are restarted; the report is sent again, and its reply is cut at first
+-- the intake is stopped behind its commit, and both ends are restarted; the report is sent again, and its reply is cut
+-- at first
 abbrev pub stopped_and_sent_again : Request → ℕ → ℕ → List Event
 stopped_and_sent_again r all cut =
-    sent_once r (Deliver 1 all (After 1) ∷ RestartServer ∷ RestartOutbox 1 ∷ Send 1 1 ∷ Deliver 2 all No ∷ Hand 2 cut No ∷ Hand 2 all No ∷ [])
+    sent_once r (Deliver 1 all (After 1) ∷ RestartServer ∷ RestartOutbox 1 ∷ Send 1 1 ∷ Deliver 2 all No ∷ Hand 2 cut No
+    ∷ Hand 2 all No ∷ [])
 
 -- the reply is lost, and the report sent again
 abbrev pub lost_reply : Request → ℕ → List Event
@@ -87,12 +98,14 @@ stopped_hearing r all crash = sent_once r (Deliver 1 all No ∷ Hand 1 all crash
 -- a stranger sends the very request first, and it is completed before the entry's
 abbrev pub stranger_first : Request → ℕ → List Event
 stranger_first r all =
-    Stranger (bytes_of r) ∷ Deliver 1 all No ∷ Put 1 r.key r.target r.body ∷ Send 1 1 ∷ Deliver 2 all No ∷ Hand 2 all No ∷ []
+    Stranger (bytes_of r) ∷ Deliver 1 all No ∷ Put 1 r.key r.target r.body ∷ Send 1 1 ∷ Deliver 2 all No ∷ Hand 2 all No
+    ∷ []
 
 -- two outboxes file under one key; the second's request comes first, and its reply is handed over twice
 abbrev pub two_outboxes : Request → Request → ℕ → List Event
 two_outboxes first second all =
-    Put 1 first.key first.target first.body ∷ Put 2 second.key second.target second.body ∷ Send 1 1 ∷ Send 2 1 ∷ Deliver 2 all No ∷ Deliver 1 all No ∷ Hand 2 all No ∷ Hand 1 all No ∷ Hand 1 all No ∷ []
+    Put 1 first.key first.target first.body ∷ Put 2 second.key second.target second.body ∷ Send 1 1 ∷ Send 2 1
+    ∷ Deliver 2 all No ∷ Deliver 1 all No ∷ Hand 2 all No ∷ Hand 1 all No ∷ Hand 1 all No ∷ []
 
 -- the requests of one filer under one key, with two bodies
 pub record AreRivals (first second : Request) : Type 0 where

@@ -1,5 +1,6 @@
 -- What each event may do to the world.
-use Rattle.std.specs.Prelude.{◌≡◌, ℕ, ◌≤◌, ◌⊎◌, ◌&&◌, Bool, true, false, not, List, [], ◌∷◌, ◌++◌, length, take, Option, Some, None, nat_le, bytes_eq, if◌then◌else◌}
+use Rattle.std.specs.Prelude.{◌≡◌, ℕ, ◌≤◌, ◌⊎◌, ◌&&◌, Bool, true, false, not, List, [], ◌∷◌, ◌++◌, length, take, Option}
+use Rattle.std.specs.Prelude.{Some, None, nat_le, bytes_eq, if◌then◌else◌}
 use Rattle.std.specs.List.{list_any}
 use Rattle.key_string.specs.Key.{IsKey}
 use Rattle.http_messages.specs.Head.{max_body_len}
@@ -13,7 +14,8 @@ use Rattle.http_messages.specs.Posting.{IsTarget}
 use Rattle.filing_model.specs.Outbox.{State, Open, moved, Entry, request_of, bytes_of}
 use Rattle.filing_model.specs.Stopping.{Crash, No, Before, After, ServesUntil}
 use Rattle.filing_model.specs.Text.{completed}
-use Rattle.filing_world.specs.World.{Outbox, Sent, Output, World, Event, Put, Send, Stranger, Deliver, Hand, RestartServer, RestartOutbox, numbered, renewed}
+use Rattle.filing_world.specs.World.{Outbox, Sent, Output, World, Event, Put, Send, Stranger, Deliver, Hand}
+use Rattle.filing_world.specs.World.{RestartServer, RestartOutbox, numbered, renewed}
 
 -- whether an end goes on without a stop
 abbrev pub is_no : Crash → Bool
@@ -47,11 +49,18 @@ pub record Sends (old : World) (outbox entry : ℕ) (new : World) : Type 0 where
   pub up : box.up ≡ true
   pub what : Entry
   pub there : numbered box.entries entry ≡ Some what
-  pub becomes : new ≡ record old { sent = old.sent ++ record { from = Some (outbox, entry); bytes = bytes_of (request_of box.filer what) } ∷ [] }
+  pub becomes : new ≡ record old {
+    sent = old.sent ++ record {
+      from = Some (outbox, entry);
+      bytes =
+          bytes_of (request_of box.filer what);
+    } ∷ [];
+  }
 
 -- ---- a delivery
 
--- The intake, which is up, is given the first bytes of an item, serves them, and may stop. What was completed and written is added.
+-- The intake, which is up, is given the first bytes of an item, serves them, and may stop. What was completed and
+-- written is added.
 pub record Delivers (old : World) (item given : ℕ) (crash : Crash) (new : World) : Type 0 where
   pub up : old.up ≡ true
   pub from : Sent
@@ -63,7 +72,16 @@ pub record Delivers (old : World) (item given : ℕ) (crash : Crash) (new : Worl
   pub serves : ServesUntil old.limit old.done (take given from.bytes) crash arrivals marks ended out
   pub becomes : new ≡ record old {
     done = old.done ++ completed arrivals marks;
-    outputs = old.outputs ++ record { item = item; given = length (take given from.bytes); before = length old.done; marks = marks; ended = ended; bytes = out } ∷ [];
+    outputs =
+        old.outputs ++ record {
+          item = item;
+          given = length (take given from.bytes);
+          before = length old.done;
+          marks =
+              marks;
+          ended = ended;
+          bytes = out;
+        } ∷ [];
     up = is_no crash;
   }
 
@@ -85,9 +103,14 @@ heard_by state (Some reply) = moved state reply
 
 -- the outbox after that, which is up unless it stopped
 abbrev pub box_after : Outbox → ℕ → Entry → Option ReplyParts → Crash → Outbox
-box_after box number entry heard crash = record box { entries = renewed box.entries number (record entry { state = heard_by entry.state heard }); up = is_no crash }
+box_after box number entry heard crash =
+    record box {
+      entries = renewed box.entries number (record entry { state = heard_by entry.state heard });
+      up = is_no crash;
+    }
 
--- The first bytes of an output are handed to the entry whose request was delivered, and what they say moves its state alone.
+-- The first bytes of an output are handed to the entry whose request was delivered, and what they say moves its state
+-- alone.
 pub record Hands (old : World) (output given : ℕ) (crash : Crash) (new : World) : Type 0 where
   pub from : Output
   pub here : numbered old.outputs output ≡ Some from
@@ -115,7 +138,8 @@ pub record Restarts (old : World) (outbox : ℕ) (new : World) : Type 0 where
 
 -- what the world may be after an event
 abbrev pub Step : World → Event → World → Type 0
-Step old (Put outbox key target body) new = Puts old outbox (record { key = key; target = target; body = body; state = Open }) new
+Step old (Put outbox key target body) new =
+    Puts old outbox (record { key = key; target = target; body = body; state = Open }) new
 Step old (Send outbox entry) new = Sends old outbox entry new
 Step old (Stranger bytes) new = new ≡ record old { sent = old.sent ++ record { from = None; bytes = bytes } ∷ [] }
 Step old (Deliver item given crash) new = Delivers old item given crash new
@@ -137,11 +161,16 @@ IsAway outboxes outbox = (box : Outbox) → numbered outboxes outbox ≡ Some bo
 -- A number names nothing, an output answers a stranger, or an end that the event needs is down.
 abbrev pub CannotPlay : World → Event → Type 0
 CannotPlay world (Put outbox key target body) = IsAway world.outboxes outbox
-CannotPlay world (Send outbox entry) = IsAway world.outboxes outbox ⊎ ((box : Outbox) → numbered world.outboxes outbox ≡ Some box → numbered box.entries entry ≡ None)
+CannotPlay world (Send outbox entry) =
+    IsAway world.outboxes outbox ⊎ ((box : Outbox) → numbered world.outboxes outbox ≡ Some box
+    → numbered box.entries entry ≡ None)
 CannotPlay world (Stranger bytes) = ⊥
 CannotPlay world (Deliver item given crash) = (world.up ≡ false) ⊎ (numbered world.sent item ≡ None)
 CannotPlay world (Hand output given crash) =
     (numbered world.outputs output ≡ None)
-    ⊎ ((from : Output) × (item : Sent) × (numbered world.outputs output ≡ Some from) × (numbered world.sent from.item ≡ Some item) × ((item.from ≡ None) ⊎ ((outbox : ℕ) × (entry : ℕ) × (item.from ≡ Some (outbox, entry)) × IsAway world.outboxes outbox)))
+    ⊎ ((from : Output) × (item : Sent) × (numbered world.outputs output ≡ Some from)
+    × (numbered world.sent from.item ≡ Some item)
+    × ((item.from ≡ None) ⊎ ((outbox : ℕ) × (entry : ℕ) × (item.from ≡ Some (outbox, entry))
+    × IsAway world.outboxes outbox)))
 CannotPlay world RestartServer = ⊥
 CannotPlay world (RestartOutbox outbox) = numbered world.outboxes outbox ≡ None

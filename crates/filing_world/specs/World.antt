@@ -18,7 +18,8 @@ pub record Sent : Type 0 where
   pub from : Option (ℕ × ℕ)
   pub bytes : List ℕ
 
--- what one delivery left: how many bytes of which item came, after how many completed requests, and what was marked and written
+-- what one delivery left: how many bytes of which item came, after how many completed requests, and what was marked and
+-- written
 pub record Output : Type 0 where
   pub item : ℕ
   pub given : ℕ
@@ -27,7 +28,8 @@ pub record Output : Type 0 where
   pub ended : Option Ended
   pub bytes : List ℕ
 
--- how many filers' keys may be kept; the completed requests, the sent items and the outputs so far; the outboxes; and whether the intake is up
+-- how many filers' keys may be kept; the completed requests, the sent items and the outputs so far; the outboxes; and
+-- whether the intake is up
 pub record World : Type 0 where
   pub limit : ℕ
   pub done : List Request
@@ -36,8 +38,8 @@ pub record World : Type 0 where
   pub outboxes : List Outbox
   pub up : Bool
 
--- Outboxes, entries, items and outputs are named by their numbers, from 1 on. A delivery and a reply that is handed over give
--- so many bytes, or all where there are fewer.
+-- Outboxes, entries, items and outputs are named by their numbers, from 1 on. A delivery and a reply that is handed
+-- over give so many bytes, or all where there are fewer.
 pub data Event : Type 0 where
   Put : (outbox : ℕ) (key : List ℕ) (target : Option ℕ) (body : List ℕ) → Event
   Send : (outbox entry : ℕ) → Event

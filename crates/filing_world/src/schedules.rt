@@ -14,8 +14,11 @@ ghost use Rattle.filing_model.specs.Stopping.{Crash, Before, After};
 ghost use Rattle.filing_world.specs.World.{World, Output, Sent, Deliver, Hand, numbered};
 ghost use Rattle.filing_world.specs.Step.{Step};
 ghost use Rattle.filing_world.specs.Headline.{IsReached, IsConfirmed, start, states};
-ghost use Rattle.filing_world.specs.Schedules.{IsGood, IsAll, AreRivals, MayLeave, filing_of, registered_bytes, clash_bytes, small};
-ghost use Rattle.filing_world.specs.Schedules.{stopped_and_sent_again, lost_reply, late_reply, cut_delivery, stopped_before, stopped_after, stopped_hearing, stranger_first, two_outboxes};
+ghost use Rattle.filing_world.specs.Schedules.{IsGood, IsAll, AreRivals, MayLeave, filing_of, registered_bytes};
+ghost use Rattle.filing_world.specs.Schedules.{clash_bytes, small};
+ghost use Rattle.filing_world.specs.Schedules.{stopped_and_sent_again, lost_reply, late_reply, cut_delivery};
+ghost use Rattle.filing_world.specs.Schedules.{stopped_before, stopped_after, stopped_hearing, stranger_first};
+ghost use Rattle.filing_world.specs.Schedules.{two_outboxes};
 
 /// The intake stops after its commit, before the first byte of the reply. Both ends are restarted, and
 /// the entry is sent again. A part of the reply leaves it open; the whole reply confirms it, under the

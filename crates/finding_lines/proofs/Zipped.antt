@@ -1,5 +1,6 @@
 -- Two lists, an element of each at a time.
-use Rattle.std.proofs.Common.{◌≡◌, ℕ, suc, ◌+◌, ◌<◌, ◌≤◌, List, [], ◌∷◌, ◌++◌, length, take, get_or, refl, sym, ap, ap₂, ◌∙◌, arith}
+use Rattle.std.proofs.Common.{◌≡◌, ℕ, suc, ◌+◌, ◌<◌, ◌≤◌, List, [], ◌∷◌, ◌++◌, length, take, get_or, refl, sym, ap, ap₂}
+use Rattle.std.proofs.Common.{◌∙◌, arith}
 use Rattle.std.specs.List.{flat_map, zip}
 use Rattle.std.proofs.lemmas.List.{take_more, take_all, flat_map_more}
 use Rattle.std.proofs.lemmas.Slice.Zip.{length-zip, get_or-zip}
@@ -9,7 +10,8 @@ use Rattle.report_places.specs.declared.place.Place.{Place}
 
 module _ {A B C : Type 0} (f : A × B → List C) (ks : List A) (vs : List B) (i : ℕ) where
   pub pair_more : (k : A) (d : B) (old piece : List C) → i < length ks → i < length vs → k ≡ get_or ks i k
-      → old ≡ flat_map f (take i (zip ks vs)) → piece ≡ f (k, get_or vs i d) → old ++ piece ≡ flat_map f (take (i + 1) (zip ks vs))
+      → old ≡ flat_map f (take i (zip ks vs)) → piece ≡ f (k, get_or vs i d)
+      → old ++ piece ≡ flat_map f (take (i + 1) (zip ks vs))
   pair_more k d old piece h g at_i so_far is =
       let v = get_or vs i d in
       let more = take_more (zip ks vs) i (k, d) (omega (arith, length-zip ks vs)) in
@@ -20,7 +22,8 @@ module _ {A B C : Type 0} (f : A × B → List C) (ks : List A) (vs : List B) (i
   pub all_pairs : length ks ≤ i → flat_map f (take i (zip ks vs)) ≡ flat_map f (zip ks vs)
   all_pairs h = ap (flat_map f) (take_all i (zip ks vs) (omega (arith, length-zip ks vs)))
 
-pub as_many : (text : List ℕ) (value : Json) (pointers : List (List ℕ)) (places : List Place) → ArePlacesOf text value pointers places → length places ≡ length pointers
+pub as_many : (text : List ℕ) (value : Json) (pointers : List (List ℕ)) (places : List Place)
+    → ArePlacesOf text value pointers places → length places ≡ length pointers
 as_many text value [] [] are = refl
 as_many text value [] (q ∷ places) are = absurd are
 as_many text value (p ∷ pointers) [] are = absurd are

@@ -22,7 +22,8 @@ line_with Objects file position pair value words = object_line file position pai
 
 -- of a finding in a body, with its place there
 abbrev pub line : Form → List ℕ → List ℕ → Pair × Place → List ℕ
-line form file body told = line_with form file told.1.position told.0 (value body told.1) (message body told.1 told.0.code)
+line form file body told =
+    line_with form file told.1.position told.0 (value body told.1) (message body told.1 told.0.code)
 
 abbrev pub stop_words : Stop → List ℕ
 stop_words stop = if stop.is_cut then codes "the body ends too soon" else codes "the body is no JSON text"

@@ -1,9 +1,15 @@
 -- What is said of a finding.
-use Rattle.std.specs.Prelude.{ℕ, ◌==◌, List, [], ◌∷◌, ◌++◌, length, drop, nat_lt, if◌then◌else◌, codes, Option, Some, None}
+use Rattle.std.specs.Prelude.{ℕ, ◌==◌, List, [], ◌∷◌, ◌++◌, length, drop, nat_lt, if◌then◌else◌, codes, Option, Some}
+use Rattle.std.specs.Prelude.{None}
 use Rattle.report_places.specs.Shown.{scalar, value_text}
 use Rattle.report_places.specs.declared.place.Place.{Place}
 use Rattle.xbrl_report.specs.declared.code.Code.{Code}
-use Rattle.xbrl_report.specs.declared.code.Code.TheVariants.{NotJson, NotObject, DocumentInfo, DocumentType, Namespaces, NamespaceUri, Taxonomy, Facts, Fact, Value, Decimals, Dimensions, ConceptMissing, EntityMissing, DimensionValue, Name, UnboundPrefix, NotTheFiler, Period, PeriodOrder, UnitForm, Number, Language, UnknownDimension, TooMany, NotReplaceable}
+use Rattle.xbrl_report.specs.declared.code.Code.TheVariants.{NotJson, NotObject, DocumentInfo, DocumentType, Namespaces}
+use Rattle.xbrl_report.specs.declared.code.Code.TheVariants.{NamespaceUri, Taxonomy, Facts, Fact, Value, Decimals}
+use Rattle.xbrl_report.specs.declared.code.Code.TheVariants.{Dimensions, ConceptMissing, EntityMissing, DimensionValue}
+use Rattle.xbrl_report.specs.declared.code.Code.TheVariants.{Name, UnboundPrefix, NotTheFiler, Period, PeriodOrder}
+use Rattle.xbrl_report.specs.declared.code.Code.TheVariants.{UnitForm, Number, Language, UnknownDimension, TooMany}
+use Rattle.xbrl_report.specs.declared.code.Code.TheVariants.{NotReplaceable}
 
 -- what is wrong with the value at the place; the value stands before it
 abbrev pub phrase : Code → List ℕ
@@ -46,12 +52,15 @@ abbrev subject_of : Option (List ℕ) → Option (List ℕ) → List ℕ → Lis
 subject_of (Some shown) (Some whole) bytes = shown ++ dots shown whole
 subject_of _ _ bytes = bracket_words bytes
 
--- the value with which the bytes begin: 60 characters of a string, a number or a literal as they are in the text, or words
+-- the value with which the bytes begin: 60 characters of a string, a number or a literal as they are in the text, or
+-- words
 abbrev pub subject : List ℕ → List ℕ
 subject bytes = subject_of (value_text bytes) (scalar bytes) bytes
 
 abbrev pub message : List ℕ → Place → Code → List ℕ
-message body place code = if place.is_there then subject (drop place.offset body) ++ codes " " ++ phrase code else codes "the member is missing"
+message body place code =
+    if place.is_there then subject (drop place.offset body) ++ codes " " ++ phrase code
+    else codes "the member is missing"
 
 -- the string, number or literal at a place, as it is in the body
 abbrev pub value : List ℕ → Place → Option (List ℕ)

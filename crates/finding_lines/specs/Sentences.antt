@@ -10,7 +10,8 @@ use Rattle.finding_lines.specs.Text.{one_line}
 -- FILE:LINE:COLUMN: CODE:
 abbrev pub head : List ℕ → Position → Code → List ℕ
 head file position code =
-    one_line file ++ codes ":" ++ decimal position.line ++ codes ":" ++ decimal position.column ++ codes ": " ++ text_of code ++ codes ": "
+    one_line file ++ codes ":" ++ decimal position.line ++ codes ":" ++ decimal position.column ++ codes ": "
+    ++ text_of code ++ codes ": "
 
 -- (PLACE)
 abbrev pub tail : List ℕ → List ℕ

@@ -25,8 +25,8 @@ pub(crate) fn message(
     Ok(message)
 }
 
-/// The string, number or literal at a place, as it is in the body. None is there if the value is an object or an array, or
-/// is missing.
+/// The string, number or literal at a place, as it is in the body. None is there if the value is an object or an array,
+/// or is missing.
 pub(crate) fn value<'a>(body: &'a [u8], place: &Place) -> Option<&'a [u8]>
     ensures { option_map (λ value. value.now) result ≡ value_lem body.now place.now }
 {

@@ -1,15 +1,16 @@
 //! The line for programs.
 ghost use Rattle.std.specs.Prelude.{◌≡◌, option_map, string_bytes, IfOk};
 ghost use Rattle.std.specs.Fmt.{decimal};
-ghost use Rattle.finding_lines.specs.Objects.{json_text as json_text_lem, value_text as value_text_lem, object_line as object_line_lem, front_part, back_part};
+ghost use Rattle.finding_lines.specs.Objects.{json_text as json_text_lem, value_text as value_text_lem};
+ghost use Rattle.finding_lines.specs.Objects.{object_line as object_line_lem, front_part, back_part};
 
 use report_places::Position;
 use serde_json::json;
 use std::alloc::{AllocError, Global};
 use xbrl_report::Finding;
 
-/// A JSON object with the members `code`, `column`, `file`, `line`, `message`, `place`, and `value`, which is the text of a
-/// string, a number or a literal at the place, and else null.
+/// A JSON object with the members `code`, `column`, `file`, `line`, `message`, `place`, and `value`, which is the text
+/// of a string, a number or a literal at the place, and else null.
 pub(crate) fn object_line(
     alloc: Global,
     file: &str,
@@ -85,7 +86,8 @@ fn json_text(alloc: Global, text: &str) -> Result<String, AllocError>
 
 /// The text of a value as JSON, null if there is none.
 fn value_text(alloc: Global, value: Option<&[u8]>) -> Result<String, AllocError>
-    ensures { IfOk result (λ written. string_bytes written ≡ value_text_lem (option_map (λ value. value.now) value.entry)) }
+    ensures { IfOk result (λ written. string_bytes written
+        ≡ value_text_lem (option_map (λ value. value.now) value.entry)) }
 {
     match value {
         Some(value) => json_text(alloc, String::from_utf8_lossy(alloc, value)?.as_str()),

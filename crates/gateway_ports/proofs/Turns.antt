@@ -1,5 +1,6 @@
 -- Connections that are served, one behind another.
-use Rattle.std.proofs.Common.{◌≡◌, ℕ, ◌+◌, ◌≤◌, List, [], ◌∷◌, ◌++◌, length, Option, Some, None, refl, sym, ◌∙◌, ap, subst, arith, append_assoc, true≢false}
+use Rattle.std.proofs.Common.{◌≡◌, ℕ, ◌+◌, ◌≤◌, List, [], ◌∷◌, ◌++◌, length, Option, Some, None, refl, sym, ◌∙◌, ap}
+use Rattle.std.proofs.Common.{subst, arith, append_assoc, true≢false}
 use Rattle.std.specs.Prelude.{IfSome, option_map, Result, Ok, Err}
 use Rattle.std.specs.Result.{IsErr, result_ok}
 use Rattle.std.proofs.lemmas.Option.{IfSome_then}
@@ -13,7 +14,7 @@ use Rattle.filing_model.specs.Serving.{keeping}
 use Rattle.filing_model.proofs.Lists.{append_nil}
 use Rattle.sqlite.specs.Store.{Ghosts}
 use Rattle.intake_core.specs.declared.intake.Intake.{Intake}
-use Rattle.intake_core.specs.Held.{limit_of, early_in}
+use Rattle.intake_core.specs.Held.{limit_of, old_style_in}
 use Rattle.gateway_server.specs.declared.serving.Served.{Served}
 use Rattle.http_wire.specs.Wire.{Wire}
 use Rattle.gateway_server.specs.Progress.{ServesToEnd}
@@ -40,12 +41,16 @@ grows_none (Some outputs) = ap Some (sym (append_nil outputs))
 -- ---- one connection
 
 -- what was read of it is read of the bytes that came
-pub came_one : (old new : Option (List (List ℕ))) (left left' : Option (List ℕ)) (c : Connection) → Takes old new left → Consumes left left' c.read → (c.output.ended ≡ InputEnded → IsAtEnd left') → (c.output.ended ≡ Fault fault.ReadLimit → max_reads ≤ length c.read) → Came old new (c ∷ [])
+pub came_one : (old new : Option (List (List ℕ))) (left left' : Option (List ℕ)) (c : Connection) → Takes old new left
+    → Consumes left left' c.read → (c.output.ended ≡ InputEnded → IsAtEnd left')
+    → (c.output.ended ≡ Fault fault.ReadLimit → max_reads ≤ length c.read) → Came old new (c ∷ [])
 came_one None new left left' c takes reads end limited = tt
 came_one (Some []) new left left' c takes reads end limited = absurd takes
-came_one (Some (first ∷ more)) new left left' c takes reads end limited = known left' (subst (λ l. Consumes l left' c.read) takes.1 reads) end
+came_one (Some (first ∷ more)) new left left' c takes reads end limited =
+    known left' (subst (λ l. Consumes l left' c.read) takes.1 reads) end
   where
-    known : (left' : Option (List ℕ)) → Consumes (Some first) left' c.read → (c.output.ended ≡ InputEnded → IsAtEnd left') → Came (Some (first ∷ more)) new (c ∷ [])
+    known : (left' : Option (List ℕ)) → Consumes (Some first) left' c.read
+        → (c.output.ended ≡ InputEnded → IsAtEnd left') → Came (Some (first ∷ more)) new (c ∷ [])
     known None reads end = absurd reads
     known (Some rest) reads end = (record { more = rest; splits = reads; at_end = end; limited = limited }, takes.0)
 
@@ -54,28 +59,45 @@ counted_one None c = omega arith
 counted_one (Some coming) c = refl
 
 -- what was written on it is its output
-pub grows_one : (old new : Option (List Output)) (written written' : Option (List ℕ)) (served : Served) (text : List ℕ) → IsUnwritten old written → Appends written written' text → Adds old new served written' → Grows old new (record { marks = served.marks.items; ended = served.ended; bytes = text } ∷ [])
+pub grows_one : (old new : Option (List Output)) (written written' : Option (List ℕ)) (served : Served) (text : List ℕ)
+    → IsUnwritten old written → Appends written written' text → Adds old new served written'
+    → Grows old new (record { marks = served.marks.items; ended = served.ended; bytes = text } ∷ [])
 grows_one None new written written' served text unwritten wrote adds = tt
-grows_one (Some outputs) new written written' served text unwritten wrote adds = known written' (subst (λ w. Appends w written' text) unwritten wrote) adds
+grows_one (Some outputs) new written written' served text unwritten wrote adds =
+    known written' (subst (λ w. Appends w written' text) unwritten wrote) adds
   where
-    known : (written' : Option (List ℕ)) → Appends (Some []) written' text → Adds (Some outputs) new served written' → Grows (Some outputs) new (record { marks = served.marks.items; ended = served.ended; bytes = text } ∷ [])
+    known : (written' : Option (List ℕ)) → Appends (Some []) written' text → Adds (Some outputs) new served written'
+        → Grows (Some outputs) new (record { marks = served.marks.items; ended = served.ended; bytes = text } ∷ [])
     known None wrote adds = absurd wrote
-    known (Some all) wrote adds = subst (λ t. Grows (Some outputs) new (record { marks = served.marks.items; ended = served.ended; bytes = t } ∷ [])) wrote adds
+    known (Some all) wrote adds =
+        subst (λ t. Grows (Some outputs) new (record {
+          marks = served.marks.items;
+          ended = served.ended;
+          bytes =
+              t;
+        } ∷ [])) wrote adds
 
 -- ---- some, and then more
 
-pub turns_join : (limit : ℕ) (early before between after : List Request) (cs ds : List Connection) → ServeInTurn (keeping limit early before between) cs → ServeInTurn (keeping limit early between after) ds → ServeInTurn (keeping limit early before after) (cs ++ ds)
-turns_join limit early before between after [] ds first second = subst (λ b. ServeInTurn (keeping limit early b after) ds) first second
-turns_join limit early before between after (c ∷ cs) ds first second = (first.0, first.1, turns_join limit early first.0 between after cs ds first.2 second)
+pub turns_join : (limit : ℕ) (old_style before between after : List Request) (cs ds : List Connection)
+    → ServeInTurn (keeping limit old_style before between) cs → ServeInTurn (keeping limit old_style between after) ds
+    → ServeInTurn (keeping limit old_style before after) (cs ++ ds)
+turns_join limit old_style before between after [] ds first second =
+    subst (λ b. ServeInTurn (keeping limit old_style b after) ds) first second
+turns_join limit old_style before between after (c ∷ cs) ds first second =
+    (first.0, first.1, turns_join limit old_style first.0 between after cs ds first.2 second)
 
-pub came_join : (old mid new : Option (List (List ℕ))) (cs ds : List Connection) → Came old mid cs → Came mid new ds → Came old new (cs ++ ds)
+pub came_join : (old mid new : Option (List (List ℕ))) (cs ds : List Connection) → Came old mid cs → Came mid new ds
+    → Came old new (cs ++ ds)
 came_join None mid new cs ds first second = tt
 came_join (Some coming) mid new [] ds first second = subst (λ m. Came m new ds) first second
 came_join (Some []) mid new (c ∷ cs) ds first second = absurd first
-came_join (Some (bytes ∷ coming)) mid new (c ∷ cs) ds first second = (first.0, came_join (Some coming) mid new cs ds first.1 second)
+came_join (Some (bytes ∷ coming)) mid new (c ∷ cs) ds first second =
+    (first.0, came_join (Some coming) mid new cs ds first.1 second)
 
 -- those that were to come are known to the end
-counted_known : (coming : List (List ℕ)) (mid : Option (List (List ℕ))) (cs ds : List Connection) (n : ℕ) → Came (Some coming) mid cs → AreCounted mid ds n → length ds ≡ n
+counted_known : (coming : List (List ℕ)) (mid : Option (List (List ℕ))) (cs ds : List Connection) (n : ℕ)
+    → Came (Some coming) mid cs → AreCounted mid ds n → length ds ≡ n
 counted_known coming mid [] ds n came counted = subst (λ o. AreCounted o ds n) came counted
 counted_known [] mid (c ∷ cs) ds n came counted = absurd came
 counted_known (bytes ∷ coming) mid (c ∷ cs) ds n came counted = counted_known coming mid cs ds n came.1 counted
@@ -84,29 +106,38 @@ counted_most : (mid : Option (List (List ℕ))) (ds : List Connection) (n : ℕ)
 counted_most None ds n counted = counted
 counted_most (Some coming) ds n counted = omega (arith, counted)
 
-pub counted_join : (old mid : Option (List (List ℕ))) (cs ds : List Connection) (m n : ℕ) → Came old mid cs → AreCounted old cs m → AreCounted mid ds n → AreCounted old (cs ++ ds) (m + n)
-counted_join None mid cs ds m n came first second = omega (arith, length-append cs ds, first, counted_most mid ds n second)
-counted_join (Some coming) mid cs ds m n came first second = omega (arith, length-append cs ds, first, counted_known coming mid cs ds n came second)
+pub counted_join : (old mid : Option (List (List ℕ))) (cs ds : List Connection) (m n : ℕ) → Came old mid cs
+    → AreCounted old cs m → AreCounted mid ds n → AreCounted old (cs ++ ds) (m + n)
+counted_join None mid cs ds m n came first second =
+    omega (arith, length-append cs ds, first, counted_most mid ds n second)
+counted_join (Some coming) mid cs ds m n came first second =
+    omega (arith, length-append cs ds, first, counted_known coming mid cs ds n came second)
 
 outputs_join : (cs ds : List Connection) → outputs_of (cs ++ ds) ≡ outputs_of cs ++ outputs_of ds
 outputs_join [] ds = refl
 outputs_join (c ∷ cs) ds = ap (λ os. c.output ∷ os) (outputs_join cs ds)
 
-pub grows_join : (old mid new : Option (List Output)) (cs ds : List Connection) → Grows old mid (outputs_of cs) → Grows mid new (outputs_of ds) → Grows old new (outputs_of (cs ++ ds))
+pub grows_join : (old mid new : Option (List Output)) (cs ds : List Connection) → Grows old mid (outputs_of cs)
+    → Grows mid new (outputs_of ds) → Grows old new (outputs_of (cs ++ ds))
 grows_join None mid new cs ds first second = tt
 grows_join (Some outputs) mid new cs ds first second =
     subst (λ m. Grows m new (outputs_of ds)) first second
-    ∙ ap Some (append_assoc outputs (outputs_of cs) (outputs_of ds) ∙ ap (λ os. outputs ++ os) (sym (outputs_join cs ds)))
+    ∙ ap Some (append_assoc outputs (outputs_of cs) (outputs_of ds)
+    ∙ ap (λ os. outputs ++ os) (sym (outputs_join cs ds)))
 
-served_join : (limit : ℕ) (early before between after : List Request) (first mid last : Traffic) (cs ds : List Connection) (m : ℕ) (taken : Option ℕ) → AreServed (keeping limit early before between) first mid cs (Some m) → AreServed (keeping limit early between after) mid last ds taken → AreServed (keeping limit early before after) first last (cs ++ ds) (option_map (λ n. m + n) taken)
-served_join limit early before between after first mid last cs ds m None a b = record {
-  in_turn = turns_join limit early before between after cs ds a.in_turn b.in_turn;
+served_join : (limit : ℕ) (old_style before between after : List Request) (first mid last : Traffic)
+    (cs ds : List Connection) (m : ℕ) (taken : Option ℕ)
+    → AreServed (keeping limit old_style before between) first mid cs (Some m)
+    → AreServed (keeping limit old_style between after) mid last ds taken
+    → AreServed (keeping limit old_style before after) first last (cs ++ ds) (option_map (λ n. m + n) taken)
+served_join limit old_style before between after first mid last cs ds m None a b = record {
+  in_turn = turns_join limit old_style before between after cs ds a.in_turn b.in_turn;
   came = came_join first.coming mid.coming last.coming cs ds a.came b.came;
   counted = tt;
   told = tt;
 }
-served_join limit early before between after first mid last cs ds m (Some n) a b = record {
-  in_turn = turns_join limit early before between after cs ds a.in_turn b.in_turn;
+served_join limit old_style before between after first mid last cs ds m (Some n) a b = record {
+  in_turn = turns_join limit old_style before between after cs ds a.in_turn b.in_turn;
   came = came_join first.coming mid.coming last.coming cs ds a.came b.came;
   counted = counted_join first.coming mid.coming cs ds m n a.came a.counted b.counted;
   told = grows_join first.over mid.over last.over cs ds a.told b.told;
@@ -116,21 +147,32 @@ served_join limit early before between after first mid last cs ds m (Some n) a b
 
 module _ {S : Type 0} (g : Ghosts S) where
   -- some, and then more
-  pub join : (first mid last : Traffic) (old between new : Intake S) (m : ℕ) (taken : Option ℕ) → ServesSome g first mid old between (Some m) → ServesSome g mid last between new taken → ServesSome g first last old new (option_map (λ n. m + n) taken)
+  pub join : (first mid last : Traffic) (old between new : Intake S) (m : ℕ) (taken : Option ℕ)
+      → ServesSome g first mid old between (Some m) → ServesSome g mid last between new taken
+      → ServesSome g first last old new (option_map (λ n. m + n) taken)
   join first mid last old between new m taken a b = record {
     serves = λ clean before holds.
         let one = a.serves (b.setting.clean clean) before holds in
-        let two = rw (a.setting.limit, one.2) at (b.serves clean one.0 one.1) in
-        (two.0, two.1, two.2, (one.3.0 ++ two.3.0, served_join (limit_of old) (early_in old before) before one.0 two.0 first mid last one.3.0 two.3.0 m taken one.3.1 two.3.1));
+        let two = rw (a.setting.limit, one.2) at (b.serves clean one.0 one.1) in (
+          two.0,
+          two.1,
+          two.2,
+          (
+            one.3.0 ++ two.3.0,
+            served_join (limit_of old) (old_style_in old before) before one.0 two.0 first mid last one.3.0 two.3.0 m
+                taken one.3.1 two.3.1,
+          ),
+        );
     setting = record {
       clean = λ clean. a.setting.clean (b.setting.clean clean);
       limit = b.setting.limit ∙ a.setting.limit;
-      early = b.setting.early ∙ a.setting.early;
+      old_style = b.setting.old_style ∙ a.setting.old_style;
     };
   }
 
   -- where it is not answered how many came
-  pub untold : (port port' : Traffic) (old new : Intake S) (taken : Option ℕ) → ServesSome g port port' old new taken → ServesSome g port port' old new None
+  pub untold : (port port' : Traffic) (old new : Intake S) (taken : Option ℕ) → ServesSome g port port' old new taken
+      → ServesSome g port port' old new None
   untold port port' old new taken a = record {
     serves = λ clean before holds.
         let t = a.serves clean before holds in
@@ -139,10 +181,16 @@ module _ {S : Type 0} (g : Ghosts S) where
   }
 
   -- no connection was served
-  pub none : (port port' : Traffic) (intake : Intake S) (taken : Option ℕ) → port' ≡ port → IfSome taken (AreCounted port.coming []) → ServesSome g port port' intake intake taken
+  pub none : (port port' : Traffic) (intake : Intake S) (taken : Option ℕ) → port' ≡ port
+      → IfSome taken (AreCounted port.coming []) → ServesSome g port port' intake intake taken
   none port port' intake taken same counted = subst (λ p. ServesSome g port p intake intake taken) (sym same) (record {
-    serves = λ clean before holds. (before, holds, refl, ([], record { in_turn = refl; came = came_none port.coming; counted = counted; told = told taken }));
-    setting = record { clean = λ clean. clean; limit = refl; early = refl };
+    serves = λ clean before holds. (
+      before,
+      holds,
+      refl,
+      ([], record { in_turn = refl; came = came_none port.coming; counted = counted; told = told taken }),
+    );
+    setting = record { clean = λ clean. clean; limit = refl; old_style = refl };
   })
     where
       told : (taken : Option ℕ) → IfSome taken (λ _. Grows port.over port.over [])
@@ -150,12 +198,24 @@ module _ {S : Type 0} (g : Ghosts S) where
       told (Some n) = grows_none port.over
 
   -- one connection was served, and, where that is told, it was told to the port
-  pub one : (port mid port' : Traffic) (from to : Wire) (old new : Intake S) (served : Served) (taken : Option ℕ) → (mid.over ≡ port.over) × Takes port.coming mid.coming from.left × IsUnwritten port.over from.written → ServesToEnd g from to old new served → port'.coming ≡ mid.coming → IfSome taken (λ n. (n ≡ 1) × Adds mid.over port'.over served to.written) → ServesSome g port port' old new taken
+  pub one : (port mid port' : Traffic) (from to : Wire) (old new : Intake S) (served : Served) (taken : Option ℕ)
+      → (mid.over ≡ port.over) × Takes port.coming mid.coming from.left × IsUnwritten port.over from.written
+      → ServesToEnd g from to old new served → port'.coming ≡ mid.coming
+      → IfSome taken (λ n. (n ≡ 1) × Adds mid.over port'.over served to.written) → ServesSome g port port' old new taken
   one port mid port' from to old new served taken fresh serves same told = record {
     serves = λ clean before holds.
         let t = serves.serves clean before holds in
         let s = t.3 in
-        let c : Connection = record { read = s.got; output = record { marks = served.marks.items; ended = served.ended; bytes = s.sent } } in (
+        let c : Connection =
+        record {
+          read = s.got;
+          output = record {
+            marks = served.marks.items;
+            ended = served.ended;
+            bytes =
+                s.sent;
+          };
+        } in (
           t.0,
           t.1,
           t.2,
@@ -163,9 +223,13 @@ module _ {S : Type 0} (g : Ghosts S) where
             c ∷ [],
             record {
               in_turn = (t.0, s.serves, refl);
-              came = subst (λ after. Came port.coming after (c ∷ [])) (sym same) (came_one port.coming mid.coming from.left to.left c fresh.1 s.read s.at_end s.limited);
-              counted = IfSome_then taken told (λ n is. subst (λ k. AreCounted port.coming (c ∷ []) k) (sym is.0) (counted_one port.coming c));
-              told = IfSome_then taken told (λ n is. grows_one port.over port'.over from.written to.written served s.sent fresh.2 s.wrote (subst (λ over. Adds over port'.over served to.written) fresh.0 is.1));
+              came = subst (λ after. Came port.coming after (c ∷ [])) (sym same)
+                  (came_one port.coming mid.coming from.left to.left c fresh.1 s.read s.at_end s.limited);
+              counted =
+                  IfSome_then taken told (λ n is. subst (λ k. AreCounted port.coming (c ∷ []) k) (sym is.0)
+                  (counted_one port.coming c));
+              told = IfSome_then taken told (λ n is. grows_one port.over port'.over from.written to.written served
+                  s.sent fresh.2 s.wrote (subst (λ over. Adds over port'.over served to.written) fresh.0 is.1));
             },
           ),
         );

@@ -22,10 +22,12 @@ outputs_of connections = map (λ connection. connection.output) connections
 abbrev pub ServeInTurn : Keeping → List Connection → Type 0
 ServeInTurn requests [] = requests.after ≡ requests.before
 ServeInTurn requests (connection ∷ connections) =
-    (between : List Request) × Serves (record requests { after = between }) connection.read connection.output.marks connection.output.ended connection.output.bytes
+    (between : List Request) × Serves (record requests { after = between }) connection.read connection.output.marks
+    connection.output.ended connection.output.bytes
     × ServeInTurn (record requests { before = between }) connections
 
--- Of these bytes the first were read: all of them where the input ended, and so many as the limit has reads where that ended it.
+-- Of these bytes the first were read: all of them where the input ended, and so many as the limit has reads where that
+-- ended it.
 pub record IsReadOf (bytes : List ℕ) (connection : Connection) : Type 0 where
   pub more : List ℕ
   pub splits : bytes ≡ connection.read ++ more
@@ -37,7 +39,8 @@ abbrev pub Came : Option (List (List ℕ)) → Option (List (List ℕ)) → List
 Came None after connections = Unit {0}
 Came (Some coming) after [] = after ≡ Some coming
 Came (Some []) after (connection ∷ connections) = ⊥
-Came (Some (bytes ∷ coming)) after (connection ∷ connections) = IsReadOf bytes connection × Came (Some coming) after connections
+Came (Some (bytes ∷ coming)) after (connection ∷ connections) =
+    IsReadOf bytes connection × Came (Some coming) after connections
 
 -- So many came: these, and, where it is not known which come, perhaps some that their peers gave up before.
 abbrev pub AreCounted : Option (List (List ℕ)) → List Connection → ℕ → Type 0
@@ -45,16 +48,21 @@ AreCounted None connections count = length connections ≤ count
 AreCounted (Some coming) connections count = length connections ≡ count
 
 -- These connections of a port were served: the first that came, none left out, each after the one before it.
-pub record AreServed (requests : Keeping) (old new : Traffic) (connections : List Connection) (taken : Option ℕ) : Type 0 where
+pub record AreServed (requests : Keeping) (old new : Traffic) (connections : List Connection) (taken : Option ℕ)
+    : Type 0 where
   pub in_turn : ServeInTurn requests connections
   pub came : Came old.coming new.coming connections
   -- where it is answered how many were taken, these are so many, and the port was told what each came to
   pub counted : IfSome taken (AreCounted old.coming connections)
   pub told : IfSome taken (λ _. Grows old.over new.over (outputs_of connections))
 
--- What serving some connections of a port does with it and with an intake. `taken` says how many came, where that is answered.
-pub record ServesSome {S : Type 0} (g : Ghosts S) (port port' : Traffic) (old new : Intake S) (taken : Option ℕ) : Type 0 where
-  -- where the disk is clean at the end, some connections were served, the first after the requests that were kept before
-  pub serves : IsTransition g old new (λ early before after. (connections : List Connection) × AreServed (keeping (limit_of old) early before after) port port' connections taken)
+-- What serving some connections of a port does with it and with an intake. `taken` says how many came, where that is
+-- answered.
+pub record ServesSome {S : Type 0} (g : Ghosts S) (port port' : Traffic) (old new : Intake S) (taken : Option ℕ)
+    : Type 0 where
+  -- where the disk is clean at the end, some connections were served, the first after the requests that were kept
+  -- before
+  pub serves : IsTransition g old new (λ old_style before after. (connections : List Connection)
+      × AreServed (keeping (limit_of old) old_style before after) port port' connections taken)
   -- as many keys may be kept as before, and a disk that is clean at the end was clean before
   pub setting : KeepsSetting g old new

@@ -19,4 +19,5 @@ output_of finished = record { marks = finished.marks.items; ended = finished.end
 
 -- all that is to come, and what all that is over came to
 abbrev pub traffic_of : Queue → Traffic
-traffic_of queue = record { coming = Some (map (λ bytes. bytes.items) queue.coming.now); over = Some (map output_of queue.over.items) }
+traffic_of queue =
+    record { coming = Some (map (λ bytes. bytes.items) queue.coming.now); over = Some (map output_of queue.over.items) }

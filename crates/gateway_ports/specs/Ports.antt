@@ -11,7 +11,8 @@ pub record Output : Type 0 where
   pub ended : Ended
   pub bytes : List ℕ
 
--- What contracts see of a port, where it is known: the bytes of each connection that comes from here on, and what each came to that is over.
+-- What contracts see of a port, where it is known: the bytes of each connection that comes from here on, and what each
+-- came to that is over.
 pub record Traffic : Type 0 where
   pub coming : Option (List (List ℕ))
   pub over : Option (List Output)
@@ -32,10 +33,13 @@ abbrev pub NoneIsLeft : Option (List (List ℕ)) → Type 0
 NoneIsLeft None = Unit {0}
 NoneIsLeft (Some coming) = coming ≡ []
 
--- A connection came, of which nothing is read or written; or one that its peer gave up before, which none of the known ones is; or none, since
--- none of the known ones is left, and all is as it was. First comes what contracts see of the halves of a connection.
+-- A connection came, of which nothing is read or written; or one that its peer gave up before, which none of the known
+-- ones is; or none, since none of the known ones is left, and all is as it was. First comes what contracts see of the
+-- halves of a connection.
 abbrev pub Comes : {R W E : Type 0} → (R → W → Wire) → Traffic → Traffic → Result (Option (R × W)) E → Type 0
-Comes shows old new (Ok (Some (reader, writer))) = (new.over ≡ old.over) × Takes old.coming new.coming (shows reader writer).left × IsUnwritten old.over (shows reader writer).written
+Comes shows old new (Ok (Some (reader, writer))) =
+    (new.over ≡ old.over) × Takes old.coming new.coming (shows reader writer).left
+    × IsUnwritten old.over (shows reader writer).written
 Comes shows old new (Ok None) = (new ≡ old) × (old.coming ≡ None)
 Comes shows old new (Err error) = (new ≡ old) × NoneIsLeft old.coming
 
@@ -47,4 +51,5 @@ Grows (Some outputs) after more = after ≡ Some (outputs ++ more)
 -- the known outputs, and behind them that of a connection which was served so, and on which this was written
 abbrev pub Adds : Option (List Output) → Option (List Output) → Served → Option (List ℕ) → Type 0
 Adds old new served None = Unit {0}
-Adds old new served (Some written) = Grows old new (record { marks = served.marks.items; ended = served.ended; bytes = written } ∷ [])
+Adds old new served (Some written) =
+    Grows old new (record { marks = served.marks.items; ended = served.ended; bytes = written } ∷ [])

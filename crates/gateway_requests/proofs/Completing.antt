@@ -1,5 +1,6 @@
 -- The requests that marked arrivals completed, found one after another.
-use Rattle.std.proofs.Common.{◌≡◌, ◌≢◌, ℕ, ◌+◌, ◌<◌, ◌≤◌, true, false, List, [], ◌∷◌, ◌++◌, length, take, drop, ◌-◌, refl, sym, ap, ◌∙◌, subst, append_assoc, arith}
+use Rattle.std.proofs.Common.{◌≡◌, ◌≢◌, ℕ, ◌+◌, ◌<◌, ◌≤◌, true, false, List, [], ◌∷◌, ◌++◌, length, take, drop, ◌-◌}
+use Rattle.std.proofs.Common.{refl, sym, ap, ◌∙◌, subst, append_assoc, arith}
 use Rattle.std.specs.Prelude.{slice_range}
 use Rattle.std.proofs.lemmas.Grind.{common_steps}
 use Rattle.http_messages.specs.declared.head.HeadFault.{HeadFault}
@@ -10,7 +11,8 @@ use Rattle.http_messages.specs.Head.{RequestParts, IsHead, IsHeadFault, body_len
 use Rattle.http_messages.specs.Message.{Arrival, Read, Refused, Ending, BeginsRequest, ArrivalsThen, NoneFollows}
 use Rattle.http_messages.specs.Request.{Request as Message}
 use Rattle.http_messages.proofs.BlockLemmas.{EndsAt-within}
-use Rattle.http_messages.proofs.MoreBytes.{EndsAt-more, EndsAt-front, IsBlockEnd-within, skipped_len-more, from_block-more, block-more}
+use Rattle.http_messages.proofs.MoreBytes.{EndsAt-more, EndsAt-front, IsBlockEnd-within, skipped_len-more}
+use Rattle.http_messages.proofs.MoreBytes.{from_block-more, block-more}
 use Rattle.http_messages.proofs.Unique.{BeginsHead-unique, BeginsRequest-unique, IsRefused-excludes}
 use Rattle.filing_model.specs.declared.served.Mark.{Mark}
 use Rattle.filing_model.specs.Request.{Request}
@@ -35,7 +37,8 @@ module _ (front rest : List ℕ) (b : IsBlockEnd (front ++ rest) (length front))
         b.0,
         record {
           ends = EndsAt-front (from_block front) rest b.0 within (subst (λ text. EndsAt text b.0) same b.1.ends);
-          first = λ k low ends. b.1.first k low (subst (λ text. EndsAt text k) (sym same) (EndsAt-more (from_block front) rest k ends));
+          first = λ k low ends. b.1.first k low (subst (λ text. EndsAt text k) (sym same)
+              (EndsAt-more (from_block front) rest k ends));
           short = b.1.short;
         },
         b.2 ∙ ap (λ n. n + b.0) skipped,
@@ -43,42 +46,66 @@ module _ (front rest : List ℕ) (b : IsBlockEnd (front ++ rest) (length front))
 
   alone-text : from_block front ≡ slice_range (front ++ rest) (skipped_len (front ++ rest)) (length front)
   alone-text =
-      let whole : slice_range front (skipped_len front) (length front) ≡ from_block front = grind (arith, common_steps) in
+      let whole : slice_range front (skipped_len front) (length front) ≡ from_block front =
+      grind (arith, common_steps) in
       sym (block-more front rest (length front) alone ∙ whole)
 
 -- the first bytes, up to the end of the block, are a whole block
-pub first_block : (bytes : List ℕ) (end : ℕ) → IsBlockEnd bytes end → IsWholeBlock (take end bytes) × (from_block (take end bytes) ≡ slice_range bytes (skipped_len bytes) end)
+pub first_block : (bytes : List ℕ) (end : ℕ) → IsBlockEnd bytes end
+    → IsWholeBlock (take end bytes) × (from_block (take end bytes) ≡ slice_range bytes (skipped_len bytes) end)
 first_block bytes end block =
     let within = (IsBlockEnd-within bytes end block).2 in
     let joined : take end bytes ++ drop end bytes ≡ bytes = grind (arith, common_steps) in
     let count : length (take end bytes) ≡ end = grind (arith, common_steps, within) in
-    let here : IsBlockEnd (take end bytes ++ drop end bytes) (length (take end bytes)) = subst (λ bs. IsBlockEnd bs (length (take end bytes))) (sym joined) (subst (IsBlockEnd bytes) (sym count) block) in
-    (alone (take end bytes) (drop end bytes) here, alone-text (take end bytes) (drop end bytes) here ∙ ap (λ bs. slice_range bs (skipped_len bs) (length (take end bytes))) joined ∙ ap (slice_range bytes (skipped_len bytes)) count)
+    let here : IsBlockEnd (take end bytes ++ drop end bytes) (length (take end bytes)) =
+    subst (λ bs. IsBlockEnd bs (length (take end bytes))) (sym joined)
+    (subst (IsBlockEnd bytes) (sym count) block) in (
+      alone (take end bytes) (drop end bytes) here,
+      alone-text (take end bytes) (drop end bytes) here
+          ∙ ap (λ bs. slice_range bs (skipped_len bs) (length (take end bytes))) joined
+          ∙ ap (slice_range bytes (skipped_len bytes)) count,
+    )
 
 -- ---- the request that bytes begin with
 
 module _ (bytes : List ℕ) (end : ℕ) (block : IsBlockEnd bytes end) where
   -- its body isn't whole
-  pub none_short : (parts : RequestParts) (len : ℕ) → IsHead (slice_range bytes (skipped_len bytes) end) parts → len ≡ body_length parts → length bytes < end + len → (m : Message) (n : ℕ) → ¬ (BeginsRequest bytes m n)
+  pub none_short : (parts : RequestParts) (len : ℕ) → IsHead (slice_range bytes (skipped_len bytes) end) parts
+      → len ≡ body_length parts → length bytes < end + len → (m : Message) (n : ℕ) → ¬ (BeginsRequest bytes m n)
   none_short parts len head is short m n b =
       let one = BeginsHead-unique bytes parts m.head end b.head_len (record { block = block; head = head }) b.head in
       let size : body_length parts ≡ body_length m.head = ap body_length one.0 in
       omega (arith, one.1, size, is, short, b.length_is, b.whole)
 
   -- it is whole
-  pub begins_request : (parts : RequestParts) (len : ℕ) (body : List ℕ) → IsHead (slice_range bytes (skipped_len bytes) end) parts → len ≡ body_length parts → end + len ≤ length bytes → body ≡ slice_range bytes end (end + len) → BeginsRequest bytes (record { head = parts; body = body }) (end + len)
-  begins_request parts len body head is within part = record { head_len = end; head = record { block = block; head = head }; length_is = ap (λ n. end + n) is; whole = within; body = part }
+  pub begins_request : (parts : RequestParts) (len : ℕ) (body : List ℕ)
+      → IsHead (slice_range bytes (skipped_len bytes) end) parts → len ≡ body_length parts → end + len ≤ length bytes
+      → body ≡ slice_range bytes end (end + len)
+      → BeginsRequest bytes (record { head = parts; body = body }) (end + len)
+  begins_request parts len body head is within part =
+      record {
+        head_len = end;
+        head = record { block = block; head = head };
+        length_is = ap (λ n. end + n) is;
+        whole =
+            within;
+        body = part;
+      }
 
   -- its head has a fault
-  pub none_fault : (fault : HeadFault) → fault ≢ Memory → IsHeadFault (slice_range bytes (skipped_len bytes) end) fault → (m : Message) (n : ℕ) → ¬ (BeginsRequest bytes m n)
-  none_fault fault other is m n b = IsRefused-excludes bytes m.head b.head_len (Head fault) b.head (end, block, other, is)
+  pub none_fault : (fault : HeadFault) → fault ≢ Memory → IsHeadFault (slice_range bytes (skipped_len bytes) end) fault
+      → (m : Message) (n : ℕ) → ¬ (BeginsRequest bytes m n)
+  none_fault fault other is m n b =
+      IsRefused-excludes bytes m.head b.head_len (Head fault) b.head (end, block, other, is)
 
 -- ---- one after another
 
 -- what may follow the arrivals, and that there are enough of them for the marks
 pub record IsCovered (Follows : List ℕ → Ending → Type 0) (Covers : List Mark → List Arrival → Type 0) : Type 0 where
-  pub none : (rest : List ℕ) (ending : Ending) (mark : Mark) (marks : List Mark) → Follows rest ending → Covers (mark ∷ marks) [] → (m : Message) (n : ℕ) → ¬ (BeginsRequest rest m n)
-  pub next : (mark : Mark) (marks : List Mark) (arrival : Arrival) (arrivals : List Arrival) → Covers (mark ∷ marks) (arrival ∷ arrivals) → Covers marks arrivals
+  pub none : (rest : List ℕ) (ending : Ending) (mark : Mark) (marks : List Mark) → Follows rest ending
+      → Covers (mark ∷ marks) [] → (m : Message) (n : ℕ) → ¬ (BeginsRequest rest m n)
+  pub next : (mark : Mark) (marks : List Mark) (arrival : Arrival) (arrivals : List Arrival)
+      → Covers (mark ∷ marks) (arrival ∷ arrivals) → Covers marks arrivals
 
 -- there are as many
 abbrev pub IsFew : List Mark → List Arrival → Type 0
@@ -102,8 +129,10 @@ all-covered = record {
   next = λ mark marks arrival arrivals any. tt;
 }
 
--- of the requests that were completed these are found, and the other marks are those of the arrivals that the rest begins with
-pub record IsAhead (Follows : List ℕ → Ending → Type 0) (Covers : List Mark → List Arrival → Type 0) (rest : List ℕ) (marks : List Mark) (all list : List Request) : Type 0 where
+-- of the requests that were completed these are found, and the other marks are those of the arrivals that the rest
+-- begins with
+pub record IsAhead (Follows : List ℕ → Ending → Type 0) (Covers : List Mark → List Arrival
+    → Type 0) (rest : List ℕ) (marks : List Mark) (all list : List Request) : Type 0 where
   pub arrivals : List Arrival
   pub ending : Ending
   pub begins : ArrivalsThen Follows rest arrivals ending
@@ -119,21 +148,25 @@ no_arrivals : (marks : List Mark) → completed [] marks ≡ []
 unfolding completed
 no_arrivals marks = refl
 
-module _ (Follows : List ℕ → Ending → Type 0) (Covers : List Mark → List Arrival → Type 0) (covered : IsCovered Follows Covers) (rest : List ℕ) where
+module _ (Follows : List ℕ → Ending → Type 0) (Covers : List Mark → List Arrival
+    → Type 0) (covered : IsCovered Follows Covers) (rest : List ℕ) where
   -- no marks are left
   pub ahead_none : (all list : List Request) → IsAhead Follows Covers rest [] all list → list ≡ all
   ahead_none all list a = sym (a.same ∙ ap (λ more. list ++ more) (no_marks a.arrivals) ∙ append_nil list)
 
   module _ (mark : Mark) (marks : List Mark) (all list : List Request) where
     -- the rest begins with no message
-    pub ahead_over : IsAhead Follows Covers rest (mark ∷ marks) all list → ((m : Message) (n : ℕ) → ¬ (BeginsRequest rest m n)) → list ≡ all
+    pub ahead_over : IsAhead Follows Covers rest (mark ∷ marks) all list
+        → ((m : Message) (n : ℕ) → ¬ (BeginsRequest rest m n)) → list ≡ all
     unfolding completed
     ahead_over a none = by_arrivals a.arrivals a.ending a.begins a.same
       where
-        by_arrivals : (arrivals : List Arrival) (ending : Ending) → ArrivalsThen Follows rest arrivals ending → all ≡ list ++ completed arrivals (mark ∷ marks) → list ≡ all
+        by_arrivals : (arrivals : List Arrival) (ending : Ending) → ArrivalsThen Follows rest arrivals ending
+            → all ≡ list ++ completed arrivals (mark ∷ marks) → list ≡ all
         by_arrivals [] ending begins same = sym (same ∙ append_nil list)
         by_arrivals (Read m ∷ arrivals) ending begins same = absurd (none m begins.0 begins.1)
-        by_arrivals (Refused refusal ∷ arrivals) ending begins same = sym (same ∙ ap (λ ps. list ++ completed ps marks) begins.1 ∙ append_nil list)
+        by_arrivals (Refused refusal ∷ arrivals) ending begins same =
+            sym (same ∙ ap (λ ps. list ++ completed ps marks) begins.1 ∙ append_nil list)
 
     -- what a message completes at which the rest begins, and those after it
     record Step (m : Message) (n : ℕ) : Type 0 where
@@ -144,33 +177,42 @@ module _ (Follows : List ℕ → Ending → Type 0) (Covers : List Mark → List
       covers : Covers marks arrivals
       same : all ≡ (list ++ completed_at (Read m) mark) ++ completed arrivals marks
 
-    step : IsAhead Follows Covers rest (mark ∷ marks) all list → (m : Message) (n : ℕ) → BeginsRequest rest m n → Step m n
+    step : IsAhead Follows Covers rest (mark ∷ marks) all list → (m : Message) (n : ℕ) → BeginsRequest rest m n
+        → Step m n
     unfolding completed
     step a m n here = by_arrivals a.arrivals a.ending a.begins a.covers a.same
       where
-        by_arrivals : (arrivals : List Arrival) (ending : Ending) → ArrivalsThen Follows rest arrivals ending → Covers (mark ∷ marks) arrivals → all ≡ list ++ completed arrivals (mark ∷ marks) → Step m n
+        by_arrivals : (arrivals : List Arrival) (ending : Ending) → ArrivalsThen Follows rest arrivals ending
+            → Covers (mark ∷ marks) arrivals → all ≡ list ++ completed arrivals (mark ∷ marks) → Step m n
         by_arrivals [] ending begins covers same = absurd (covered.none rest ending mark marks begins covers m n here)
-        by_arrivals (Refused refusal ∷ arrivals) ending begins covers same = absurd (IsRefused-excludes rest m.head here.head_len refusal here.head begins.0)
+        by_arrivals (Refused refusal ∷ arrivals) ending begins covers same =
+            absurd (IsRefused-excludes rest m.head here.head_len refusal here.head begins.0)
         by_arrivals (Read other ∷ arrivals) ending (k, there, closed, open') covers same =
             let one = BeginsRequest-unique rest other m k n there here in
             record {
               arrivals = arrivals;
               ending = ending;
               closed = λ closing. (closed (ap (λ (o : Message). closes o.head) one.0 ∙ closing)).0;
-              open' = λ staying. subst (λ (j : ℕ). ArrivalsThen Follows (drop j rest) arrivals ending) one.1 (open' (ap (λ (o : Message). closes o.head) one.0 ∙ staying));
+              open' = λ staying. subst (λ (j : ℕ). ArrivalsThen Follows (drop j rest) arrivals ending) one.1
+                  (open' (ap (λ (o : Message). closes o.head) one.0 ∙ staying));
               covers = covered.next mark marks (Read other) arrivals covers;
-              same = same ∙ ap (λ (o : Message). list ++ (completed_at (Read o) mark ++ completed arrivals marks)) one.0 ∙ sym (append_assoc list (completed_at (Read m) mark) (completed arrivals marks));
+              same = same ∙ ap (λ (o : Message). list ++ (completed_at (Read o) mark ++ completed arrivals marks)) one.0
+                  ∙ sym (append_assoc list (completed_at (Read m) mark) (completed arrivals marks));
             }
 
     -- it begins with a message that closes
-    pub ahead_closed : IsAhead Follows Covers rest (mark ∷ marks) all list → (m : Message) (n : ℕ) → BeginsRequest rest m n → closes m.head ≡ true → list ++ completed_at (Read m) mark ≡ all
+    pub ahead_closed : IsAhead Follows Covers rest (mark ∷ marks) all list → (m : Message) (n : ℕ)
+        → BeginsRequest rest m n → closes m.head ≡ true → list ++ completed_at (Read m) mark ≡ all
     ahead_closed a m n here closing =
         let s = step a m n here in
         let found : List Request = list ++ completed_at (Read m) mark in
-        sym (s.same ∙ ap (λ (ps : List Arrival). found ++ completed ps marks) (s.closed closing) ∙ ap (λ more. found ++ more) (no_arrivals marks) ∙ append_nil found)
+        sym (s.same ∙ ap (λ (ps : List Arrival). found ++ completed ps marks) (s.closed closing)
+        ∙ ap (λ more. found ++ more) (no_arrivals marks) ∙ append_nil found)
 
     -- it begins with another one
-    pub ahead_more : IsAhead Follows Covers rest (mark ∷ marks) all list → (m : Message) (n : ℕ) → BeginsRequest rest m n → closes m.head ≡ false → IsAhead Follows Covers (drop n rest) marks all (list ++ completed_at (Read m) mark)
+    pub ahead_more : IsAhead Follows Covers rest (mark ∷ marks) all list → (m : Message) (n : ℕ)
+        → BeginsRequest rest m n → closes m.head ≡ false
+        → IsAhead Follows Covers (drop n rest) marks all (list ++ completed_at (Read m) mark)
     ahead_more a m n here staying =
         let s = step a m n here in
         record { arrivals = s.arrivals; ending = s.ending; begins = s.open' staying; covers = s.covers; same = s.same }

@@ -9,6 +9,7 @@ use Rattle.gateway_requests.specs.Route.{NoKeyOf, no_key}
 pub NoKeyOf-fault : (field : List ℕ) (fault : KeyFault) → IsFieldFault field fault → NoKeyOf (field ∷ []) (no_key fault)
 NoKeyOf-fault field NotString f = inl (field, refl, key_of_field-none field (λ text s. absurd (f text s)))
 NoKeyOf-fault field Empty f = inl (field, refl, key_of_field-not_key field [] f (λ key. omega (arith, key.nonempty)))
-NoKeyOf-fault field TooLong f = inl (field, refl, key_of_field-not_key field f.0 f.1 (λ key. omega (arith, key.short, f.2)))
+NoKeyOf-fault field TooLong f =
+    inl (field, refl, key_of_field-not_key field f.0 f.1 (λ key. omega (arith, key.short, f.2)))
 NoKeyOf-fault field (NotPrintable at) f = absurd f
 NoKeyOf-fault field Memory f = tt

@@ -1,5 +1,7 @@
 -- The number of a filing that a path has: it is the decimal text of itself.
-use Rattle.std.proofs.Common.{◌≡◌, ◌≢◌, ℕ, zero, suc, ◌<◌, ◌≤◌, ◌^◌, ◌⊎◌, true, false, ◌&&◌, List, length, get_or, nat_le, nat_lt, leb-true, ltb-true, le-leb, lt-ltb, Some, None, Result, Ok, Err, refl, sym, subst, ap, ◌∙◌, inl, inr, ⊎_elim, arith}
+use Rattle.std.proofs.Common.{◌≡◌, ◌≢◌, ℕ, zero, suc, ◌<◌, ◌≤◌, ◌^◌, ◌⊎◌, true, false, ◌&&◌, List, length, get_or}
+use Rattle.std.proofs.Common.{nat_le, nat_lt, leb-true, ltb-true, le-leb, lt-ltb, Some, None, Result, Ok, Err, refl}
+use Rattle.std.proofs.Common.{sym, subst, ap, ◌∙◌, inl, inr, ⊎_elim, arith}
 use Rattle.std.specs.Prelude.{bytes_eq, slice_index}
 use Rattle.std.specs.Char.{is_ascii_digit}
 use Rattle.std.specs.Fmt.{decimal}
@@ -35,7 +37,9 @@ module _ (text : List ℕ) (is : is_decimal text ≡ true) where
   all = grind (arith, nat_tests, is)
 
   spelled : digits_value 10 text < 2 ^ 63 → decimal (digits_value 10 text) ≡ text
-  spelled small = decimal-digits_value decimal_numerals text all some (λ first. absurd (other (first_is first))) (omega (arith, small))
+  spelled small =
+      decimal-digits_value decimal_numerals text all some (λ first. absurd (other (first_is first)))
+      (omega (arith, small))
     where
       first_is : get_or text 0 0 ≡ 48 → slice_index text 0 ≡ 48
       first_is h = h
@@ -43,7 +47,8 @@ module _ (text : List ℕ) (is : is_decimal text ≡ true) where
   -- digits that don't begin with 0 are one, where their value is not too large
   pub number-read : digits_value 10 text < 2 ^ 63 → target_in text ≡ Some (digits_value 10 text)
   number-read small =
-      let same : bytes_eq text (decimal (digits_value 10 text)) ≡ true = (bytes_eq-Decides text (decimal (digits_value 10 text))).1 (sym (spelled small)) in
+      let same : bytes_eq text (decimal (digits_value 10 text)) ≡ true =
+      (bytes_eq-Decides text (decimal (digits_value 10 text))).1 (sym (spelled small)) in
       rw (same, le-leb 1 (digits_value 10 text) (pub_above small), lt-ltb (digits_value 10 text) (2 ^ 63) small) refl
     where
       pub_above : digits_value 10 text < 2 ^ 63 → 1 ≤ digits_value 10 text
@@ -68,7 +73,8 @@ number-none text not_one = ⊎_elim
     let range = and_parts _ _ parts.1 in
     let same = (bytes_eq-Decides text (decimal n)).0 parts.0 in
     let small = ltb-true n (2 ^ 63) range.1 in
-    absurd (against not_one (subst (λ t. is_decimal t ≡ true) (sym same) (decimal-is n (leb-true 1 n range.0) small)) small))
+    absurd (against not_one (subst (λ t. is_decimal t ≡ true) (sym same) (decimal-is n (leb-true 1 n range.0) small))
+    small))
     (λ (h : (bytes_eq text (decimal n) && (nat_le 1 n && nat_lt n (2 ^ 63))) ≡ false). rw h refl)
     (cases_Bool (bytes_eq text (decimal n) && (nat_le 1 n && nat_lt n (2 ^ 63))))
   where
@@ -80,18 +86,24 @@ number-none text not_one = ⊎_elim
     against (inr large) right small = omega (arith, large, small)
 
 -- what `parse` makes of such a text
-module _ {E : Type 0} (text read : List ℕ) (same : read ≡ text) (is : is_decimal text ≡ true) (r : Result ℕ E) (parsed : ParsesUnsigned 64 10 read r) where
+module _ {E : Type 0} (text read : List ℕ) (same : read ≡ text) (is : is_decimal text ≡ true) (r : Result ℕ E)
+    (parsed : ParsesUnsigned 64 10 read r) where
   parses : OkIff r ((0 < length read) × (digits_value 10 read < 2 ^ 64)) (digits_value 10 read)
-  parses = parse_digits decimal_numerals 64 read r parsed (subst (λ t. list_all is_ascii_digit t ≡ true) (sym same) (all text is))
+  parses = parse_digits decimal_numerals 64 read r parsed
+      (subst (λ t. list_all is_ascii_digit t ≡ true) (sym same) (all text is))
 
   pub value_is : (n : ℕ) → r ≡ Ok n → n ≡ digits_value 10 text
-  value_is n gives = let it : ((0 < length read) × (digits_value 10 read < 2 ^ 64)) × (n ≡ digits_value 10 read) = rw gives at parses in it.1 ∙ ap (digits_value 10) same
+  value_is n gives = let it : ((0 < length read) × (digits_value 10 read < 2 ^ 64)) × (n ≡ digits_value 10 read) =
+      rw gives at parses in it.1 ∙ ap (digits_value 10) same
 
   pub large_is : (e : E) → r ≡ Err e → 2 ^ 63 ≤ digits_value 10 text
   large_is e gives = ⊎_elim
       (λ (h : nat_lt (digits_value 10 text) (2 ^ 63) ≡ true).
       let none : ¬ ((0 < length read) × (digits_value 10 read < 2 ^ 64)) = rw gives at parses in
       let small = ltb-true (digits_value 10 text) (2 ^ 63) h in
-      absurd (none (subst (λ t. 0 < length t) (sym same) (some text is), subst (λ t. digits_value 10 t < 2 ^ 64) (sym same) (omega (arith, small)))))
+      absurd (none (
+        subst (λ t. 0 < length t) (sym same) (some text is),
+        subst (λ t. digits_value 10 t < 2 ^ 64) (sym same) (omega (arith, small)),
+      )))
       (λ (h : nat_lt (digits_value 10 text) (2 ^ 63) ≡ false). grind (arith, nat_tests, h))
       (cases_Bool (nat_lt (digits_value 10 text) (2 ^ 63)))

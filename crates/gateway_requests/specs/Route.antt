@@ -11,7 +11,8 @@ use Rattle.filing_model.specs.Reply.{word_reply}
 use Rattle.filing_model.specs.Text.{Route}
 use Rattle.filing_model.specs.Views.{the_request}
 use Rattle.gateway_requests.specs.declared.route.Rejection.{Rejection as Why}
-use Rattle.gateway_requests.specs.declared.route.Rejection.TheVariants.{NoPath, NoMethod, ContentCoding, KeyMissing, KeyBad}
+use Rattle.gateway_requests.specs.declared.route.Rejection.TheVariants.{NoPath, NoMethod, ContentCoding, KeyMissing}
+use Rattle.gateway_requests.specs.declared.route.Rejection.TheVariants.{KeyBad}
 use Rattle.gateway_requests.specs.declared.route.Route.{Route as Asked}
 use Rattle.gateway_requests.specs.declared.route.Route.TheVariants as asked
 use Rattle.gateway_requests.specs.declared.route.NoKey.{NoKey}

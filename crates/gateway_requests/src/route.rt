@@ -5,7 +5,8 @@ ghost use Rattle.key_string.specs.Filer.{is_filer};
 ghost use Rattle.http_messages.specs.Head.{values_named};
 ghost use Rattle.http_messages.specs.Posting.{IsTarget};
 ghost use Rattle.filing_model.specs.Text.{route, route_by_method, is_head, bare};
-ghost use Rattle.gateway_requests.specs.Route.{rejection_status, rejection_word, view_route, view_message, HasFiler, key_field, IsKeyOf, NoKeyOf, no_key};
+ghost use Rattle.gateway_requests.specs.Route.{rejection_status, rejection_word, view_route, view_message, HasFiler};
+ghost use Rattle.gateway_requests.specs.Route.{key_field, IsKeyOf, NoKeyOf, no_key};
 
 use crate::path::{FilingsPath, read_path};
 use http_wire::{Head, Message, has_content_coding};

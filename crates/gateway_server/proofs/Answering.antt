@@ -1,5 +1,6 @@
 -- An arrival that is decided, marked and answered.
-use Rattle.std.proofs.Common.{◌≡◌, ℕ, ◌≤◌, Bool, true, List, [], ◌∷◌, ◌++◌, length, take, Option, Result, Ok, Err, refl, sym, ap, ◌∙◌, subst, IfOk, IfErr, OnOk}
+use Rattle.std.proofs.Common.{◌≡◌, ℕ, ◌≤◌, Bool, true, List, [], ◌∷◌, ◌++◌, length, take, Option, Result, Ok, Err, refl}
+use Rattle.std.proofs.Common.{sym, ap, ◌∙◌, subst, IfOk, IfErr, OnOk}
 use Rattle.std.specs.declared.alloc.AllocError.{AllocError}
 use Rattle.std.specs.Io.KnownBytes.{Appends}
 use Rattle.http_messages.specs.declared.refusal.ConnFault.{ConnFault}
@@ -23,28 +24,37 @@ use Rattle.gateway_server.specs.Decided.{Decides, marked_reply}
 
 -- ---- what was decided
 
-reply_text-marked : (early before : List Request) (m : Message) (mark : Mark) → render (marked_reply early before (route m) mark) (closes m.head) ≡ reply_text_with early before (Read m) mark
-reply_text-marked early before m Done = refl
-reply_text-marked early before m Unavailable = refl
-reply_text-marked early before m NotFiled = refl
+reply_text-marked : (old_style before : List Request) (m : Message) (mark : Mark)
+    → render (marked_reply old_style before (route m) mark) (closes m.head)
+    ≡ reply_text_with old_style before (Read m) mark
+reply_text-marked old_style before m Done = refl
+reply_text-marked old_style before m Unavailable = refl
+reply_text-marked old_style before m NotFiled = refl
 
 -- the bytes of a reply of these parts
-rendered : (r : Result Reply AllocError) (parts : ReplyParts) (close : Bool) (text : List ℕ) → render parts close ≡ text → IfOk r (λ reply. reply_parts reply ≡ parts) → IfOk r (λ reply. render (reply_parts reply) close ≡ text)
+rendered : (r : Result Reply AllocError) (parts : ReplyParts) (close : Bool) (text : List ℕ) → render parts close ≡ text
+    → IfOk r (λ reply. reply_parts reply ≡ parts) → IfOk r (λ reply. render (reply_parts reply) close ≡ text)
 rendered (Ok reply) parts close text e same = ap (λ p. render p close) same ∙ e
 rendered (Err fault) parts close text e same = tt
 
 -- a message that was decided, and its mark added
-pub IsDecided-message : (limit : ℕ) (early before after : List Request) (m : Message) (to' : Route) (d : Decided) (old new : List Mark) → route m ≡ to' → Decides limit early before after to' d → new ≡ old ++ d.mark ∷ [] → IsDecided limit early before after (Read m) old new d
-IsDecided-message limit early before after m to' d old new asked decides marks =
-    let here = subst (λ (r : Route). Decides limit early before after r d) (sym asked) decides in
+pub IsDecided-message : (limit : ℕ) (old_style before after : List Request) (m : Message) (to' : Route) (d : Decided)
+    (old new : List Mark) → route m ≡ to' → Decides limit old_style before after to' d → new ≡ old ++ d.mark ∷ []
+    → IsDecided limit old_style before after (Read m) old new d
+IsDecided-message limit old_style before after m to' d old new asked decides marks =
+    let here = subst (λ (r : Route). Decides limit old_style before after r d) (sym asked) decides in
     record {
       marked = record { mark = d.mark; marks = marks; fit = here.fit; kept = here.kept };
-      reply = rendered d.reply (marked_reply early before (route m) d.mark) (closes m.head) (reply_text_with early before (Read m) d.mark) (reply_text-marked early before m d.mark) here.reply;
+      reply = rendered d.reply (marked_reply old_style before (route m) d.mark) (closes m.head)
+          (reply_text_with old_style before (Read m) d.mark) (reply_text-marked old_style before m d.mark) here.reply;
     }
 
 -- what was refused, and its mark added
-pub IsDecided-refusal : (limit : ℕ) (early before : List Request) (refusal : Refusal) (reply : Result Reply AllocError) (old new : List Mark) → IfOk reply (λ r. reply_parts r ≡ refusal_reply refusal) → new ≡ old ++ NotFiled ∷ [] → IsDecided limit early before before (Refused refusal) old new (record { mark = NotFiled; reply = reply })
-IsDecided-refusal limit early before refusal reply old new is marks = record {
+pub IsDecided-refusal : (limit : ℕ) (old_style before : List Request) (refusal : Refusal)
+    (reply : Result Reply AllocError) (old new : List Mark) → IfOk reply (λ r. reply_parts r ≡ refusal_reply refusal)
+    → new ≡ old ++ NotFiled ∷ []
+    → IsDecided limit old_style before before (Refused refusal) old new (record { mark = NotFiled; reply = reply })
+IsDecided-refusal limit old_style before refusal reply old new is marks = record {
   marked = record { mark = NotFiled; marks = marks; fit = tt; kept = refl };
   reply = rendered reply (refusal_reply refusal) true (render (refusal_reply refusal) true) refl is;
 }
@@ -52,21 +62,25 @@ IsDecided-refusal limit early before refusal reply old new is marks = record {
 -- ---- what was written of the reply
 
 -- the reply was written
-pub record IsAnswered (limit : ℕ) (early before after : List Request) (arrival : Arrival) (old new : List Mark) (from to : Option (List ℕ)) : Type 0 where
+pub record IsAnswered (limit : ℕ) (old_style before after : List Request) (arrival : Arrival) (old new : List Mark)
+    (from to : Option (List ℕ)) : Type 0 where
   pub marked : IsMarked limit before after arrival old new
-  pub written : Appends from to (reply_text_with early before arrival marked.mark)
+  pub written : Appends from to (reply_text_with old_style before arrival marked.mark)
 
 -- a part of it was, before a fault
-pub record IsPartly (limit : ℕ) (early before after : List Request) (arrival : Arrival) (old new : List Mark) (from to : Option (List ℕ)) (fault : ConnFault) : Type 0 where
+pub record IsPartly (limit : ℕ) (old_style before after : List Request) (arrival : Arrival) (old new : List Mark)
+    (from to : Option (List ℕ)) (fault : ConnFault) : Type 0 where
   pub marked : IsMarked limit before after arrival old new
-  pub written : WritesPart from to (reply_text_with early before arrival marked.mark) fault
+  pub written : WritesPart from to (reply_text_with old_style before arrival marked.mark) fault
 
 -- what `write_reply` says of the text is what is wanted of it
-pub WritesText-reply : {W : Type 0} (w : Writes W) (from to : W) (text own : List ℕ) (r : Result (Unit {0}) ConnFault) → own ≡ text → OnOk r (Appends (w.written from) (w.written to) own) → IfErr r (IsWriteFault w from to own)
+pub WritesText-reply : {W : Type 0} (w : Writes W) (from to : W) (text own : List ℕ) (r : Result (Unit {0}) ConnFault)
+    → own ≡ text → OnOk r (Appends (w.written from) (w.written to) own) → IfErr r (IsWriteFault w from to own)
     → WritesText (w.written from) (w.written to) text r
 WritesText-reply w from to text own (Ok done) same ok err = subst (Appends (w.written from) (w.written to)) same ok
 WritesText-reply w from to text own (Err ReadFault) same ok err = absurd err
-WritesText-reply w from to text own (Err (Write sent)) same ok err = subst (λ t. (sent ≤ length t) × Appends (w.written from) (w.written to) (take sent t)) same (err.1, err.2)
+WritesText-reply w from to text own (Err (Write sent)) same ok err =
+    subst (λ t. (sent ≤ length t) × Appends (w.written from) (w.written to) (take sent t)) same (err.1, err.2)
 WritesText-reply w from to text own (Err ReadLimit) same ok err = absurd err
 WritesText-reply w from to text own (Err Memory) same ok err = err.1
 

@@ -14,20 +14,29 @@ use Rattle.gateway_requests.specs.declared.route.Rejection.{Rejection}
 use Rattle.gateway_server.specs.Decided.{Decides, IsUnavailable, marked_reply, rejection_reply}
 use Rattle.gateway_requests.specs.Route.{view_route}
 
-decides : (limit : ℕ) (early requests : List Request) (to : Route) (d : Decided) → IsUnavailable d → RouteFits limit requests to Unavailable → requests ≡ kept_by requests (requests_of_route to Unavailable) → Decides limit early requests requests to d
-decides limit early requests to d is fit kept = record {
+decides : (limit : ℕ) (old_style requests : List Request) (to : Route) (d : Decided) → IsUnavailable d
+    → RouteFits limit requests to Unavailable → requests ≡ kept_by requests (requests_of_route to Unavailable)
+    → Decides limit old_style requests requests to d
+decides limit old_style requests to d is fit kept = record {
   fit = subst (λ (m : Mark). RouteFits limit requests to m) (sym is.mark) fit;
   kept = subst (λ (m : Mark). requests ≡ kept_by requests (requests_of_route to m)) (sym is.mark) kept;
-  reply = subst (λ (m : Mark). IfOk d.reply (λ r. reply_parts r ≡ marked_reply early requests to m)) (sym is.mark) is.reply;
+  reply = subst (λ (m : Mark). IfOk d.reply (λ r. reply_parts r ≡ marked_reply old_style requests to m)) (sym is.mark)
+      is.reply;
 }
 
-pub Decides-listed_unavailable : (limit : ℕ) (early requests : List Request) (filer : List ℕ) (number : Option ℕ) (d : Decided) → IsUnavailable d → Decides limit early requests requests (ListFilings filer number) d
-Decides-listed_unavailable limit early requests filer number d is = decides limit early requests (ListFilings filer number) d is tt refl
+pub Decides-listed_unavailable : (limit : ℕ) (old_style requests : List Request) (filer : List ℕ) (number : Option ℕ)
+    (d : Decided) → IsUnavailable d → Decides limit old_style requests requests (ListFilings filer number) d
+Decides-listed_unavailable limit old_style requests filer number d is =
+    decides limit old_style requests (ListFilings filer number) d is tt refl
 
-pub Decides-filed_unavailable : (limit : ℕ) (early requests : List Request) (r : Request) (d : Decided) → IsUnavailable d → Decides limit early requests requests (FileReport r) d
-Decides-filed_unavailable limit early requests r d is = decides limit early requests (FileReport r) d is tt refl
+pub Decides-filed_unavailable : (limit : ℕ) (old_style requests : List Request) (r : Request) (d : Decided)
+    → IsUnavailable d → Decides limit old_style requests requests (FileReport r) d
+Decides-filed_unavailable limit old_style requests r d is = decides limit old_style requests (FileReport r) d is tt refl
 
 -- an answer that depends on the message alone changes nothing
-pub Decides-told : (limit : ℕ) (early requests : List Request) (why : Rejection) (body : List ℕ) (is_bare : Bool) (reply : Result Reply AllocError) → IfOk reply (λ r. reply_parts r ≡ rejection_reply why is_bare) → Decides limit early requests requests (bare is_bare (view_route (asked.Reject why) body)) (record { mark = NotFiled; reply = reply })
-Decides-told limit early requests why body true reply is = record { fit = tt; kept = refl; reply = is }
-Decides-told limit early requests why body false reply is = record { fit = tt; kept = refl; reply = is }
+pub Decides-told : (limit : ℕ) (old_style requests : List Request) (why : Rejection) (body : List ℕ) (is_bare : Bool)
+    (reply : Result Reply AllocError) → IfOk reply (λ r. reply_parts r ≡ rejection_reply why is_bare)
+    → Decides limit old_style requests requests (bare is_bare (view_route (asked.Reject why) body))
+    (record { mark = NotFiled; reply = reply })
+Decides-told limit old_style requests why body true reply is = record { fit = tt; kept = refl; reply = is }
+Decides-told limit old_style requests why body false reply is = record { fit = tt; kept = refl; reply = is }

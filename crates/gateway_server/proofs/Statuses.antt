@@ -3,7 +3,8 @@ use Rattle.std.proofs.Common.{◌≡◌, Bool, true, false, List, [], ◌∷◌,
 use Rattle.std.specs.Prelude.{IsSome, IfOk, nat_eq}
 use Rattle.std.proofs.lemmas.Bool.{cases_Bool}
 use Rattle.http_messages.specs.declared.head.HeadFault.{HeadFault}
-use Rattle.http_messages.specs.declared.head.HeadFault.TheVariants.{Malformed, Host, Coding, Length, NoLength, TooLarge, Memory}
+use Rattle.http_messages.specs.declared.head.HeadFault.TheVariants.{Malformed, Host, Coding, Length, NoLength, TooLarge}
+use Rattle.http_messages.specs.declared.head.HeadFault.TheVariants.{Memory}
 use Rattle.http_messages.specs.declared.refusal.Refusal.{Refusal}
 use Rattle.http_messages.specs.declared.refusal.Refusal.TheVariants.{HeadTooLarge, Head}
 use Rattle.http_messages.specs.declared.reply.Reply.{Reply}
@@ -17,7 +18,8 @@ use Rattle.filing_model.specs.Listing.{Listing}
 use Rattle.filing_model.specs.Reply.{reply_as, list_reply, refused_status, unavailable}
 use Rattle.filing_model.specs.Text.{fault_reply, refusal_reply}
 use Rattle.gateway_requests.specs.declared.route.Rejection.{Rejection}
-use Rattle.gateway_requests.specs.declared.route.Rejection.TheVariants.{NoPath, NoMethod, ContentCoding, KeyMissing, KeyBad}
+use Rattle.gateway_requests.specs.declared.route.Rejection.TheVariants.{NoPath, NoMethod, ContentCoding, KeyMissing}
+use Rattle.gateway_requests.specs.declared.route.Rejection.TheVariants.{KeyBad}
 use Rattle.gateway_server.specs.Decided.{rejection_reply}
 use Rattle.gateway_requests.specs.Route.{rejection_status}
 
@@ -55,7 +57,8 @@ phrase-rejection_reply why true = phrase-rejection_status why
 phrase-rejection_reply why false = phrase-rejection_status why
 
 -- a reply with these parts has a phrase
-pub phrase-parts : (E : Type 0) (r : Result Reply E) (parts : ReplyParts) → HasPhrase parts → IfOk r (λ reply. reply_parts reply ≡ parts) → IfOk r (λ reply. IsSome (phrase reply.status))
+pub phrase-parts : (E : Type 0) (r : Result Reply E) (parts : ReplyParts) → HasPhrase parts
+    → IfOk r (λ reply. reply_parts reply ≡ parts) → IfOk r (λ reply. IsSome (phrase reply.status))
 phrase-parts E (Ok reply) parts has same = subst HasPhrase (sym same) has
 phrase-parts E (Err e) parts has same = tt
 

@@ -1,5 +1,6 @@
 -- A connection that is stopped at an arrival.
-use Rattle.std.proofs.Common.{◌≡◌, ℕ, suc, ◌+◌, false, List, [], ◌∷◌, ◌++◌, length, take, map, Option, Some, None, refl, sym, ap, ◌∙◌, subst, arith}
+use Rattle.std.proofs.Common.{◌≡◌, ℕ, suc, ◌+◌, false, List, [], ◌∷◌, ◌++◌, length, take, map, Option, Some, None, refl}
+use Rattle.std.proofs.Common.{sym, ap, ◌∙◌, subst, arith}
 use Rattle.std.proofs.lemmas.Bool.Decides.{nat_tests}
 use Rattle.std.proofs.lemmas.Grind.{common_steps}
 use Rattle.std.proofs.lemmas.List.{length-append, length-map}
@@ -18,14 +19,16 @@ use Rattle.gateway_server.specs.declared.serving.Turn.{Turn}
 use Rattle.gateway_server.specs.declared.serving.Turn.TheVariants.{On, Stopped, Ended as Ends}
 use Rattle.gateway_server.specs.Answered.{IsMarked}
 use Rattle.gateway_server.specs.Progress.{HasServed, ServesConnection}
-use Rattle.gateway_server.specs.Stopping.{IsBefore, IsAfter, IsStoppedAfter, IsCountAtStop, IsCountAt, StopsConnection, StopsOrEnds, ServesConnectionUntil, IsCountUntil}
+use Rattle.gateway_server.specs.Stopping.{IsBefore, IsAfter, IsStoppedAfter, IsCountAtStop, IsCountAt, StopsConnection}
+use Rattle.gateway_server.specs.Stopping.{StopsOrEnds, ServesConnectionUntil, IsCountUntil}
 use Rattle.gateway_server.proofs.Arrivals.{marked-one, completed-one}
 use Rattle.gateway_server.proofs.Progress.{MayBegin, begins-after, begins-last, marked_on, written_on, kept_on}
 
 -- ---- how many marks there are
 
 -- one more than before, where it is stopped neither before nor after it
-come-next : (crash : Crash) (count : ℕ) → ComeBefore crash count → ¬ (IsBefore crash (count + 1)) → ¬ (IsAfter crash (count + 1)) → ComeBefore crash (count + 1)
+come-next : (crash : Crash) (count : ℕ) → ComeBefore crash count → ¬ (IsBefore crash (count + 1))
+    → ¬ (IsAfter crash (count + 1)) → ComeBefore crash (count + 1)
 come-next No count come before after = tt
 come-next (Before j) count come before after = omega (arith, come, before)
 come-next (After j) count come before after = omega (arith, come, after)
@@ -37,10 +40,15 @@ IsCountAtStop-after (Before j) count here = absurd here
 IsCountAtStop-after (After j) count here = here
 
 -- one more is marked, and it isn't stopped before it
-pub IsCountAt-next : (crash : Crash) (count new : ℕ) (turn : Turn) → ComeBefore crash count → ¬ (IsBefore crash (count + 1)) → IsStoppedAfter crash (count + 1) turn → new ≡ count + 1 → IsCountAt crash new turn
-IsCountAt-next crash count new On come before stops e = subst (ComeBefore crash) (sym e) (come-next crash count come before stops)
-IsCountAt-next crash count new Stopped come before stops e = IsCountAtStop-after crash new (subst (IsAfter crash) (sym e) stops)
-IsCountAt-next crash count new (Ends ended) come before stops e = subst (ComeBefore crash) (sym e) (come-next crash count come before stops)
+pub IsCountAt-next : (crash : Crash) (count new : ℕ) (turn : Turn) → ComeBefore crash count
+    → ¬ (IsBefore crash (count + 1)) → IsStoppedAfter crash (count + 1) turn → new ≡ count + 1
+    → IsCountAt crash new turn
+IsCountAt-next crash count new On come before stops e =
+    subst (ComeBefore crash) (sym e) (come-next crash count come before stops)
+IsCountAt-next crash count new Stopped come before stops e =
+    IsCountAtStop-after crash new (subst (IsAfter crash) (sym e) stops)
+IsCountAt-next crash count new (Ends ended) come before stops e =
+    subst (ComeBefore crash) (sym e) (come-next crash count come before stops)
 
 pub ComeBefore-none : (crash : Crash) → ComeBefore crash 0
 ComeBefore-none No = tt
@@ -49,17 +57,20 @@ ComeBefore-none (After j) = omega arith
 
 -- ---- one arrival
 
-at-before : (crash : Crash) (count : ℕ) → IsBefore crash (count + 1) → IsStopAt crash (suc count) × (count ≡ marked crash (suc count))
+at-before : (crash : Crash) (count : ℕ) → IsBefore crash (count + 1)
+    → IsStopAt crash (suc count) × (count ≡ marked crash (suc count))
 at-before No count here = absurd here
 at-before (Before j) count here = (omega (arith, here), grind (arith, nat_tests, here))
 at-before (After j) count here = absurd here
 
-at-after : (crash : Crash) (count : ℕ) → IsAfter crash (count + 1) → IsStopAt crash (suc count) × (suc count ≡ marked crash (suc count))
+at-after : (crash : Crash) (count : ℕ) → IsAfter crash (count + 1)
+    → IsStopAt crash (suc count) × (suc count ≡ marked crash (suc count))
 at-after No count here = absurd here
 at-after (Before j) count here = absurd here
 at-after (After j) count here = (omega (arith, here), omega (arith, here))
 
-length-arrivals : (messages : List Message) (arrival : Arrival) → length (map Read messages ++ arrival ∷ []) ≡ suc (length messages)
+length-arrivals : (messages : List Message) (arrival : Arrival)
+    → length (map Read messages ++ arrival ∷ []) ≡ suc (length messages)
 length-arrivals [] arrival = refl
 length-arrivals (message ∷ messages) arrival = ap suc (length-arrivals messages arrival)
 
@@ -70,11 +81,13 @@ answered-at (Before j) n here = grind (arith, nat_tests, here)
 answered-at (After j) n here = grind (arith, nat_tests, here)
 
 -- marks fit the first of more arrivals
-fit-more : (limit : ℕ) (requests : List Request) (arrivals more : List Arrival) (marks : List Mark) → MarksFit limit requests arrivals marks → MarksFit limit requests (arrivals ++ more) marks
+fit-more : (limit : ℕ) (requests : List Request) (arrivals more : List Arrival) (marks : List Mark)
+    → MarksFit limit requests arrivals marks → MarksFit limit requests (arrivals ++ more) marks
 unfolding MarksFit
 fit-more limit requests arrivals more [] fit = tt
 fit-more limit requests [] more (mark ∷ marks) fit = absurd fit
-fit-more limit requests (arrival ∷ arrivals) more (mark ∷ marks) fit = (fit.0, fit-more limit (requests ++ completed_at arrival mark) arrivals more marks fit.1)
+fit-more limit requests (arrival ∷ arrivals) more (mark ∷ marks) fit =
+    (fit.0, fit-more limit (requests ++ completed_at arrival mark) arrivals more marks fit.1)
 
 take-first : (marks : List Mark) (mark : Mark) (n : ℕ) → length marks ≡ n → take n (marks ++ mark ∷ []) ≡ marks
 take-first marks mark n all = grind (arith, common_steps, all)
@@ -82,7 +95,9 @@ take-first marks mark n all = grind (arith, common_steps, all)
 take-whole : (marks : List Mark) (n : ℕ) → length marks ≡ n → take n marks ≡ marks
 take-whole marks n all = grind (arith, common_steps, all)
 
-module _ (requests : Keeping) (first last : Wire) (got sent rest : List ℕ) (marks : List Mark) (arrival : Arrival) (read : Consumes first.left last.left got) (wrote : Appends first.written last.written (sent ++ interim_of arrival)) (h : HasServed requests got rest marks sent) (begins : MayBegin rest (arrival ∷ [])) (crash : Crash) where
+module _ (requests : Keeping) (first last : Wire) (got sent rest : List ℕ) (marks : List Mark) (arrival : Arrival)
+    (read : Consumes first.left last.left got) (wrote : Appends first.written last.written (sent ++ interim_of arrival))
+    (h : HasServed requests got rest marks sent) (begins : MayBegin rest (arrival ∷ [])) (crash : Crash) where
   count : length marks ≡ length h.messages
   count = h.marked.all ∙ length-map h.messages (λ m. Read m)
 
@@ -91,7 +106,9 @@ module _ (requests : Keeping) (first last : Wire) (got sent rest : List ℕ) (ma
   up_to = map Read h.messages ++ arrival ∷ []
 
   up_to-begins : BeginsArrivals got up_to Ending.Closed
-  up_to-begins = begins-after got h.messages rest (arrival ∷ []) Ending.Closed h.goes (begins-last rest (arrival ∷ []) false begins (λ no'. absurd (cc)))
+  up_to-begins =
+      begins-after got h.messages rest (arrival ∷ []) Ending.Closed h.goes
+      (begins-last rest (arrival ∷ []) false begins (λ no'. absurd (cc)))
 
   up_to-length : length up_to ≡ suc (length h.messages)
   up_to-length = length-arrivals h.messages arrival
@@ -99,13 +116,18 @@ module _ (requests : Keeping) (first last : Wire) (got sent rest : List ℕ) (ma
   answered_up : IsStopAt crash (suc (length h.messages)) → answered crash (length up_to) ≡ length h.messages
   answered_up here = ap (answered crash) up_to-length ∙ answered-at crash (length h.messages) here
 
-  written_up : sent ++ interim_of arrival ≡ text_with requests.early requests.before up_to Ending.Closed marks
+  written_up : sent ++ interim_of arrival ≡ text_with requests.old_style requests.before up_to Ending.Closed marks
   unfolding text_with
-  written_up = subst (λ (ms : List Mark). sent ++ interim_of arrival ≡ text_with requests.early requests.before up_to Ending.Closed ms) (append_nil marks) (written_on requests got rest marks sent h (arrival ∷ []) Ending.Closed [])
+  written_up =
+      subst (λ (ms : List Mark). sent ++ interim_of arrival
+      ≡ text_with requests.old_style requests.before up_to Ending.Closed ms) (append_nil marks)
+      (written_on requests got rest marks sent h (arrival ∷ []) Ending.Closed [])
 
   kept_up : requests.after ≡ kept_by requests.before (completed up_to marks)
   unfolding completed
-  kept_up = subst (λ (ms : List Mark). requests.after ≡ kept_by requests.before (completed up_to ms)) (append_nil marks) (kept_on requests got rest marks sent h (arrival ∷ []) [])
+  kept_up =
+      subst (λ (ms : List Mark). requests.after ≡ kept_by requests.before (completed up_to ms)) (append_nil marks)
+      (kept_on requests got rest marks sent h (arrival ∷ []) [])
 
   -- the arrival is known, and nothing was decided of it
   pub StopsConnection-before : IsBefore crash (length marks + 1) → StopsConnection requests first last crash marks
@@ -122,17 +144,24 @@ module _ (requests : Keeping) (first last : Wire) (got sent rest : List ℕ) (ma
           here = subst (IsStopAt crash) (sym up_to-length) at.0;
           all = count ∙ at.1 ∙ ap (marked crash) (sym up_to-length);
           fit = fit-more requests.limit requests.before (map Read h.messages) (arrival ∷ []) marks h.marked.fit;
-          written = written_up ∙ ap (text_with requests.early requests.before up_to Ending.Closed) (sym (ap (λ n. take n marks) (answered_up at.0) ∙ take-whole marks (length h.messages) count));
+          written =
+              written_up ∙ ap (text_with requests.old_style requests.before up_to Ending.Closed)
+              (sym (ap (λ n. take n marks) (answered_up at.0) ∙ take-whole marks (length h.messages) count));
           kept = kept_up;
         };
       }
 
   -- it is marked, and nothing of its reply was written
-  pub StopsConnection-after : (after : List Request) (new : List Mark) → IsAfter crash (length marks + 1) → IsMarked requests.limit requests.after after arrival marks new → StopsConnection (record requests { after = after }) first last crash new
+  pub StopsConnection-after : (after : List Request) (new : List Mark) → IsAfter crash (length marks + 1)
+      → IsMarked requests.limit requests.after after arrival marks new
+      → StopsConnection (record requests { after = after }) first last crash new
   StopsConnection-after after new stop m =
-      let more : length new ≡ suc (length h.messages) = omega (arith, ap length m.marks, length-append marks (m.mark ∷ []), count) in
+      let more : length new ≡ suc (length h.messages) =
+      omega (arith, ap length m.marks, length-append marks (m.mark ∷ []), count) in
       let at = at-after crash (length h.messages) (subst (λ n. IsAfter crash (n + 1)) count stop) in
-      let fit = (marked_on requests got rest marks sent h (arrival ∷ []) (m.mark ∷ []) (marked-one requests.limit requests.after arrival m.mark m.fit)).fit in
+      let fit =
+      (marked_on requests got rest marks sent h (arrival ∷ []) (m.mark ∷ [])
+      (marked-one requests.limit requests.after arrival m.mark m.fit)).fit in
       record {
         got = got;
         sent = sent ++ interim_of arrival;
@@ -144,15 +173,22 @@ module _ (requests : Keeping) (first last : Wire) (got sent rest : List ℕ) (ma
           here = subst (IsStopAt crash) (sym up_to-length) at.0;
           all = more ∙ at.1 ∙ ap (marked crash) (sym up_to-length);
           fit = subst (MarksFit requests.limit requests.before up_to) (sym m.marks) fit;
-          written = written_up ∙ ap (text_with requests.early requests.before up_to Ending.Closed) (sym (ap (λ n. take n new) (answered_up at.0) ∙ ap (take (length h.messages)) m.marks ∙ take-first marks m.mark (length h.messages) count));
-          kept = m.kept ∙ ap (kept_by requests.after) (sym (completed-one arrival m.mark)) ∙ kept_on requests got rest marks sent h (arrival ∷ []) (m.mark ∷ []) ∙ ap (λ ms. kept_by requests.before (completed up_to ms)) (sym m.marks);
+          written =
+              written_up ∙ ap (text_with requests.old_style requests.before up_to Ending.Closed)
+              (sym (ap (λ n. take n new) (answered_up at.0) ∙ ap (take (length h.messages)) m.marks
+              ∙ take-first marks m.mark (length h.messages) count));
+          kept = m.kept ∙ ap (kept_by requests.after) (sym (completed-one arrival m.mark))
+              ∙ kept_on requests got rest marks sent h (arrival ∷ []) (m.mark ∷ [])
+              ∙ ap (λ ms. kept_by requests.before (completed up_to ms)) (sym m.marks);
         };
       }
 
 -- ---- the whole connection
 
 -- it was stopped, or has ended before the arrival to stop at
-pub ServesConnectionUntil-either : (requests : Keeping) (old new : Wire) (crash : Crash) (marks : List Mark) (ended : Option Ended) → IsCountUntil crash (length marks) ended → StopsOrEnds requests old new crash marks ended → ServesConnectionUntil requests old new crash marks ended
+pub ServesConnectionUntil-either : (requests : Keeping) (old new : Wire) (crash : Crash) (marks : List Mark)
+    (ended : Option Ended) → IsCountUntil crash (length marks) ended → StopsOrEnds requests old new crash marks ended
+    → ServesConnectionUntil requests old new crash marks ended
 ServesConnectionUntil-either requests old new crash marks None count s = record {
   got = s.got;
   sent = s.sent;
@@ -175,7 +211,8 @@ ServesConnectionUntil-either requests old new crash marks (Some ended) count s =
 }
 
 -- where it ended, it was served to its end
-pub ServesConnection-ended : (requests : Keeping) (old new : Wire) (crash : Crash) (marks : List Mark) (ended : Ended) → ServesConnectionUntil requests old new crash marks (Some ended) → ServesConnection requests old new marks ended
+pub ServesConnection-ended : (requests : Keeping) (old new : Wire) (crash : Crash) (marks : List Mark) (ended : Ended)
+    → ServesConnectionUntil requests old new crash marks (Some ended) → ServesConnection requests old new marks ended
 ServesConnection-ended requests old new crash marks ended s = record {
   got = s.got;
   sent = s.sent;

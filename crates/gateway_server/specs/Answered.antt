@@ -1,5 +1,6 @@
 -- What answering one arrival does. No public clause cites this file.
-use Rattle.std.specs.Prelude.{◌≡◌, ℕ, ◌≤◌, Bool, true, List, [], ◌∷◌, ◌++◌, length, take, Option, Result, IfOk, MatchResult}
+use Rattle.std.specs.Prelude.{◌≡◌, ℕ, ◌≤◌, Bool, true, List, [], ◌∷◌, ◌++◌, length, take, Option, Result, IfOk}
+use Rattle.std.specs.Prelude.{MatchResult}
 use Rattle.std.specs.declared.alloc.AllocError.{AllocError}
 use Rattle.std.specs.Io.KnownBytes.{Appends}
 use Rattle.http_messages.specs.declared.refusal.ConnFault.{ConnFault}
@@ -28,14 +29,18 @@ pub record IsMarked (limit : ℕ) (before after : List Request) (arrival : Arriv
   pub kept : after ≡ kept_by before (completed_at arrival mark)
 
 -- the arrival is marked, and the reply that was decided for it, if there was memory for one, is its reply
-pub record IsDecided (limit : ℕ) (early before after : List Request) (arrival : Arrival) (old new : List Mark) (d : Decided) : Type 0 where
+pub record IsDecided (limit : ℕ) (old_style before after : List Request) (arrival : Arrival) (old new : List Mark)
+    (d : Decided) : Type 0 where
   pub marked : IsMarked limit before after arrival old new
-  pub reply : IfOk d.reply (λ r. render (reply_parts r) (closes_after arrival) ≡ reply_text_with early before arrival marked.mark)
+  pub reply : IfOk d.reply (λ r. render (reply_parts r) (closes_after arrival)
+      ≡ reply_text_with old_style before arrival marked.mark)
 
 -- the arrival was decided, or nothing was marked and kept
-abbrev pub Marks : ℕ → List Request → List Request → List Request → Arrival → List Mark → List Mark → Result Decided AllocError → Type 0
-Marks limit early before after arrival old new result =
-    MatchResult result (λ d. IsDecided limit early before after arrival old new d) (λ _. (after ≡ before) × (new ≡ old))
+abbrev pub Marks : ℕ → List Request → List Request → List Request → Arrival → List Mark → List Mark
+    → Result Decided AllocError → Type 0
+Marks limit old_style before after arrival old new result =
+    MatchResult result (λ d. IsDecided limit old_style before after arrival old new d) (λ _. (after ≡ before)
+    × (new ≡ old))
 
 -- what of a text was written before a fault: as many bytes as it says, or nothing where memory ran out
 abbrev pub WritesPart : Option (List ℕ) → Option (List ℕ) → List ℕ → ConnFault → Type 0

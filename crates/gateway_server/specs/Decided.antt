@@ -15,19 +15,21 @@ use Rattle.gateway_requests.specs.Route.{rejection_status, rejection_word}
 
 -- the reply that depends on the message alone
 abbrev pub rejection_reply : Why → Bool → ReplyParts
-rejection_reply why is_bare = if is_bare then record { status = rejection_status why; content = []; kind = Problem } else word_reply (rejection_status why) (rejection_word why)
+rejection_reply why is_bare =
+    if is_bare then record { status = rejection_status why; content = []; kind = Problem }
+    else word_reply (rejection_status why) (rejection_word why)
 
 -- the reply to what was asked for and marked so
 abbrev pub marked_reply : List Request → List Request → Route → Mark → ReplyParts
-marked_reply early requests to Done = reply_on early requests to
-marked_reply early requests to Unavailable = unavailable
-marked_reply early requests to NotFiled = reply_on early requests to
+marked_reply old_style requests to Done = reply_on old_style requests to
+marked_reply old_style requests to Unavailable = unavailable
+marked_reply old_style requests to NotFiled = reply_on old_style requests to
 
 -- the mark fits, the reply is the one for it, and what is kept follows from it
-pub record Decides (limit : ℕ) (early before after : List Request) (to : Route) (d : Decided) : Type 0 where
+pub record Decides (limit : ℕ) (old_style before after : List Request) (to : Route) (d : Decided) : Type 0 where
   pub fit : RouteFits limit before to d.mark
   pub kept : after ≡ kept_by before (requests_of_route to d.mark)
-  pub reply : IfOk d.reply (λ r. reply_parts r ≡ marked_reply early before to d.mark)
+  pub reply : IfOk d.reply (λ r. reply_parts r ≡ marked_reply old_style before to d.mark)
 
 -- the mark and the reply of what could not be answered
 pub record IsUnavailable (d : Decided) : Type 0 where

@@ -29,26 +29,30 @@ use Rattle.gateway_server.specs.Written.{WritesTexts}
 -- the bytes begin with these messages, none of which closes, and the rest follows
 abbrev pub GoesThrough : List ℕ → List Message → List ℕ → Type 0
 GoesThrough bytes [] rest = rest ≡ bytes
-GoesThrough bytes (message ∷ messages) rest = (n : ℕ) × BeginsRequest bytes message n × (closes message.head ≡ false) × GoesThrough (drop n bytes) messages rest
+GoesThrough bytes (message ∷ messages) rest =
+    (n : ℕ) × BeginsRequest bytes message n × (closes message.head ≡ false) × GoesThrough (drop n bytes) messages rest
 
 -- The bytes begin with messages that are marked and answered, none of which closes; the rest follows.
 pub record HasServed (requests : Keeping) (bytes rest : List ℕ) (marks : List Mark) (out : List ℕ) : Type 0 where
   pub messages : List Message
   pub goes : GoesThrough bytes messages rest
   pub marked : AreMarked requests.limit requests.before (map Read messages) marks
-  pub written : out ≡ text_with requests.early requests.before (map Read messages) Ending.Closed marks
+  pub written : out ≡ text_with requests.old_style requests.before (map Read messages) Ending.Closed marks
   pub kept : requests.after ≡ kept_by requests.before (completed (map Read messages) marks)
 
--- The text that is written next, where a rest follows what was served, after the early requests and those that are kept now: with no mark
--- more, the interim response that the rest asks for; with one more, the reply to the arrival with which the rest begins, behind what leads it.
+-- The text that is written next, where a rest follows what was served, after the old-style requests and those that are
+-- kept now: with no mark more, the interim response that the rest asks for; with one more, the reply to the arrival
+-- with which the rest begins, behind what leads it.
 abbrev pub IsNextText : List Request → List Request → List ℕ → List Mark → List ℕ → List ℕ → Type 0
-IsNextText early now rest [] lead text = Asks rest true × (lead ≡ []) × (text ≡ interim)
-IsNextText early now rest (mark ∷ []) lead text =
-    (arrival : Arrival) × BeginsArrivals rest (arrival ∷ []) Ending.Closed × (lead ≡ interim_of arrival) × (text ≡ reply_text_with early now arrival mark)
-IsNextText early now rest (mark ∷ another ∷ marks) lead text = ⊥
+IsNextText old_style now rest [] lead text = Asks rest true × (lead ≡ []) × (text ≡ interim)
+IsNextText old_style now rest (mark ∷ []) lead text =
+    (arrival : Arrival) × BeginsArrivals rest (arrival ∷ []) Ending.Closed × (lead ≡ interim_of arrival)
+    × (text ≡ reply_text_with old_style now arrival mark)
+IsNextText old_style now rest (mark ∷ another ∷ marks) lead text = ⊥
 
 -- The writer failed within a text: what comes before it went out whole, and of the text itself the first `sent` bytes.
-pub record FailsWithin (requests : Keeping) (bytes : List ℕ) (marks : List Mark) (out : List ℕ) (sent : ℕ) : Type 0 where
+pub record FailsWithin (requests : Keeping) (bytes : List ℕ) (marks : List Mark) (out : List ℕ) (sent
+    : ℕ) : Type 0 where
   pub rest : List ℕ
   pub done : List Mark
   pub before : List ℕ
@@ -57,13 +61,13 @@ pub record FailsWithin (requests : Keeping) (bytes : List ℕ) (marks : List Mar
   pub more : List Mark
   pub lead : List ℕ
   pub text : List ℕ
-  pub next : IsNextText requests.early now rest more lead text
+  pub next : IsNextText requests.old_style now rest more lead text
   pub marked : marks ≡ done ++ more
   pub within : sent ≤ length text
   pub written : out ≡ before ++ (lead ++ take sent text)
 
--- What a connection came to: some bytes were read and some text was written, and that is what serving these bytes may mark, write,
--- keep and end with. A failed write says how many bytes it took of the text in which it failed.
+-- What a connection came to: some bytes were read and some text was written, and that is what serving these bytes may
+-- mark, write, keep and end with. A failed write says how many bytes it took of the text in which it failed.
 pub record ServesConnection (requests : Keeping) (old new : Wire) (marks : List Mark) (ended : Ended) : Type 0 where
   pub got : List ℕ
   pub sent : List ℕ
@@ -87,14 +91,18 @@ IsEndedBy old new Closed = NoneFailed old new
 IsEndedBy old new InputEnded = NoneFailed old new
 IsEndedBy old new (Fault fault) = IsEndedByFault old new fault
 
--- The limit of reads is said by bytes, since a reader names its bytes and not its reads: so many reads gave at least a byte each.
+-- The limit of reads is said by bytes, since a reader names its bytes and not its reads: so many reads gave at least a
+-- byte each.
 abbrev pub IsLimited : Wire → Wire → Ended → Type 0
-IsLimited old new ended = ended ≡ Fault fault.ReadLimit → (bytes : List ℕ) × Consumes old.left new.left bytes × (max_reads ≤ length bytes)
+IsLimited old new ended = ended ≡ Fault fault.ReadLimit
+    → (bytes : List ℕ) × Consumes old.left new.left bytes × (max_reads ≤ length bytes)
 
 -- What serving a connection to its end does with its wire and an intake, and what it came to.
-pub record ServesToEnd {S : Type 0} (g : Ghosts S) (from to : Wire) (old new : Intake S) (result : Served) : Type 0 where
+pub record ServesToEnd {S : Type 0} (g : Ghosts S) (from to : Wire) (old new : Intake S) (result
+    : Served) : Type 0 where
   -- where the disk is clean at the end, all that was read and written, marked and kept is what serving these bytes does
-  pub serves : IsTransition g old new (λ early before after. ServesConnection (keeping (limit_of old) early before after) from to result.marks.items result.ended)
+  pub serves : IsTransition g old new (λ old_style before after. ServesConnection
+      (keeping (limit_of old) old_style before after) from to result.marks.items result.ended)
   -- as many keys may be kept as before, and a disk that is clean at the end was clean before
   pub setting : KeepsSetting g old new
   -- why it ended, whatever the disk did
@@ -105,7 +113,8 @@ pub record ServesToEnd {S : Type 0} (g : Ghosts S) (from to : Wire) (old new : I
 
 -- ---- of a part of a connection, with its inbox; no public clause cites what follows
 
--- Since the connection began, so much was read and written, and so far that is served. Each read that is counted gave a byte.
+-- Since the connection began, so much was read and written, and so far that is served. Each read that is counted gave a
+-- byte.
 pub record GoesOn (requests : Keeping) (old new : Wire) (inbox : Inbox) (marks : List Mark) : Type 0 where
   pub got : List ℕ
   pub sent : List ℕ
@@ -126,7 +135,8 @@ pub record HasMessage (requests : Keeping) (old new : Wire) (inbox : Inbox) (mar
   pub lends : LendsFirst inbox
 
 -- the same, where the bytes that are held begin with what is refused
-pub record HasRefusal (requests : Keeping) (old new : Wire) (inbox : Inbox) (refusal : Refusal) (marks : List Mark) : Type 0 where
+pub record HasRefusal (requests : Keeping) (old new : Wire) (inbox : Inbox) (refusal : Refusal)
+    (marks : List Mark) : Type 0 where
   pub got : List ℕ
   pub sent : List ℕ
   pub read : Consumes old.left new.left got
@@ -148,8 +158,8 @@ IsEndedByReply failures failures' (Fault fault) = IsReplyFault failures failures
 abbrev pub ReadsSome : Option (List ℕ) → Option (List ℕ) → Inbox → Inbox → Type 0
 ReadsSome left left' old new = (bytes : List ℕ) × Consumes left left' bytes × (reads new ≤ reads old + length bytes)
 
--- which fault ended it: the limit, where all reads were made that may give bytes, and one more was wanted; and memory only
--- where fewer were made, or no end of a block is waited for
+-- which fault ended it: the limit, where all reads were made that may give bytes, and one more was wanted; and memory
+-- only where fewer were made, or no end of a block is waited for
 abbrev pub TellsLimit : Inbox → Ended → Type 0
 TellsLimit inbox Closed = Unit {0}
 TellsLimit inbox InputEnded = Unit {0}

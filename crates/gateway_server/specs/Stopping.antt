@@ -1,5 +1,6 @@
 -- What serving a connection does that may be stopped at one of its requests.
-use Rattle.std.specs.Prelude.{◌≡◌, ℕ, suc, ◌≤◌, max, Bool, true, false, List, length, Option, Some, None, IsSome, IfSome}
+use Rattle.std.specs.Prelude.{◌≡◌, ℕ, suc, ◌≤◌, max, Bool, true, false, List, length, Option, Some, None, IsSome}
+use Rattle.std.specs.Prelude.{IfSome}
 use Rattle.std.specs.Io.KnownBytes.{Consumes, Appends, IsAtEnd}
 use Rattle.sqlite.specs.Store.{Ghosts}
 use Rattle.http_wire.specs.declared.inbox.Inbox.{Inbox}
@@ -20,7 +21,8 @@ use Rattle.gateway_server.specs.declared.stop.Stop.{Stop}
 use Rattle.gateway_server.specs.declared.stop.Stop.TheVariants as stop
 use Rattle.gateway_server.specs.Answered.{WritesPart}
 use Rattle.gateway_server.specs.Written.{WritesTexts}
-use Rattle.gateway_server.specs.Progress.{GoesOn, FailsWithin, ServesConnection, IsEndedBy, IsLimited, IsEndedByReply, TellsLimit}
+use Rattle.gateway_server.specs.Progress.{GoesOn, FailsWithin, ServesConnection, IsEndedBy, IsLimited, IsEndedByReply}
+use Rattle.gateway_server.specs.Progress.{TellsLimit}
 
 -- the stop as the model has it
 abbrev pub view_stop : Stop → Crash
@@ -28,8 +30,10 @@ view_stop stop.Never = No
 view_stop (stop.Before number) = Before number
 view_stop (stop.After number) = After number
 
--- what the connection came to, up to its end or to the stop; a failed write says how many bytes it took of the text in which it failed
-pub record ServesConnectionUntil (requests : Keeping) (old new : Wire) (crash : Crash) (marks : List Mark) (ended : Option Ended) : Type 0 where
+-- what the connection came to, up to its end or to the stop; a failed write says how many bytes it took of the text in
+-- which it failed
+pub record ServesConnectionUntil (requests : Keeping) (old new : Wire) (crash : Crash) (marks : List Mark)
+    (ended : Option Ended) : Type 0 where
   pub got : List ℕ
   pub sent : List ℕ
   pub read : Consumes old.left new.left got
@@ -39,7 +43,8 @@ pub record ServesConnectionUntil (requests : Keeping) (old new : Wire) (crash : 
   pub limited : ended ≡ Some (how.Fault fault.ReadLimit) → max_reads ≤ length got
   pub failed : (n : ℕ) → ended ≡ Some (how.Fault (fault.Write n)) → FailsWithin requests got marks sent n
 
--- So many marks there are where it was stopped: those of the requests before the one to stop at, and where it stopped after that, its mark too.
+-- So many marks there are where it was stopped: those of the requests before the one to stop at, and where it stopped
+-- after that, its mark too.
 abbrev pub IsCountAtStop : Crash → ℕ → Type 0
 IsCountAtStop No count = ⊥
 IsCountAtStop (Before j) count = suc count ≡ max 1 j
@@ -56,9 +61,12 @@ IsEndedOrStoppedBy old new None = NoneFailed old new
 IsEndedOrStoppedBy old new (Some ended) = IsEndedBy old new ended
 
 -- What serving a connection up to its end or to a stop does with its wire and an intake, and what it came to.
-pub record ServesUpTo {S : Type 0} (g : Ghosts S) (from to : Wire) (old new : Intake S) (at : Stop) (result : Partly) : Type 0 where
-  -- where the disk is clean at the end, all that was read and written, marked and kept is what serving these bytes up to the stop does
-  pub serves : IsTransition g old new (λ early before after. ServesConnectionUntil (keeping (limit_of old) early before after) from to (view_stop at) result.marks.items result.ended)
+pub record ServesUpTo {S : Type 0} (g : Ghosts S) (from to : Wire) (old new : Intake S) (at : Stop)
+    (result : Partly) : Type 0 where
+  -- where the disk is clean at the end, all that was read and written, marked and kept is what serving these bytes up
+  -- to the stop does
+  pub serves : IsTransition g old new (λ old_style before after. ServesConnectionUntil
+      (keeping (limit_of old) old_style before after) from to (view_stop at) result.marks.items result.ended)
   -- as many keys may be kept as before, and a disk that is clean at the end was clean before
   pub setting : KeepsSetting g old new
   -- why it ended, whatever the disk did
@@ -139,7 +147,8 @@ IsStoppedAfter crash number On = ¬ (IsAfter crash number)
 IsStoppedAfter crash number Stopped = IsAfter crash number
 IsStoppedAfter crash number (Ends ended) = ¬ (IsAfter crash number)
 
--- A reply of this text was written, and the connection goes on or closes; or nothing of it; or a fault came after the part that it says.
+-- A reply of this text was written, and the connection goes on or closes; or nothing of it; or a fault came after the
+-- part that it says.
 abbrev pub Replies : Option (List ℕ) → Option (List ℕ) → List ℕ → Bool → Turn → Type 0
 Replies from to text close On = Appends from to text × (close ≡ false)
 Replies from to text close Stopped = to ≡ from

@@ -12,9 +12,11 @@ use Rattle.filing_model.specs.declared.served.Ended.TheVariants.{Fault}
 abbrev pub IsText : List ℕ → Type 0
 IsText text = (text ≡ interim) ⊎ ((reply : ReplyParts) × (close : Bool) × (text ≡ render reply close))
 
--- what went out of a text that isn't whole: where a write failed, its first bytes, as many as that says; otherwise there is none
+-- what went out of a text that isn't whole: where a write failed, its first bytes, as many as that says; otherwise
+-- there is none
 abbrev pub IsPart : Option Ended → List ℕ → Type 0
-IsPart (Some (Fault (fault.Write sent))) part = (text : List ℕ) × IsText text × (sent ≤ length text) × (part ≡ take sent text)
+IsPart (Some (Fault (fault.Write sent))) part =
+    (text : List ℕ) × IsText text × (sent ≤ length text) × (part ≡ take sent text)
 IsPart _ part = part ≡ []
 
 -- Whole texts went out, and behind them a part of one more where a write failed. Nothing else did.

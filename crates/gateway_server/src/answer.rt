@@ -1,6 +1,7 @@
 //! One arrival answered: it is decided and marked, and then its reply is written.
 
-ghost use Rattle.std.specs.Prelude.{◌≡◌, ◌<◌, ◌≤◌, ◌+◌, ℕ, List, length, vec_len, vec_capacity, IfOk, IfErr, OnOk, MatchResult};
+ghost use Rattle.std.specs.Prelude.{◌≡◌, ◌<◌, ◌≤◌, ◌+◌, ℕ, List, length, vec_len, vec_capacity, IfOk, IfErr, OnOk};
+ghost use Rattle.std.specs.Prelude.{MatchResult};
 ghost use Rattle.http_messages.specs.Head.{max_body_len};
 ghost use Rattle.http_messages.specs.Message.{Read as ReadArrival, Refused as RefusedArrival};
 ghost use Rattle.http_messages.specs.Replies.{reply_parts};
@@ -28,8 +29,8 @@ pub(crate) fn mark<S: Alter>(
     marks: &mut Vec<Mark>,
 ) -> Result<Decided, AllocError>
     requires { length message.now.body.now ≤ max_body_len }
-    ensures marked { IsTransition S.Store intake.old intake.new (λ early before after.
-        Marks (limit_of intake.old) early before after (ReadArrival (view_message message.now)) marks.old.items
+    ensures marked { IsTransition S.Store intake.old intake.new (λ old_style before after.
+        Marks (limit_of intake.old) old_style before after (ReadArrival (view_message message.now)) marks.old.items
         marks.new.items result) }
     ensures phrase { IfOk result IsPhrased }
     ensures counted { MatchResult result (λ _. vec_len marks.new ≡ vec_len marks.old + 1) (λ _.
@@ -54,8 +55,8 @@ fn mark_route<S: Alter>(
     requires filer { HasFiler asked }
     requires asked { route (view_message message.now) ≡ bare (is_head (view_message message.now))
         (view_route asked message.now.body.now) }
-    ensures marked { IsTransition S.Store intake.old intake.new (λ early before after.
-        IsDecided (limit_of intake.old) early before after (ReadArrival (view_message message.now)) marks.old.items
+    ensures marked { IsTransition S.Store intake.old intake.new (λ old_style before after.
+        IsDecided (limit_of intake.old) old_style before after (ReadArrival (view_message message.now)) marks.old.items
         marks.new.items result) }
     ensures phrase { IsPhrased result }
     ensures counted { vec_len marks.new ≡ vec_len marks.old + 1 }
@@ -72,8 +73,8 @@ pub(crate) fn mark_refusal(
     refusal: Refusal,
     marks: &mut Vec<Mark>,
 ) -> Result<Decided, AllocError>
-    ensures marked { (limit : ℕ) (early before : List Request)
-        → Marks limit early before before (RefusedArrival refusal) marks.old.items marks.new.items result }
+    ensures marked { (limit : ℕ) (old_style before : List Request)
+        → Marks limit old_style before before (RefusedArrival refusal) marks.old.items marks.new.items result }
     ensures phrase { IfOk result IsPhrased }
     ensures counted { MatchResult result (λ _. vec_len marks.new ≡ vec_len marks.old + 1) (λ _.
         vec_len marks.new ≡ vec_len marks.old) }

@@ -38,8 +38,8 @@ pub(crate) fn decide<S: Alter>(
 ) -> Decided
     requires filer { HasFiler route }
     requires body { length body.now ≤ max_body_len }
-    ensures decided { IsTransition S.Store intake.old intake.new (λ early before after.
-        Decides (limit_of intake.old) early before after (bare is_bare (view_route route.entry body.now)) result) }
+    ensures decided { IsTransition S.Store intake.old intake.new (λ old_style before after.
+        Decides (limit_of intake.old) old_style before after (bare is_bare (view_route route.entry body.now)) result) }
     ensures phrase { IsPhrased result }
     ensures setting { KeepsSetting S.Store intake.old intake.new }
 {
@@ -70,8 +70,8 @@ fn rejection_reply(alloc: Global, why: Rejection, is_bare: bool) -> Result<Reply
 
 /// The reply with a filer's list.
 fn list<S: Alter>(alloc: Global, intake: &mut Intake<S>, filer: &str) -> Decided
-    ensures decided { IsTransition S.Store intake.old intake.new (λ early before after.
-        Decides (limit_of intake.old) early before after (AsksList filer.now None) result) }
+    ensures decided { IsTransition S.Store intake.old intake.new (λ old_style before after.
+        Decides (limit_of intake.old) old_style before after (AsksList filer.now None) result) }
     ensures phrase { IsPhrased result }
     ensures setting { KeepsSetting S.Store intake.old intake.new }
 {
@@ -96,8 +96,8 @@ fn row_reply(alloc: Global, row: Option<FilingRow>) -> Result<Reply, AllocError>
 
 /// The reply with the filer's filing of this number.
 fn show<S: Alter>(alloc: Global, intake: &mut Intake<S>, filer: &str, number: u64) -> Decided
-    ensures decided { IsTransition S.Store intake.old intake.new (λ early before after.
-        Decides (limit_of intake.old) early before after (AsksList filer.now (Some number)) result) }
+    ensures decided { IsTransition S.Store intake.old intake.new (λ old_style before after.
+        Decides (limit_of intake.old) old_style before after (AsksList filer.now (Some number)) result) }
     ensures phrase { IsPhrased result }
     ensures setting { KeepsSetting S.Store intake.old intake.new }
 {
@@ -121,8 +121,8 @@ fn file<S: Alter>(
     requires filer { is_filer filer.now ≡ true }
     requires target { IsTarget target }
     requires body { length body.now ≤ max_body_len }
-    ensures decided { IsTransition S.Store intake.old intake.new (λ early before after.
-        Decides (limit_of intake.old) early before after
+    ensures decided { IsTransition S.Store intake.old intake.new (λ old_style before after.
+        Decides (limit_of intake.old) old_style before after
         (AsksFiling (the_request filer.now key.now target body.now)) result) }
     ensures phrase { IsPhrased result }
     ensures setting { KeepsSetting S.Store intake.old intake.new }

@@ -11,8 +11,11 @@ ghost use Rattle.filing_model.specs.Serving.{Keeping, keeping};
 ghost use Rattle.filing_model.specs.Stopping.{ComeBefore};
 ghost use Rattle.intake_core.specs.Held.{limit_of, KeepsSetting, IsTransition};
 ghost use Rattle.gateway_server.specs.Decided.{IsPhrased};
-ghost use Rattle.gateway_server.specs.Progress.{with_written, GoesOn, HasMessage, HasRefusal, ReadsSome, TellsLimit, ServesToEnd};
-ghost use Rattle.gateway_server.specs.Stopping.{view_stop, ServesUpTo, IsCountUntil, IsEndedOrStoppedBy, Continues, StopsOrEnds, IsCountAt, IsTurnBy, IsTurnByReply, TellsTurn, Replies, IsStoppedAfter, end_of};
+ghost use Rattle.gateway_server.specs.Progress.{with_written, GoesOn, HasMessage, HasRefusal, ReadsSome, TellsLimit};
+ghost use Rattle.gateway_server.specs.Progress.{ServesToEnd};
+ghost use Rattle.gateway_server.specs.Stopping.{view_stop, ServesUpTo, IsCountUntil, IsEndedOrStoppedBy, Continues};
+ghost use Rattle.gateway_server.specs.Stopping.{StopsOrEnds, IsCountAt, IsTurnBy, IsTurnByReply, TellsTurn, Replies};
+ghost use Rattle.gateway_server.specs.Stopping.{IsStoppedAfter, end_of};
 ghost use Rattle.gateway_server.specs.Written.{WritesTexts};
 
 use crate::answer::{mark, mark_refusal, write_decided};
@@ -109,11 +112,11 @@ fn serve_arrivals<R: Source, W: Sink, S: Alter>(
 ) -> Option<Ended>
     requires over { is_over inbox.old ≡ false }
     requires count { ComeBefore (view_stop stop) (vec_len marks.old) }
-    ensures serves { IsTransition S.Store intake.old intake.new (λ early now after.
+    ensures serves { IsTransition S.Store intake.old intake.new (λ old_style now after.
         (before : List Request) (first : Wire)
-        → GoesOn (keeping (limit_of intake.old) early before now) first
+        → GoesOn (keeping (limit_of intake.old) old_style before now) first
         (wire R.Source W.Sink reader.old writer.old) inbox.old marks.old.items
-        → StopsOrEnds (keeping (limit_of intake.old) early before after) first
+        → StopsOrEnds (keeping (limit_of intake.old) old_style before after) first
         (wire R.Source W.Sink reader.new writer.new) (view_stop stop) marks.new.items result) }
     ensures counted { IsCountUntil (view_stop stop) (vec_len marks.new) result }
     ensures setting { KeepsSetting S.Store intake.old intake.new }
@@ -144,11 +147,11 @@ fn serve_arrival<R: Source, W: Sink, S: Alter>(
 ) -> Turn
     requires over { is_over inbox.old ≡ false }
     requires count { ComeBefore (view_stop stop) (vec_len marks.old) }
-    ensures serves { IsTransition S.Store intake.old intake.new (λ early now after.
+    ensures serves { IsTransition S.Store intake.old intake.new (λ old_style now after.
         (before : List Request) (first : Wire)
-        → GoesOn (keeping (limit_of intake.old) early before now) first
+        → GoesOn (keeping (limit_of intake.old) old_style before now) first
         (wire R.Source W.Sink reader.old writer.old) inbox.old marks.old.items
-        → Continues (keeping (limit_of intake.old) early before after) first
+        → Continues (keeping (limit_of intake.old) old_style before after) first
         (wire R.Source W.Sink reader.new writer.new) inbox.new (view_stop stop) marks.new.items result) }
     ensures more { result ≡ Turn.On → is_over inbox.new ≡ false }
     ensures one { result ≡ Turn.On → vec_len marks.new ≡ vec_len marks.old + 1 }
@@ -179,11 +182,11 @@ fn serve_message<W: Sink, S: Alter>(
 ) -> Turn
     requires lends { LendsFirst inbox.now }
     requires count { ComeBefore (view_stop stop) (vec_len marks.old) }
-    ensures serves { IsTransition S.Store intake.old intake.new (λ early now after.
+    ensures serves { IsTransition S.Store intake.old intake.new (λ old_style now after.
         (before : List Request) (first beside : Wire)
-        → HasMessage (keeping (limit_of intake.old) early before now) first
+        → HasMessage (keeping (limit_of intake.old) old_style before now) first
         (with_written beside (W.written writer.old)) inbox.now marks.old.items
-        → Continues (keeping (limit_of intake.old) early before after) first
+        → Continues (keeping (limit_of intake.old) old_style before after) first
         (with_written beside (W.written writer.new)) inbox.now (view_stop stop) marks.new.items result) }
     ensures more { result ≡ Turn.On → is_over inbox.now ≡ false }
     ensures one { result ≡ Turn.On → vec_len marks.new ≡ vec_len marks.old + 1 }

@@ -1,7 +1,7 @@
 //! The worked examples of the protocol, all in one call.
 
 use std::test::Fail;
-use vector_rows::first_over;
+use vector_examples::first_over;
 use vectors::run_all;
 
 #[test]

@@ -1,5 +1,6 @@
 -- A request that closes, cut anywhere: no arrival, or it alone.
-use Rattle.std.proofs.Common.{◌≡◌, ◌≢◌, ℕ, ◌+◌, ◌-◌, ◌<◌, ◌≤◌, true, false, List, [], ◌∷◌, ◌++◌, length, take, drop, get_or, refl, sym, ap, ◌∙◌, subst, inl, inr, arith, length-append}
+use Rattle.std.proofs.Common.{◌≡◌, ◌≢◌, ℕ, ◌+◌, ◌-◌, ◌<◌, ◌≤◌, true, false, List, [], ◌∷◌, ◌++◌, length, take, drop}
+use Rattle.std.proofs.Common.{get_or, refl, sym, ap, ◌∙◌, subst, inl, inr, arith, length-append}
 use Rattle.std.specs.Prelude.{slice_range, nat_eq}
 use Rattle.std.proofs.Math.Seq.{take-append-add}
 use Rattle.std.proofs.lemmas.Bool.{cases_lt}
@@ -8,7 +9,8 @@ use Rattle.std.proofs.lemmas.Grind.{common_steps}
 use Rattle.std.proofs.lemmas.List.{get_or-take, take-append-drop}
 use Rattle.http_messages.specs.Block.{EndsAt, BeginsBlock, IsBlockEnd, IsTooLong, skipped_len, from_block}
 use Rattle.http_messages.specs.Head.{RequestParts, IsHead, body_length, closes}
-use Rattle.http_messages.specs.Message.{BeginsHead, SpellsRequest, IsRefused, Arrival, Read, Ending, Closed, Rest, HasArrivals, awaits}
+use Rattle.http_messages.specs.Message.{BeginsHead, SpellsRequest, IsRefused, Arrival, Read, Ending, Closed, Rest}
+use Rattle.http_messages.specs.Message.{HasArrivals, awaits}
 use Rattle.http_messages.specs.Posting.{HoldsAlone}
 use Rattle.http_messages.specs.Request.{Request}
 use Rattle.http_messages.specs.declared.refusal.Refusal.{Refusal}
@@ -23,17 +25,20 @@ skipped_len-none [] other = refl
 skipped_len-none (b ∷ bytes) other = let is : nat_eq 13 b ≡ false = grind (arith, nat_tests, other) in rw is refl
 
 -- a block without such a start is the block of the bytes that it begins
-pub IsBlockEnd-of_block : (block more : List ℕ) → get_or block 0 0 ≢ 13 → BeginsBlock block (length block) → IsBlockEnd (block ++ more) (length block)
+pub IsBlockEnd-of_block : (block more : List ℕ) → get_or block 0 0 ≢ 13 → BeginsBlock block (length block)
+    → IsBlockEnd (block ++ more) (length block)
 IsBlockEnd-of_block block more other b =
     let within = EndsAt-within block (length block) b.ends in
     let first : get_or (block ++ more) 0 0 ≡ get_or block 0 0 = grind (arith, common_steps, within) in
     let skipped = skipped_len-none (block ++ more) (λ e. other (sym first ∙ e)) in (
       length block,
-      subst (λ k. BeginsBlock (drop k (block ++ more)) (length block)) (sym skipped) (BeginsBlock-more block more (length block) b),
+      subst (λ k. BeginsBlock (drop k (block ++ more)) (length block)) (sym skipped)
+          (BeginsBlock-more block more (length block) b),
       omega (arith, skipped),
     )
 
-pub block-of_block : (block more : List ℕ) → get_or block 0 0 ≢ 13 → BeginsBlock block (length block) → slice_range (block ++ more) (skipped_len (block ++ more)) (length block) ≡ block
+pub block-of_block : (block more : List ℕ) → get_or block 0 0 ≢ 13 → BeginsBlock block (length block)
+    → slice_range (block ++ more) (skipped_len (block ++ more)) (length block) ≡ block
 block-of_block block more other b =
     let within = EndsAt-within block (length block) b.ends in
     let first : get_or (block ++ more) 0 0 ≡ get_or block 0 0 = grind (arith, common_steps, within) in
@@ -41,17 +46,22 @@ block-of_block block more other b =
     ap (λ k. slice_range (block ++ more) k (length block)) skipped ∙ grind (arith, common_steps)
 
 -- and its front is none
-pub IsBlockEnd-of_front : (block : List ℕ) (n m : ℕ) → get_or block 0 0 ≢ 13 → BeginsBlock block (length block) → n < length block → ¬ (IsBlockEnd (take n block) m)
+pub IsBlockEnd-of_front : (block : List ℕ) (n m : ℕ) → get_or block 0 0 ≢ 13 → BeginsBlock block (length block)
+    → n < length block → ¬ (IsBlockEnd (take n block) m)
 IsBlockEnd-of_front block n m other b short e =
     let within = IsBlockEnd-within (take n block) m e in
     let size : length (take n block) ≡ n = grind (arith, common_steps) in
-    let first : get_or (take n block) 0 0 ≡ get_or block 0 0 = get_or-take n block 0 0 (omega (arith, size, within.0)) in
+    let first : get_or (take n block) 0 0 ≡ get_or block 0 0 =
+    get_or-take n block 0 0 (omega (arith, size, within.0)) in
     let skipped = skipped_len-none (take n block) (λ same. other (sym first ∙ same)) in
     let ends : EndsAt (take n block) e.0 = subst (λ k. EndsAt (drop k (take n block)) e.0) skipped e.1.ends in
-    let whole : EndsAt block e.0 = subst (λ text. EndsAt text e.0) (take-append-drop n block) (EndsAt-more (take n block) (drop n block) e.0 ends) in
+    let whole : EndsAt block e.0 =
+    subst (λ text. EndsAt text e.0) (take-append-drop n block)
+    (EndsAt-more (take n block) (drop n block) e.0 ends) in
     b.first e.0 (omega (arith, (EndsAt-within (take n block) e.0 ends).1, size)) whole
 
-pub IsTooLong-of_front : (block : List ℕ) (n : ℕ) → BeginsBlock block (length block) → n < length block → ¬ (IsTooLong (take n block))
+pub IsTooLong-of_front : (block : List ℕ) (n : ℕ) → BeginsBlock block (length block) → n < length block
+    → ¬ (IsTooLong (take n block))
 IsTooLong-of_front block n b short t =
     let size : length (from_block (take n block)) ≤ n = grind (arith, common_steps) in
     omega (arith, size, t.full, b.short)
@@ -61,15 +71,18 @@ cut-short : (xs ys : List ℕ) (n : ℕ) → n < length xs → take n (xs ++ ys)
 cut-short xs ys n short = grind (arith, common_steps)
 
 cut-part : (xs ys : List ℕ) (n : ℕ) → length xs ≤ n → take n (xs ++ ys) ≡ xs ++ take (n - length xs) ys
-cut-part xs ys n past = let place : n ≡ length xs + (n - length xs) = omega arith in ap (λ k. take k (xs ++ ys)) place ∙ take-append-add xs ys (n - length xs)
+cut-part xs ys n past = let place : n ≡ length xs + (n - length xs) = omega arith in
+    ap (λ k. take k (xs ++ ys)) place ∙ take-append-add xs ys (n - length xs)
 
-part-less : (xs ys : List ℕ) (n : ℕ) → length xs ≤ n → n < length xs + length ys → length (take (n - length xs) ys) < length ys
+part-less : (xs ys : List ℕ) (n : ℕ) → length xs ≤ n → n < length xs + length ys
+    → length (take (n - length xs) ys) < length ys
 part-less xs ys n past part = grind (arith, common_steps)
 
 cut-whole : (xs ys : List ℕ) (n : ℕ) → length xs + length ys ≤ n → take n (xs ++ ys) ≡ xs ++ ys
 cut-whole xs ys n all = grind (arith, common_steps)
 
-module _ (block : List ℕ) (parts : RequestParts) (body : List ℕ) (b : BeginsBlock block (length block)) (h : IsHead block parts) (size : body_length parts ≡ length body) where
+module _ (block : List ℕ) (parts : RequestParts) (body : List ℕ) (b : BeginsBlock block (length block))
+    (h : IsHead block parts) (size : body_length parts ≡ length body) where
   begins-head : (more : List ℕ) → BeginsHead (block ++ more) parts (length block)
   begins-head more = record {
     block = IsBlockEnd-of_block block more h.reads.lines.start b;
@@ -107,12 +120,14 @@ module _ (block : List ℕ) (parts : RequestParts) (body : List ℕ) (b : Begins
       refused (Head fault) r = IsBlockEnd-of_front block n r.0 h.reads.lines.start b short r.1
 
   -- and so are the head and the front of the body, where no interim response is asked for
-  rest-after : (more : List ℕ) → awaits parts ≡ false → length more < length body → HasArrivals (block ++ more) [] (Rest false)
+  rest-after : (more : List ℕ) → awaits parts ≡ false → length more < length body
+      → HasArrivals (block ++ more) [] (Rest false)
   rest-after more silent short = (
     false,
     record {
       none = λ r m g.
-          let same = BeginsHead-unique (block ++ more) r.head parts g.head_len (length block) g.head (begins-head more) in
+          let same =
+          BeginsHead-unique (block ++ more) r.head parts g.head_len (length block) g.head (begins-head more) in
           let needs : body_length r.head ≡ length body = ap body_length same.0 ∙ size in
           omega (arith, g.whole, g.length_is, same.1, needs, length-append block more);
       refused = λ refusal. IsRefused-excludes (block ++ more) parts (length block) refusal (begins-head more);
@@ -125,22 +140,30 @@ module _ (block : List ℕ) (parts : RequestParts) (body : List ℕ) (b : Begins
   whole-arrivals last = (length (block ++ body), SpellsRequest-of_block, (λ _. (refl, refl)), λ not. cc)
 
   -- a front of the request holds nothing, or all of it
-  pub HoldsAlone-of_front : (n : ℕ) (arrivals : List Arrival) (ending : Ending) → awaits parts ≡ false → closes parts ≡ true
+  pub HoldsAlone-of_front : (n : ℕ) (arrivals : List Arrival) (ending : Ending) → awaits parts ≡ false
+      → closes parts ≡ true
       → HasArrivals (take n (block ++ body)) arrivals ending → HoldsAlone request arrivals ending
   HoldsAlone-of_front n arrivals ending silent last k = elim (cases_lt n (length block)) [
     | inl short ↦
         let cut = cut-short block body n short in
-        let same = HasArrivals-unique (take n block) arrivals [] ending (Rest false) (subst (λ t. HasArrivals t arrivals ending) cut k) (rest-before n short) in
+        let same =
+        HasArrivals-unique (take n block) arrivals [] ending (Rest false)
+        (subst (λ t. HasArrivals t arrivals ending) cut k) (rest-before n short) in
         inl (same.0, same.1)
     | inr past ↦ elim (cases_lt n (length block + length body)) [
       | inl part ↦
           let cut = cut-part block body n past in
           let less = part-less block body n past part in
-          let same = HasArrivals-unique (block ++ take (n - length block) body) arrivals [] ending (Rest false) (subst (λ t. HasArrivals t arrivals ending) cut k) (rest-after (take (n - length block) body) silent less) in
+          let same =
+          HasArrivals-unique (block ++ take (n - length block) body) arrivals [] ending (Rest false)
+          (subst (λ t. HasArrivals t arrivals ending) cut k)
+          (rest-after (take (n - length block) body) silent less) in
           inl (same.0, same.1)
       | inr all ↦
           let cut = cut-whole block body n all in
-          let same = HasArrivals-unique (block ++ body) arrivals (Read request ∷ []) ending Closed (subst (λ t. HasArrivals t arrivals ending) cut k) (whole-arrivals last) in
+          let same =
+          HasArrivals-unique (block ++ body) arrivals (Read request ∷ []) ending Closed
+          (subst (λ t. HasArrivals t arrivals ending) cut k) (whole-arrivals last) in
           inr (same.0, same.1)
     ]
   ]

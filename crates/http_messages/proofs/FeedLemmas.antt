@@ -11,11 +11,14 @@ byte_at text from k low =
     let place : from + (k - from) ≡ k = omega arith in
     get_or-drop from text (k - from) 0 ∙ ap (λ i. get_or text i 0) place
 
-pub next_feed_none : (text : List ℕ) (from : ℕ) → Nowhere (Passes (is_byte 10) (drop from text)) 0 (length (drop from text)) → HasNoFeedFrom text from
+pub next_feed_none : (text : List ℕ) (from : ℕ)
+    → Nowhere (Passes (is_byte 10) (drop from text)) 0 (length (drop from text)) → HasNoFeedFrom text from
 next_feed_none text from none = λ k low high e.
     none (k - from) (omega arith) (omega (arith, length-drop from text)) (eq-eqb _ 10 (byte_at text from k low ∙ e))
 
-pub next_feed_some : (text : List ℕ) (from at : ℕ) → NoneBefore (Passes (is_byte 10) (drop from text)) 0 (length (drop from text)) at × Passes (is_byte 10) (drop from text) at
+pub next_feed_some : (text : List ℕ) (from at : ℕ)
+    → NoneBefore (Passes (is_byte 10) (drop from text)) 0 (length (drop from text)) at × Passes (is_byte 10)
+    (drop from text) at
     → IsNextFeed text from (from + at)
 next_feed_some text from at h = record {
   low = omega arith;

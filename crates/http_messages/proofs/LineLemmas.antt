@@ -1,5 +1,6 @@
 -- Texts of whole lines, and the block that they and an empty line make.
-use Rattle.std.proofs.Common.{◌≡◌, ◌≢◌, ℕ, ◌+◌, ◌-◌, ◌<◌, ◌≤◌, List, ◌++◌, length, take, drop, get_or, sym, ap, ◌∙◌, inl, inr, length-append, arith, IsTrue}
+use Rattle.std.proofs.Common.{◌≡◌, ◌≢◌, ℕ, ◌+◌, ◌-◌, ◌<◌, ◌≤◌, List, ◌++◌, length, take, drop, get_or, sym, ap, ◌∙◌}
+use Rattle.std.proofs.Common.{inl, inr, length-append, arith, IsTrue}
 use Rattle.std.proofs.Math.Seq.{drop-append-add}
 use Rattle.std.proofs.lemmas.Bool.{cases_lt}
 use Rattle.std.proofs.lemmas.Bool.Decides.{nat_tests}
@@ -28,8 +29,10 @@ IsLines-two text h =
 value_byte-plain : (b : ℕ) → IsTrue (is_value_byte b) → (b ≢ 10) × (b ≢ 13)
 value_byte-plain b is = ((λ e. grind (arith, nat_tests, is, e)), λ e. grind (arith, nat_tests, is, e))
 
-plain-at : (text : List ℕ) → AllPass is_value_byte text → (i : ℕ) → i < length text → (get_or text i 0 ≢ 10) × (get_or text i 0 ≢ 13)
-plain-at text all i low = value_byte-plain (get_or text i 0) (All-get_or (λ b. IsTrue (is_value_byte b)) text i 0 low all)
+plain-at : (text : List ℕ) → AllPass is_value_byte text → (i : ℕ) → i < length text
+    → (get_or text i 0 ≢ 10) × (get_or text i 0 ≢ 13)
+plain-at text all i low =
+    value_byte-plain (get_or text i 0) (All-get_or (λ b. IsTrue (is_value_byte b)) text i 0 low all)
 
 module _ (text : List ℕ) (all : AllPass is_value_byte text) where
   line-left : (i : ℕ) → i < length text → get_or (line text) i 0 ≡ get_or text i 0
@@ -42,9 +45,12 @@ module _ (text : List ℕ) (all : AllPass is_value_byte text) where
   line-feed i e = elim (cases_lt i (length text)) [
     | inl low ↦ absurd ((plain-at text all i low).0 (sym (line-left i low) ∙ e))
     | inr high ↦ elim (cases_lt i (length text + 1)) [
-      | inl low ↦ let same : i - length text ≡ 0 = omega arith in absurd (let got : get_or crlf_bytes 0 0 ≡ 10 = ap (λ k. get_or crlf_bytes k 0) (sym same) ∙ sym (line-right i high) ∙ e in omega (arith, got))
+      | inl low ↦ let same : i - length text ≡ 0 = omega arith in
+          absurd (let got : get_or crlf_bytes 0 0 ≡ 10 =
+          ap (λ k. get_or crlf_bytes k 0) (sym same) ∙ sym (line-right i high) ∙ e in omega (arith, got))
       | inr past ↦ elim (cases_lt (length text + 1) i) [
-        | inl more ↦ absurd (let far : get_or (line text) i 0 ≡ 0 = grind (arith, common_steps) in omega (arith, far, e))
+        | inl more ↦ absurd (let far : get_or (line text) i 0 ≡ 0 = grind (arith, common_steps) in
+            omega (arith, far, e))
         | inr same ↦ omega arith
       ]
     ]
@@ -92,7 +98,8 @@ module _ (xs ys : List ℕ) where
             | inl both ↦ a.filled i (sym (join-left i low) ∙ e) (sym (join-left (i + 1) both) ∙ next)
             | inr last ↦ b.start (sym (join-right (i + 1) 0 (omega arith)) ∙ next)
           ]
-          | inr high ↦ b.filled (i - length xs) (sym (join-right i (i - length xs) (omega arith)) ∙ e) (sym (join-right (i + 1) (i - length xs + 1) (omega arith)) ∙ next)
+          | inr high ↦ b.filled (i - length xs) (sym (join-right i (i - length xs) (omega arith))
+              ∙ e) (sym (join-right (i + 1) (i - length xs + 1) (omega arith)) ∙ next)
         ];
         ended =
             let place : length (xs ++ ys) - 2 ≡ length xs + (length ys - 2) = omega (arith, length-append xs ys) in
@@ -110,15 +117,18 @@ module _ (text : List ℕ) (h : IsLines text) where
           (own.0, join-left text crlf_bytes (i - 1) (omega arith) ∙ own.1)
       | inr high ↦
           let two = IsLines-two text h in
-          let tail : get_or crlf_bytes (i - length text) 0 ≡ 10 = sym (join-right text crlf_bytes i (i - length text) (omega arith)) ∙ e in
+          let tail : get_or crlf_bytes (i - length text) 0 ≡ 10 =
+          sym (join-right text crlf_bytes i (i - length text) (omega arith)) ∙ e in
           elim (cases_lt (length text) i) [
             | inl past ↦ elim (cases_lt (length text + 1) i) [
-              | inl far ↦ absurd (let none : get_or crlf_bytes (i - length text) 0 ≡ 0 = grind (arith, common_steps) in omega (arith, none, tail))
+              | inl far ↦ absurd (let none : get_or crlf_bytes (i - length text) 0 ≡ 0 = grind (arith, common_steps) in
+                  omega (arith, none, tail))
               | inr last ↦ (omega arith, join-right text crlf_bytes (i - 1) 0 (omega arith))
             ]
             | inr same ↦
                 let place : i - length text ≡ 0 = omega arith in
-                absurd (let first : get_or crlf_bytes 0 0 ≡ 10 = ap (λ k. get_or crlf_bytes k 0) (sym place) ∙ tail in omega (arith, first))
+                absurd (let first : get_or crlf_bytes 0 0 ≡ 10 = ap (λ k. get_or crlf_bytes k 0) (sym place) ∙ tail in
+                omega (arith, first))
           ]
     ];
   }
@@ -127,18 +137,24 @@ module _ (text : List ℕ) (h : IsLines text) where
   pub BeginsBlock-of_lines : length text + 2 ≤ max_block_len → BeginsBlock (text ++ crlf_bytes) (length text + 2)
   BeginsBlock-of_lines short =
       let two = IsLines-two text h in
-      let cut : drop (length text + 2 - 4) (text ++ crlf_bytes) ≡ drop (length text - 2) text ++ crlf_bytes = grind (arith, common_steps) in
-      let whole : drop (length text + 2 - 4) (text ++ crlf_bytes) ≡ crlf_bytes ++ crlf_bytes = cut ∙ ap (λ l. l ++ crlf_bytes) h.ended in
+      let cut : drop (length text + 2 - 4) (text ++ crlf_bytes) ≡ drop (length text - 2) text ++ crlf_bytes =
+      grind (arith, common_steps) in
+      let whole : drop (length text + 2 - 4) (text ++ crlf_bytes) ≡ crlf_bytes ++ crlf_bytes =
+      cut ∙ ap (λ l. l ++ crlf_bytes) h.ended in
       let size : length text + 2 - (length text + 2 - 4) ≡ 4 = omega arith in
       record {
-        ends = ap (λ l. take (length text + 2 - (length text + 2 - 4)) l) whole ∙ ap (λ n. take n (crlf_bytes ++ crlf_bytes)) size;
+        ends = ap (λ l. take (length text + 2 - (length text + 2 - 4)) l) whole
+            ∙ ap (λ n. take n (crlf_bytes ++ crlf_bytes)) size;
         first = λ k less ends.
             let within = EndsAt-within (text ++ crlf_bytes) k ends in
             let second : k - 4 + 1 ≡ k - 3 = omega (arith, within.0) in
             let third : k - 4 + 2 ≡ k - 2 = omega (arith, within.0) in
             let next : k - 2 ≡ (k - 3) + 1 = omega (arith, within.0) in
             h.filled (k - 3)
-            (sym (join-left text crlf_bytes (k - 3) (omega (arith, within.0))) ∙ EndsAt-byte (text ++ crlf_bytes) k 1 (k - 3) ends (omega arith) second)
-            (sym (join-left text crlf_bytes (k - 3 + 1) (omega (arith, within.0))) ∙ ap (λ i. get_or (text ++ crlf_bytes) i 0) (sym next) ∙ EndsAt-byte (text ++ crlf_bytes) k 2 (k - 2) ends (omega arith) third);
+            (sym (join-left text crlf_bytes (k - 3) (omega (arith, within.0)))
+            ∙ EndsAt-byte (text ++ crlf_bytes) k 1 (k - 3) ends (omega arith) second)
+            (sym (join-left text crlf_bytes (k - 3 + 1) (omega (arith, within.0)))
+            ∙ ap (λ i. get_or (text ++ crlf_bytes) i 0) (sym next)
+            ∙ EndsAt-byte (text ++ crlf_bytes) k 2 (k - 2) ends (omega arith) third);
         short = short;
       }

@@ -4,7 +4,8 @@ use Rattle.std.proofs.lemmas.Grind.{common_steps}
 use Rattle.std.specs.Prelude.{slice_range, nat_eq}
 use Rattle.std.specs.List.{starts_with}
 use Rattle.httparse.specs.Ascii.{crlf_bytes}
-use Rattle.http_messages.specs.Block.{EndsAt, BeginsBlock, IsBlockEnd, IsTooLong, block_end_mark, skipped_len, from_block, max_block_len}
+use Rattle.http_messages.specs.Block.{EndsAt, BeginsBlock, IsBlockEnd, IsTooLong, block_end_mark, skipped_len}
+use Rattle.http_messages.specs.Block.{from_block, max_block_len}
 use Rattle.http_messages.specs.Head.{RequestParts, IsHead, IsHeadFault}
 use Rattle.http_messages.specs.Message.{BeginsHead, BeginsRequest, IsRefused}
 use Rattle.http_messages.specs.Request.{Request}
@@ -17,12 +18,17 @@ pub slice_range-more : (xs more : List ℕ) (k n : ℕ) → n ≤ length xs → 
 slice_range-more xs more k n within = grind (arith, common_steps)
 
 -- a short front stays
-starts_with-more : (xs more front : List ℕ) → length front ≤ length xs → starts_with nat_eq (xs ++ more) front ≡ starts_with nat_eq xs front
+starts_with-more : (xs more front : List ℕ) → length front ≤ length xs
+    → starts_with nat_eq (xs ++ more) front ≡ starts_with nat_eq xs front
 starts_with-more xs more front short = grind (arith, common_steps)
 
 -- the skipped bytes stay, from four bytes on
 pub skipped_len-more : (bytes more : List ℕ) → 4 ≤ length bytes → skipped_len (bytes ++ more) ≡ skipped_len bytes
-skipped_len-more bytes more some = simp (starts_with-more bytes more crlf_bytes (omega arith), starts_with-more bytes more block_end_mark (omega arith))
+skipped_len-more bytes more some =
+    simp (
+      starts_with-more bytes more crlf_bytes (omega arith),
+      starts_with-more bytes more block_end_mark (omega arith),
+    )
 
 pub skipped_len-within : (bytes : List ℕ) → 4 ≤ length bytes → skipped_len bytes ≤ 2
 skipped_len-within bytes some = grind (arith, common_steps)
@@ -50,7 +56,8 @@ BeginsBlock-more text more n b =
     }
 
 -- a block and the bytes before it lie in the bytes
-pub IsBlockEnd-within : (bytes : List ℕ) (n : ℕ) → IsBlockEnd bytes n → (4 ≤ length bytes) × (skipped_len bytes ≤ n) × (n ≤ length bytes)
+pub IsBlockEnd-within : (bytes : List ℕ) (n : ℕ) → IsBlockEnd bytes n
+    → (4 ≤ length bytes) × (skipped_len bytes ≤ n) × (n ≤ length bytes)
 IsBlockEnd-within bytes n b =
     let within = EndsAt-within (from_block bytes) b.0 b.1.ends in
     let size : length (from_block bytes) ≡ length bytes - skipped_len bytes = grind (arith, common_steps) in (
@@ -63,7 +70,8 @@ pub IsBlockEnd-more : (bytes more : List ℕ) (n : ℕ) → IsBlockEnd bytes n �
 IsBlockEnd-more bytes more n b =
     let four = (IsBlockEnd-within bytes n b).0 in (
       b.0,
-      subst (λ text. BeginsBlock text b.0) (sym (from_block-more bytes more four)) (BeginsBlock-more (from_block bytes) more b.0 b.1),
+      subst (λ text. BeginsBlock text b.0) (sym (from_block-more bytes more four))
+          (BeginsBlock-more (from_block bytes) more b.0 b.1),
       b.2 ∙ ap (λ k. k + b.0) (sym (skipped_len-more bytes more four)),
     )
 
@@ -72,7 +80,8 @@ pub block-more : (bytes more : List ℕ) (n : ℕ) → IsBlockEnd bytes n
     → slice_range (bytes ++ more) (skipped_len (bytes ++ more)) n ≡ slice_range bytes (skipped_len bytes) n
 block-more bytes more n b =
     let within = IsBlockEnd-within bytes n b in
-    ap (λ k. slice_range (bytes ++ more) k n) (skipped_len-more bytes more within.0) ∙ slice_range-more bytes more (skipped_len bytes) n within.2
+    ap (λ k. slice_range (bytes ++ more) k n) (skipped_len-more bytes more within.0)
+    ∙ slice_range-more bytes more (skipped_len bytes) n within.2
 
 -- what is too long stays too long
 pub IsTooLong-more : (bytes more : List ℕ) → IsTooLong bytes → IsTooLong (bytes ++ more)
@@ -83,18 +92,22 @@ IsTooLong-more bytes more t =
     let bigger : length (from_block bytes) ≤ length (from_block bytes ++ more) = grind (arith, common_steps) in
     record {
       full = subst (λ text. max_block_len ≤ length text) (sym same) (omega (arith, t.full, bigger));
-      unended = λ k low ends. t.unended k low (EndsAt-front (from_block bytes) more k (omega (arith, low, t.full)) (subst (λ text. EndsAt text k) same ends));
+      unended =
+          λ k low ends. t.unended k low (EndsAt-front (from_block bytes) more k (omega (arith, low, t.full))
+          (subst (λ text. EndsAt text k) same ends));
     }
 
 -- a head stays
-pub BeginsHead-more : (bytes more : List ℕ) (parts : RequestParts) (n : ℕ) → BeginsHead bytes parts n → BeginsHead (bytes ++ more) parts n
+pub BeginsHead-more : (bytes more : List ℕ) (parts : RequestParts) (n : ℕ) → BeginsHead bytes parts n
+    → BeginsHead (bytes ++ more) parts n
 BeginsHead-more bytes more parts n h = record {
   block = IsBlockEnd-more bytes more n h.block;
   head = subst (λ block. IsHead block parts) (sym (block-more bytes more n h.block)) h.head;
 }
 
 -- a request stays
-pub BeginsRequest-more : (bytes more : List ℕ) (request : Request) (n : ℕ) → BeginsRequest bytes request n → BeginsRequest (bytes ++ more) request n
+pub BeginsRequest-more : (bytes more : List ℕ) (request : Request) (n : ℕ) → BeginsRequest bytes request n
+    → BeginsRequest (bytes ++ more) request n
 BeginsRequest-more bytes more request n b = record {
   head_len = b.head_len;
   head = BeginsHead-more bytes more request.head b.head_len b.head;
@@ -104,7 +117,8 @@ BeginsRequest-more bytes more request n b = record {
 }
 
 -- a refusal stays
-pub IsRefused-more : (bytes more : List ℕ) (refusal : Refusal) → IsRefused bytes refusal → IsRefused (bytes ++ more) refusal
+pub IsRefused-more : (bytes more : List ℕ) (refusal : Refusal) → IsRefused bytes refusal
+    → IsRefused (bytes ++ more) refusal
 IsRefused-more bytes more HeadTooLarge r = IsTooLong-more bytes more r
 IsRefused-more bytes more (Head fault) r = (
   r.0,

@@ -1,5 +1,6 @@
 -- The head of a filer's request is read, and without fault.
-use Rattle.std.proofs.Common.{◌≡◌, ℕ, ◌+◌, ◌*◌, ◌^◌, ◌<◌, ◌≤◌, true, false, List, [], ◌∷◌, ◌++◌, length, map, refl, sym, ap, ◌∙◌, append_assoc, arith, length-append, None, ◌==◌}
+use Rattle.std.proofs.Common.{◌≡◌, ℕ, ◌+◌, ◌*◌, ◌^◌, ◌<◌, ◌≤◌, true, false, List, [], ◌∷◌, ◌++◌, length, map, refl, sym}
+use Rattle.std.proofs.Common.{ap, ◌∙◌, append_assoc, arith, length-append, None, ◌==◌}
 use Rattle.std.specs.Prelude.{codes, IsTrue, nat_lt}
 use Rattle.std.specs.Fmt.{decimal}
 use Rattle.std.specs.Str.Parse.{digits_value}
@@ -9,17 +10,23 @@ use Rattle.std.proofs.lemmas.List.Elements.{All-from_recursion, All-cons, All-ap
 use Rattle.std.proofs.lemmas.List.Sums.{AllPass-from_list_all}
 use Rattle.std.proofs.lemmas.Fmt.{length-decimal-le}
 use Rattle.httparse.specs.Ascii.{space, crlf_bytes}
-use Rattle.httparse.specs.Grammar.{AllPass, is_value_byte, is_token_byte, trim_ows, Field, IsField, crlf, RequestHead, IsRequestHead, ReadsRequest, print_request}
+use Rattle.httparse.specs.Grammar.{AllPass, is_value_byte, is_token_byte, trim_ows, Field, IsField, crlf, RequestHead}
+use Rattle.httparse.specs.Grammar.{IsRequestHead, ReadsRequest, print_request}
 use Rattle.httparse.specs.Spans.{name_and_value}
 use Rattle.httparse.proofs.GrammarLemmas.{cons-append}
 use Rattle.key_string.specs.Key.{spelling, IsKey}
 use Rattle.http_messages.specs.Block.{BeginsBlock}
-use Rattle.http_messages.specs.Head.{ReadsHead, IsHead, lengths, agree, agreed_number, is_number, body_length, framing_fault, max_body_len}
+use Rattle.http_messages.specs.Head.{ReadsHead, IsHead, lengths, agree, agreed_number, is_number, body_length}
+use Rattle.http_messages.specs.Head.{framing_fault, max_body_len}
 use Rattle.http_messages.specs.Posting.{post_line, key_line, render_post_head, post_parts}
 use Rattle.http_messages.specs.Reply.{line, length_line}
-use Rattle.http_messages.proofs.LineLemmas.{IsLines, IsLines-line, IsLines-join, HasPlainLines-of_lines, BeginsBlock-of_lines}
-use Rattle.http_messages.proofs.PostLemmas.{IsResource, target_uri, target-uri, target-utf8, resource-value, resource-length, target-spells, target-written, spelling-value, spelling-length, spelling-field}
-use Rattle.http_messages.proofs.ValueLemmas.{decimal-solid, decimal-value, decimal-number, decimal-read, trim_ows-field, comma_parts-solid}
+use Rattle.http_messages.proofs.LineLemmas.{IsLines, IsLines-line, IsLines-join, HasPlainLines-of_lines}
+use Rattle.http_messages.proofs.LineLemmas.{BeginsBlock-of_lines}
+use Rattle.http_messages.proofs.PostLemmas.{IsResource, target_uri, target-uri, target-utf8, resource-value}
+use Rattle.http_messages.proofs.PostLemmas.{resource-length, target-spells, target-written, spelling-value}
+use Rattle.http_messages.proofs.PostLemmas.{spelling-length, spelling-field}
+use Rattle.http_messages.proofs.ValueLemmas.{decimal-solid, decimal-value, decimal-number, decimal-read, trim_ows-field}
+use Rattle.http_messages.proofs.ValueLemmas.{comma_parts-solid}
 
 -- a field as the request writes it: a space, and the value
 abbrev pub spaced : List ℕ → List ℕ → Field
@@ -46,7 +53,17 @@ post_head resource key len = record {
 -- the bytes of a head of five fields, and of the lines that are written, without brackets
 module _ (method target n₁ v₁ n₂ v₂ n₃ v₃ n₄ v₄ n₅ v₅ : List ℕ) where
   abbrev five_fields : RequestHead
-  five_fields = record { blank = []; method = method; target = target; minor = 1; line_end = crlf; fields = spaced n₁ v₁ ∷ spaced n₂ v₂ ∷ spaced n₃ v₃ ∷ spaced n₄ v₄ ∷ spaced n₅ v₅ ∷ []; last = crlf }
+  five_fields =
+      record {
+        blank = [];
+        method = method;
+        target = target;
+        minor = 1;
+        line_end = crlf;
+        fields =
+            spaced n₁ v₁ ∷ spaced n₂ v₂ ∷ spaced n₃ v₃ ∷ spaced n₄ v₄ ∷ spaced n₅ v₅ ∷ [];
+        last = crlf;
+      }
 
   abbrev flat : List ℕ
   flat =
@@ -63,23 +80,31 @@ module _ (method target n₁ v₁ n₂ v₂ n₃ v₃ n₄ v₄ n₅ v₅ : List
 
 lines-flat : (c₁ f c₂ h c₃ s t c₄ d k e : List ℕ)
     → c₁ ++ f ++ c₂ ++ e ++ (h ++ e) ++ (c₃ ++ s ++ e) ++ (t ++ e) ++ (c₄ ++ d ++ e) ++ (k ++ e) ++ e
-    ≡ c₁ ++ (f ++ (c₂ ++ (e ++ (h ++ (e ++ (c₃ ++ (s ++ (e ++ (t ++ (e ++ (c₄ ++ (d ++ (e ++ (k ++ (e ++ e)))))))))))))))
+    ≡ c₁ ++ (f
+    ++ (c₂ ++ (e ++ (h ++ (e ++ (c₃ ++ (s ++ (e ++ (t ++ (e ++ (c₄ ++ (d ++ (e ++ (k ++ (e ++ e)))))))))))))))
 lines-flat c₁ f c₂ h c₃ s t c₄ d k e = simp append_assoc
 
 -- it writes these bytes
-post_head-print : (resource key : List ℕ) (len : ℕ) → render_post_head resource key len ≡ print_request (post_head resource key len)
+post_head-print : (resource key : List ℕ) (len : ℕ)
+    → render_post_head resource key len ≡ print_request (post_head resource key len)
 unfolding post_head render_post_head post_line key_line length_line
 post_head-print resource key len =
-    lines-flat (codes "POST /filings/") resource (codes " HTTP/1.1") (codes "Host: localhost") (codes "Idempotency-Key: ") (spelling key) (codes "Content-Type: application/json") (codes "Content-Length: ") (decimal len) (codes "Connection: close") (codes "\r\n")
-    ∙ sym (five-print (codes "POST") (codes "/filings/" ++ resource) (codes "Host") (codes "localhost") (codes "Idempotency-Key") (spelling key) (codes "Content-Type") (codes "application/json") (codes "Content-Length") (decimal len) (codes "Connection") (codes "close"))
+    lines-flat (codes "POST /filings/") resource (codes " HTTP/1.1") (codes "Host: localhost")
+    (codes "Idempotency-Key: ") (spelling key) (codes "Content-Type: application/json") (codes "Content-Length: ")
+    (decimal len) (codes "Connection: close") (codes "\r\n")
+    ∙ sym (five-print (codes "POST") (codes "/filings/" ++ resource) (codes "Host") (codes "localhost")
+    (codes "Idempotency-Key") (spelling key) (codes "Content-Type") (codes "application/json")
+    (codes "Content-Length") (decimal len) (codes "Connection") (codes "close"))
 
-pub IsField-spaced : (name value : List ℕ) → 0 < length name → AllPass is_token_byte name → AllPass is_value_byte value → IsField (spaced name value)
+pub IsField-spaced : (name value : List ℕ) → 0 < length name → AllPass is_token_byte name → AllPass is_value_byte value
+    → IsField (spaced name value)
 IsField-spaced name value some token all = record {
   name = (some, token);
   raw = All-cons (λ b. IsTrue (is_value_byte b)) space value refl all;
 }
 
-module _ (resource key : List ℕ) (len : ℕ) (resource_is : IsResource resource) (key_is : IsKey key) (small : len < 2 ^ 64) where
+module _ (resource key : List ℕ) (len : ℕ) (resource_is : IsResource resource) (key_is : IsKey key)
+    (small : len < 2 ^ 64) where
   post_head-grammar : IsRequestHead (post_head resource key len)
   unfolding post_head is_token_byte
   post_head-grammar = record {
@@ -88,15 +113,23 @@ module _ (resource key : List ℕ) (len : ℕ) (resource_is : IsResource resourc
     target_text = target-utf8 resource resource_is;
     minor = omega arith;
     fields = All-from_recursion IsField (post_head resource key len).fields (
-      IsField-spaced (codes "Host") (codes "localhost") (omega arith) (AllPass-from_list_all is_token_byte (codes "Host") refl) (AllPass-from_list_all is_value_byte (codes "localhost") refl),
+      IsField-spaced (codes "Host") (codes "localhost") (omega arith)
+          (AllPass-from_list_all is_token_byte (codes "Host") refl)
+          (AllPass-from_list_all is_value_byte (codes "localhost") refl),
       (
-        IsField-spaced (codes "Idempotency-Key") (spelling key) (omega arith) (AllPass-from_list_all is_token_byte (codes "Idempotency-Key") refl) (spelling-value key key_is.printable),
+        IsField-spaced (codes "Idempotency-Key") (spelling key) (omega arith)
+            (AllPass-from_list_all is_token_byte (codes "Idempotency-Key") refl) (spelling-value key key_is.printable),
         (
-          IsField-spaced (codes "Content-Type") (codes "application/json") (omega arith) (AllPass-from_list_all is_token_byte (codes "Content-Type") refl) (AllPass-from_list_all is_value_byte (codes "application/json") refl),
+          IsField-spaced (codes "Content-Type") (codes "application/json") (omega arith)
+              (AllPass-from_list_all is_token_byte (codes "Content-Type") refl)
+              (AllPass-from_list_all is_value_byte (codes "application/json") refl),
           (
-            IsField-spaced (codes "Content-Length") (decimal len) (omega arith) (AllPass-from_list_all is_token_byte (codes "Content-Length") refl) (decimal-value len small),
+            IsField-spaced (codes "Content-Length") (decimal len) (omega arith)
+                (AllPass-from_list_all is_token_byte (codes "Content-Length") refl) (decimal-value len small),
             (
-              IsField-spaced (codes "Connection") (codes "close") (omega arith) (AllPass-from_list_all is_token_byte (codes "Connection") refl) (AllPass-from_list_all is_value_byte (codes "close") refl),
+              IsField-spaced (codes "Connection") (codes "close") (omega arith)
+                  (AllPass-from_list_all is_token_byte (codes "Connection") refl)
+                  (AllPass-from_list_all is_value_byte (codes "close") refl),
               tt,
             ),
           ),
@@ -106,9 +139,14 @@ module _ (resource key : List ℕ) (len : ℕ) (resource_is : IsResource resourc
   }
 
   post_head-reads : ReadsRequest (render_post_head resource key len) (post_head resource key len) []
-  post_head-reads = (post_head-grammar, post_head-print resource key len ∙ sym (append-nil (print_request (post_head resource key len))))
+  post_head-reads = (
+    post_head-grammar,
+    post_head-print resource key len
+        ∙ sym (append-nil (print_request (post_head resource key len))),
+  )
 
-five : {a b c d e v w x y z : List ℕ × List ℕ} → a ≡ v → b ≡ w → c ≡ x → d ≡ y → e ≡ z → a ∷ b ∷ c ∷ d ∷ e ∷ [] ≡ v ∷ w ∷ x ∷ y ∷ z ∷ []
+five : {a b c d e v w x y z : List ℕ × List ℕ} → a ≡ v → b ≡ w → c ≡ x → d ≡ y → e ≡ z
+    → a ∷ b ∷ c ∷ d ∷ e ∷ [] ≡ v ∷ w ∷ x ∷ y ∷ z ∷ []
 five p q r s t = cc
 
 pub agree-one : (part : List ℕ) → is_number part ≡ true → agree (part ∷ []) ≡ true
@@ -120,7 +158,8 @@ agree-one part is =
 
 lines-length : (c₁ f c₂ h c₃ s t c₄ d k e : List ℕ)
     → length (c₁ ++ f ++ c₂ ++ e ++ (h ++ e) ++ (c₃ ++ s ++ e) ++ (t ++ e) ++ (c₄ ++ d ++ e) ++ (k ++ e) ++ e)
-    ≡ length c₁ + length f + length c₂ + length h + length c₃ + length s + length t + length c₄ + length d + length k + 7 * length e
+    ≡ length c₁ + length f + length c₂ + length h + length c₃ + length s + length t + length c₄ + length d + length k
+    + 7 * length e
 lines-length c₁ f c₂ h c₃ s t c₄ d k e = simp length-append (omega arith)
 
 -- the lines before the empty one
@@ -136,7 +175,8 @@ post_lines resource key len =
 abbrev IsValueByte : ℕ → Type 0
 IsValueByte b = IsTrue (is_value_byte b)
 
-module _ (resource key : List ℕ) (len : ℕ) (resource_is : IsResource resource) (key_is : IsKey key) (fits : len ≤ max_body_len) where
+module _ (resource key : List ℕ) (len : ℕ) (resource_is : IsResource resource) (key_is : IsKey key)
+    (fits : len ≤ max_body_len) where
   small : len < 2 ^ 64
   small = omega (arith, fits)
 
@@ -149,11 +189,19 @@ module _ (resource key : List ℕ) (len : ℕ) (resource_is : IsResource resourc
       (IsLines-join _ _
       (IsLines-join _ _
       (IsLines-join _ _
-      (IsLines-line (codes "POST /filings/" ++ resource ++ codes " HTTP/1.1") (All-append IsValueByte (codes "POST /filings/" ++ resource) (codes " HTTP/1.1") (All-append IsValueByte (codes "POST /filings/") resource (all (codes "POST /filings/") refl) (resource-value resource resource_is)) (all (codes " HTTP/1.1") refl)) (omega arith))
+      (IsLines-line (codes "POST /filings/" ++ resource ++ codes " HTTP/1.1")
+      (All-append IsValueByte (codes "POST /filings/" ++ resource) (codes " HTTP/1.1")
+      (All-append IsValueByte (codes "POST /filings/") resource (all (codes "POST /filings/") refl)
+      (resource-value resource resource_is)) (all (codes " HTTP/1.1") refl)) (omega arith))
       (IsLines-line (codes "Host: localhost") (all (codes "Host: localhost") refl) (omega arith)))
-      (IsLines-line (codes "Idempotency-Key: " ++ spelling key) (All-append IsValueByte (codes "Idempotency-Key: ") (spelling key) (all (codes "Idempotency-Key: ") refl) (spelling-value key key_is.printable)) (omega arith)))
-      (IsLines-line (codes "Content-Type: application/json") (all (codes "Content-Type: application/json") refl) (omega arith)))
-      (IsLines-line (codes "Content-Length: " ++ decimal len) (All-append IsValueByte (codes "Content-Length: ") (decimal len) (all (codes "Content-Length: ") refl) (decimal-value len small)) (omega arith)))
+      (IsLines-line (codes "Idempotency-Key: " ++ spelling key)
+      (All-append IsValueByte (codes "Idempotency-Key: ") (spelling key) (all (codes "Idempotency-Key: ") refl)
+      (spelling-value key key_is.printable)) (omega arith)))
+      (IsLines-line (codes "Content-Type: application/json") (all (codes "Content-Type: application/json") refl)
+      (omega arith)))
+      (IsLines-line (codes "Content-Length: " ++ decimal len)
+      (All-append IsValueByte (codes "Content-Length: ") (decimal len) (all (codes "Content-Length: ") refl)
+      (decimal-value len small)) (omega arith)))
       (IsLines-line (codes "Connection: close") (all (codes "Connection: close") refl) (omega arith))
 
   post_lines-head : render_post_head resource key len ≡ post_lines resource key len ++ crlf_bytes
@@ -163,21 +211,35 @@ module _ (resource key : List ℕ) (len : ℕ) (resource_is : IsResource resourc
   post_lines-short : length (post_lines resource key len) + 2 ≤ 16384
   unfolding post_lines
   post_lines-short =
-      let size = lines-length (codes "POST /filings/") resource (codes " HTTP/1.1") (codes "Host: localhost") (codes "Idempotency-Key: ") (spelling key) (codes "Content-Type: application/json") (codes "Content-Length: ") (decimal len) (codes "Connection: close") (codes "\r\n") in
+      let size =
+      lines-length (codes "POST /filings/") resource (codes " HTTP/1.1") (codes "Host: localhost")
+      (codes "Idempotency-Key: ") (spelling key) (codes "Content-Type: application/json") (codes "Content-Length: ")
+      (decimal len) (codes "Connection: close") (codes "\r\n") in
       let number = length-decimal-le 7 len (omega arith) (omega (arith, fits)) small in
       let join = length-append (post_lines resource key len) crlf_bytes in
-      omega (arith, size, number, join, resource-length resource resource_is, spelling-length key key_is.printable, key_is.short)
+      omega (
+        arith,
+        size,
+        number,
+        join,
+        resource-length resource resource_is,
+        spelling-length key key_is.printable,
+        key_is.short,
+      )
 
   -- the head is one block
   pub post_head-block : BeginsBlock (render_post_head resource key len) (length (render_post_head resource key len))
   post_head-block =
-      let size : length (post_lines resource key len ++ crlf_bytes) ≡ length (post_lines resource key len) + 2 = length-append (post_lines resource key len) crlf_bytes in
+      let size : length (post_lines resource key len ++ crlf_bytes) ≡ length (post_lines resource key len) + 2 =
+      length-append (post_lines resource key len) crlf_bytes in
       rw (post_lines-head, size) (BeginsBlock-of_lines (post_lines resource key len) post_lines-are post_lines-short)
 
   -- and it is read
   post_head-fields : (post_parts resource key len).fields ≡ map name_and_value (post_head resource key len).fields
   unfolding post_head trim_ows
-  post_head-fields = five refl (ap (λ v. (codes "Idempotency-Key", v)) (sym (spelling-field key))) refl (ap (λ v. (codes "Content-Length", v)) (sym (trim_ows-field (decimal len) (decimal-solid len small)))) refl
+  post_head-fields =
+      five refl (ap (λ v. (codes "Idempotency-Key", v)) (sym (spelling-field key))) refl
+      (ap (λ v. (codes "Content-Length", v)) (sym (trim_ows-field (decimal len) (decimal-solid len small)))) refl
 
   post_head-is_read : ReadsHead (render_post_head resource key len) (post_parts resource key len)
   unfolding post_head
@@ -202,7 +264,8 @@ module _ (resource key : List ℕ) (len : ℕ) (resource_is : IsResource resourc
 
   post_parts-sound : framing_fault (post_parts resource key len) ≡ None
   post_parts-sound =
-      let agreed : agree (lengths (post_parts resource key len)) ≡ true = ap agree post_parts-lengths ∙ agree-one (decimal len) (decimal-number len small) in
+      let agreed : agree (lengths (post_parts resource key len)) ≡ true =
+      ap agree post_parts-lengths ∙ agree-one (decimal len) (decimal-number len small) in
       let length_is : body_length (post_parts resource key len) ≡ len = post_parts-body_length in
       let short : nat_lt max_body_len len ≡ false = grind (arith, nat_tests, fits) in
       rw (agreed, length_is, short) refl

@@ -7,7 +7,8 @@ use Rattle.key_string.specs.Key.{spelling, IsKey}
 use Rattle.http_messages.specs.Coding.{has_content_coding}
 use Rattle.http_messages.specs.Head.{values_named, closes, max_body_len}
 use Rattle.http_messages.specs.Message.{SpellsRequest, Arrival, Ending, HasArrivals, awaits}
-use Rattle.http_messages.specs.Posting.{IsTarget, resource_of, render_post, render_post_head, post_parts, post_request, HoldsAlone}
+use Rattle.http_messages.specs.Posting.{IsTarget, resource_of, render_post, render_post_head, post_parts, post_request}
+use Rattle.http_messages.specs.Posting.{HoldsAlone}
 use Rattle.http_messages.proofs.AloneLemmas.{SpellsRequest-of_block, HoldsAlone-of_front}
 use Rattle.http_messages.proofs.PostLemmas.{IsResource, IsResource-of}
 use Rattle.http_messages.proofs.PostHead.{post_head-block, post_head-is, post_parts-body_length}
@@ -28,7 +29,8 @@ module _ (resource key : List ℕ) (len : ℕ) where
   pub post_parts-uncoded : has_content_coding (post_parts resource key len) ≡ false
   post_parts-uncoded = refl
 
-module _ (filer : List ℕ) (target : Option ℕ) (key body : List ℕ) (filer_is : is_filer filer ≡ true) (target_is : IsTarget target) (key_is : IsKey key) (fits : length body ≤ max_body_len) where
+module _ (filer : List ℕ) (target : Option ℕ) (key body : List ℕ) (filer_is : is_filer filer ≡ true)
+    (target_is : IsTarget target) (key_is : IsKey key) (fits : length body ≤ max_body_len) where
   abbrev resource : List ℕ
   resource = resource_of filer target
 
@@ -45,7 +47,9 @@ module _ (filer : List ℕ) (target : Option ℕ) (key body : List ℕ) (filer_i
       (post_parts-body_length resource key (length body) resource_is key_is fits)
 
   -- their front is nothing, or all of it
-  pub post-alone : (n : ℕ) (arrivals : List Arrival) (ending : Ending) → HasArrivals (take n (render_post filer target key body)) arrivals ending → HoldsAlone (post_request filer target key body) arrivals ending
+  pub post-alone : (n : ℕ) (arrivals : List Arrival) (ending : Ending)
+      → HasArrivals (take n (render_post filer target key body)) arrivals ending
+      → HoldsAlone (post_request filer target key body) arrivals ending
   unfolding render_post
   post-alone n arrivals ending h =
       HoldsAlone-of_front (render_post_head resource key (length body)) (post_parts resource key (length body)) body

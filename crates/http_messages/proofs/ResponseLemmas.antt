@@ -13,8 +13,10 @@ abbrev pub response_parts : List ℕ → List HeaderSpan → ResponseSpans → R
 response_parts block headers r = record { status = r.code; fields = map (header_bytes block) (take r.headers headers) }
 
 -- a whole block is a head with these parts
-pub ReadsResponseHead-parsed : (block : List ℕ) (headers : List HeaderSpan) (r : ResponseSpans) → length headers ≡ 64 → r.len ≡ length block
-    → HasPlainLines block → IsResponseWithin block headers r → IsResponseOf block headers r → ReadsResponseHead block (response_parts block headers r)
+pub ReadsResponseHead-parsed : (block : List ℕ) (headers : List HeaderSpan) (r : ResponseSpans) → length headers ≡ 64
+    → r.len ≡ length block
+    → HasPlainLines block → IsResponseWithin block headers r → IsResponseOf block headers r
+    → ReadsResponseHead block (response_parts block headers r)
 ReadsResponseHead-parsed block headers r room whole lines within read =
     let at = read.1 in
     let rest : drop r.len block ≡ [] = grind (arith, common_steps) in

@@ -1,5 +1,6 @@
 -- Values of fields that are read again as they were written.
-use Rattle.std.proofs.Common.{◌≡◌, ℕ, ◌^◌, ◌<◌, Bool, true, false, ◌==◌, List, [], ◌∷◌, reverse, map, refl, ap, ◌∙◌, arith}
+use Rattle.std.proofs.Common.{◌≡◌, ℕ, ◌^◌, ◌<◌, Bool, true, false, ◌==◌, List, [], ◌∷◌, reverse, map, refl, ap, ◌∙◌}
+use Rattle.std.proofs.Common.{arith}
 use Rattle.std.specs.Prelude.{IsTrue, not, ◌&&◌}
 use Rattle.std.specs.Char.{is_ascii_digit}
 use Rattle.std.specs.Fmt.{decimal}
@@ -32,10 +33,12 @@ skip_ows-solid (b ∷ text) all =
 pub trim_ows-solid : (text : List ℕ) → AllPass is_solid text → trim_ows text ≡ text
 unfolding trim_ows
 trim_ows-solid text all =
-    ap (λ t. reverse (skip_ows (reverse t))) (skip_ows-solid text all) ∙ ap reverse (skip_ows-solid (reverse text) (AllPass-reverse is_solid text all)) ∙ grind (arith, common_steps)
+    ap (λ t. reverse (skip_ows (reverse t))) (skip_ows-solid text all)
+    ∙ ap reverse (skip_ows-solid (reverse text) (AllPass-reverse is_solid text all)) ∙ grind (arith, common_steps)
 
 pub trim_ows-field : (text : List ℕ) → AllPass is_solid text → trim_ows (space ∷ text) ≡ text
-trim_ows-field text all = trim_ows_space text (skip_ows-solid text all) (skip_ows-solid (reverse text) (AllPass-reverse is_solid text all))
+trim_ows-field text all =
+    trim_ows_space text (skip_ows-solid text all) (skip_ows-solid (reverse text) (AllPass-reverse is_solid text all))
 
 solid-no_comma : (b : ℕ) → IsTrue (is_solid b) → (b == comma) ≡ false
 solid-no_comma b is = grind (arith, nat_tests, is)
@@ -43,7 +46,8 @@ solid-no_comma b is = grind (arith, nat_tests, is)
 -- and they are one part
 pub comma_parts-solid : (text : List ℕ) → AllPass is_solid text → comma_parts text ≡ text ∷ []
 comma_parts-solid text all =
-    ap (map trim_ows) (slice_split_none (λ b. b == comma) text (All-weaker (λ b. IsTrue (is_solid b)) (λ b. (b == comma) ≡ false) solid-no_comma text all))
+    ap (map trim_ows) (slice_split_none (λ b. b == comma) text
+    (All-weaker (λ b. IsTrue (is_solid b)) (λ b. (b == comma) ≡ false) solid-no_comma text all))
     ∙ ap (λ t. t ∷ []) (trim_ows-solid text all)
 
 -- ---- numbers
@@ -63,10 +67,12 @@ module _ (n : ℕ) (small : n < 2 ^ 64) where
   decimal-digits = AllPass-from_list_all is_ascii_digit (decimal n) decimal-list
 
   pub decimal-solid : AllPass is_solid (decimal n)
-  decimal-solid = All-weaker (λ b. IsTrue (is_ascii_digit b)) (λ b. IsTrue (is_solid b)) digit-solid (decimal n) decimal-digits
+  decimal-solid =
+      All-weaker (λ b. IsTrue (is_ascii_digit b)) (λ b. IsTrue (is_solid b)) digit-solid (decimal n) decimal-digits
 
   pub decimal-value : AllPass is_value_byte (decimal n)
-  decimal-value = All-weaker (λ b. IsTrue (is_ascii_digit b)) (λ b. IsTrue (is_value_byte b)) digit-value (decimal n) decimal-digits
+  decimal-value =
+      All-weaker (λ b. IsTrue (is_ascii_digit b)) (λ b. IsTrue (is_value_byte b)) digit-value (decimal n) decimal-digits
 
   pub decimal-number : is_number (decimal n) ≡ true
   decimal-number = let some = decimal_nonempty n small in rw decimal-list (grind (arith, nat_tests, some))

@@ -1,5 +1,6 @@
 -- Where the head of a message ends (RFC 9112, section 2.1).
-use Rattle.std.specs.Prelude.{◌≡◌, ℕ, ◌+◌, ◌-◌, ◌<◌, ◌≤◌, ◌&&◌, not, List, ◌++◌, length, drop, nat_eq, slice_range, if◌then◌else◌}
+use Rattle.std.specs.Prelude.{◌≡◌, ℕ, ◌+◌, ◌-◌, ◌<◌, ◌≤◌, ◌&&◌, not, List, ◌++◌, length, drop, nat_eq, slice_range}
+use Rattle.std.specs.Prelude.{if◌then◌else◌}
 use Rattle.std.specs.List.{starts_with}
 use Rattle.httparse.specs.Ascii.{crlf_bytes}
 use Rattle.http_messages.specs.declared.block.Block.{Block}
@@ -15,7 +16,8 @@ block_end_mark = crlf_bytes ++ crlf_bytes
 
 -- a CRLF before the block is skipped (RFC 9112, section 2.2), unless another one follows it at once (own rule)
 abbrev pub skipped_len : List ℕ → ℕ
-skipped_len bytes = if starts_with nat_eq bytes crlf_bytes && not (starts_with nat_eq bytes block_end_mark) then 2 else 0
+skipped_len bytes =
+    if starts_with nat_eq bytes crlf_bytes && not (starts_with nat_eq bytes block_end_mark) then 2 else 0
 
 -- the bytes from the beginning of the block on
 abbrev pub from_block : List ℕ → List ℕ

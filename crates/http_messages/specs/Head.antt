@@ -1,5 +1,7 @@
 -- The head of a request, and what it says of the message (RFC 9110 and RFC 9112).
-use Rattle.std.specs.Prelude.{◌≡◌, ◌⊎◌, ℕ, ◌-◌, ◌<◌, ◌≤◌, Bool, true, ◌&&◌, ◌||◌, not, List, [], ◌∷◌, length, map, filter, slice_index, codes, bytes_eq, nat_lt, ◌==◌, if◌then◌else◌, Option, Some, None, nat_eq}
+use Rattle.std.specs.Prelude.{◌≡◌, ◌⊎◌, ℕ, ◌-◌, ◌<◌, ◌≤◌, Bool, true, ◌&&◌, ◌||◌, not, List, [], ◌∷◌, length, map}
+use Rattle.std.specs.Prelude.{filter, slice_index, codes, bytes_eq, nat_lt, ◌==◌, if◌then◌else◌, Option, Some, None}
+use Rattle.std.specs.Prelude.{nat_eq}
 use Rattle.std.specs.Char.{is_ascii_digit, to_ascii_lowercase}
 use Rattle.std.specs.List.{flat_map, list_all, list_any, slice_split, ends_with}
 use Rattle.std.specs.Str.Parse.{digits_value}
@@ -11,7 +13,8 @@ use Rattle.http_uri.specs.Grammar.{without_fragment}
 use Rattle.http_uri.specs.Uri.{Spells, uri_path}
 use Rattle.http_uri.specs.declared.uri.Uri.{Uri}
 use Rattle.http_messages.specs.declared.head.HeadFault.{HeadFault}
-use Rattle.http_messages.specs.declared.head.HeadFault.TheVariants.{Malformed, Host, Coding, Length, NoLength, TooLarge, Memory}
+use Rattle.http_messages.specs.declared.head.HeadFault.TheVariants.{Malformed, Host, Coding, Length, NoLength, TooLarge}
+use Rattle.http_messages.specs.declared.head.HeadFault.TheVariants.{Memory}
 
 -- own rule: a request of a longer body is refused (RFC 9110, section 15.5.14)
 abbrev pub max_body_len : ℕ
@@ -52,7 +55,8 @@ parts_named name fields = flat_map comma_parts (values_named name fields)
 abbrev pub lists_word : List ℕ → List ℕ → List (List ℕ × List ℕ) → Bool
 lists_word name word fields = list_any (λ part. same_name part word) (parts_named name fields)
 
--- the connection ends after the reply: `close` in Connection (RFC 9110, section 7.6.1; RFC 9112, section 9.6), and HTTP/1.0 (own rule)
+-- the connection ends after the reply: `close` in Connection (RFC 9110, section 7.6.1; RFC 9112, section 9.6), and
+-- HTTP/1.0 (own rule)
 abbrev pub closes : RequestParts → Bool
 closes p = (p.minor == 0) || lists_word (codes "connection") (codes "close") p.fields
 
@@ -64,7 +68,8 @@ expects p = (p.minor == 1) && lists_word (codes "expect") (codes "100-continue")
 abbrev pub is_number : List ℕ → Bool
 is_number part = nat_lt 0 (length part) && list_all is_ascii_digit part
 
--- all parts write one number (RFC 9112, section 6.3); own rules: leading zeros count for nothing, and an empty part is no number
+-- all parts write one number (RFC 9112, section 6.3); own rules: leading zeros count for nothing, and an empty part is
+-- no number
 abbrev pub agree : List (List ℕ) → Bool
 agree [] = true
 agree (part ∷ parts) = list_all (λ p. is_number p && digits_value 10 p == digits_value 10 part) (part ∷ parts)
@@ -109,7 +114,8 @@ framing_fault p =
 abbrev pub FollowsCr : List ℕ → ℕ → Type 0
 FollowsCr block i = (0 < i) × (slice_index block (i - 1) ≡ carriage_return)
 
--- the block begins with no CR or LF, and each LF directly follows a CR; own rule, where RFC 9112, section 2.2, allows a bare LF
+-- the block begins with no CR or LF, and each LF directly follows a CR; own rule, where RFC 9112, section 2.2, allows a
+-- bare LF
 pub record HasPlainLines (block : List ℕ) : Type 0 where
   pub start : (slice_index block 0 ≡ carriage_return) → ⊥
   pub feeds : (i : ℕ) → slice_index block i ≡ line_feed → FollowsCr block i
@@ -122,8 +128,8 @@ before_query target = split_once_front question_mark (without_fragment target)
 abbrev pub written_path : List ℕ → List ℕ → List ℕ
 written_path target path = if ends_with nat_eq (before_query target) path then path else []
 
--- The block is a head with these parts: the grammar of RFC 9112, sections 3 and 5, as `httparse` reads it by default, and of the target as
--- `http_uri` reads it.
+-- The block is a head with these parts: the grammar of RFC 9112, sections 3 and 5, as `httparse` reads it by default,
+-- and of the target as `http_uri` reads it.
 pub record ReadsHead (block : List ℕ) (parts : RequestParts) : Type 0 where
   pub lines : HasPlainLines block
   pub head : RequestHead

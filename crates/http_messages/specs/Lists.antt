@@ -7,7 +7,9 @@ use Rattle.http_messages.specs.Response.{max_content_len}
 
 -- the number that all parts write, or any larger than a content may be; none where they don't agree
 abbrev pub IsAgreed : List (List ℕ) → Option ℕ → Type 0
-IsAgreed parts declared = MatchOption declared (agree parts ≡ false) (λ n. (agree parts ≡ true) × (n ≡ min (agreed_number parts) (max_content_len + 1)))
+IsAgreed parts declared =
+    MatchOption declared (agree parts ≡ false) (λ n. (agree parts ≡ true)
+    × (n ≡ min (agreed_number parts) (max_content_len + 1)))
 
 -- the digits that are left of a number without its leading zeros
 abbrev pub significant : List ℕ → List ℕ

@@ -1,5 +1,6 @@
 -- Messages, and what a stream of bytes holds of them.
-use Rattle.std.specs.Prelude.{◌≡◌, ◌≢◌, ℕ, ◌+◌, ◌≤◌, Bool, true, false, List, [], ◌∷◌, length, drop, slice_range, nat_lt, ◌&&◌, codes, if◌then◌else◌}
+use Rattle.std.specs.Prelude.{◌≡◌, ◌≢◌, ℕ, ◌+◌, ◌≤◌, Bool, true, false, List, [], ◌∷◌, length, drop, slice_range}
+use Rattle.std.specs.Prelude.{nat_lt, ◌&&◌, codes, if◌then◌else◌}
 use Rattle.http_messages.specs.Block.{skipped_len, IsBlockEnd, IsTooLong}
 use Rattle.http_messages.specs.Head.{RequestParts, IsHead, IsHeadFault, body_length, expects, closes}
 use Rattle.http_messages.specs.Request.{Request}
@@ -55,11 +56,12 @@ abbrev pub Asks : List ℕ → Bool → Type 0
 Asks bytes true = (parts : RequestParts) × (n : ℕ) × BeginsHead bytes parts n × (awaits parts ≡ true)
 Asks bytes false = (parts : RequestParts) (n : ℕ) → BeginsHead bytes parts n → awaits parts ≡ false
 
--- The bytes begin with these arrivals, one after another, of which a refusal is the last, and so is a request that closes. What
--- follows the others, and how they end, is as `Follows` says.
+-- The bytes begin with these arrivals, one after another, of which a refusal is the last, and so is a request that
+-- closes. What follows the others, and how they end, is as `Follows` says.
 abbrev pub ArrivalsThen : (List ℕ → Ending → Type 0) → List ℕ → List Arrival → Ending → Type 0
 ArrivalsThen Follows bytes [] ending = Follows bytes ending
-ArrivalsThen Follows bytes (Refused refusal ∷ arrivals) ending = IsRefused bytes refusal × (arrivals ≡ []) × (ending ≡ Closed)
+ArrivalsThen Follows bytes (Refused refusal ∷ arrivals) ending =
+    IsRefused bytes refusal × (arrivals ≡ []) × (ending ≡ Closed)
 ArrivalsThen Follows bytes (Read request ∷ arrivals) ending =
     (n : ℕ) × BeginsRequest bytes request n
     × (closes request.head ≡ true → (arrivals ≡ []) × (ending ≡ Closed))

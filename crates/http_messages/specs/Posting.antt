@@ -7,12 +7,14 @@ use Rattle.http_messages.specs.Message.{Arrival, Read, Ending, Closed, Rest}
 use Rattle.http_messages.specs.Reply.{line, length_line}
 use Rattle.http_messages.specs.Request.{Request}
 
--- the number of the filing that is to be replaced, if there is one; own rule: it is above 0, and a table's integer holds it
+-- the number of the filing that is to be replaced, if there is one; own rule: it is above 0, and a table's integer
+-- holds it
 abbrev pub IsTarget : Option ℕ → Type 0
 IsTarget None = Unit {0}
 IsTarget (Some n) = (1 ≤ n) × (n < 2 ^ 63)
 
--- what stands behind the filer's code in a path: nothing, or a slash and the number of the filing that is to be replaced
+-- what stands behind the filer's code in a path: nothing, or a slash and the number of the filing that is to be
+-- replaced
 abbrev pub target_path : Option ℕ → List ℕ
 target_path None = []
 target_path (Some n) = codes "/" ++ decimal n
@@ -29,8 +31,8 @@ post_line resource = line (codes "POST /filings/" ++ resource ++ codes " HTTP/1.
 unfoldable pub key_line : List ℕ → List ℕ
 key_line key = line (codes "Idempotency-Key: " ++ spelling key)
 
--- The head of the request: the resource in the path, the key as a String, and the length of the report. The connection is closed
--- after the reply. This order of lines is an own rule.
+-- The head of the request: the resource in the path, the key as a String, and the length of the report. The connection
+-- is closed after the reply. This order of lines is an own rule.
 unfoldable pub render_post_head : List ℕ → List ℕ → ℕ → List ℕ
 render_post_head resource key len =
     post_line resource
@@ -62,8 +64,10 @@ post_parts resource key len = record {
 
 -- the request
 abbrev pub post_request : List ℕ → Option ℕ → List ℕ → List ℕ → Request
-post_request filer target key body = record { head = post_parts (resource_of filer target) key (length body); body = body }
+post_request filer target key body =
+    record { head = post_parts (resource_of filer target) key (length body); body = body }
 
 -- no resource yet, and no interim response is asked for; or this request alone, after which the connection closes
 abbrev pub HoldsAlone : Request → List Arrival → Ending → Type 0
-HoldsAlone request arrivals ending = ((arrivals ≡ []) × (ending ≡ Rest false)) ⊎ ((arrivals ≡ Read request ∷ []) × (ending ≡ Closed))
+HoldsAlone request arrivals ending =
+    ((arrivals ≡ []) × (ending ≡ Rest false)) ⊎ ((arrivals ≡ Read request ∷ []) × (ending ≡ Closed))

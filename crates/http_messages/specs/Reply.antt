@@ -1,5 +1,6 @@
 -- The bytes of a reply (RFC 9112, sections 2.1 and 4).
-use Rattle.std.specs.Prelude.{ℕ, Bool, List, [], ◌∷◌, ◌++◌, length, codes, Option, Some, None, unwrap_or, nat_lt, ◌==◌, if◌then◌else◌}
+use Rattle.std.specs.Prelude.{ℕ, Bool, List, [], ◌∷◌, ◌++◌, length, codes, Option, Some, None, unwrap_or, nat_lt, ◌==◌}
+use Rattle.std.specs.Prelude.{if◌then◌else◌}
 use Rattle.std.specs.Fmt.{decimal}
 use Rattle.http_messages.specs.declared.reply.Kind.{Kind}
 use Rattle.http_messages.specs.declared.reply.Kind.TheVariants.{Json, Problem}
@@ -48,9 +49,9 @@ status_line status = line (codes "HTTP/1.1 " ++ decimal status ++ codes " " ++ u
 unfoldable pub length_line : ℕ → List ℕ
 length_line len = line (codes "Content-Length: " ++ decimal len)
 
--- The head of a reply, which ends with an empty line. Content-Type is of RFC 9110, section 8.3; Allow, which goes with 405, of
--- sections 10.2.1 and 15.5.6; `close` of RFC 9112, section 9.6. Own rules: this order of lines, no Content-Length where there is no
--- content, and no Date, since the intake has no clock.
+-- The head of a reply, which ends with an empty line. Content-Type is of RFC 9110, section 8.3; Allow, which goes with
+-- 405, of sections 10.2.1 and 15.5.6; `close` of RFC 9112, section 9.6. Own rules: this order of lines, no
+-- Content-Length where there is no content, and no Date, since the intake has no clock.
 unfoldable pub render_head : ReplyParts → Bool → List ℕ
 render_head reply close =
     status_line reply.status ++ line (codes "Content-Type: " ++ media_type reply.kind)

@@ -1,13 +1,16 @@
 -- Why no reply is read in some bytes.
-use Rattle.std.specs.Prelude.{◌≡◌, ◌⊎◌, ℕ, false, not, List, length, drop, slice_range, codes, nat_lt, ◌==◌, Result, Ok, Err, if◌then◌else◌}
+use Rattle.std.specs.Prelude.{◌≡◌, ◌⊎◌, ℕ, false, not, List, length, drop, slice_range, codes, nat_lt, ◌==◌, Result, Ok}
+use Rattle.std.specs.Prelude.{Err, if◌then◌else◌}
 use Rattle.http_messages.specs.declared.refusal.ConnFault.{ConnFault}
 use Rattle.http_messages.specs.declared.refusal.ConnFault.TheVariants as conn
 use Rattle.http_messages.specs.declared.refusal.ReplyFault.{ReplyFault}
-use Rattle.http_messages.specs.declared.refusal.ReplyFault.TheVariants.{Cut, Malformed, NoLength, TooLarge, Read, ReadLimit, Memory}
+use Rattle.http_messages.specs.declared.refusal.ReplyFault.TheVariants.{Cut, Malformed, NoLength, TooLarge, Read}
+use Rattle.http_messages.specs.declared.refusal.ReplyFault.TheVariants.{ReadLimit, Memory}
 use Rattle.http_messages.specs.Block.{skipped_len, IsBlockEnd, IsTooLong}
 use Rattle.http_messages.specs.Head.{values_named, parts_named, agree, agreed_number}
 use Rattle.http_messages.specs.Reply.{ReplyParts}
-use Rattle.http_messages.specs.Response.{ResponseParts, ReadsResponseHead, BeginsResponseHead, BeginsInterims, GivesReply, is_interim, max_content_len}
+use Rattle.http_messages.specs.Response.{ResponseParts, ReadsResponseHead, BeginsResponseHead, BeginsInterims}
+use Rattle.http_messages.specs.Response.{GivesReply, is_interim, max_content_len}
 
 -- what a failed read means for a reply; no write is made for one
 abbrev pub fault_of_read : ConnFault → ReplyFault
@@ -16,8 +19,9 @@ fault_of_read (conn.Write sent) = Read
 fault_of_read conn.ReadLimit = ReadLimit
 fault_of_read conn.Memory = Memory
 
--- The declared length of a final response's content (RFC 9112, section 6.3), or why the content isn't read: the first that holds. That a
--- Transfer-Encoding is refused, a missing length, and a length beyond the client's limit, is an own rule.
+-- The declared length of a final response's content (RFC 9112, section 6.3), or why the content isn't read: the first
+-- that holds. That a Transfer-Encoding is refused, a missing length, and a length beyond the client's limit, is an own
+-- rule.
 abbrev pub content_length : List (List ℕ × List ℕ) → Result ℕ ReplyFault
 content_length fields =
     let declared = parts_named (codes "content-length") fields in
@@ -36,7 +40,9 @@ BeginsBadHead bytes = (n : ℕ) × IsBlockEnd bytes n × IsNoResponse (slice_ran
 
 -- the bytes begin with the head of a final response whose content isn't read for this fault
 abbrev pub DeclaresFault : ReplyFault → List ℕ → Type 0
-DeclaresFault fault bytes = (parts : ResponseParts) × (n : ℕ) × BeginsResponseHead bytes parts n × (is_interim parts.status ≡ false) × (content_length parts.fields ≡ Err fault)
+DeclaresFault fault bytes =
+    (parts : ResponseParts) × (n : ℕ) × BeginsResponseHead bytes parts n × (is_interim parts.status ≡ false)
+    × (content_length parts.fields ≡ Err fault)
 
 -- this holds of what follows the interim responses at the front
 abbrev pub AfterInterims : (List ℕ → Type 0) → List ℕ → Type 0

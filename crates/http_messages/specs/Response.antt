@@ -1,11 +1,13 @@
 -- Reading a reply: interim responses, and then the final one with its content (RFC 9110 and RFC 9112).
-use Rattle.std.specs.Prelude.{◌≡◌, ◌≢◌, ℕ, ◌+◌, ◌<◌, ◌≤◌, IsSome, Bool, true, false, List, [], length, take, drop, slice_range, codes, nat_le, ◌&&◌, map, ◌∷◌, if◌then◌else◌}
+use Rattle.std.specs.Prelude.{◌≡◌, ◌≢◌, ℕ, ◌+◌, ◌<◌, ◌≤◌, IsSome, Bool, true, false, List, [], length, take, drop}
+use Rattle.std.specs.Prelude.{slice_range, codes, nat_le, ◌&&◌, map, ◌∷◌, if◌then◌else◌}
 use Rattle.httparse.specs.Ascii.{semicolon}
 use Rattle.httparse.specs.Grammar.{ResponseHead, ReadsResponse, status_code, trim_ows}
 use Rattle.httparse.specs.Spans.{name_and_value}
 use Rattle.http_uri.specs.ByteClasses.{split_once_front}
 use Rattle.http_messages.specs.Block.{skipped_len, IsBlockEnd}
-use Rattle.http_messages.specs.Head.{HasPlainLines, max_fields, same_name, values_named, parts_named, agree, agreed_number}
+use Rattle.http_messages.specs.Head.{HasPlainLines, max_fields, same_name, values_named, parts_named, agree}
+use Rattle.http_messages.specs.Head.{agreed_number}
 use Rattle.http_messages.specs.Reply.{ReplyParts, phrase, media_type}
 use Rattle.http_messages.specs.declared.reply.Kind.{Kind}
 use Rattle.http_messages.specs.declared.reply.Kind.TheVariants.{Json, Problem}
@@ -41,9 +43,11 @@ is_interim status = nat_le 100 status && nat_le status 199
 pub data BeginsInterims : List ℕ → ℕ → Type 0 where
   none : {bytes : List ℕ} → BeginsInterims bytes 0
   more : {bytes : List ℕ} {parts : ResponseParts} {n m : ℕ}
-      → BeginsResponseHead bytes parts n → is_interim parts.status ≡ true → BeginsInterims (drop n bytes) m → BeginsInterims bytes (n + m)
+      → BeginsResponseHead bytes parts n → is_interim parts.status ≡ true → BeginsInterims (drop n bytes) m
+      → BeginsInterims bytes (n + m)
 
--- the head is final and declares its content, which has no transfer coding and is within the client's limit (RFC 9112, section 6.3)
+-- the head is final and declares its content, which has no transfer coding and is within the client's limit (RFC 9112,
+-- section 6.3)
 pub record DeclaresContent (parts : ResponseParts) (len : ℕ) : Type 0 where
   pub final : is_interim parts.status ≡ false
   pub uncoded : values_named (codes "transfer-encoding") parts.fields ≡ []
@@ -56,7 +60,8 @@ pub record DeclaresContent (parts : ResponseParts) (len : ℕ) : Type 0 where
 abbrev pub named_type : List ℕ → List ℕ
 named_type value = trim_ows (split_once_front semicolon value)
 
--- one line names the media type of problem details, without case (RFC 9110, section 8.3.1); own rule: anything else is read as JSON
+-- one line names the media type of problem details, without case (RFC 9110, section 8.3.1); own rule: anything else is
+-- read as JSON
 abbrev pub kind_by : List (List ℕ) → Kind
 kind_by [] = Json
 kind_by (value ∷ []) = if same_name (named_type value) (media_type Problem) then Problem else Json

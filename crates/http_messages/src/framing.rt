@@ -1,7 +1,8 @@
 //! What a head says of the rest of its message (RFC 9112, sections 3.2, 6 and 9), and the faults in
 //! that.
 ghost use Rattle.std.specs.Prelude.{◌≡◌, IfOk, IfErr, nat_lt, length, Some};
-ghost use Rattle.http_messages.specs.Head.{values_named, lists_word, lengths, lacks_length, has_host_fault, framing_fault};
+ghost use Rattle.http_messages.specs.Head.{values_named, lists_word, lengths, lacks_length, has_host_fault};
+ghost use Rattle.http_messages.specs.Head.{framing_fault};
 ghost use Rattle.http_messages.specs.Lists.{IsAgreed};
 ghost use Rattle.http_messages.specs.Spans.{parts_at, IsHeadWithin, IsFramingOf};
 

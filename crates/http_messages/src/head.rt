@@ -2,7 +2,8 @@
 //! and 5).
 ghost use Rattle.std.specs.Prelude.{◌≡◌, ◌↔◌, ◌<◌, ◌≤◌, length, Err, IsTrue, IfOk, IfErr};
 ghost use Rattle.http_messages.specs.Block.{from_block, IsWholeBlock};
-ghost use Rattle.http_messages.specs.Head.{values_named, closes, expects, body_length, FollowsCr, HasPlainLines, ReadsHead, IsHead, IsHeadFault, IsParseFault};
+ghost use Rattle.http_messages.specs.Head.{values_named, closes, expects, body_length, FollowsCr, HasPlainLines};
+ghost use Rattle.http_messages.specs.Head.{ReadsHead, IsHead, IsHeadFault, IsParseFault};
 ghost use Rattle.http_messages.specs.FieldsNamed.{values_left};
 ghost use Rattle.http_messages.specs.Spans.{parts_at, IsHeadWithin, IsHeadAt};
 

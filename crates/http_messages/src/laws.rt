@@ -16,7 +16,8 @@ ghost use Rattle.http_messages.specs.declared.refusal.ReplyFault.{ReplyFault};
 
 /// Bytes have one list of arrivals, and one ending.
 pub fn bytes_have_one_list_of_arrivals()
-    ensures { (bytes : List ℕ) (arrivals others : List Arrival) (ending other : Ending) → HasArrivals bytes arrivals ending
+    ensures { (bytes : List ℕ) (arrivals others : List Arrival) (ending other : Ending)
+        → HasArrivals bytes arrivals ending
         → HasArrivals bytes others other → (others ≡ arrivals) × (other ≡ ending) }
 {}
 

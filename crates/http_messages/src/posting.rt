@@ -1,7 +1,8 @@
 //! The request by which a filer files a report (RFC 9110 and RFC 9112).
 ghost use Rattle.std.specs.Prelude.{◌≡◌, ◌≤◌, ◌++◌, length, true, IfOk, OnOk, OnErr};
 ghost use Rattle.key_string.specs.Filer.{is_filer};
-ghost use Rattle.http_messages.specs.Posting.{IsTarget, target_path, resource_of, post_line, key_line, render_post, render_post_head};
+ghost use Rattle.http_messages.specs.Posting.{IsTarget, target_path, resource_of, post_line, key_line, render_post};
+ghost use Rattle.http_messages.specs.Posting.{render_post_head};
 
 use crate::head::MAX_BODY_LEN;
 use crate::reply::push_length;

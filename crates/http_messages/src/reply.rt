@@ -1,7 +1,8 @@
 //! The bytes of a reply (RFC 9112, section 4).
 ghost use Rattle.std.specs.Prelude.{◌≡◌, ◌++◌, IsSome, IfOk, OnOk, OnErr, codes, nat_lt, option_copied};
 ghost use Rattle.std.specs.Fmt.{decimal};
-ghost use Rattle.http_messages.specs.Reply.{phrase, render, render_head, status_line, length_line, line, media_type, only_if};
+ghost use Rattle.http_messages.specs.Reply.{phrase, render, render_head, status_line, length_line, line, media_type};
+ghost use Rattle.http_messages.specs.Reply.{only_if};
 ghost use Rattle.http_messages.specs.Replies.{reply_parts};
 
 use itoa::Buffer;

@@ -1,5 +1,6 @@
 //! Where a byte first stands in a text, and what lies on either side of it.
-ghost use Rattle.std.specs.Prelude.{◌≡◌, ◌==◌, ◌∷◌, ◌+◌, position, option_copied, nat_eq, length, drop, None, Some, if◌then◌else◌};
+ghost use Rattle.std.specs.Prelude.{◌≡◌, ◌==◌, ◌∷◌, ◌+◌, position, option_copied, nat_eq, length, drop, None, Some};
+ghost use Rattle.std.specs.Prelude.{if◌then◌else◌};
 ghost use Rattle.std.specs.List.{slice_split};
 ghost use Rattle.http_uri.specs.ByteClasses.{split_once_front};
 ghost use Rattle.http_messages.specs.Parts.{later_parts};

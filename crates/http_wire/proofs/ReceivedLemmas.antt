@@ -1,5 +1,6 @@
 -- What several reads come to.
-use Rattle.std.proofs.Common.{◌≡◌, ℕ, ◌+◌, ◌<◌, ◌≤◌, Bool, true, false, List, [], ◌++◌, length, drop, Option, Result, Ok, Err, is_ok, refl, sym, ap, ◌∙◌, subst, append-nil, le_of_eq, arith}
+use Rattle.std.proofs.Common.{◌≡◌, ℕ, ◌+◌, ◌<◌, ◌≤◌, Bool, true, false, List, [], ◌++◌, length, drop, Option, Result}
+use Rattle.std.proofs.Common.{Ok, Err, is_ok, refl, sym, ap, ◌∙◌, subst, append-nil, le_of_eq, arith}
 use Rattle.std.proofs.KnownBytes.{Consumes-nil, Consumes-trans, Consumes-kept}
 use Rattle.std.proofs.lemmas.Bool.{false≢true}
 use Rattle.std.proofs.lemmas.Grind.{common_steps}
@@ -13,9 +14,11 @@ use Rattle.http_wire.specs.Received.{held_bytes, read_count, Receives, ReceivesN
 use Rattle.http_messages.specs.Reads.{max_reads}
 
 -- what was added in two steps
-drop-twice : (x y z : List ℕ) → y ≡ x ++ drop (length x) y → z ≡ y ++ drop (length y) z → drop (length x) z ≡ drop (length x) y ++ drop (length y) z
+drop-twice : (x y z : List ℕ) → y ≡ x ++ drop (length x) y → z ≡ y ++ drop (length y) z
+    → drop (length x) z ≡ drop (length x) y ++ drop (length y) z
 drop-twice x y z first second =
-    let short : length x ≤ length y = let l : length y ≡ length (x ++ drop (length x) y) = ap length first in grind (arith, common_steps, l) in
+    let short : length x ≤ length y = let l : length y ≡ length (x ++ drop (length x) y) = ap length first in
+    grind (arith, common_steps, l) in
     ap (drop (length x)) second ∙ grind (arith, common_steps, short)
 
 drop-once : (x y z : List ℕ) → y ≡ x ++ drop (length x) y → z ≡ y ++ drop (length y) z → z ≡ x ++ drop (length x) z
@@ -24,15 +27,18 @@ drop-once x y z first second =
     grind (arith, common_steps, first, second, twice)
 
 -- two reads are one
-pub Receives-join : (a b c : Option (List ℕ)) (x y z : Received) → Receives a b x y → Receives b c y z → Receives a c x z
+pub Receives-join : (a b c : Option (List ℕ)) (x y z : Received) → Receives a b x y → Receives b c y z
+    → Receives a c x z
 Receives-join a b c x y z first second = record {
   bytes = drop-once (held_bytes x) (held_bytes y) (held_bytes z) first.bytes second.bytes;
-  given = subst (Consumes a c) (sym (drop-twice (held_bytes x) (held_bytes y) (held_bytes z) first.bytes second.bytes)) (Consumes-trans a b c _ _ first.given second.given);
+  given = subst (Consumes a c) (sym (drop-twice (held_bytes x) (held_bytes y) (held_bytes z) first.bytes second.bytes))
+      (Consumes-trans a b c _ _ first.given second.given);
   reads = omega (arith, first.reads, second.reads);
   each =
       let both = ap length (drop-twice (held_bytes x) (held_bytes y) (held_bytes z) first.bytes second.bytes) in
       grind (arith, common_steps, first.each, second.each, both);
-  idle = λ same. second.idle (omega (arith, first.reads, second.reads)) ∙ first.idle (omega (arith, first.reads, second.reads));
+  idle = λ same. second.idle (omega (arith, first.reads, second.reads))
+      ∙ first.idle (omega (arith, first.reads, second.reads));
 }
 
 -- a read of nothing
@@ -48,7 +54,8 @@ Receives-nil a x =
     }
 
 -- two times nothing
-pub ReceivesNothing-join : {R : Type 0} (a b c : R) (x y z : Received) → ReceivesNothing a b x y → ReceivesNothing b c y z → ReceivesNothing a c x z
+pub ReceivesNothing-join : {R : Type 0} (a b c : R) (x y z : Received) → ReceivesNothing a b x y
+    → ReceivesNothing b c y z → ReceivesNothing a c x z
 ReceivesNothing-join a b c x y z first second = record {
   reader = second.reader ∙ first.reader;
   bytes = second.bytes ∙ first.bytes;
@@ -56,19 +63,24 @@ ReceivesNothing-join a b c x y z first second = record {
 }
 
 -- a read of so many bytes, which is counted only if there are some
-pub Receives-count : (a b : Option (List ℕ)) (x y : Received) (count : ℕ) → held_bytes y ≡ held_bytes x ++ drop (length (held_bytes x)) (held_bytes y)
+pub Receives-count : (a b : Option (List ℕ)) (x y : Received) (count : ℕ)
+    → held_bytes y ≡ held_bytes x ++ drop (length (held_bytes x)) (held_bytes y)
     → Consumes a b (drop (length (held_bytes x)) (held_bytes y)) → length (held_bytes y) ≡ length (held_bytes x) + count
-    → read_count x ≤ read_count y → read_count y ≤ read_count x + count → (read_count y ≡ read_count x → count ≡ 0) → Receives a b x y
+    → read_count x ≤ read_count y → read_count y ≤ read_count x + count → (read_count y ≡ read_count x → count ≡ 0)
+    → Receives a b x y
 Receives-count a b x y count kept given more low high none = record {
   bytes = kept;
   given = given;
   reads = low;
-  each = let size : length (drop (length (held_bytes x)) (held_bytes y)) ≡ count = grind (arith, common_steps, more) in omega (arith, high, size);
-  idle = λ same. let size : length (held_bytes y) ≡ length (held_bytes x) = omega (arith, more, none same) in grind (arith, common_steps, kept, size);
+  each = let size : length (drop (length (held_bytes x)) (held_bytes y)) ≡ count = grind (arith, common_steps, more) in
+      omega (arith, high, size);
+  idle = λ same. let size : length (held_bytes y) ≡ length (held_bytes x) = omega (arith, more, none same) in
+      grind (arith, common_steps, kept, size);
 }
 
 -- a read that failed
-pub Receives-kept : (a b : Option (List ℕ)) (x y : Received) → held_bytes y ≡ held_bytes x → read_count y ≡ read_count x → Keeps a b → Receives a b x y
+pub Receives-kept : (a b : Option (List ℕ)) (x y : Received) → held_bytes y ≡ held_bytes x → read_count y ≡ read_count x
+    → Keeps a b → Receives a b x y
 Receives-kept a b x y same count keeps =
     let none : drop (length (held_bytes x)) (held_bytes y) ≡ [] = drop_all _ _ (le_of_eq (ap length same)) in
     record {
@@ -80,7 +92,8 @@ Receives-kept a b x y same count keeps =
     }
 
 -- why a read failed, where one more may give bytes
-pub IsReadFault-fill : (a b : ℕ) (r : Received) (fault : ConnFault) → read_count r < max_reads → IsFillFault a b fault → IsReadFault a b r fault
+pub IsReadFault-fill : (a b : ℕ) (r : Received) (fault : ConnFault) → read_count r < max_reads → IsFillFault a b fault
+    → IsReadFault a b r fault
 IsReadFault-fill a b r Read low f = f
 IsReadFault-fill a b r (Write sent) low f = f
 IsReadFault-fill a b r ReadLimit low f = absurd f

@@ -26,13 +26,15 @@ WritesAsked before after bytes = (text : List ℕ) × IsInterimFor bytes text ×
 -- What a call that failed had written. Memory may be wanted before the head is read, and then nothing was written.
 abbrev pub WritesUpTo : Option (List ℕ) → Option (List ℕ) → List ℕ → ConnFault → Type 0
 WritesUpTo before after bytes Read = WritesAsked before after bytes
-WritesUpTo before after bytes (Write sent) = Asks bytes true × (sent ≤ length interim) × Appends before after (take sent interim)
+WritesUpTo before after bytes (Write sent) =
+    Asks bytes true × (sent ≤ length interim) × Appends before after (take sent interim)
 WritesUpTo before after bytes ReadLimit = WritesAsked before after bytes
 WritesUpTo before after bytes Memory = WritesAsked before after bytes ⊎ Appends before after []
 
--- Why a call failed, by the reader and the writer before and after, the reads that are counted, and the bytes that are held: a read that
--- was wanted failed, or a write did; or neither failed, and all reads were made that may give bytes where one more was wanted, or there was
--- no memory. Where no read may give bytes any more, memory is wanted for the head of a block that is held.
+-- Why a call failed, by the reader and the writer before and after, the reads that are counted, and the bytes that are
+-- held: a read that was wanted failed, or a write did; or neither failed, and all reads were made that may give bytes
+-- where one more was wanted, or there was no memory. Where no read may give bytes any more, memory is wanted for the
+-- head of a block that is held.
 abbrev pub IsFault : Wire → Wire → ℕ → List ℕ → ConnFault → Type 0
 IsFault before after reads held Read = ReaderFailed before after × ¬ (HoldsArrival held)
 IsFault before after reads held (Write sent) = WriterFailed before after

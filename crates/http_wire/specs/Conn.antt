@@ -23,12 +23,14 @@ abbrev pub conn_inbox : {R W : Type 0} → Conn R W → Inbox
 conn_inbox c = c.inbox
 
 -- What `reply` does to a connection.
-pub record WritesReply {R W : Type 0} (w : Writes W) (old new : Conn R W) (reply : ReplyParts) (close : Bool) (result : Result (Unit {0}) ConnFault) : Type 0 where
+pub record WritesReply {R W : Type 0} (w : Writes W) (old new : Conn R W) (reply : ReplyParts) (close : Bool)
+    (result : Result (Unit {0}) ConnFault) : Type 0 where
   -- the reply was written, and the writer didn't fail
   pub ok : OnOk result (Appends (w.written (conn_writer old)) (w.written (conn_writer new)) (render reply close))
   pub fine : OnOk result (w.write_failures (conn_writer new) ≡ w.write_failures (conn_writer old))
   -- or this is why it wasn't; after a fault, of `next` too, nothing is written
-  pub fault : is_failed (conn_inbox old) ≡ false → IfErr result (IsWriteFault w (conn_writer old) (conn_writer new) (render reply close))
+  pub fault : is_failed (conn_inbox old) ≡ false
+      → IfErr result (IsWriteFault w (conn_writer old) (conn_writer new) (render reply close))
   pub after_fault : is_failed (conn_inbox old) ≡ true → (result ≡ Err (Write 0)) × (conn_writer new ≡ conn_writer old)
   -- whether anything may arrive then
   pub over : OnOk result (is_over (conn_inbox new) ≡ (close || is_over (conn_inbox old)))

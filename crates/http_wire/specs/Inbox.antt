@@ -1,5 +1,6 @@
 -- What contracts see of an inbox, and what its calls do.
-use Rattle.std.specs.Prelude.{◌≡◌, ◌⊎◌, ℕ, ◌+◌, ◌≤◌, Bool, true, false, List, [], ◌++◌, length, drop, Option, Some, None, option_map, not, ◌||◌}
+use Rattle.std.specs.Prelude.{◌≡◌, ◌⊎◌, ℕ, ◌+◌, ◌≤◌, Bool, true, false, List, [], ◌++◌, length, drop, Option, Some}
+use Rattle.std.specs.Prelude.{None, option_map, not, ◌||◌}
 use Rattle.std.specs.Option.{option_map_or}
 use Rattle.std.specs.Io.KnownBytes.{Consumes, Appends, IsAtEnd}
 use Rattle.http_wire.specs.declared.inbox.Inbox.{Inbox}
@@ -110,4 +111,5 @@ lent_awaits i = option_map_or (λ request. awaits request.head) (lent_request i)
 abbrev pub WritesInterim : Option (List ℕ) → Option (List ℕ) → Inbox → Inbox → Next → Type 0
 WritesInterim before after old new Message = Appends before after (interim_if (lent_awaits new))
 WritesInterim before after old new (Refuse refusal) = Appends before after []
-WritesInterim before after old new End = ((is_over old ≡ true) × Appends before after []) ⊎ WritesAsked before after (held new)
+WritesInterim before after old new End =
+    ((is_over old ≡ true) × Appends before after []) ⊎ WritesAsked before after (held new)

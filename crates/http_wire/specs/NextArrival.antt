@@ -1,5 +1,6 @@
 -- What stands first in the bytes that are held, and where.
-use Rattle.std.specs.Prelude.{◌≡◌, ◌&&◌, ◌≤◌, ℕ, Bool, true, List, [], length, take, Option, Result, slice_range, nat_lt, IfOk, IfErr, OnOk}
+use Rattle.std.specs.Prelude.{◌≡◌, ◌&&◌, ◌≤◌, ℕ, Bool, true, List, [], length, take, Option, Result, slice_range}
+use Rattle.std.specs.Prelude.{nat_lt, IfOk, IfErr, OnOk}
 use Rattle.std.specs.Io.KnownBytes.{Appends, IsAtEnd}
 use Rattle.http_messages.specs.declared.head.Framing.{Framing}
 use Rattle.http_wire.specs.declared.arrival.NextArrival.{NextArrival}
@@ -38,7 +39,8 @@ WritesFor before after bytes (Refused refusal) = Appends before after []
 WritesFor before after bytes Rest = WritesAsked before after bytes
 
 -- What reading on to the next arrival does with a reader, a writer and the bytes that are held, and what it finds.
-pub record FindsArrival {R W : Type 0} (r : Reads R) (w : Writes W) (reader reader' : R) (writer writer' : W) (old new : Received) (result : Result NextArrival ConnFault) : Type 0 where
+pub record FindsArrival {R W : Type 0} (r : Reads R) (w : Writes W) (reader reader' : R) (writer writer' : W)
+    (old new : Received) (result : Result NextArrival ConnFault) : Type 0 where
   -- what was read follows what was held, and nothing is read where an arrival is there already
   pub reads : Receives (r.left reader) (r.left reader') old new
   pub lazy : HoldsArrival (held_bytes old) → ReceivesNothing reader reader' old new
@@ -48,7 +50,8 @@ pub record FindsArrival {R W : Type 0} (r : Reads R) (w : Writes W) (reader read
   pub part : IfErr result (WritesUpTo (w.written writer) (w.written writer') (held_bytes new))
   -- neither failed where there is an answer, and otherwise this is why there is none
   pub fine : OnOk result (NoneFailed (wire r w reader writer) (wire r w reader' writer'))
-  pub fault : IfErr result (IsFault (wire r w reader writer) (wire r w reader' writer') (read_count new) (held_bytes new))
+  pub fault : IfErr result (IsFault (wire r w reader writer) (wire r w reader' writer') (read_count new)
+      (held_bytes new))
 
 -- the head asks for an interim response before the body
 abbrev pub framing_awaits : Framing → Bool
@@ -57,6 +60,8 @@ framing_awaits framing = framing.expects && nat_lt 0 framing.body_len
 -- a write failed after a part of the interim response that was asked for
 abbrev pub IsSendFault : {W : Type 0} → Writes W → W → W → Bool → ConnFault → Type 0
 IsSendFault w before after asked Read = ⊥
-IsSendFault w before after asked (Write sent) = (asked ≡ true) × HasFailed (w.write_failures before) (w.write_failures after) × (sent ≤ length interim) × Appends (w.written before) (w.written after) (take sent interim)
+IsSendFault w before after asked (Write sent) =
+    (asked ≡ true) × HasFailed (w.write_failures before) (w.write_failures after) × (sent ≤ length interim)
+    × Appends (w.written before) (w.written after) (take sent interim)
 IsSendFault w before after asked ReadLimit = ⊥
 IsSendFault w before after asked Memory = ⊥

@@ -7,18 +7,20 @@ use Rattle.http_messages.specs.declared.refusal.ConnFault.{ConnFault}
 use Rattle.http_wire.specs.declared.inbox.Next.{Next}
 use Rattle.http_wire.specs.declared.inbox.Next.TheVariants.{End}
 use Rattle.http_wire.specs.Calls.{HoldsArrival, WritesUpTo, IsFault}
-use Rattle.http_wire.specs.Inbox.{held, memory, unread, is_over, is_failed, ReadsOn, ReadsNothing, IsNext, WritesInterim}
+use Rattle.http_wire.specs.Inbox.{held, memory, unread, is_over, is_failed, ReadsOn, ReadsNothing, IsNext}
+use Rattle.http_wire.specs.Inbox.{WritesInterim}
 use Rattle.http_wire.specs.Inbox as inbox
 use Rattle.http_wire.specs.Wire.{wire, NoneFailed}
 
 -- What `next` does with a reader, a writer and the inbox between them, and what it answers.
-pub record FindsNext {R W : Type 0} (r : Reads R) (w : Writes W) (reader reader' : R) (writer writer' : W) (old new : Inbox) (result : Result Next ConnFault) : Type 0 where
+pub record FindsNext {R W : Type 0} (r : Reads R) (w : Writes W) (reader reader' : R) (writer writer' : W)
+    (old new : Inbox) (result : Result Next ConnFault) : Type 0 where
   -- what was read follows what was held
   pub reads : ReadsOn (r.left reader) (r.left reader') old new
   -- nothing is read where a request or a refusal is there already
   pub lazy : HoldsArrival (unread old) → ReadsNothing reader reader' old new
-  -- no more is held than the longest head and the longest body take, with the CRLF before them that is skipped, and there is no more
-  -- memory for it
+  -- no more is held than the longest head and the longest body take, with the CRLF before them that is skipped, and
+  -- there is no more memory for it
   pub bound : length (held new) ≤ 1064962
   pub memory : memory new ≤ 1064962
   -- the answer is what stands next in it

@@ -36,8 +36,8 @@ pub record ReceivesNothing {R : Type 0} (before after : R) (old new : Received) 
   pub bytes : held_bytes new ≡ held_bytes old
   pub reads : read_count new ≡ read_count old
 
--- Why a read gave nothing, by the reader's failures before and after: it failed; or it didn't, and all reads were made that may give bytes,
--- or there was no memory for one more.
+-- Why a read gave nothing, by the reader's failures before and after: it failed; or it didn't, and all reads were made
+-- that may give bytes, or there was no memory for one more.
 abbrev pub IsReadFault : ℕ → ℕ → Received → ConnFault → Type 0
 IsReadFault failures failures' new Read = HasFailed failures failures'
 IsReadFault failures failures' new (Write sent) = ⊥
@@ -45,7 +45,8 @@ IsReadFault failures failures' new ReadLimit = (failures' ≡ failures) × (read
 IsReadFault failures failures' new Memory = (failures' ≡ failures) × (read_count new < max_reads)
 
 -- What a call that reads does with a reader and the bytes that are held.
-pub record ReadsFrom {R X : Type 0} (r : Reads R) (before after : R) (old new : Received) (result : Result X ConnFault) : Type 0 where
+pub record ReadsFrom {R X : Type 0} (r : Reads R) (before after : R) (old new : Received)
+    (result : Result X ConnFault) : Type 0 where
   pub receives : Receives (r.left before) (r.left after) old new
   -- the reader didn't fail where there is an answer, and otherwise this is why there is none
   pub fine : OnOk result (r.read_failures after ≡ r.read_failures before)

@@ -3,7 +3,8 @@ use Rattle.std.specs.Prelude.{◌≡◌, ℕ, ◌+◌, ◌<◌, ◌≤◌, List,
 use Rattle.std.specs.Io.KnownBytes.{Consumes, IsAtEnd}
 use Rattle.http_wire.specs.declared.received.Received.{Received}
 use Rattle.http_messages.specs.declared.refusal.ReplyFault.{ReplyFault}
-use Rattle.http_messages.specs.declared.refusal.ReplyFault.TheVariants.{Cut, Malformed, NoLength, TooLarge, Read, ReadLimit, Memory}
+use Rattle.http_messages.specs.declared.refusal.ReplyFault.TheVariants.{Cut, Malformed, NoLength, TooLarge, Read}
+use Rattle.http_messages.specs.declared.refusal.ReplyFault.TheVariants.{ReadLimit, Memory}
 use Rattle.http_messages.specs.declared.response.ResponseHead.{ResponseHead}
 use Rattle.http_messages.specs.Block.{IsUnended, IsTooLong}
 use Rattle.http_wire.specs.Device.{HasFailed}
@@ -30,24 +31,31 @@ pub record TakesHead (before after : Option (List ℕ)) (old new : Received) (he
 
 -- why no head was taken, by the reader's failures before and after
 abbrev pub IsHeadFailure : Option (List ℕ) → Option (List ℕ) → ℕ → ℕ → Received → Received → ReplyFault → Type 0
-IsHeadFailure before after failures failures' old new Cut = (failures' ≡ failures) × Takes before after old new [] × IsUnended (held_bytes new) × IsAtEnd after
-IsHeadFailure before after failures failures' old new Malformed = (failures' ≡ failures) × Takes before after old new [] × BeginsBadHead (held_bytes new)
+IsHeadFailure before after failures failures' old new Cut =
+    (failures' ≡ failures) × Takes before after old new [] × IsUnended (held_bytes new) × IsAtEnd after
+IsHeadFailure before after failures failures' old new Malformed =
+    (failures' ≡ failures) × Takes before after old new [] × BeginsBadHead (held_bytes new)
 IsHeadFailure before after failures failures' old new NoLength = ⊥
-IsHeadFailure before after failures failures' old new TooLarge = (failures' ≡ failures) × Takes before after old new [] × IsTooLong (held_bytes new)
+IsHeadFailure before after failures failures' old new TooLarge =
+    (failures' ≡ failures) × Takes before after old new [] × IsTooLong (held_bytes new)
 IsHeadFailure before after failures failures' old new Read = HasFailed failures failures'
-IsHeadFailure before after failures failures' old new ReadLimit = (failures' ≡ failures) × Takes before after old new [] × IsUnended (held_bytes new) × (read_count new ≡ max_reads)
+IsHeadFailure before after failures failures' old new ReadLimit =
+    (failures' ≡ failures) × Takes before after old new [] × IsUnended (held_bytes new) × (read_count new ≡ max_reads)
 IsHeadFailure before after failures failures' old new Memory = (failures' ≡ failures) × (read_count new < max_reads)
 
 -- less than the content was taken
 abbrev pub TakesLess : Option (List ℕ) → Option (List ℕ) → Received → Received → ℕ → Type 0
-TakesLess before after old new len = (part : List ℕ) × Takes before after old new part × (held_bytes new ≡ []) × (length part < len)
+TakesLess before after old new len =
+    (part : List ℕ) × Takes before after old new part × (held_bytes new ≡ []) × (length part < len)
 
 -- why no content was taken, by the reader's failures before and after
 abbrev pub IsContentFailure : Option (List ℕ) → Option (List ℕ) → ℕ → ℕ → Received → Received → ℕ → ReplyFault → Type 0
-IsContentFailure before after failures failures' old new len Cut = (failures' ≡ failures) × TakesLess before after old new len × IsAtEnd after
+IsContentFailure before after failures failures' old new len Cut =
+    (failures' ≡ failures) × TakesLess before after old new len × IsAtEnd after
 IsContentFailure before after failures failures' old new len Malformed = ⊥
 IsContentFailure before after failures failures' old new len NoLength = ⊥
 IsContentFailure before after failures failures' old new len TooLarge = ⊥
 IsContentFailure before after failures failures' old new len Read = HasFailed failures failures'
-IsContentFailure before after failures failures' old new len ReadLimit = (failures' ≡ failures) × TakesLess before after old new len × (read_count new ≡ max_reads)
+IsContentFailure before after failures failures' old new len ReadLimit =
+    (failures' ≡ failures) × TakesLess before after old new len × (read_count new ≡ max_reads)
 IsContentFailure before after failures failures' old new len Memory = failures' ≡ failures

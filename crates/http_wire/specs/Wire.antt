@@ -4,7 +4,8 @@ use Rattle.http_wire.specs.declared.device.Source.{Ghosts as Reads}
 use Rattle.http_wire.specs.declared.device.Sink.{Ghosts as Writes}
 use Rattle.http_wire.specs.Device.{HasFailed}
 
--- What the reader has left and what the writer has written, where they are known, and how many calls of each have failed.
+-- What the reader has left and what the writer has written, where they are known, and how many calls of each have
+-- failed.
 pub record Wire : Type 0 where
   pub left : Option (List ℕ)
   pub written : Option (List ℕ)
@@ -21,11 +22,13 @@ wire r w reader writer = record {
 
 -- between the two the reader failed, and the writer didn't
 abbrev pub ReaderFailed : Wire → Wire → Type 0
-ReaderFailed before after = HasFailed before.read_failures after.read_failures × (after.write_failures ≡ before.write_failures)
+ReaderFailed before after =
+    HasFailed before.read_failures after.read_failures × (after.write_failures ≡ before.write_failures)
 
 -- the writer failed, and the reader didn't
 abbrev pub WriterFailed : Wire → Wire → Type 0
-WriterFailed before after = (after.read_failures ≡ before.read_failures) × HasFailed before.write_failures after.write_failures
+WriterFailed before after =
+    (after.read_failures ≡ before.read_failures) × HasFailed before.write_failures after.write_failures
 
 -- neither failed
 abbrev pub NoneFailed : Wire → Wire → Type 0

@@ -1,5 +1,6 @@
 //! The bytes that were read from a reader and not yet consumed, and the room for the next read.
-ghost use Rattle.std.specs.Prelude.{◌≡◌, ◌+◌, ◌<◌, ◌≤◌, [], ◌++◌, length, take, drop, slice_range, vec_len, vec_capacity, IfOk, IfErr, OnOk, OnErr, Ok};
+ghost use Rattle.std.specs.Prelude.{◌≡◌, ◌+◌, ◌<◌, ◌≤◌, [], ◌++◌, length, take, drop, slice_range, vec_len};
+ghost use Rattle.std.specs.Prelude.{vec_capacity, IfOk, IfErr, OnOk, OnErr, Ok};
 ghost use Rattle.std.specs.Io.KnownBytes.{Consumes, Keeps, IsAtEnd};
 ghost use Rattle.http_wire.specs.Fill.{IsFillFault};
 
@@ -7,8 +8,8 @@ use crate::device::Source;
 use http_messages::ConnFault;
 use std::alloc::{AllocError, Global};
 
-/// The fewest bytes that there is room for at a read, within the most that are held, and those that there is memory for at
-/// first.
+/// The fewest bytes that there is room for at a read, within the most that are held, and those that there is memory for
+/// at first.
 const CHUNK: usize = 16_384;
 
 /// The most bytes that are held, and that there is memory for: the length of the longest request, a

@@ -1,5 +1,6 @@
 //! The bytes of a connection that were read and not yet dropped, and the loops that read more.
-ghost use Rattle.std.specs.Prelude.{◌≡◌, ◌↔◌, ◌+◌, ◌<◌, ◌≤◌, ℕ, List, ◌++◌, [], length, drop, IsTrue, true, false, IfOk, OnErr, Ok};
+ghost use Rattle.std.specs.Prelude.{◌≡◌, ◌↔◌, ◌+◌, ◌<◌, ◌≤◌, ℕ, List, ◌++◌, [], length, drop, IsTrue, true, false};
+ghost use Rattle.std.specs.Prelude.{IfOk, OnErr, Ok};
 ghost use Rattle.std.specs.Io.KnownBytes.{IsAtEnd};
 ghost use Rattle.http_messages.specs.Block.{from_block, HasNoEndUpTo, IsBlock, IsUnended};
 ghost use Rattle.http_wire.specs.Buffer.{buffered};

@@ -7,7 +7,9 @@ use Rattle.filing_model.specs.Reply.{number_member}
 use Rattle.intake_answers.specs.Listed.{number_tokens}
 
 -- a member with a number, where there is one, and those behind it
-pub number_first : (name : List ℕ) (number : Option ℕ) (more : Members) → members_tokens (members_outline (number_member name number more)) ≡ number_tokens name number ++ members_tokens (members_outline more)
+pub number_first : (name : List ℕ) (number : Option ℕ) (more : Members)
+    → members_tokens (members_outline (number_member name number more)) ≡ number_tokens name number
+    ++ members_tokens (members_outline more)
 number_first name None more = refl
 number_first name (Some n) more = refl
 

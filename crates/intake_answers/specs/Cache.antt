@@ -28,20 +28,22 @@ kept_of filer key r = record { request = the_request filer key r.target r.body.i
 abbrev pub IsKeptIn : List Request → Kept → Type 0
 IsKeptIn requests k = kept_for (kept requests) k.request ≡ Some k
 
--- It is what is kept after these requests for the filer's key of this name, with its style; the early requests were kept before
--- there were problem details.
+-- It is what is kept after these requests for the filer's key of this name, with its style; the old-style requests were
+-- kept before there were problem details.
 abbrev pub IsKnownIn : List Request → List Request → List ℕ → Remembered → Type 0
-IsKnownIn early requests name r =
-    (filer key : List ℕ) → IsNameOf filer key name → IsKeptIn requests (kept_of filer key r) × (r.style ≡ style_of early (kept_of filer key r).request)
+IsKnownIn old_style requests name r =
+    (filer key : List ℕ) → IsNameOf filer key name
+    → IsKeptIn requests (kept_of filer key r) × (r.style ≡ style_of old_style (kept_of filer key r).request)
 
 -- each of the entries is, for the name that it stands under
 abbrev pub AreKnownIn : List Request → List Request → List (String Global × Remembered) → Type 0
-AreKnownIn early requests es = (e : String Global × Remembered) → Contains es e → IsKnownIn early requests (string_bytes e.0) e.1
+AreKnownIn old_style requests es = (e : String Global × Remembered) → Contains es e
+    → IsKnownIn old_style requests (string_bytes e.0) e.1
 
 -- what a cache remembers is known
 abbrev pub Remembers : List Request → List Request → Cache → Type 0
-Remembers early requests c = AreKnownIn early requests c.answers.entries
+Remembers old_style requests c = AreKnownIn old_style requests c.answers.entries
 
 -- what a cache remembers that may be there
 abbrev pub RemembersIfAny : List Request → List Request → Option Cache → Type 0
-RemembersIfAny early requests cache = IfSome cache (Remembers early requests)
+RemembersIfAny old_style requests cache = IfSome cache (Remembers old_style requests)

@@ -27,4 +27,6 @@ line_of concept decimals dimensions id value =
 
 -- A fact's parts as compact JSON. Its dimensions are the text of an object already, which stands there as it is.
 unfoldable pub fact_line : FactRecord → List ℕ
-fact_line f = line_of (compact_text (string f.concept)) (compact_text (decimals_data f.decimals)) f.dimensions (compact_text (string f.id)) (compact_text (value_data f.value))
+fact_line f =
+    line_of (compact_text (string f.concept)) (compact_text (decimals_data f.decimals)) f.dimensions
+    (compact_text (string f.id)) (compact_text (value_data f.value))

@@ -56,8 +56,8 @@ impl Remembered {
         })
     }
 
-    /// The answer to a request with its filer and key: what the first got, or that the key was used for another body, in its
-    /// style.
+    /// The answer to a request with its filer and key: what the first got, or that the key was used for another body,
+    /// in its style.
     fn answer_to(
         &self,
         alloc: Global,
@@ -87,7 +87,7 @@ pub struct Cache {
 impl Cache {
     /// A cache that remembers nothing yet.
     pub fn new(alloc: Global) -> Result<Cache, AllocError>
-        ensures { (early requests : List Request) → IfOk result (Remembers early requests) }
+        ensures { (old_style requests : List Request) → IfOk result (Remembers old_style requests) }
     {
         let capacity = NonZeroUsize::new(CAPACITY).unwrap();
         Ok(Cache {
@@ -103,19 +103,19 @@ impl Cache {
         target: Option<u64>,
         body: &[u8],
     ) -> Option<Answer>
-        ensures answer { (early requests : List Request) → Remembers early requests self.old
+        ensures answer { (old_style requests : List Request) → Remembers old_style requests self.old
             → (filer key : List ℕ) → IsNameOf filer key name.now
             → IfSome result (λ a.
-            IsAnswerTo early requests (the_request filer key target body.now) a
+            IsAnswerTo old_style requests (the_request filer key target body.now) a
             × (has_key requests (the_request filer key target body.now) ≡ true)) }
-        ensures same { (early requests : List Request) → Remembers early requests self.old
-            → Remembers early requests self.new }
+        ensures same { (old_style requests : List Request) → Remembers old_style requests self.old
+            → Remembers old_style requests self.new }
     {
         self.answers.get(name)?.answer_to(alloc, target, body).ok()
     }
 
-    /// Remembers a kept request under the name of its filer's key, where its body has at most 65,536 bytes and there is memory
-    /// for it.
+    /// Remembers a kept request under the name of its filer's key, where its body has at most 65,536 bytes and there is
+    /// memory for it.
     pub fn remember(
         &mut self,
         alloc: Global,
@@ -125,14 +125,14 @@ impl Cache {
         outcome: &Outcome,
         style: Style,
     )
-        ensures { (early requests : List Request) → Remembers early requests self.old
+        ensures { (old_style requests : List Request) → Remembers old_style requests self.old
             → (filer key : List ℕ) → IsNameOf filer key (string_bytes name)
             → IsKeptIn requests (record {
               request = the_request filer key target body.now;
               outcome = view_outcome outcome.now;
             })
-            → style ≡ style_of early (the_request filer key target body.now)
-            → Remembers early requests self.new }
+            → style ≡ style_of old_style (the_request filer key target body.now)
+            → Remembers old_style requests self.new }
     {
         if body.len() > MAX_CACHED_LEN {
             return;

@@ -1,6 +1,6 @@
-//! The answer of an intake once it is known: remembered for a repeat, and told as a reply. What may live here: which requests
-//! ask for the same, the last answers, and the bytes of replies and of facts. How a request is decided and where it is kept
-//! is not known here.
+//! The answer of an intake once it is known: remembered for a repeat, and told as a reply. What may live here: which
+//! requests ask for the same, the last answers, and the bytes of replies and of facts. How a request is decided and
+//! where it is kept is not known here.
 #![tactic(auto)]
 
 mod cache;

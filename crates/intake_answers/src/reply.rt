@@ -6,7 +6,8 @@ ghost use Rattle.json.specs.Tree.{json_tokens};
 ghost use Rattle.http_messages.specs.Replies.{reply_parts};
 ghost use Rattle.serde_json.specs.Written.{compact_text, outline};
 ghost use Rattle.filing_model.specs.declared.served.Style.{Style};
-ghost use Rattle.filing_model.specs.Reply.{reply_as, list_reply, word_reply, answer_data, answer_kind, answer_status, refusal_kind, listing_data, listings_data, list_data};
+ghost use Rattle.filing_model.specs.Reply.{reply_as, list_reply, word_reply, answer_data, answer_kind, answer_status};
+ghost use Rattle.filing_model.specs.Reply.{refusal_kind, listing_data, listings_data, list_data};
 ghost use Rattle.filing_model.specs.Style.{HasStyle};
 ghost use Rattle.filing_model.specs.Views.{view_answer, view_row};
 ghost use Rattle.intake_answers.specs.Answered.{told_style};
@@ -36,8 +37,8 @@ pub fn reply_of(alloc: Global, answer: &Answer) -> Result<Reply, AllocError>
     })
 }
 
-/// The reply that lists filings: 200, with the number of each, how many facts it has, and which filing it replaces and which
-/// one replaces it, as compact JSON.
+/// The reply that lists filings: 200, with the number of each, how many facts it has, and which filing it replaces and
+/// which one replaces it, as compact JSON.
 #[tactic(auto, unfolding(filing_model::specs::Reply::list_reply))]
 pub fn list_reply(alloc: Global, rows: &[FilingRow]) -> Result<Reply, AllocError>
     ensures { IfOk result (λ r. reply_parts r ≡ list_reply (map view_row rows.now)) }
@@ -49,8 +50,8 @@ pub fn list_reply(alloc: Global, rows: &[FilingRow]) -> Result<Reply, AllocError
     })
 }
 
-/// The reply that refuses a request for this reason, under `status`, which is to be a status code of three digits: problem
-/// details (RFC 9457).
+/// The reply that refuses a request for this reason, under `status`, which is to be a status code of three digits:
+/// problem details (RFC 9457).
 pub fn word_reply(alloc: Global, status: u16, word: &str) -> Result<Reply, AllocError>
     ensures { IfOk result (λ r. reply_parts r ≡ word_reply status word.now) }
 {

@@ -22,8 +22,16 @@ unwanted false P Q is q = q
 
 -- ---- a port is served
 
-pub served_as : {D : Type 0} {g : Ghosts D} (task : Serving) (found : Bool) (keys : ℕ) (port port' : Traffic) (old new : Parts g) (served : Result (Unit {0}) ServingFault) (result : Result ℕ Fault) → found ≡ not task.new → keys ≡ task.limit → keys ≤ 2 ^ 62
-    → ServesRegister found keys task.connections port port' old new served → IsServingTold task served result → Serves task port port' old new result
+pub served_as : {D : Type 0} {g : Ghosts D} (task : Serving) (found : Bool) (keys : ℕ) (port port' : Traffic)
+    (old new : Parts g) (served : Result (Unit {0}) ServingFault) (result : Result ℕ Fault) → found ≡ not task.new
+    → keys ≡ task.limit → keys ≤ 2 ^ 62
+    → ServesRegister found keys task.connections port port' old new served → IsServingTold task served result
+    → Serves task port port' old new result
 served_as task found keys port port' old new served result found_is keys_is few serves told =
     let limited = subst (λ k. ServesRegister found k task.connections port port' old new served) keys_is serves in
-    inr (subst (λ k. k ≤ 2 ^ 62) keys_is few, served, subst (λ f. ServesRegister f task.limit task.connections port port' old new served) found_is limited, told)
+    inr (
+      subst (λ k. k ≤ 2 ^ 62) keys_is few,
+      served,
+      subst (λ f. ServesRegister f task.limit task.connections port port' old new served) found_is limited,
+      told,
+    )

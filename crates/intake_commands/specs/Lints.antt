@@ -16,4 +16,5 @@ IsLintTold (Err (lint.Command why)) result = result ≡ Err (fault.Command why)
 
 abbrev pub Lints : Form → List ℕ → List (Bor (List ℕ)) → Option (List ℕ) → Option (List ℕ) → Result ℕ Fault → Type 0
 Lints form filer names out out' result =
-    (linted : Result ℕ LintFault) × LintsReports form filer (map (λ name. name.now) names) out out' linted × IsLintTold linted result
+    (linted : Result ℕ LintFault) × LintsReports form filer (map (λ name. name.now) names) out out' linted
+    × IsLintTold linted result

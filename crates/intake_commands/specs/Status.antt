@@ -6,9 +6,9 @@ use Rattle.command_files.specs.declared.verdict.Verdict.{Verdict}
 use Rattle.command_files.specs.declared.verdict.Verdict.TheVariants as verdict
 use Rattle.command_line.specs.declared.fault.CommandFault.TheVariants as command
 use Rattle.command_line.specs.Status as command_line
-use Rattle.register_opening.specs.declared.fault.CreateFault.TheVariants as create
-use Rattle.register_opening.specs.declared.fault.OpenFault.{OpenFault}
-use Rattle.register_opening.specs.declared.fault.OpenFault.TheVariants as opening
+use Rattle.register_tables.specs.declared.fault.CreateFault.TheVariants as create
+use Rattle.register_tables.specs.declared.fault.OpenFault.{OpenFault}
+use Rattle.register_tables.specs.declared.fault.OpenFault.TheVariants as opening
 use Rattle.intake_commands.specs.declared.fault.Fault.{Fault}
 use Rattle.intake_commands.specs.declared.fault.Fault.TheVariants as fault
 use Rattle.intake_commands.specs.declared.fault.VisitFault.{VisitFault}

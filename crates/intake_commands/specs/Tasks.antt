@@ -1,5 +1,7 @@
--- What `intake` does with a task. This says of each word of the command line what is printed, what is kept, and the status.
-use Rattle.std.specs.Prelude.{◌≡◌, ◌⊎◌, ◌≤◌, ◌<◌, ◌^◌, ℕ, Bool, true, not, List, codes, Option, Some, None, Result, Ok, Err, MatchBool}
+-- What `intake` does with a task. This says of each word of the command line what is printed, what is kept, and the
+-- status.
+use Rattle.std.specs.Prelude.{◌≡◌, ◌⊎◌, ◌≤◌, ◌<◌, ◌^◌, ℕ, Bool, true, not, List, codes, Option, Some, None, Result, Ok}
+use Rattle.std.specs.Prelude.{Err, MatchBool}
 use Rattle.std.specs.Borrow.{Bor}
 use Rattle.std.specs.Io.KnownBytes.{Appends}
 use Rattle.sqlite_disk.specs.declared.Disk.{Ghosts}
@@ -31,8 +33,8 @@ use Rattle.intake_commands.specs.Lints.{Lints}
 use Rattle.intake_commands.specs.Status.{status_of, fault_verdict}
 use Rattle.intake_commands.specs.Told.{IsErrandTold, IsOpeningTold}
 
--- What contracts see of what a task works with, where it is known: the connection on standard input and output, what else the output has,
--- which pages the folder has, the port, and the process of the register.
+-- What contracts see of what a task works with, where it is known: the connection on standard input and output, what
+-- else the output has, which pages the folder has, the port, and the process of the register.
 pub record Means {D : Type 0} (g : Ghosts D) : Type 0 where
   pub wire : Wire
   pub out : Option (List ℕ)
@@ -41,7 +43,8 @@ pub record Means {D : Type 0} (g : Ghosts D) : Type 0 where
   pub process : Parts g
 
 -- these
-abbrev pub means : {D : Type 0} {g : Ghosts D} → Wire → Option (List ℕ) → Option (List (List ℕ)) → Traffic → Parts g → Means g
+abbrev pub means : {D : Type 0} {g : Ghosts D} → Wire → Option (List ℕ) → Option (List (List ℕ)) → Traffic → Parts g
+    → Means g
 means wire out pages port process = record { wire = wire; out = out; pages = pages; port = port; process = process }
 
 -- ---- run: one connection is served on a register in memory
@@ -64,16 +67,19 @@ Runs limit from to (Err other) = ⊥
 -- how it came out is the status, or the fault that is told of it
 abbrev pub IsServingTold : Serving → Result (Unit {0}) ServingFault → Result ℕ Fault → Type 0
 IsServingTold task (Ok done) result = result ≡ Ok 0
-IsServingTold task (Err (refused.Register why)) result = (told : Fault) × IsOpeningTold task.database why told × (result ≡ Err told)
+IsServingTold task (Err (refused.Register why)) result =
+    (told : Fault) × IsOpeningTold task.database why told × (result ≡ Err told)
 IsServingTold task (Err (refused.Port (network.Network error))) result = result ≡ Err (fault.Network task.port error)
 IsServingTold task (Err (refused.Port network.Memory)) result = result ≡ Err (fault.Command command.Memory)
 
 -- with the task's limit, its number of connections, and a register that is new or not
-abbrev pub Serves : {D : Type 0} {g : Ghosts D} → Serving → Traffic → Traffic → Parts g → Parts g → Result ℕ Fault → Type 0
+abbrev pub Serves : {D : Type 0} {g : Ghosts D} → Serving → Traffic → Traffic → Parts g → Parts g → Result ℕ Fault
+    → Type 0
 Serves task port port' old new result =
     ((2 ^ 62 < task.limit) × (port' ≡ port) × (new ≡ old) × (result ≡ Err fault.Limit))
     ⊎ ((task.limit ≤ 2 ^ 62) × (served : Result (Unit {0}) ServingFault)
-    × ServesRegister (not task.new) task.limit task.connections port port' old new served × IsServingTold task served result)
+    × ServesRegister (not task.new) task.limit task.connections port port' old new served
+    × IsServingTold task served result)
 
 -- ---- list, show, check, migrate, export and pages: the register of a file is visited
 
@@ -97,13 +103,17 @@ EndsWith (Some verdict) told out out' result =
     ⊎ ((result ≡ Err (fault.Command command.Output)) ⊎ ((result ≡ Err (fault.Command command.Memory)) × (out' ≡ out)))
 
 -- the status is 0 if the errand is done, and else that of the fault that is told
-abbrev pub IsVisitTold : Bor (List ℕ) → Errand → Result (Unit {0}) ErrandFault → Option (List ℕ) → Option (List ℕ) → Result ℕ Fault → Type 0
+abbrev pub IsVisitTold : Bor (List ℕ) → Errand → Result (Unit {0}) ErrandFault → Option (List ℕ) → Option (List ℕ)
+    → Result ℕ Fault → Type 0
 IsVisitTold name errand (Ok done) out out' result = (result ≡ Ok 0) × (out' ≡ out)
-IsVisitTold name errand (Err why) out out' result = (told : Fault) × IsErrandTold name why told × EndsWith (shown_verdict errand told) told out out' result
+IsVisitTold name errand (Err why) out out' result =
+    (told : Fault) × IsErrandTold name why told × EndsWith (shown_verdict errand told) told out out' result
 
-abbrev pub Visits : {D : Type 0} {g : Ghosts D} → Bor (List ℕ) → Errand → Outputs → Outputs → Parts g → Parts g → Result ℕ Fault → Type 0
+abbrev pub Visits : {D : Type 0} {g : Ghosts D} → Bor (List ℕ) → Errand → Outputs → Outputs → Parts g → Parts g
+    → Result ℕ Fault → Type 0
 Visits name errand out out' old new result =
-    (between : Option (List ℕ)) × (visited : Visited) × VisitsRegister errand out (outputs between out'.pages) old new visited
+    (between : Option (List ℕ)) × (visited : Visited)
+    × VisitsRegister errand out (outputs between out'.pages) old new visited
     × IsVisitTold name errand visited.done between out'.text result
 
 -- ---- a task
@@ -116,11 +126,14 @@ IsNoFiler old new result = (new ≡ old) × (result ≡ Err (fault.Command comma
 abbrev pub Does : {D : Type 0} {g : Ghosts D} → Task → Means g → Means g → Result ℕ Fault → Type 0
 Does (task.Run limit) old new result = (new ≡ record old { wire = new.wire }) × Runs limit old.wire new.wire result
 Does (task.Serve serving) old new result =
-    (new ≡ record old { port = new.port; process = new.process }) × Serves serving old.port new.port old.process new.process result
+    (new ≡ record old { port = new.port; process = new.process })
+    × Serves serving old.port new.port old.process new.process result
 Does (task.Visit name errand) old new result =
     MatchBool (is_wanted errand) ((new ≡ record old { out = new.out; pages = new.pages; process = new.process })
-    × Visits name errand (outputs old.out old.pages) (outputs new.out new.pages) old.process new.process result) (IsNoFiler old new result)
-Does (task.Lint filer form files) old new result = (new ≡ record old { out = new.out }) × Lints form filer.now files.items old.out new.out result
+    × Visits name errand (outputs old.out old.pages) (outputs new.out new.pages) old.process new.process result)
+    (IsNoFiler old new result)
+Does (task.Lint filer form files) old new result =
+    (new ≡ record old { out = new.out }) × Lints form filer.now files.items old.out new.out result
 
 -- What performing a task does, and the status.
 abbrev pub Performs : {D : Type 0} {g : Ghosts D} → Task → Means g → Means g → ℕ → Type 0

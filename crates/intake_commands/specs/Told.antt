@@ -5,8 +5,8 @@ use Rattle.command_line.specs.declared.fault.CommandFault.TheVariants as command
 use Rattle.command_line.specs.declared.fault.DatabaseFault.{DatabaseFault}
 use Rattle.command_files.specs.Verdicts.{IsRefusalOf}
 use Rattle.command_files.specs.declared.holding.Holding.{Holding}
-use Rattle.register_opening.specs.declared.fault.OpenFault.{OpenFault}
-use Rattle.register_opening.specs.declared.fault.OpenFault.TheVariants as register
+use Rattle.register_tables.specs.declared.fault.OpenFault.{OpenFault}
+use Rattle.register_tables.specs.declared.fault.OpenFault.TheVariants as register
 use Rattle.intake_tasks.specs.declared.text.TextFault.TheVariants as text
 use Rattle.intake_process.specs.declared.errand.ErrandFault.{ErrandFault}
 use Rattle.intake_process.specs.declared.errand.ErrandFault.TheVariants as errand
@@ -20,7 +20,8 @@ use Rattle.intake_commands.specs.declared.fault.VisitFault.TheVariants as visit
 
 -- the files with this name gave no database, and why is told by their first page, where the refusal goes by that
 abbrev pub IsDatabaseTold : Bor (List ℕ) → DatabaseFault → Fault → Type 0
-IsDatabaseTold name why told = (shown : DatabaseFault) × IsRefusalOf why shown × (told ≡ fault.Command (command.Database name shown))
+IsDatabaseTold name why told =
+    (shown : DatabaseFault) × IsRefusalOf why shown × (told ≡ fault.Command (command.Database name shown))
 
 -- the database holds no register of an earlier version, or that is not migrated
 abbrev pub not_migrated : OpenFault → Holding → VisitFault
@@ -30,7 +31,8 @@ not_migrated why holding = visit.Migrate (record { fault = why; holding = holdin
 -- of an errand to the register in the file with this name
 abbrev pub IsErrandTold : Bor (List ℕ) → ErrandFault → Fault → Type 0
 IsErrandTold name (errand.Files why) told = IsDatabaseTold name why told
-IsErrandTold name (errand.Open why holding) told = told ≡ fault.Register name (visit.Open (record { fault = why; holding = holding }))
+IsErrandTold name (errand.Open why holding) told =
+    told ≡ fault.Register name (visit.Open (record { fault = why; holding = holding }))
 IsErrandTold name (errand.Migrate why holding) told = told ≡ fault.Register name (not_migrated why holding)
 IsErrandTold name (errand.List why) told = told ≡ fault.Register name (visit.List why)
 IsErrandTold name (errand.Store why) told = told ≡ fault.Register name (visit.Store why)
@@ -44,4 +46,5 @@ abbrev pub IsOpeningTold : Bor (List ℕ) → OpeningFault → Fault → Type 0
 IsOpeningTold name (opening.Files why) told = IsDatabaseTold name why told
 IsOpeningTold name (opening.Taken holding) told = told ≡ fault.Register name (visit.Taken holding)
 IsOpeningTold name (opening.Create why) told = told ≡ fault.Register name (visit.Create why)
-IsOpeningTold name (opening.Open why holding) told = told ≡ fault.Register name (visit.Open (record { fault = why; holding = holding }))
+IsOpeningTold name (opening.Open why holding) told =
+    told ≡ fault.Register name (visit.Open (record { fault = why; holding = holding }))

@@ -1,5 +1,6 @@
 -- What an intake holds after a new request, and after a repeat.
-use Rattle.std.proofs.Common.{◌≡◌, ◌⊎◌, ℕ, zero, suc, Bool, true, false, List, [], ◌∷◌, ◌++◌, take, inl, inr, Option, Some, None, Result, Ok, Err, IfOk, IfSome, refl, sym, ap, ◌∙◌, subst, ⊎_elim}
+use Rattle.std.proofs.Common.{◌≡◌, ◌⊎◌, ℕ, zero, suc, Bool, true, false, List, [], ◌∷◌, ◌++◌, take, inl, inr, Option}
+use Rattle.std.proofs.Common.{Some, None, Result, Ok, Err, IfOk, IfSome, refl, sym, ap, ◌∙◌, subst, ⊎_elim}
 use Rattle.std.proofs.lemmas.Bool.{cases_Bool}
 use Rattle.std.proofs.lemmas.List.{take-append-le}
 use Rattle.std.proofs.lemmas.List.Folds.{find-append}
@@ -17,7 +18,7 @@ use Rattle.register_store.specs.Store.{HasRequests}
 use Rattle.intake_answers.specs.declared.cache.Cache.{Cache}
 use Rattle.intake_core.specs.declared.intake.Intake.{Intake}
 use Rattle.intake_answers.specs.Cache.{IsKeptIn, RemembersIfAny}
-use Rattle.intake_core.specs.Held.{HoldsRequests, early_of, early_in}
+use Rattle.intake_core.specs.Held.{HoldsRequests, old_style_of, old_style_in}
 use Rattle.intake_answers.proofs.CacheLemmas.{IsKeptIn-more}
 
 -- what holds of what was made holds of it where it is there
@@ -25,19 +26,24 @@ pub IfSome-made : {X E : Type 0} (made : Result X E) (P : X → Type 0) → IfOk
 IfSome-made (Ok x) P h = h
 IfSome-made (Err e) P h = tt
 
-RemembersIfAny-more : (early old new : List Request) (c : Option Cache) → RemembersIfAny early old c → RemembersIfAny early (old ++ new) c
-RemembersIfAny-more early old new None h = tt
-RemembersIfAny-more early old new (Some c) h = λ e within filer key named. let known = h e within filer key named in (IsKeptIn-more old new _ known.0, known.1)
+RemembersIfAny-more : (old_style old new : List Request) (c : Option Cache) → RemembersIfAny old_style old c
+    → RemembersIfAny old_style (old ++ new) c
+RemembersIfAny-more old_style old new None h = tt
+RemembersIfAny-more old_style old new (Some c) h = λ e within filer key named. let known = h e within filer key named in
+    (IsKeptIn-more old new _ known.0, known.1)
 
 -- a filer and key of which nothing is kept are new
-pub has_key-none : (requests : List Request) (r : Request) → kept_for (kept requests) r ≡ None → has_key requests r ≡ false
+pub has_key-none : (requests : List Request) (r : Request) → kept_for (kept requests) r ≡ None
+    → has_key requests r ≡ false
 has_key-none requests r none = ⊎_elim
-    (λ (h : has_key requests r ≡ true). absurd (let first = kept_found requests r h in let e : None ≡ Some first.0 = sym none ∙ first.1 in cc))
+    (λ (h : has_key requests r ≡ true). absurd (let first = kept_found requests r h in let e : None ≡ Some first.0 =
+    sym none ∙ first.1 in cc))
     (λ (h : has_key requests r ≡ false). h)
     (cases_Bool (has_key requests r))
 
 -- what a new request is kept as
-pub IsKeptIn-new : (requests : List Request) (r : Request) (o : Outcome) → has_key requests r ≡ false → o ≡ (judged (kept requests) r).outcome → IsKeptIn (requests ++ r ∷ []) (record { request = r; outcome = o })
+pub IsKeptIn-new : (requests : List Request) (r : Request) (o : Outcome) → has_key requests r ≡ false
+    → o ≡ (judged (kept requests) r).outcome → IsKeptIn (requests ++ r ∷ []) (record { request = r; outcome = o })
 IsKeptIn-new requests r o new is =
     let now : kept_for (kept (requests ++ r ∷ [])) r ≡ Some (judged (kept requests) r)
     = ap (λ ks. kept_for ks r) (kept_new requests r new)
@@ -45,53 +51,72 @@ IsKeptIn-new requests r o new is =
     ∙ rw (kept_none requests r new, same_key-refl r) refl in
     now ∙ ap (λ (t : Outcome). Some (record { request = r; outcome = t })) (sym is)
 
-pub firsts-more : (requests : List Request) (r : Request) → firsts requests ≡ requests → has_key requests r ≡ false → firsts (requests ++ r ∷ []) ≡ requests ++ r ∷ []
+pub firsts-more : (requests : List Request) (r : Request) → firsts requests ≡ requests → has_key requests r ≡ false
+    → firsts (requests ++ r ∷ []) ≡ requests ++ r ∷ []
 firsts-more requests r are new = firsts_new requests r new ∙ ap (λ rs. rs ++ r ∷ []) are
 
 -- a key that is new among them all is new among the first so many
-has_key-take : (n : ℕ) (requests : List Request) (r : Request) → has_key requests r ≡ false → has_key (take n requests) r ≡ false
+has_key-take : (n : ℕ) (requests : List Request) (r : Request) → has_key requests r ≡ false
+    → has_key (take n requests) r ≡ false
 has_key-take zero requests r new = refl
 has_key-take (suc n) [] r new = refl
 has_key-take (suc n) (s ∷ requests) r new = by_first (same_key s r) (has_key-take n requests r) new
   where
-    by_first : (b : Bool) → (has_key requests r ≡ false → has_key (take n requests) r ≡ false) → (b || has_key requests r) ≡ false → (b || has_key (take n requests) r) ≡ false
+    by_first : (b : Bool) → (has_key requests r ≡ false → has_key (take n requests) r ≡ false)
+        → (b || has_key requests r) ≡ false → (b || has_key (take n requests) r) ≡ false
     by_first true more e = absurd (cc)
     by_first false more e = more e
 
 -- so it is told in the new style
-pub style_of-new : (n : ℕ) (requests : List Request) (r : Request) → has_key requests r ≡ false → style_of (take n requests) r ≡ Problem
+pub style_of-new : (n : ℕ) (requests : List Request) (r : Request) → has_key requests r ≡ false
+    → style_of (take n requests) r ≡ Problem
 style_of-new n requests r new = rw (has_key-take n requests r new) refl
 
 module _ {S : Type 0} {g : Ghosts S} (requests : List Request) (r : Request) where
-  -- what was kept early stays so after a request
-  pub early_in-after : (old new : Intake S) → early_of new ≡ early_of old → HoldsRequests g old requests → early_in new (firsts (requests ++ r ∷ [])) ≡ early_in old requests
-  early_in-after old new same h = ap (λ n. take n (firsts (requests ++ r ∷ []))) same ∙ by_key (cases_Bool (has_key requests r))
+  -- what was kept in the old style stays so after a request
+  pub old_style_in-after : (old new : Intake S) → old_style_of new ≡ old_style_of old → HoldsRequests g old requests
+      → old_style_in new (firsts (requests ++ r ∷ [])) ≡ old_style_in old requests
+  old_style_in-after old new same h =
+      ap (λ n. take n (firsts (requests ++ r ∷ []))) same ∙ by_key (cases_Bool (has_key requests r))
     where
-      by_key : (has_key requests r ≡ true) ⊎ (has_key requests r ≡ false) → take (early_of old) (firsts (requests ++ r ∷ [])) ≡ early_in old requests
-      by_key (inl known) = ap (take (early_of old)) (firsts_repeat requests r known ∙ h.firsts')
-      by_key (inr fresh) = ap (take (early_of old)) (firsts-more requests r h.firsts' fresh) ∙ take-append-le (early_of old) requests (r ∷ []) h.rows.within
+      by_key : (has_key requests r ≡ true) ⊎ (has_key requests r ≡ false)
+          → take (old_style_of old) (firsts (requests ++ r ∷ [])) ≡ old_style_in old requests
+      by_key (inl known) = ap (take (old_style_of old)) (firsts_repeat requests r known ∙ h.firsts')
+      by_key (inr fresh) =
+          ap (take (old_style_of old)) (firsts-more requests r h.firsts' fresh)
+          ∙ take-append-le (old_style_of old) requests (r ∷ []) h.rows.within
 
   -- after a new request
-  pub HoldsRequests-more : (old new : Intake S) → has_key requests r ≡ false → HoldsRequests g old requests → new.cache ≡ old.cache → early_of new ≡ early_of old → HasRequests g new.store (requests ++ r ∷ []) → HoldsRequests g new (requests ++ r ∷ [])
-  HoldsRequests-more old new fresh h same early rows = record {
+  pub HoldsRequests-more : (old new : Intake S) → has_key requests r ≡ false → HoldsRequests g old requests
+      → new.cache ≡ old.cache → old_style_of new ≡ old_style_of old → HasRequests g new.store (requests ++ r ∷ [])
+      → HoldsRequests g new (requests ++ r ∷ [])
+  HoldsRequests-more old new fresh h same old_style rows = record {
     firsts' = firsts-more requests r h.firsts' fresh;
     rows = rows;
-    known = subst (λ es. RemembersIfAny es (requests ++ r ∷ []) new.cache) (sym (ap (λ n. take n (requests ++ r ∷ [])) early ∙ take-append-le (early_of old) requests (r ∷ []) h.rows.within))
-        (subst (RemembersIfAny (early_in old requests) (requests ++ r ∷ [])) (sym same) (RemembersIfAny-more (early_in old requests) requests (r ∷ []) old.cache h.known));
+    known = subst (λ es. RemembersIfAny es (requests ++ r ∷ []) new.cache)
+        (sym (ap (λ n. take n (requests ++ r ∷ [])) old_style
+        ∙ take-append-le (old_style_of old) requests (r ∷ []) h.rows.within))
+        (subst (RemembersIfAny (old_style_in old requests) (requests ++ r ∷ [])) (sym same)
+        (RemembersIfAny-more (old_style_in old requests) requests (r ∷ []) old.cache h.known));
   }
 
   -- after a repeat
-  pub HoldsRequests-repeat : (new : Intake S) → has_key requests r ≡ true → HoldsRequests g new requests → HoldsRequests g new (firsts (requests ++ r ∷ []))
+  pub HoldsRequests-repeat : (new : Intake S) → has_key requests r ≡ true → HoldsRequests g new requests
+      → HoldsRequests g new (firsts (requests ++ r ∷ []))
   HoldsRequests-repeat new known h = subst (HoldsRequests g new) (sym (firsts_repeat requests r known ∙ h.firsts')) h
 
   -- of a new one it is the same
-  pub HoldsRequests-new : (new : Intake S) → firsts requests ≡ requests → has_key requests r ≡ false → HoldsRequests g new (requests ++ r ∷ []) → HoldsRequests g new (firsts (requests ++ r ∷ []))
+  pub HoldsRequests-new : (new : Intake S) → firsts requests ≡ requests → has_key requests r ≡ false
+      → HoldsRequests g new (requests ++ r ∷ []) → HoldsRequests g new (firsts (requests ++ r ∷ []))
   HoldsRequests-new new are fresh h = subst (HoldsRequests g new) (sym (firsts-more requests r are fresh)) h
 
 -- the register was asked, and nothing else has changed
-pub HoldsRequests-asked : {S : Type 0} {g : Ghosts S} (requests : List Request) (old new : Intake S) → HoldsRequests g old requests → new.cache ≡ old.cache → early_of new ≡ early_of old → HasRequests g new.store requests → HoldsRequests g new requests
-HoldsRequests-asked requests old new h same early rows = record {
+pub HoldsRequests-asked : {S : Type 0} {g : Ghosts S} (requests : List Request) (old new : Intake S)
+    → HoldsRequests g old requests → new.cache ≡ old.cache → old_style_of new ≡ old_style_of old
+    → HasRequests g new.store requests → HoldsRequests g new requests
+HoldsRequests-asked requests old new h same old_style rows = record {
   firsts' = h.firsts';
   rows = rows;
-  known = subst (λ n. RemembersIfAny (take n requests) requests new.cache) (sym early) (subst (RemembersIfAny (early_in old requests) requests) (sym same) h.known);
+  known = subst (λ n. RemembersIfAny (take n requests) requests new.cache) (sym old_style)
+      (subst (RemembersIfAny (old_style_in old requests) requests) (sym same) h.known);
 }

@@ -26,29 +26,29 @@ abbrev pub has_stopped : {S : Type 0} → Intake S → Bool
 has_stopped i = i.is_down
 
 -- how many of the first kept requests are told what they were told before there were problem details
-abbrev pub early_of : {S : Type 0} → Intake S → ℕ
-early_of i = i.store.early
+abbrev pub old_style_of : {S : Type 0} → Intake S → ℕ
+old_style_of i = i.store.old_style
 
 -- these, where it holds such requests
-abbrev pub early_in : {S : Type 0} → Intake S → List Request → List Request
-early_in i requests = take i.store.early requests
+abbrev pub old_style_in : {S : Type 0} → Intake S → List Request → List Request
+old_style_in i requests = take i.store.old_style requests
 
 -- Its register has these requests, each the first of its filer and key, and what it remembers is known of them.
 pub record HoldsRequests {S : Type 0} (g : Ghosts S) (intake : Intake S) (requests : List Request) : Type 0 where
   pub firsts' : firsts requests ≡ requests
   pub rows : HasRequests g intake.store requests
-  pub known : RemembersIfAny (take intake.store.early requests) requests intake.cache
+  pub known : RemembersIfAny (take intake.store.old_style requests) requests intake.cache
 
 -- So far the disk gave back what was written. What is said of rows holds where it is so at the end.
 abbrev pub IsClean : {S : Type 0} → Ghosts S → Intake S → Type 0
 IsClean g intake = HasCleanDisk (shows g intake)
 
--- What no call changes of an intake: how many keys it may keep, and how many of its requests are early. A disk that is clean after the
--- call was clean before it.
+-- What no call changes of an intake: how many keys it may keep, and how many of its requests are old-style. A disk that
+-- is clean after the call was clean before it.
 pub record KeepsSetting {S : Type 0} (g : Ghosts S) (old new : Intake S) : Type 0 where
   pub clean : IsClean g new → IsClean g old
   pub limit : limit_of new ≡ limit_of old
-  pub early : early_of new ≡ early_of old
+  pub old_style : old_style_of new ≡ old_style_of old
 
 -- Whatever requests it held before: where the disk is clean at the end, this holds of them.
 abbrev pub ForRequests : {S : Type 0} → Ghosts S → Intake S → Intake S → (List Request → Type 0) → Type 0
@@ -60,14 +60,19 @@ with_request requests r = firsts (requests ++ r ∷ [])
 
 -- its register is open, and a crash now leaves the rows of these requests, and no others
 abbrev pub IsDurableAs : {S : Type 0} → Ghosts S → Intake S → ℕ → List Request → Type 0
-IsDurableAs g intake early requests = register.IsDurableAs g intake.store early requests
+IsDurableAs g intake old_style requests = register.IsDurableAs g intake.store old_style requests
 
 -- A crash inside the call leaves what one before it could leave, or these trees, by the requests that were held.
 abbrev pub SurvivesAs : {S : Type 0} → Ghosts S → Intake S → Intake S → (List Request → Trees → Type 0) → Type 0
-SurvivesAs g old new Leaves = Survives (shows g old) (shows g new) (λ trees. (requests : List Request) → HoldsRequests g old requests → IsTrue (shows g old).is_open → Leaves requests trees)
+SurvivesAs g old new Leaves =
+    Survives (shows g old) (shows g new) (λ trees. (requests : List Request) → HoldsRequests g old requests
+    → IsTrue (shows g old).is_open → Leaves requests trees)
 
--- Whatever requests it held, where the disk is clean at the end it holds such as this says. The early ones, of which this is told
--- first, are those of before.
-abbrev pub IsTransition : {S : Type 0} → Ghosts S → Intake S → Intake S → (List Request → List Request → List Request → Type 0) → Type 0
+-- Whatever requests it held, where the disk is clean at the end it holds such as this says. The old-style ones, of
+-- which this is told first, are those of before.
+abbrev pub IsTransition : {S : Type 0} → Ghosts S → Intake S → Intake S
+    → (List Request → List Request → List Request → Type 0) → Type 0
 IsTransition g old new Into =
-    IsClean g new → (before : List Request) → HoldsRequests g old before → (after : List Request) × HoldsRequests g new after × (early_in new after ≡ early_in old before) × Into (early_in old before) before after
+    IsClean g new → (before : List Request) → HoldsRequests g old before
+    → (after : List Request) × HoldsRequests g new after × (old_style_in new after ≡ old_style_in old before)
+    × Into (old_style_in old before) before after

@@ -1,6 +1,7 @@
 //! The intake: its register, and the answer to the next request.
 
-ghost use Rattle.std.specs.Prelude.{◌≡◌, ◌↔◌, ◌<◌, ◌≤◌, ◌^◌, ◌+◌, ◌++◌, ◌∷◌, ◌⊎◌, [], ℕ, List, length, map, true, false, Err, None, Some, IsTrue, IfOk, IfSome, OnOk, OnErr, ◌≢◌};
+ghost use Rattle.std.specs.Prelude.{◌≡◌, ◌↔◌, ◌<◌, ◌≤◌, ◌^◌, ◌+◌, ◌++◌, ◌∷◌, ◌⊎◌, [], ℕ, List, length, map, true};
+ghost use Rattle.std.specs.Prelude.{false, Err, None, Some, IsTrue, IfOk, IfSome, OnOk, OnErr, ◌≢◌};
 ghost use Rattle.std.specs.Option.{option_to_list};
 ghost use Rattle.key_string.specs.Filer.{is_filer};
 ghost use Rattle.http_messages.specs.Head.{max_body_len};
@@ -15,7 +16,7 @@ ghost use Rattle.filing_model.specs.Views.{view_answer, view_row, the_request};
 ghost use Rattle.register_store.specs.Outcomes.{view_outcome, kept_as};
 ghost use Rattle.register_store.specs.Store.{HasRequests};
 ghost use Rattle.register_store.specs.Calls.{AddsRequest};
-ghost use Rattle.register_opening.specs.Registers.{LeavesRegister};
+ghost use Rattle.register_tables.specs.Registers.{LeavesRegister};
 ghost use Rattle.intake_core.specs.declared.intake.Unavailable.TheVariants.{Down, Full, Memory, Store as StoreFailed};
 ghost use Rattle.table_rows.specs.Standing.{CommitsNothing};
 
@@ -140,8 +141,8 @@ impl<S: Alter> Intake<S> {
         store
     }
 
-    /// Whether the database refused a call for another cause than memory. Such an intake answers nothing else, until its
-    /// register is opened again.
+    /// Whether the database refused a call for another cause than memory. Such an intake answers nothing else, until
+    /// its register is opened again.
     pub fn is_down(&self) -> bool
         ensures { result ≡ has_stopped self.now }
     {
@@ -150,9 +151,9 @@ impl<S: Alter> Intake<S> {
 
     /// Decides a request (own rule): the first of a filer and key is judged and kept, whether it is
     /// valid or not, and a later one gets what the first got, or that the key was used for another
-    /// body or to replace another filing. With a target the report is to replace that filing of the filer, which is told by a finding
-    /// where it can't be. The filer is a filer code, and the body has at most 1,048,576 bytes. An answer to a filer's
-    /// key that was kept before there were problem details is in the old style.
+    /// body or to replace another filing. With a target the report is to replace that filing of the filer, which is
+    /// told by a finding where it can't be. The filer is a filer code, and the body has at most 1,048,576 bytes. An
+    /// answer to a filer's key that was kept before there were problem details is in the old style.
     pub fn submit(
         &mut self,
         filer: &str,
@@ -226,7 +227,8 @@ impl<S: Alter> Intake<S> {
 impl<S: Alter> Intake<S> {
     ghost use Rattle.intake_answers.specs.Answered.{IsAnswerTo};
     ghost use Rattle.intake_answers.specs.Cache.{IsKeptIn, IsNameIfAny};
-    ghost use Rattle.intake_core.specs.Held.{store_of, shows, limit_of, early_of, early_in, has_stopped, HoldsRequests, KeepsSetting, ForRequests, SurvivesAs, with_request};
+    ghost use Rattle.intake_core.specs.Held.{store_of, shows, limit_of, old_style_of, old_style_in, has_stopped};
+    ghost use Rattle.intake_core.specs.Held.{HoldsRequests, KeepsSetting, ForRequests, SurvivesAs, with_request};
 
     /// The answer to a request whose filer's key has this name, where the cache remembers it. The cache is made here,
     /// where there is memory for it.
@@ -234,7 +236,7 @@ impl<S: Alter> Intake<S> {
         ensures answer { (requests : List Request) → HoldsRequests S.Store self.old requests
             → (filer key : List ℕ) → IsNameIfAny filer key name.now
             → IfSome result (λ a.
-            IsAnswerTo (early_in self.old requests) requests (the_request filer key target body.now) a
+            IsAnswerTo (old_style_in self.old requests) requests (the_request filer key target body.now) a
             × (has_key requests (the_request filer key target body.now) ≡ true)) }
         ensures same { (requests : List Request) → HoldsRequests S.Store self.old requests
             → HoldsRequests S.Store self.new requests }
@@ -266,7 +268,7 @@ impl<S: Alter> Intake<S> {
               request = the_request filer key target body.now;
               outcome = view_outcome outcome.now;
             })
-            → style ≡ style_of (early_in self.old requests) (the_request filer key target body.now)
+            → style ≡ style_of (old_style_in self.old requests) (the_request filer key target body.now)
             → HoldsRequests S.Store self.new requests }
         ensures rest { (store_of self.new ≡ store_of self.old) × (limit_of self.new ≡ limit_of self.old)
             × (has_stopped self.new ≡ has_stopped self.old) }
@@ -291,7 +293,7 @@ impl<S: Alter> Intake<S> {
         requires body { length body.now ≤ max_body_len }
         ensures answer { ForRequests S.Store self.old self.new (λ requests.
             IfOk result (λ a.
-            IsAnswerTo (early_in self.old requests) requests (the_request filer.now key.now target body.now) a
+            IsAnswerTo (old_style_in self.old requests) requests (the_request filer.now key.now target body.now) a
             × HoldsRequests S.Store self.new
             (with_request requests (the_request filer.now key.now target body.now)))) }
         ensures err { ForRequests S.Store self.old self.new (λ requests.
@@ -307,7 +309,7 @@ impl<S: Alter> Intake<S> {
             → length requests < limit_of self.old)) }
         ensures running { result ≢ Err Down }
         ensures crash { SurvivesAs S.Store self.old self.new (λ requests trees.
-            LeavesRegister (early_of self.old)
+            LeavesRegister (old_style_of self.old)
             (with_request requests (the_request filer.now key.now target body.now)) trees) }
         ensures open { ForRequests S.Store self.old self.new (λ requests.
             OnOk result (IsTrue (shows S.Store self.new).is_open)) }
@@ -333,7 +335,7 @@ impl<S: Alter> Intake<S> {
         ensures same { (requests : List Request) → HoldsRequests S.Store self.old requests
             → (filer key : List ℕ) → IsNameIfAny filer key name
             → IsKeptIn requests (kept_as filer key row)
-            → row.style ≡ style_of (early_in self.old requests) (the_request filer key target body.now)
+            → row.style ≡ style_of (old_style_in self.old requests) (the_request filer key target body.now)
             → HoldsRequests S.Store self.new requests }
         ensures rest { (store_of self.new ≡ store_of self.old) × (limit_of self.new ≡ limit_of self.old)
             × (has_stopped self.new ≡ has_stopped self.old) }
@@ -404,7 +406,7 @@ impl<S: Alter> Intake<S> {
             has_key requests (the_request filer.now key.now target body.now) ≡ false
             → free ≡ is_free (register requests) filer.now target
             → IfOk result (λ a.
-            IsAnswerTo (early_in self.old requests) requests (the_request filer.now key.now target body.now) a
+            IsAnswerTo (old_style_in self.old requests) requests (the_request filer.now key.now target body.now) a
             × HoldsRequests S.Store self.new
             (requests ++ the_request filer.now key.now target body.now ∷ []))) }
         ensures err { ForRequests S.Store self.old self.new (λ requests.
@@ -415,7 +417,7 @@ impl<S: Alter> Intake<S> {
         ensures crash { SurvivesAs S.Store self.old self.new (λ requests trees.
             has_key requests (the_request filer.now key.now target body.now) ≡ false
             → free ≡ is_free (register requests) filer.now target
-            → LeavesRegister (early_of self.old) (requests ++ the_request filer.now key.now target body.now ∷ [])
+            → LeavesRegister (old_style_of self.old) (requests ++ the_request filer.now key.now target body.now ∷ [])
             trees) }
         ensures open { ForRequests S.Store self.old self.new (λ requests.
             has_key requests (the_request filer.now key.now target body.now) ≡ false
@@ -450,7 +452,7 @@ impl<S: Alter> Intake<S> {
         ensures answer { ForRequests S.Store self.old self.new (λ requests.
             has_key requests (the_request filer.now key.now target body.now) ≡ false
             → IfOk result (λ a.
-            IsAnswerTo (early_in self.old requests) requests (the_request filer.now key.now target body.now) a
+            IsAnswerTo (old_style_in self.old requests) requests (the_request filer.now key.now target body.now) a
             × HoldsRequests S.Store self.new
             (requests ++ the_request filer.now key.now target body.now ∷ []))) }
         ensures err { ForRequests S.Store self.old self.new (λ requests.
@@ -464,7 +466,7 @@ impl<S: Alter> Intake<S> {
         ensures running { result ≢ Err Down }
         ensures crash { SurvivesAs S.Store self.old self.new (λ requests trees.
             has_key requests (the_request filer.now key.now target body.now) ≡ false
-            → LeavesRegister (early_of self.old) (requests ++ the_request filer.now key.now target body.now ∷ [])
+            → LeavesRegister (old_style_of self.old) (requests ++ the_request filer.now key.now target body.now ∷ [])
             trees) }
         ensures open { ForRequests S.Store self.old self.new (λ requests.
             has_key requests (the_request filer.now key.now target body.now) ≡ false

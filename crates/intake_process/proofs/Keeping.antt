@@ -1,5 +1,6 @@
 -- What is kept while a register is opened and closed.
-use Rattle.std.proofs.Common.{◌≡◌, ℕ, Bool, true, false, true≢false, List, [], length, Option, Some, None, Result, Ok, Err, IsSome, OnOk, refl, sym, ◌∙◌, ap, subst, inl, inr}
+use Rattle.std.proofs.Common.{◌≡◌, ℕ, Bool, true, false, true≢false, List, [], length, Option, Some, None, Result, Ok}
+use Rattle.std.proofs.Common.{Err, IsSome, OnOk, refl, sym, ◌∙◌, ap, subst, inl, inr}
 use Rattle.std.specs.Prelude.{◌↔◌, is_err, is_some, IfErr, IfSome}
 use Rattle.sqlite_disk.specs.declared.Disk.{Ghosts}
 use Rattle.sqlite_disk.specs.declared.Files.{Files}
@@ -8,7 +9,7 @@ use Rattle.sqlite.specs.Held.{Held}
 use Rattle.sqlite.specs.declared.error.Error.{Error}
 use Rattle.sqlite.specs.Files.{file_state, over_files}
 use Rattle.filing_model.specs.Request.{Request}
-use Rattle.register_opening.specs.Registers.{IsRegisterOf}
+use Rattle.register_tables.specs.Registers.{IsRegisterOf}
 use Rattle.intake_core.specs.declared.intake.Intake.{Intake}
 use Rattle.intake_core.specs.Held.{has_stopped}
 use Rattle.http_wire.specs.Wire.{Wire}
@@ -27,7 +28,8 @@ use Rattle.intake_process.specs.declared.process.Closed.{Closed}
 use Rattle.intake_process.specs.declared.process.Outcome.{Outcome}
 use Rattle.intake_process.specs.declared.process.Outcome.TheVariants as outcome
 use Rattle.intake_process.specs.Begun.{HoldsAs, AreTotals, FindsIntake, MakesIntake, IsNotBegun}
-use Rattle.intake_process.specs.Process.{Parts, IsAwake, IsUp, AnswersBy, IsHonest, KeepsBy, LieGivenUp, IsNotOpened, IsLeftBy, Leaves, OpensProcess, ClosesProcess}
+use Rattle.intake_process.specs.Process.{Parts, IsAwake, IsUp, AnswersBy, IsHonest, KeepsBy, LieGivenUp, IsNotOpened}
+use Rattle.intake_process.specs.Process.{IsLeftBy, Leaves, OpensProcess, ClosesProcess}
 
 pub none_of : {A : Type 0} (o : Option A) → is_some o ≡ false → o ≡ None
 none_of None is = refl
@@ -53,8 +55,11 @@ ok_gives (Ok a) is x = x
 ok_gives (Err e) is x = absurd (true≢false is)
 
 -- what lay there lies there, or what was left of it
-pub stayed : {D : Type 0} (g : Ghosts D) (old new : Option (Option (Files D))) (fault : DatabaseFault) → StaysIn g old new fault → (there : Files D) → old ≡ Some (Some there) → (files : Files D) × (new ≡ Some (Some files))
-stayed g old new fault stays there lies = elim (subst (λ l. StaysIn g l new fault) lies stays) [ inl same ↦ (there, same) | inr left ↦ (left.0, left.1) ]
+pub stayed : {D : Type 0} (g : Ghosts D) (old new : Option (Option (Files D))) (fault : DatabaseFault)
+    → StaysIn g old new fault → (there : Files D) → old ≡ Some (Some there)
+    → (files : Files D) × (new ≡ Some (Some files))
+stayed g old new fault stays there lies =
+    elim (subst (λ l. StaysIn g l new fault) lies stays) [ inl same ↦ (there, same) | inr left ↦ (left.0, left.1) ]
 
 -- files that are left alone lie there
 pub keeps_lying : {D : Type 0} (lying : Option (Option (Files D))) → KeepsLying lying lying
@@ -63,13 +68,15 @@ keeps_lying (Some None) = tt
 keeps_lying (Some (Some files)) = refl
 
 module _ {D : Type 0} (g : Ghosts D) where
-  lie_left : (old new : Option (Option (Files D))) (back : Held (FileStore D g)) → LieGivenUp old new back → (there : Files D) → old ≡ Some (Some there) → (files : Files D) × (new ≡ Some (Some files))
+  lie_left : (old new : Option (Option (Files D))) (back : Held (FileStore D g)) → LieGivenUp old new back
+      → (there : Files D) → old ≡ Some (Some there) → (files : Files D) × (new ≡ Some (Some files))
   lie_left old new back left there lies =
       let at = subst (λ l. LieGivenUp l new back) lies left in
       (at.0, at.1)
 
   -- files that lay there lie there
-  back_of : (has : Bool) (old new : Option (Option (Files D))) (fault : OpeningFault) → IsNotOpened g has old new fault → (there : Files D) → old ≡ Some (Some there) → (files : Files D) × (new ≡ Some (Some files))
+  back_of : (has : Bool) (old new : Option (Option (Files D))) (fault : OpeningFault) → IsNotOpened g has old new fault
+      → (there : Files D) → old ≡ Some (Some there) → (files : Files D) × (new ≡ Some (Some files))
   back_of has old new (Unopened why) is there lies = stayed g old new why is.refused there lies
   back_of has old new (Taken holding) is there lies = lie_left old new is.1 is.4 there lies
   back_of has old new (Create why) is there lies = lie_left old new is.1 is.4 there lies
@@ -79,10 +86,15 @@ module _ {D : Type 0} {g : Ghosts D} where
   -- ---- it is opened
 
   -- a refusal leaves it closed, and nothing is certain
-  pub refuses : (has : Bool) (limit : ℕ) (old new : Parts g) (fault : OpeningFault) → new.is_certain ≡ false → old.intake ≡ None → new.intake ≡ None → new.refused_calls ≡ old.refused_calls → IsNotOpened g has old.lying new.lying fault → OpensProcess g has limit old new (Err fault)
+  pub refuses : (has : Bool) (limit : ℕ) (old new : Parts g) (fault : OpeningFault) → new.is_certain ≡ false
+      → old.intake ≡ None → new.intake ≡ None → new.refused_calls ≡ old.refused_calls
+      → IsNotOpened g has old.lying new.lying fault → OpensProcess g has limit old new (Err fault)
   refuses has limit old new fault unsure none closed calls why = record {
-    leaves = λ honest is. record { kept = λ early F keeps certain. absurd (true≢false (sym certain ∙ unsure)); certain = λ certain. absurd (true≢false (sym certain ∙ unsure)) };
-    counted = λ honest is certain early F keeps. tt;
+    leaves = λ honest is. record {
+      kept = λ old_style F keeps certain. absurd (true≢false (sym certain ∙ unsure));
+      certain = λ certain. absurd (true≢false (sym certain ∙ unsure));
+    };
+    counted = λ honest is certain old_style F keeps. tt;
     made = λ honest is none known. tt;
     certain = tt;
     is_open = tt;
@@ -95,10 +107,11 @@ module _ {D : Type 0} {g : Ghosts D} where
   }
 
   -- nothing happens to one that is open
-  pub is_open : (has : Bool) (limit : ℕ) (process : Parts g) → IsSome process.intake → OpensProcess g has limit process process (Ok None)
+  pub is_open : (has : Bool) (limit : ℕ) (process : Parts g) → IsSome process.intake
+      → OpensProcess g has limit process process (Ok None)
   is_open has limit process some = record {
-    leaves = λ honest is. record { kept = λ early F keeps. keeps; certain = λ certain. certain };
-    counted = λ honest is certain early F keeps. tt;
+    leaves = λ honest is. record { kept = λ old_style F keeps. keeps; certain = λ certain. certain };
+    counted = λ honest is certain old_style F keeps. tt;
     made = λ honest is none known. absurd (not_some process.intake none some);
     certain = refl;
     is_open = some;
@@ -111,13 +124,16 @@ module _ {D : Type 0} {g : Ghosts D} where
   }
 
   -- the connection came from what lay there
-  came_from : (old mid : Option (Option (Files D))) (conn : Held (FileStore D g)) → ComesFrom old mid conn → ComesFrom old (Some None) conn
+  came_from : (old mid : Option (Option (Files D))) (conn : Held (FileStore D g)) → ComesFrom old mid conn
+      → ComesFrom old (Some None) conn
   came_from None mid conn comes = comes
   came_from (Some None) mid conn comes = (refl, comes.1, comes.2, comes.3)
   came_from (Some (Some files)) mid conn comes = (refl, comes.1)
 
   -- and its files lie there again
-  lie_again : (old mid after new : Option (Option (Files D))) (conn back : Held (FileStore D g)) (files : Files D) → ComesFrom old mid conn → place.Leaves mid after files → KeepsLying after new → IsGivenUp back files → LieGivenUp old new back
+  lie_again : (old mid after new : Option (Option (Files D))) (conn back : Held (FileStore D g)) (files : Files D)
+      → ComesFrom old mid conn → place.Leaves mid after files → KeepsLying after new → IsGivenUp back files
+      → LieGivenUp old new back
   lie_again None mid after new conn back files comes leaves keeps given = tt
   lie_again (Some None) mid after new conn back files comes leaves keeps given =
       let lies : after ≡ Some (Some files) = subst (λ m. place.Leaves m after files) comes.0 leaves in
@@ -127,39 +143,76 @@ module _ {D : Type 0} {g : Ghosts D} where
       (files, subst (λ a. KeepsLying a new) lies keeps, given)
 
   -- no intake began over the database of the place, which was given up
-  pub not_begun : (has : Bool) (old mid after new : Option (Option (Files D))) (conn back : Held (FileStore D g)) (files : Files D) (fault : OpeningFault) → ComesFrom old mid conn → IsNotBegun over_files has conn fault back → place.Leaves mid after files → KeepsLying after new → IsGivenUp back files → IsNotOpened g has old new fault
+  pub not_begun : (has : Bool) (old mid after new : Option (Option (Files D))) (conn back : Held (FileStore D g))
+      (files : Files D) (fault : OpeningFault) → ComesFrom old mid conn → IsNotBegun over_files has conn fault back
+      → place.Leaves mid after files → KeepsLying after new → IsGivenUp back files → IsNotOpened g has old new fault
   not_begun has old mid after new conn back files (Unopened why) comes is leaves keeps given = absurd is
-  not_begun has old mid after new conn back files (Taken holding) comes is leaves keeps given = (conn, back, came_from old mid conn comes, is, lie_again old mid after new conn back files comes leaves keeps given)
-  not_begun has old mid after new conn back files (Create why) comes is leaves keeps given = (conn, back, came_from old mid conn comes, is, lie_again old mid after new conn back files comes leaves keeps given)
-  not_begun has old mid after new conn back files (Open why holding) comes is leaves keeps given = (conn, back, came_from old mid conn comes, is, lie_again old mid after new conn back files comes leaves keeps given)
+  not_begun has old mid after new conn back files (Taken holding) comes is leaves keeps given = (
+    conn,
+    back,
+    came_from old mid conn comes,
+    is,
+    lie_again old mid after new conn back files comes leaves keeps given,
+  )
+  not_begun has old mid after new conn back files (Create why) comes is leaves keeps given = (
+    conn,
+    back,
+    came_from old mid conn comes,
+    is,
+    lie_again old mid after new conn back files comes leaves keeps given,
+  )
+  not_begun has old mid after new conn back files (Open why holding) comes is leaves keeps given = (
+    conn,
+    back,
+    came_from old mid conn comes,
+    is,
+    lie_again old mid after new conn back files comes leaves keeps given,
+  )
 
-  came_empty : (old mid : Option (Option (Files D))) (conn : Held (FileStore D g)) → IsSome old → ComesFrom old mid conn → mid ≡ Some None
+  came_empty : (old mid : Option (Option (Files D))) (conn : Held (FileStore D g)) → IsSome old → ComesFrom old mid conn
+      → mid ≡ Some None
   came_empty None mid conn known comes = absurd (true≢false (sym known))
   came_empty (Some None) mid conn known comes = comes.0
   came_empty (Some (Some files)) mid conn known comes = comes.0
 
-  found_there : (has : Bool) (limit : ℕ) (old new : Parts g) (conn : Held (FileStore D g)) (intake : Intake (FileStore D g)) (totals : Totals) → old.intake ≡ None → ComesFrom old.lying new.lying conn → FindsIntake over_files conn limit intake totals
-      → IsHonest g → (early : ℕ) (F : List Request) → KeepsBy old.intake old.lying limit early F → (HoldsAs over_files limit early F intake × AreTotals F totals) × (new.lying ≡ Some None)
-  found_there has limit old new conn intake totals none comes finds_it honest early F keeps =
-      let lies = subst (λ i. KeepsBy {g = g} i old.lying limit early F) none keeps in
+  found_there : (has : Bool) (limit : ℕ) (old new : Parts g) (conn : Held (FileStore D g))
+      (intake : Intake (FileStore D g)) (totals : Totals) → old.intake ≡ None → ComesFrom old.lying new.lying conn
+      → FindsIntake over_files conn limit intake totals
+      → IsHonest g → (old_style : ℕ) (F : List Request) → KeepsBy old.intake old.lying limit old_style F
+      → (HoldsAs over_files limit old_style F intake × AreTotals F totals) × (new.lying ≡ Some None)
+  found_there has limit old new conn intake totals none comes finds_it honest old_style F keeps =
+      let lies = subst (λ i. KeepsBy {g = g} i old.lying limit old_style F) none keeps in
       let came = subst (λ l. ComesFrom l new.lying conn) lies.1.1 comes in
       let both = came.1 (always_clean honest conn) in
       let hold = lies.1.2 in
-      let is_db = finds lies.1.0 conn both.0 both.1 hold.db hold.held in
-      (finds_it (always_clean honest intake.store.conn) early F lies.0 (subst (IsRegisterOf early F) (sym is_db) hold.register), came.0)
+      let is_db = finds lies.1.0 conn both.0 both.1 hold.db hold.held in (
+        finds_it (always_clean honest intake.store.conn) old_style F lies.0
+            (subst (IsRegisterOf old_style F) (sym is_db) hold.register),
+        came.0,
+      )
 
   -- it is open
-  pub opens : (has : Bool) (limit : ℕ) (old new : Parts g) (conn : Held (FileStore D g)) (intake : Intake (FileStore D g)) (totals : Totals) → old.intake ≡ None → new.intake ≡ Some intake → new.is_certain ≡ old.is_certain → new.refused_calls ≡ old.refused_calls → has_stopped intake ≡ false → ComesFrom old.lying new.lying conn
-      → (has ≡ true → FindsIntake over_files conn limit intake totals) → (has ≡ false → MakesIntake over_files limit intake totals) → OpensProcess g has limit old new (Ok (Some totals))
+  pub opens : (has : Bool) (limit : ℕ) (old new : Parts g) (conn : Held (FileStore D g))
+      (intake : Intake (FileStore D g)) (totals : Totals) → old.intake ≡ None → new.intake ≡ Some intake
+      → new.is_certain ≡ old.is_certain → new.refused_calls ≡ old.refused_calls → has_stopped intake ≡ false
+      → ComesFrom old.lying new.lying conn
+      → (has ≡ true → FindsIntake over_files conn limit intake totals)
+      → (has ≡ false → MakesIntake over_files limit intake totals)
+      → OpensProcess g has limit old new (Ok (Some totals))
   opens has limit old new conn intake totals none up same calls awake comes found made = record {
     leaves = λ honest is. record {
-      kept = λ early F keeps certain.
-          let held = found_there has limit old new conn intake totals none comes (found is) honest early F (keeps (sym same ∙ certain)) in
-          subst (λ i. KeepsBy i new.lying limit early F) (sym up) (held.0.0, held.1);
+      kept = λ old_style F keeps certain.
+          let held =
+          found_there has limit old new conn intake totals none comes (found is) honest old_style F
+          (keeps (sym same ∙ certain)) in
+          subst (λ i. KeepsBy i new.lying limit old_style F) (sym up) (held.0.0, held.1);
       certain = λ certain. sym same ∙ certain;
     };
-    counted = λ honest is certain early F keeps. (found_there has limit old new conn intake totals none comes (found is) honest early F (keeps certain)).0.1;
-    made = λ honest is closed known certain. subst (λ i. KeepsBy i new.lying limit 0 []) (sym up) ((made is (always_clean honest intake.store.conn)).0, came_empty old.lying new.lying conn known comes);
+    counted =
+        λ honest is certain old_style F keeps. (found_there has limit old new conn intake totals none comes (found is)
+        honest old_style F (keeps certain)).0.1;
+    made = λ honest is closed known certain. subst (λ i. KeepsBy i new.lying limit 0 []) (sym up)
+        ((made is (always_clean honest intake.store.conn)).0, came_empty old.lying new.lying conn known comes);
     certain = same;
     is_open = subst (λ i. IsSome i) (sym up) refl;
     up = λ _. subst (λ i. IsUp i) (sym up) awake;
@@ -172,40 +225,57 @@ module _ {D : Type 0} {g : Ghosts D} where
 
   -- ---- it is closed
 
-  copied : (intake : Intake (FileStore D g)) (files : Files D) (lying lying' : Option (Option (Files D))) → IsHonest g → IsClosedIn g intake.store.conn files → place.Leaves lying lying' files → (limit early : ℕ) (F : List Request) → KeepsBy (Some intake) lying limit early F → KeepsBy {g = g} None lying' limit early F
-  copied intake files lying lying' honest closed leaves limit early F keeps =
+  copied : (intake : Intake (FileStore D g)) (files : Files D) (lying lying' : Option (Option (Files D))) → IsHonest g
+      → IsClosedIn g intake.store.conn files → place.Leaves lying lying' files
+      → (limit old_style : ℕ) (F : List Request) → KeepsBy (Some intake) lying limit old_style F
+      → KeepsBy {g = g} None lying' limit old_style F
+  copied intake files lying lying' honest closed leaves limit old_style F keeps =
       let conn = intake.store.conn in
       let clean = are_clean g honest files.log files.db in
       let stands = keeps.0.holds.rows.stands in
       let is_open = (closed.copied clean).was_open in
       let now = (file_state conn).now in
-      let register : IsRegisterOf early F now = subst (λ n. IsRegisterOf n F now) keeps.0.early_is (stands.now is_open) in (
+      let register : IsRegisterOf old_style F now =
+      subst (λ n. IsRegisterOf n F now) keeps.0.old_style_is (stands.now is_open) in (
         keeps.0.holds.firsts',
         (
           files,
           subst (λ l. place.Leaves l lying' files) keeps.1 leaves,
-          record { db = now; register = register; held = closed.holds clean now register.sound (stands.committed is_open); usable = closed.usable },
+          record {
+            db = now;
+            register = register;
+            held =
+                closed.holds clean now register.sound (stands.committed is_open);
+            usable = closed.usable;
+          },
         ),
       )
 
-  counts : (intake : Intake (FileStore D g)) (old : Parts g) → old.intake ≡ Some intake → (limit early : ℕ) (F : List Request) → KeepsBy old.intake old.lying limit early F → intake.store.kept ≡ length F
-  counts intake old up limit early F keeps = (subst (λ i. KeepsBy i old.lying limit early F) up keeps).0.holds.rows.kept_is
+  counts : (intake : Intake (FileStore D g)) (old : Parts g) → old.intake ≡ Some intake
+      → (limit old_style : ℕ) (F : List Request) → KeepsBy old.intake old.lying limit old_style F
+      → intake.store.kept ≡ length F
+  counts intake old up limit old_style F keeps =
+      (subst (λ i. KeepsBy i old.lying limit old_style F) up keeps).0.holds.rows.kept_is
 
   abbrev Left : Intake (FileStore D g) → Parts g → Parts g → Closed → Type 0
-  Left intake old new closed = (files : Files D) × place.Leaves old.lying new.lying files × IsLeftBy g intake.store.conn files closed.outcome
+  Left intake old new closed =
+      (files : Files D) × place.Leaves old.lying new.lying files × IsLeftBy g intake.store.conn files closed.outcome
 
   -- how the files were left
-  pub left_by : (conn : Held (FileStore D g)) (old new : Option (Option (Files D))) (outcome : Result (Unit {0}) Error) → OnOk outcome ((files : Files D) × place.Leaves old new files × IsClosedIn g conn files)
+  pub left_by : (conn : Held (FileStore D g)) (old new : Option (Option (Files D))) (outcome : Result (Unit {0}) Error)
+      → OnOk outcome ((files : Files D) × place.Leaves old new files × IsClosedIn g conn files)
       → IfErr outcome (λ error. (files : Files D) × place.Leaves old new files × IsNotClosed conn files error)
       → (files : Files D) × place.Leaves old new files × IsLeftBy g conn files outcome
   left_by conn old new (Ok done) closed failed = closed
   left_by conn old new (Err error) closed failed = failed
 
   -- nothing happens to one that is closed
-  pub closes_none : (old new : Parts g) (closed : Closed) → old.intake ≡ None → new ≡ old → closed.outcome ≡ Ok tt → ClosesProcess g old new closed
+  pub closes_none : (old new : Parts g) (closed : Closed) → old.intake ≡ None → new ≡ old → closed.outcome ≡ Ok tt
+      → ClosesProcess g old new closed
   closes_none old new closed none same is = record {
-    leaves = λ honest limit. subst (λ p. Leaves limit old p) (sym same) (record { kept = λ early F keeps. keeps; certain = λ certain. certain });
-    counted = λ honest some certain limit early F keeps. absurd (not_some old.intake none some);
+    leaves = λ honest limit. subst (λ p. Leaves limit old p) (sym same)
+        (record { kept = λ old_style F keeps. keeps; certain = λ certain. certain });
+    counted = λ honest some certain limit old_style F keeps. absurd (not_some old.intake none some);
     certain = then_ok closed.outcome (ap (λ (p : Parts g). p.is_certain) same);
     files = subst (λ i. IfSome i (λ intake. Left intake old new closed)) (sym none) tt;
     is_closed = ap (λ (p : Parts g). p.intake) same ∙ none;
@@ -213,19 +283,25 @@ module _ {D : Type 0} {g : Ghosts D} where
     calls = ap (λ (p : Parts g). p.refused_calls) same;
   }
 
-  not_both : {X : Type 0} (old : Parts g) (intake : Intake (FileStore D g)) → old.intake ≡ Some intake → old.intake ≡ None → X
+  not_both : {X : Type 0} (old : Parts g) (intake : Intake (FileStore D g)) → old.intake ≡ Some intake
+      → old.intake ≡ None → X
   not_both old intake up none = absurd (let no : None ≡ Some intake = sym none ∙ up in cc)
 
-  pub closes : (intake : Intake (FileStore D g)) (files : Files D) (old new : Parts g) (closed : Closed) → old.intake ≡ Some intake → new.intake ≡ None → new.is_certain ≡ old.is_certain → new.refused_calls ≡ old.refused_calls → closed.kept ≡ intake.store.kept → IsClosedIn g intake.store.conn files → place.Leaves old.lying new.lying files → Left intake old new closed
+  pub closes : (intake : Intake (FileStore D g)) (files : Files D) (old new : Parts g) (closed : Closed)
+      → old.intake ≡ Some intake → new.intake ≡ None → new.is_certain ≡ old.is_certain
+      → new.refused_calls ≡ old.refused_calls → closed.kept ≡ intake.store.kept → IsClosedIn g intake.store.conn files
+      → place.Leaves old.lying new.lying files → Left intake old new closed
       → ClosesProcess g old new closed
   closes intake files old new closed up shut same calls kept is leaves left = record {
     leaves = λ honest limit. record {
-      kept = λ early F keeps certain.
-          subst (λ i. KeepsBy {g = g} i new.lying limit early F) (sym shut)
-          (copied intake files old.lying new.lying honest is leaves limit early F (subst (λ i. KeepsBy i old.lying limit early F) up (keeps (sym same ∙ certain))));
+      kept = λ old_style F keeps certain.
+          subst (λ i. KeepsBy {g = g} i new.lying limit old_style F) (sym shut)
+          (copied intake files old.lying new.lying honest is leaves limit old_style F
+          (subst (λ i. KeepsBy i old.lying limit old_style F) up (keeps (sym same ∙ certain))));
       certain = λ certain. sym same ∙ certain;
     };
-    counted = λ honest some certain limit early F keeps. kept ∙ counts intake old up limit early F (keeps certain);
+    counted =
+        λ honest some certain limit old_style F keeps. kept ∙ counts intake old up limit old_style F (keeps certain);
     certain = then_ok closed.outcome same;
     files = subst (λ i. IfSome i (λ it. Left it old new closed)) (sym up) left;
     is_closed = shut;
@@ -233,10 +309,17 @@ module _ {D : Type 0} {g : Ghosts D} where
     calls = calls;
   }
 
-  pub not_closes : (intake : Intake (FileStore D g)) (old new : Parts g) (closed : Closed) → old.intake ≡ Some intake → new.intake ≡ None → new.is_certain ≡ false → new.refused_calls ≡ old.refused_calls → closed.kept ≡ intake.store.kept → is_err closed.outcome ≡ true → Left intake old new closed → ClosesProcess g old new closed
+  pub not_closes : (intake : Intake (FileStore D g)) (old new : Parts g) (closed : Closed) → old.intake ≡ Some intake
+      → new.intake ≡ None → new.is_certain ≡ false → new.refused_calls ≡ old.refused_calls
+      → closed.kept ≡ intake.store.kept → is_err closed.outcome ≡ true → Left intake old new closed
+      → ClosesProcess g old new closed
   not_closes intake old new closed up shut unsure calls kept failed left = record {
-    leaves = λ honest limit. record { kept = λ early F keeps certain. absurd (true≢false (sym certain ∙ unsure)); certain = λ certain. absurd (true≢false (sym certain ∙ unsure)) };
-    counted = λ honest some certain limit early F keeps. kept ∙ counts intake old up limit early F (keeps certain);
+    leaves = λ honest limit. record {
+      kept = λ old_style F keeps certain. absurd (true≢false (sym certain ∙ unsure));
+      certain = λ certain. absurd (true≢false (sym certain ∙ unsure));
+    };
+    counted =
+        λ honest some certain limit old_style F keeps. kept ∙ counts intake old up limit old_style F (keeps certain);
     certain = not_ok _ closed.outcome failed;
     files = subst (λ i. IfSome i (λ it. Left it old new closed)) (sym up) left;
     is_closed = shut;
@@ -246,18 +329,26 @@ module _ {D : Type 0} {g : Ghosts D} where
 
   -- ---- its database refused a call, or not
 
-  awake_by : (o : Outcome) (intake : Intake (FileStore D g)) (last new : Option (Intake (FileStore D g))) → last ≡ Some intake → (o ≡ outcome.Failed) ↔ (has_stopped intake ≡ true) → (o ≡ outcome.Failed → new ≡ None) → ((o ≡ outcome.Failed → ⊥) → new ≡ last) → IsAwake new
+  awake_by : (o : Outcome) (intake : Intake (FileStore D g)) (last new : Option (Intake (FileStore D g)))
+      → last ≡ Some intake → (o ≡ outcome.Failed) ↔ (has_stopped intake ≡ true) → (o ≡ outcome.Failed → new ≡ None)
+      → ((o ≡ outcome.Failed → ⊥) → new ≡ last) → IsAwake new
   awake_by outcome.Served intake last new is stops closed others =
       let other : outcome.Served ≡ outcome.Failed → ⊥ = λ e. cc in
-      subst (λ i. IsAwake i) (sym (others other ∙ is)) (not_true (has_stopped intake) (λ stopped. other (stops.1 stopped)))
+      subst (λ i. IsAwake i) (sym (others other ∙ is))
+      (not_true (has_stopped intake) (λ stopped. other (stops.1 stopped)))
   awake_by outcome.Failed intake last new is stops closed others = subst (λ i. IsAwake i) (sym (closed refl)) tt
   awake_by outcome.TurnedAway intake last new is stops closed others =
       let other : outcome.TurnedAway ≡ outcome.Failed → ⊥ = λ e. cc in
-      subst (λ i. IsAwake i) (sym (others other ∙ is)) (not_true (has_stopped intake) (λ stopped. other (stops.1 stopped)))
+      subst (λ i. IsAwake i) (sym (others other ∙ is))
+      (not_true (has_stopped intake) (λ stopped. other (stops.1 stopped)))
 
   -- it is closed after that
-  pub awake : (from to : Wire) (first last new : Option (Intake (FileStore D g))) (answered : Answered) → AnswersBy from to first last answered → (answered.outcome ≡ outcome.Failed → new ≡ None) → ((answered.outcome ≡ outcome.Failed → ⊥) → new ≡ last) → IsAwake new
-  awake from to (Some intake) last new answered by closed others = awake_by answered.outcome by.0 last new by.1 by.2.failed closed others
+  pub awake : (from to : Wire) (first last new : Option (Intake (FileStore D g))) (answered : Answered)
+      → AnswersBy from to first last answered → (answered.outcome ≡ outcome.Failed → new ≡ None)
+      → ((answered.outcome ≡ outcome.Failed → ⊥) → new ≡ last) → IsAwake new
+  awake from to (Some intake) last new answered by closed others =
+      awake_by answered.outcome by.0 last new by.1 by.2.failed closed others
   awake from to None last new answered by closed others =
-      let other : answered.outcome ≡ outcome.Failed → ⊥ = λ e. (let no : outcome.TurnedAway ≡ outcome.Failed = sym by.2 ∙ e in cc) in
+      let other : answered.outcome ≡ outcome.Failed → ⊥ =
+      λ e. (let no : outcome.TurnedAway ≡ outcome.Failed = sym by.2 ∙ e in cc) in
       subst (λ i. IsAwake i) (sym (others other ∙ by.0)) tt

@@ -1,5 +1,6 @@
 -- Intakes that stay up as long as their database refuses no call.
-use Rattle.std.proofs.Common.{◌≡◌, ℕ, ◌-◌, ◌^◌, ◌<◌, ◌≤◌, Option, Some, None, IsSome, refl, sym, ◌∙◌, ap, subst, inl, inr, arith}
+use Rattle.std.proofs.Common.{◌≡◌, ℕ, ◌-◌, ◌^◌, ◌<◌, ◌≤◌, Option, Some, None, IsSome, refl, sym, ◌∙◌, ap, subst, inl}
+use Rattle.std.proofs.Common.{inr, arith}
 use Rattle.sqlite_disk.specs.declared.Disk.{Ghosts}
 use Rattle.sqlite_store.specs.declared.store.FileStore.{FileStore}
 use Rattle.http_wire.specs.Wire.{Wire}
@@ -20,7 +21,8 @@ grows_by outcome.Served old new same = omega (arith, same)
 grows_by outcome.TurnedAway old new same = omega (arith, same)
 
 -- none was, where none was counted
-not_failed : (o : Outcome) (old new : ℕ) → CountsRefusal o old new → new ≡ old → new < 2 ^ 64 - 1 → o ≡ outcome.Failed → ⊥
+not_failed : (o : Outcome) (old new : ℕ) → CountsRefusal o old new → new ≡ old → new < 2 ^ 64 - 1 → o ≡ outcome.Failed
+    → ⊥
 not_failed outcome.Failed old new (inl more) same counts failed = omega (arith, more, same)
 not_failed outcome.Failed old new (inr full) same counts failed = omega (arith, full.1, same, counts)
 not_failed outcome.Served old new is same counts failed = cc
@@ -33,17 +35,21 @@ is_some_up None up = absurd up
 module _ {D : Type 0} {g : Ghosts D} where
   -- ---- one call, and then more
 
-  first_of : (old mid new : Parts g) → old.refused_calls ≤ mid.refused_calls → mid.refused_calls ≤ new.refused_calls → IsUnrefused old new → IsUnrefused old mid
-  first_of old mid new first second u = record { up = u.up; same = omega (arith, first, second, u.same); counts = omega (arith, second, u.counts) }
+  first_of : (old mid new : Parts g) → old.refused_calls ≤ mid.refused_calls → mid.refused_calls ≤ new.refused_calls
+      → IsUnrefused old new → IsUnrefused old mid
+  first_of old mid new first second u =
+      record { up = u.up; same = omega (arith, first, second, u.same); counts = omega (arith, second, u.counts) }
 
   pub before : (old mid new : Parts g) → StaysUp old mid → StaysUp mid new → IsUnrefused old new → IsUnrefused old mid
   before old mid new a b u = first_of old mid new a.grows b.grows u
 
   pub after : (old mid new : Parts g) → StaysUp old mid → StaysUp mid new → IsUnrefused old new → IsUnrefused mid new
-  after old mid new a b u = record { up = a.up (before old mid new a b u); same = omega (arith, a.grows, b.grows, u.same); counts = u.counts }
+  after old mid new a b u =
+      record { up = a.up (before old mid new a b u); same = omega (arith, a.grows, b.grows, u.same); counts = u.counts }
 
   -- a call that changes no count
-  pub until : (old last new : Parts g) → new.refused_calls ≡ last.refused_calls → IsUnrefused old new → IsUnrefused old last
+  pub until : (old last new : Parts g) → new.refused_calls ≡ last.refused_calls → IsUnrefused old new
+      → IsUnrefused old last
   until old last new calls u = record { up = u.up; same = sym calls ∙ u.same; counts = omega (arith, calls, u.counts) }
 
   pub same : (process : Parts g) → StaysUp process process
@@ -66,24 +72,33 @@ module _ {D : Type 0} {g : Ghosts D} where
 
   -- ---- a connection
 
-  up_after : (from to : Wire) (old new : Option (Intake (FileStore D g))) (answered : Answered) → AnswersBy from to old new answered → IsUp old → (answered.outcome ≡ outcome.Failed → ⊥) → IsUp new
-  up_after from to (Some old) new answered by up other = subst (λ i. IsUp i) (sym by.1) (not_true (has_stopped by.0) (λ stopped. other (by.2.failed.1 stopped)))
+  up_after : (from to : Wire) (old new : Option (Intake (FileStore D g))) (answered : Answered)
+      → AnswersBy from to old new answered → IsUp old → (answered.outcome ≡ outcome.Failed → ⊥) → IsUp new
+  up_after from to (Some old) new answered by up other =
+      subst (λ i. IsUp i) (sym by.1) (not_true (has_stopped by.0) (λ stopped. other (by.2.failed.1 stopped)))
   up_after from to None new answered by up other = absurd up
 
-  pub answered : (from to : Wire) (old last : Parts g) (it : Answered) → AnswersWire from to old last it → StaysUp old last
+  pub answered : (from to : Wire) (old last : Parts g) (it : Answered) → AnswersWire from to old last it
+      → StaysUp old last
   answered from to old last it by = record {
     grows = grows_by it.outcome old.refused_calls last.refused_calls by.3;
-    up = λ u. up_after from to old.intake last.intake it by.0 u.up (not_failed it.outcome old.refused_calls last.refused_calls by.3 u.same u.counts);
+    up = λ u. up_after from to old.intake last.intake it by.0 u.up
+        (not_failed it.outcome old.refused_calls last.refused_calls by.3 u.same u.counts);
     certain = λ u. by.2;
   }
 
   -- after which the register was closed, if the database refused a call
-  pub went : (from to : Wire) (old last new : Parts g) (it : Answered) → AnswersWire from to old last it → ((it.outcome ≡ outcome.Failed → ⊥) → new ≡ last) → new.refused_calls ≡ last.refused_calls → StaysUp old new
+  pub went : (from to : Wire) (old last new : Parts g) (it : Answered) → AnswersWire from to old last it
+      → ((it.outcome ≡ outcome.Failed → ⊥) → new ≡ last) → new.refused_calls ≡ last.refused_calls → StaysUp old new
   went from to old last new it by others calls =
       let stays = answered from to old last it by in
-      let other : IsUnrefused old new → it.outcome ≡ outcome.Failed → ⊥ = λ u. (let v = until old last new calls u in not_failed it.outcome old.refused_calls last.refused_calls by.3 v.same v.counts) in
+      let other : IsUnrefused old new → it.outcome ≡ outcome.Failed → ⊥ =
+      λ u. (let v = until old last new calls u in
+      not_failed it.outcome old.refused_calls last.refused_calls by.3 v.same v.counts) in
       record {
         grows = omega (arith, stays.grows, calls);
-        up = λ u. subst (λ (p : Parts g). IsUp p.intake) (sym (others (other u))) (stays.up (until old last new calls u));
-        certain = λ u. ap (λ (p : Parts g). p.is_certain) (others (other u)) ∙ stays.certain (until old last new calls u);
+        up = λ u. subst (λ (p : Parts g). IsUp p.intake) (sym (others (other u)))
+            (stays.up (until old last new calls u));
+        certain =
+            λ u. ap (λ (p : Parts g). p.is_certain) (others (other u)) ∙ stays.certain (until old last new calls u);
       }

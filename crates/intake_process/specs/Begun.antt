@@ -4,20 +4,22 @@ use Rattle.sqlite.specs.Store.{Ghosts}
 use Rattle.sqlite.specs.Held.{Held, state}
 use Rattle.filing_model.specs.Request.{Request, firsts}
 use Rattle.filing_model.specs.Register.{register}
-use Rattle.register_opening.specs.Registers.{IsRegisterOf}
+use Rattle.register_tables.specs.Registers.{IsRegisterOf}
 use Rattle.register_store.specs.Calls.{CreatesOrGivesBack, OpensOrGivesBack}
 use Rattle.intake_core.specs.declared.intake.Intake.{Intake}
-use Rattle.intake_core.specs.Held.{HoldsRequests, IsClean, limit_of, early_of}
+use Rattle.intake_core.specs.Held.{HoldsRequests, IsClean, limit_of, old_style_of}
 use Rattle.table_rows.specs.Tables.{no_schema}
 use Rattle.intake_process.specs.declared.begun.Totals.{Totals}
 use Rattle.intake_process.specs.declared.fault.OpeningFault.{OpeningFault}
 use Rattle.intake_process.specs.declared.fault.OpeningFault.TheVariants.{Files, Taken, Create, Open}
 
--- The intake holds these requests and keeps at most `limit`, and so many of them were kept before there were problem details.
-pub record HoldsAs {S : Type 0} (g : Ghosts S) (limit early : ℕ) (requests : List Request) (intake : Intake S) : Type 0 where
+-- The intake holds these requests and keeps at most `limit`, and so many of them were kept before there were problem
+-- details.
+pub record HoldsAs {S : Type 0} (g : Ghosts S) (limit old_style : ℕ) (requests : List Request)
+    (intake : Intake S) : Type 0 where
   pub holds : HoldsRequests g intake requests
   pub limit_is : limit_of intake ≡ limit
-  pub early_is : early_of intake ≡ early
+  pub old_style_is : old_style_of intake ≡ old_style
 
 -- so many requests are kept and registered
 abbrev pub AreTotals : List Request → Totals → Type 0
@@ -26,18 +28,21 @@ AreTotals requests totals = (totals.kept ≡ length requests) × (totals.filings
 -- Where the disk is clean, the intake holds the requests that the database's rows stand for, which the totals count.
 abbrev pub FindsIntake : {S : Type 0} → Ghosts S → Held S → ℕ → Intake S → Totals → Type 0
 FindsIntake g conn limit intake totals =
-    IsClean g intake → (early : ℕ) (requests : List Request) → firsts requests ≡ requests → IsRegisterOf early requests (state g conn).now → HoldsAs g limit early requests intake × AreTotals requests totals
+    IsClean g intake → (old_style : ℕ) (requests : List Request) → firsts requests ≡ requests
+    → IsRegisterOf old_style requests (state g conn).now
+    → HoldsAs g limit old_style requests intake × AreTotals requests totals
 
 -- where the disk is clean, the intake holds no request yet
 abbrev pub MakesIntake : {S : Type 0} → Ghosts S → ℕ → Intake S → Totals → Type 0
 MakesIntake g limit intake totals = IsClean g intake → HoldsAs g limit 0 [] intake × AreTotals [] totals
 
--- No intake began over the register that had to be in this database, or was to be made there, and the connection came back so. A register
--- is made only where nothing was declared.
+-- No intake began over the register that had to be in this database, or was to be made there, and the connection came
+-- back so. A register is made only where nothing was declared.
 abbrev pub IsNotBegun : {S : Type 0} → Ghosts S → Bool → Held S → OpeningFault → Held S → Type 0
 IsNotBegun g has_to_be_there conn (Files fault) back = ⊥
 IsNotBegun g has_to_be_there conn (Taken holding) back =
     (has_to_be_there ≡ false) × ((state g conn).now.schema ≢ no_schema) × (back ≡ conn)
 IsNotBegun g has_to_be_there conn (Create fault) back =
     (has_to_be_there ≡ false) × ((state g conn).now.schema ≡ no_schema) × CreatesOrGivesBack g conn (Err (fault, back))
-IsNotBegun g has_to_be_there conn (Open fault holding) back = (has_to_be_there ≡ true) × OpensOrGivesBack g conn (Err (fault, back))
+IsNotBegun g has_to_be_there conn (Open fault holding) back =
+    (has_to_be_there ≡ true) × OpensOrGivesBack g conn (Err (fault, back))

@@ -1,5 +1,7 @@
--- Errands to a register: what they print of it, and what becomes of it. `out` and `out'` are what the output has before and after, where that is known.
-use Rattle.std.specs.Prelude.{◌≡◌, ℕ, Bool, true, false, List, [], length, Option, Some, None, option_map, Result, Ok, Err, IsSome, IfErr, OnOk}
+-- Errands to a register: what they print of it, and what becomes of it. `out` and `out'` are what the output has before
+-- and after, where that is known.
+use Rattle.std.specs.Prelude.{◌≡◌, ℕ, Bool, true, false, List, [], length, Option, Some, None, option_map, Result, Ok}
+use Rattle.std.specs.Prelude.{Err, IsSome, IfErr, OnOk}
 use Rattle.std.specs.Io.KnownBytes.{Appends}
 use Rattle.sqlite.specs.Store.{Ghosts}
 use Rattle.sqlite.specs.Held.{Held, state}
@@ -10,12 +12,12 @@ use Rattle.table_rows.specs.Standing.{HasCommitted, CommitsNothing}
 use Rattle.filing_model.specs.Request.{Request, firsts}
 use Rattle.filing_model.specs.Register.{register}
 use Rattle.register_rows.specs.Schema.{IsDeclared}
-use Rattle.register_opening.specs.declared.migrate.earlier.Earlier.{Earlier}
-use Rattle.register_opening.specs.Earlier.{IsAlone, IsEarlierOf}
-use Rattle.register_opening.specs.Faults.{IsFailure}
-use Rattle.register_opening.specs.Migrating.{IsNotMigrated, MigratesTo}
-use Rattle.register_opening.specs.Opening.{IsRefused}
-use Rattle.register_opening.specs.Registers.{IsRegisterOf}
+use Rattle.register_tables.specs.declared.migrate.earlier.Earlier.{Earlier}
+use Rattle.register_tables.specs.Earlier.{IsAlone, IsEarlierOf}
+use Rattle.register_tables.specs.Faults.{IsFailure}
+use Rattle.register_tables.specs.Migrating.{IsNotMigrated, MigratesTo}
+use Rattle.register_tables.specs.Opening.{IsRefused}
+use Rattle.register_tables.specs.Registers.{IsRegisterOf}
 use Rattle.register_store.specs.Numbered.{facts_numbered}
 use Rattle.register_export.specs.Records.{export_text}
 use Rattle.register_pages.specs.Pages.{WritesSite}
@@ -38,14 +40,16 @@ text_of asked.Migrate requests = Some migrated_line
 text_of (asked.Export form filer) requests = Some (export_text form (option_map (λ f. f.now) filer) (register requests))
 text_of (asked.Pages folder) requests = Some []
 
--- the database is a register of these requests in the version that the errand is for: an earlier one to be migrated, and else this one
+-- the database is a register of these requests in the version that the errand is for: an earlier one to be migrated,
+-- and else this one
 abbrev pub IsRegisterFor : Errand → ℕ → List Request → Database → Type 0
-IsRegisterFor (asked.List filer) early requests db = IsRegisterOf early requests db
-IsRegisterFor (asked.Show number) early requests db = IsRegisterOf early requests db
-IsRegisterFor asked.Check early requests db = IsRegisterOf early requests db
-IsRegisterFor (asked.Export form filer) early requests db = IsRegisterOf early requests db
-IsRegisterFor (asked.Pages folder) early requests db = IsRegisterOf early requests db
-IsRegisterFor asked.Migrate early requests db = (form : Earlier) × IsAlone form db.schema × IsEarlierOf form early requests db
+IsRegisterFor (asked.List filer) old_style requests db = IsRegisterOf old_style requests db
+IsRegisterFor (asked.Show number) old_style requests db = IsRegisterOf old_style requests db
+IsRegisterFor asked.Check old_style requests db = IsRegisterOf old_style requests db
+IsRegisterFor (asked.Export form filer) old_style requests db = IsRegisterOf old_style requests db
+IsRegisterFor (asked.Pages folder) old_style requests db = IsRegisterOf old_style requests db
+IsRegisterFor asked.Migrate old_style requests db =
+    (form : Earlier) × IsAlone form db.schema × IsEarlierOf form old_style requests db
 
 -- it has the tables of such a register
 abbrev pub HasTablesFor : Errand → Schema → Type 0
@@ -56,8 +60,8 @@ HasTablesFor (asked.Export form filer) schema = IsDeclared schema
 HasTablesFor (asked.Pages folder) schema = IsDeclared schema
 HasTablesFor asked.Migrate schema = (form : Earlier) × IsAlone form schema
 
--- Why an errand to such a register is not done: no filing has the number, or memory, the disk, the output or the folder failed. What the
--- files say that gave no database is said of their place.
+-- Why an errand to such a register is not done: no filing has the number, or memory, the disk, the output or the folder
+-- failed. What the files say that gave no database is said of their place.
 abbrev pub MayFail : Errand → List Request → ErrandFault → Type 0
 MayFail asked.Migrate requests (fault.Open why holding) = ⊥
 MayFail asked.Migrate requests (fault.Migrate why holding) = IsFailure why
@@ -67,7 +71,8 @@ MayFail (asked.Show number) requests (fault.Store why) = Unit {0}
 MayFail (asked.Export form filer) requests (fault.Store why) = Unit {0}
 MayFail (asked.Pages folder) requests (fault.Store why) = Unit {0}
 MayFail (asked.Pages folder) requests fault.Folder = Unit {0}
-MayFail (asked.Show number) requests (fault.NoFiling missing) = (missing ≡ number) × (text_of (asked.Show number) requests ≡ None)
+MayFail (asked.Show number) requests (fault.NoFiling missing) =
+    (missing ≡ number) × (text_of (asked.Show number) requests ≡ None)
 MayFail errand requests (fault.Text why) = IsSome (text_of errand requests)
 MayFail errand requests (fault.Files why) = Unit {0}
 MayFail errand requests other = ⊥
@@ -79,14 +84,17 @@ is_refusal (fault.Open why holding) = true
 is_refusal (fault.Migrate why holding) = true
 is_refusal other = false
 
--- Nothing was printed, unless the output failed. An export is printed filing by filing: nothing of it was, if it was refused.
+-- Nothing was printed, unless the output failed. An export is printed filing by filing: nothing of it was, if it was
+-- refused.
 abbrev pub IsQuiet : Errand → Option (List ℕ) → Option (List ℕ) → ErrandFault → Type 0
 IsQuiet (asked.Export form filer) out out' why = is_refusal why ≡ true → out' ≡ out
 IsQuiet errand out out' why = PrintsNothing (fault.Text Output) out out' why
 
 -- what comes of it: its text is printed, or it failed, and nothing was
-abbrev pub Tells : {X : Type 0} → Errand → List Request → Option (List ℕ) → Option (List ℕ) → Result X ErrandFault → Type 0
-Tells errand requests out out' (Ok done) = (text : List ℕ) × (text_of errand requests ≡ Some text) × Appends out out' text
+abbrev pub Tells : {X : Type 0} → Errand → List Request → Option (List ℕ) → Option (List ℕ) → Result X ErrandFault
+    → Type 0
+Tells errand requests out out' (Ok done) =
+    (text : List ℕ) × (text_of errand requests ≡ Some text) × Appends out out' text
 Tells errand requests out out' (Err why) = MayFail errand requests why × IsQuiet errand out out' why
 
 -- ---- an errand to any database
@@ -95,13 +103,14 @@ abbrev pub is_refused : {X : Type 0} → Result X ErrandFault → Bool
 is_refused (Ok done) = false
 is_refused (Err why) = is_refusal why
 
--- What a fault says of a database. A refusal says why it gave no register, and that nothing was written to it; a crash in a migration leaves
--- all of it or nothing.
+-- What a fault says of a database. A refusal says why it gave no register, and that nothing was written to it; a crash
+-- in a migration leaves all of it or nothing.
 abbrev pub Says : {S : Type 0} → Ghosts S → Errand → Held S → Held S → ErrandFault → Type 0
 Says g asked.Migrate old new (fault.Open why holding) = ⊥
 Says g asked.Migrate old new (fault.Migrate why holding) =
     (HasCleanDisk (state g new) → IsNotMigrated g why old new) × Survives (state g old) (state g new) (MigratesTo g old)
-Says g errand old new (fault.Open why holding) = (HasCleanDisk (state g new) → IsRefused g why old new) × CommitsNothing (state g old) (state g new)
+Says g errand old new (fault.Open why holding) =
+    (HasCleanDisk (state g new) → IsRefused g why old new) × CommitsNothing (state g old) (state g new)
 Says g (asked.List filer) old new (fault.List why) = Unit {0}
 Says g (asked.Show number) old new (fault.Store why) = Unit {0}
 Says g (asked.Export form filer) old new (fault.Store why) = Unit {0}
@@ -112,16 +121,20 @@ Says g errand old new (fault.Text why) = Unit {0}
 Says g errand old new other = ⊥
 
 -- What an errand does with a connection to a database. What is said of rows holds where the disk is clean at the end.
-pub record RunsErrand {S X : Type 0} (g : Ghosts S) (errand : Errand) (out out' : Option (List ℕ)) (old new : Held S) (result : Result X ErrandFault) : Type 0 where
-  -- Of a register of these requests its text is printed, and they are committed afterwards as a register of this version.
-  pub told : HasCleanDisk (state g new) → (early : ℕ) (requests : List Request) → firsts requests ≡ requests → IsRegisterFor errand early requests (state g old).now
+pub record RunsErrand {S X : Type 0} (g : Ghosts S) (errand : Errand) (out out' : Option (List ℕ)) (old new : Held S)
+    (result : Result X ErrandFault) : Type 0 where
+  -- Of a register of these requests its text is printed, and they are committed afterwards as a register of this
+  -- version.
+  pub told : HasCleanDisk (state g new) → (old_style : ℕ) (requests : List Request) → firsts requests ≡ requests
+      → IsRegisterFor errand old_style requests (state g old).now
       → Tells errand requests out out' result
   pub kept : HasCleanDisk (state g new) → is_refused result ≡ false
-      → (early : ℕ) (requests : List Request) → firsts requests ≡ requests → IsRegisterFor errand early requests (state g old).now
-      → HasCommitted (IsRegisterOf early requests) (state g new)
+      → (old_style : ℕ) (requests : List Request) → firsts requests ≡ requests
+      → IsRegisterFor errand old_style requests (state g old).now
+      → HasCommitted (IsRegisterOf old_style requests) (state g new)
   -- Unless it is refused, a database with the tables of a register is one.
   pub found : HasCleanDisk (state g new) → is_refused result ≡ false → HasTablesFor errand (state g old).now.schema
-      → (early : ℕ) × (requests : List Request) × IsRegisterFor errand early requests (state g old).now
+      → (old_style : ℕ) × (requests : List Request) × IsRegisterFor errand old_style requests (state g old).now
   pub refused : IfErr result (Says g errand old new)
   pub quiet : IfErr result (IsQuiet errand out out')
 
@@ -131,9 +144,12 @@ abbrev pub is_for_pages : Errand → Bool
 is_for_pages (asked.Pages folder) = true
 is_for_pages other = false
 
--- Which pages an errand writes into a folder: those of the register, if it is for pages and is done; none, if it is refused or for others.
-pub record FillsFolder {S X : Type 0} (g : Ghosts S) (errand : Errand) (pages pages' : Option (List (List ℕ))) (old new : Held S) (result : Result X ErrandFault) : Type 0 where
-  pub filled : HasCleanDisk (state g new) → (early : ℕ) (requests : List Request) → firsts requests ≡ requests → IsRegisterFor errand early requests (state g old).now
+-- Which pages an errand writes into a folder: those of the register, if it is for pages and is done; none, if it is
+-- refused or for others.
+pub record FillsFolder {S X : Type 0} (g : Ghosts S) (errand : Errand) (pages pages' : Option (List (List ℕ)))
+    (old new : Held S) (result : Result X ErrandFault) : Type 0 where
+  pub filled : HasCleanDisk (state g new) → (old_style : ℕ) (requests : List Request) → firsts requests ≡ requests
+      → IsRegisterFor errand old_style requests (state g old).now
       → is_for_pages errand ≡ true → OnOk result (WritesSite (register requests) pages pages')
   pub refused : is_refused result ≡ true → pages' ≡ pages
   pub others : is_for_pages errand ≡ false → pages' ≡ pages

@@ -10,7 +10,10 @@ use Rattle.intake_core.specs.contracts.intake.Intake as intake
 use Rattle.intake_process.specs.declared.process.IntakeProcess.{IntakeProcess}
 use Rattle.intake_process.specs.contracts.process.IntakeProcess as process
 
--- once the borrow ends, the intake is the last one behind it, and nothing else has changed; a process that is closed stays as it is
-abbrev pub LendsIntake : (D P : RattleType) (g : disk.Ghosts D.Denot) → MutBor (IntakeProcess D.Denot P.Denot g) → Option (MutBor (Intake (FileStore D.Denot g))) → Fml
+-- once the borrow ends, the intake is the last one behind it, and nothing else has changed; a process that is closed
+-- stays as it is
+abbrev pub LendsIntake : (D P : RattleType) (g : disk.Ghosts D.Denot) → MutBor (IntakeProcess D.Denot P.Denot g)
+    → Option (MutBor (Intake (FileStore D.Denot g))) → Fml
 LendsIntake D P g self result =
-    LendsIf (process.the_row D P g) (intake.the_row (file.the_row D g) over_files) self result (λ last. record self.now { intake = Some last }) self.now
+    LendsIf (process.the_row D P g) (intake.the_row (file.the_row D g) over_files) self result
+    (λ last. record self.now { intake = Some last }) self.now

@@ -1,5 +1,6 @@
 -- What the process keeps that an intake runs in, and what its calls do.
-use Rattle.std.specs.Prelude.{◌≡◌, ◌↔◌, ℕ, ◌+◌, ◌-◌, ◌^◌, ◌<◌, ◌≤◌, ◌⊎◌, Bool, true, false, List, [], length, Option, Some, None, Result, Ok, Err, IsSome, IfOk, IfErr, IfSome, OnOk}
+use Rattle.std.specs.Prelude.{◌≡◌, ◌↔◌, ℕ, ◌+◌, ◌-◌, ◌^◌, ◌<◌, ◌≤◌, ◌⊎◌, Bool, true, false, List, [], length, Option}
+use Rattle.std.specs.Prelude.{Some, None, Result, Ok, Err, IsSome, IfOk, IfErr, IfSome, OnOk}
 use Rattle.sqlite_disk.specs.declared.Disk.{Ghosts}
 use Rattle.sqlite_disk.specs.declared.Files.{Files}
 use Rattle.sqlite_store.specs.declared.store.FileStore.{FileStore}
@@ -28,8 +29,8 @@ use Rattle.intake_process.specs.declared.process.Outcome.TheVariants as outcome
 use Rattle.intake_process.specs.Begun.{HoldsAs, AreTotals, IsNotBegun}
 use Rattle.intake_process.specs.Turning.{TurnsAway}
 
--- What contracts see of it: the intake, if it is open; the files that lie in its place, if there are some, where that is known; whether no
--- close and no opening failed; and how many calls its database refused, as far as a u64 counts.
+-- What contracts see of it: the intake, if it is open; the files that lie in its place, if there are some, where that
+-- is known; whether no close and no opening failed; and how many calls its database refused, as far as a u64 counts.
 pub record Parts {D : Type 0} (g : Ghosts D) : Type 0 where
   pub intake : Option (Intake (FileStore D g))
   pub lying : Option (Option (Files D))
@@ -37,24 +38,36 @@ pub record Parts {D : Type 0} (g : Ghosts D) : Type 0 where
   pub refused_calls : ℕ
 
 abbrev pub parts : {D P : Type 0} {g : Ghosts D} → (P → Option (Option (Files D))) → IntakeProcess D P g → Parts g
-parts lying process = record { intake = process.intake; lying = lying process.place; is_certain = process.is_certain; refused_calls = process.refused_calls }
+parts lying process =
+    record {
+      intake = process.intake;
+      lying = lying process.place;
+      is_certain = process.is_certain;
+      refused_calls =
+          process.refused_calls;
+    }
 
 -- each read of such a disk gave what was written
 abbrev pub IsHonest : {D : Type 0} → Ghosts D → Type 0
 IsHonest {D} g = (disk : D) → g.is_clean disk ≡ true
 
 -- the intake is open and holds these requests, or it is closed and the files in the place hold them
-abbrev pub KeepsBy : {D : Type 0} {g : Ghosts D} → Option (Intake (FileStore D g)) → Option (Option (Files D)) → ℕ → ℕ → List Request → Type 0
-KeepsBy (Some intake) lying limit early requests = HoldsAs over_files limit early requests intake × (lying ≡ Some None)
-KeepsBy {D} {g} None lying limit early requests = (firsts requests ≡ requests) × Lie lying (λ files. HoldRegister g files early requests)
+abbrev pub KeepsBy : {D : Type 0} {g : Ghosts D} → Option (Intake (FileStore D g)) → Option (Option (Files D)) → ℕ → ℕ
+    → List Request → Type 0
+KeepsBy (Some intake) lying limit old_style requests =
+    HoldsAs over_files limit old_style requests intake × (lying ≡ Some None)
+KeepsBy {D} {g} None lying limit old_style requests =
+    (firsts requests ≡ requests) × Lie lying (λ files. HoldRegister g files old_style requests)
 
 -- the same, as long as no close and no opening failed
 abbrev pub Keeps : {D : Type 0} {g : Ghosts D} → Parts g → ℕ → ℕ → List Request → Type 0
-Keeps process limit early requests = process.is_certain ≡ true → KeepsBy process.intake process.lying limit early requests
+Keeps process limit old_style requests = process.is_certain ≡ true
+    → KeepsBy process.intake process.lying limit old_style requests
 
 -- What a call leaves that answers no request: the requests of before. What is certain after it was certain before.
 pub record Leaves {D : Type 0} {g : Ghosts D} (limit : ℕ) (old new : Parts g) : Type 0 where
-  pub kept : (early : ℕ) (requests : List Request) → Keeps old limit early requests → Keeps new limit early requests
+  pub kept : (old_style : ℕ) (requests : List Request) → Keeps old limit old_style requests
+      → Keeps new limit old_style requests
   pub certain : new.is_certain ≡ true → old.is_certain ≡ true
 
 -- the database of the intake, if that is open, refused no call
@@ -84,46 +97,58 @@ pub record StaysUp {D : Type 0} {g : Ghosts D} (old new : Parts g) : Type 0 wher
 -- ---- it is opened
 
 -- the files lie in the place, where that is known, as the connection left them that was given up
-abbrev pub LieGivenUp : {D : Type 0} {g : Ghosts D} → Option (Option (Files D)) → Option (Option (Files D)) → Held (FileStore D g) → Type 0
+abbrev pub LieGivenUp : {D : Type 0} {g : Ghosts D} → Option (Option (Files D)) → Option (Option (Files D))
+    → Held (FileStore D g) → Type 0
 LieGivenUp None new conn = Unit {0}
 LieGivenUp (Some there) new conn = (files : Files _) × (new ≡ Some (Some files)) × IsGivenUp conn files
 
--- Why it was not opened: the place gave no database; or the one that lay there, or was made, came with this connection, over which no intake
--- began, and was given up.
-abbrev pub IsNotOpened : {D : Type 0} → Ghosts D → Bool → Option (Option (Files D)) → Option (Option (Files D)) → OpeningFault → Type 0
+-- Why it was not opened: the place gave no database; or the one that lay there, or was made, came with this connection,
+-- over which no intake began, and was given up.
+abbrev pub IsNotOpened : {D : Type 0} → Ghosts D → Bool → Option (Option (Files D)) → Option (Option (Files D))
+    → OpeningFault → Type 0
 IsNotOpened g has_to_be_there old new (fault.Files why) = OpensPlace g has_to_be_there old new (Err why)
 IsNotOpened {D} g has_to_be_there old new why =
-    (conn : Held (FileStore D g)) × (back : Held (FileStore D g)) × ComesFrom old (Some None) conn × IsNotBegun over_files has_to_be_there conn why back × LieGivenUp old new back
+    (conn : Held (FileStore D g)) × (back : Held (FileStore D g)) × ComesFrom old (Some None) conn
+    × IsNotBegun over_files has_to_be_there conn why back × LieGivenUp old new back
 
 -- What opening it does, if its register has to be there, or is to be made.
-pub record OpensProcess {D : Type 0} (g : Ghosts D) (has_to_be_there : Bool) (limit : ℕ) (old new : Parts g) (result : Result (Option Totals) OpeningFault) : Type 0 where
+pub record OpensProcess {D : Type 0} (g : Ghosts D) (has_to_be_there : Bool) (limit : ℕ) (old new : Parts g)
+    (result : Result (Option Totals) OpeningFault) : Type 0 where
   -- the requests of before are kept, and counted
   pub leaves : IsHonest g → has_to_be_there ≡ true → Leaves limit old new
-  pub counted : IsHonest g → has_to_be_there ≡ true → old.is_certain ≡ true → (early : ℕ) (requests : List Request) → Keeps old limit early requests
+  pub counted : IsHonest g → has_to_be_there ≡ true → old.is_certain ≡ true → (old_style : ℕ) (requests : List Request)
+      → Keeps old limit old_style requests
       → IfOk result (λ totals. IfSome totals (AreTotals requests))
   -- a register that is made has no requests
-  pub made : IsHonest g → has_to_be_there ≡ false → old.intake ≡ None → IsSome old.lying → OnOk result (Keeps new limit 0 [])
+  pub made : IsHonest g → has_to_be_there ≡ false → old.intake ≡ None → IsSome old.lying
+      → OnOk result (Keeps new limit 0 [])
   pub certain : OnOk result (new.is_certain ≡ old.is_certain)
   pub is_open : OnOk result (IsSome new.intake)
   pub up : old.intake ≡ None → OnOk result (IsUp new.intake)
   pub already : IsSome old.intake → (new ≡ old) × (result ≡ Ok None)
   pub calls : new.refused_calls ≡ old.refused_calls
-  -- a refusal says why, and after it it is closed, and files that lay in the place lie there still, or what an opening left of them
+  -- a refusal says why, and after it it is closed, and files that lay in the place lie there still, or what an opening
+  -- left of them
   pub why : IfErr result (IsNotOpened g has_to_be_there old.lying new.lying)
   pub refused : IfErr result (λ _. new.intake ≡ None)
-  pub back : IfErr result (λ _. (there : Files D) → old.lying ≡ Some (Some there) → (files : Files D) × (new.lying ≡ Some (Some files)))
+  pub back : IfErr result (λ _. (there : Files D) → old.lying ≡ Some (Some there)
+      → (files : Files D) × (new.lying ≡ Some (Some files)))
 
 -- ---- it answers a connection
 
 -- What answering a connection by an intake does, and whether the database refused a call.
-pub record ServesBy {S : Type 0} (g : database.Ghosts S) (from to : Wire) (old new : Intake S) (answered : Answered) : Type 0 where
+pub record ServesBy {S : Type 0} (g : database.Ghosts S) (from to : Wire) (old new : Intake S)
+    (answered : Answered) : Type 0 where
   pub serves : ServesToEnd g from to old new answered.served
   pub failed : (answered.outcome ≡ outcome.Failed) ↔ (has_stopped new ≡ true)
 
 -- while it is open the intake serves the connection, and else it is turned away
-abbrev pub AnswersBy : {D : Type 0} {g : Ghosts D} → Wire → Wire → Option (Intake (FileStore D g)) → Option (Intake (FileStore D g)) → Answered → Type 0
-AnswersBy from to (Some old) new answered = (intake : Intake _) × (new ≡ Some intake) × ServesBy over_files from to old intake answered
-AnswersBy from to None new answered = (new ≡ None) × TurnsAway from to answered.served × (answered.outcome ≡ outcome.TurnedAway)
+abbrev pub AnswersBy : {D : Type 0} {g : Ghosts D} → Wire → Wire → Option (Intake (FileStore D g))
+    → Option (Intake (FileStore D g)) → Answered → Type 0
+AnswersBy from to (Some old) new answered =
+    (intake : Intake _) × (new ≡ Some intake) × ServesBy over_files from to old intake answered
+AnswersBy from to None new answered =
+    (new ≡ None) × TurnsAway from to answered.served × (answered.outcome ≡ outcome.TurnedAway)
 
 -- a call that the database refused is counted, as far as a u64 counts
 abbrev pub CountsRefusal : Outcome → ℕ → ℕ → Type 0
@@ -134,7 +159,8 @@ CountsRefusal outcome.TurnedAway old new = new ≡ old
 -- the same, a refusal is counted, and nothing else changes
 abbrev pub AnswersWire : {D : Type 0} {g : Ghosts D} → Wire → Wire → Parts g → Parts g → Answered → Type 0
 AnswersWire from to old new answered =
-    AnswersBy from to old.intake new.intake answered × (new.lying ≡ old.lying) × (new.is_certain ≡ old.is_certain) × CountsRefusal answered.outcome old.refused_calls new.refused_calls
+    AnswersBy from to old.intake new.intake answered × (new.lying ≡ old.lying) × (new.is_certain ≡ old.is_certain)
+    × CountsRefusal answered.outcome old.refused_calls new.refused_calls
 
 -- ---- it is closed
 
@@ -146,9 +172,11 @@ IsLeftBy g conn files (Err error) = IsNotClosed conn files error
 -- What closing it does: the requests of before are kept, and, if it was open, counted.
 pub record ClosesProcess {D : Type 0} (g : Ghosts D) (old new : Parts g) (closed : Closed) : Type 0 where
   pub leaves : IsHonest g → (limit : ℕ) → Leaves limit old new
-  pub counted : IsHonest g → IsSome old.intake → old.is_certain ≡ true → (limit early : ℕ) (requests : List Request) → Keeps old limit early requests → closed.kept ≡ length requests
+  pub counted : IsHonest g → IsSome old.intake → old.is_certain ≡ true → (limit old_style : ℕ) (requests : List Request)
+      → Keeps old limit old_style requests → closed.kept ≡ length requests
   pub certain : OnOk closed.outcome (new.is_certain ≡ old.is_certain)
-  pub files : IfSome old.intake (λ intake. (files : Files D) × place.Leaves old.lying new.lying files × IsLeftBy g (store_of intake).conn files closed.outcome)
+  pub files : IfSome old.intake (λ intake. (files : Files D) × place.Leaves old.lying new.lying files
+      × IsLeftBy g (store_of intake).conn files closed.outcome)
   pub is_closed : new.intake ≡ None
   pub already : old.intake ≡ None → (new ≡ old) × (closed.outcome ≡ Ok tt)
   pub calls : new.refused_calls ≡ old.refused_calls

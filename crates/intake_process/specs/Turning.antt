@@ -1,5 +1,6 @@
 -- A connection that is turned away, since there is no register; own rule.
-use Rattle.std.specs.Prelude.{◌≡◌, ◌≤◌, ℕ, Bool, true, false, List, [], ◌∷◌, length, Some, Result, Ok, Err, if◌then◌else◌}
+use Rattle.std.specs.Prelude.{◌≡◌, ◌≤◌, ℕ, Bool, true, false, List, [], ◌∷◌, length, Some, Result, Ok, Err}
+use Rattle.std.specs.Prelude.{if◌then◌else◌}
 use Rattle.std.specs.Io.KnownBytes.{Consumes, Appends, IsAtEnd}
 use Rattle.http_messages.specs.declared.refusal.ConnFault.{ConnFault}
 use Rattle.http_messages.specs.declared.refusal.ConnFault.TheVariants as fault
@@ -21,7 +22,8 @@ use Rattle.gateway_server.specs.Progress.{IsEndedBy}
 
 -- the 503, which has no content in reply to HEAD (RFC 9110, section 9.3.2)
 abbrev pub closing_reply : Bool → ReplyParts
-closing_reply is_head = record { status = 503; content = if is_head then [] else unavailable.content; kind = unavailable.kind }
+closing_reply is_head =
+    record { status = 503; content = if is_head then [] else unavailable.content; kind = unavailable.kind }
 
 abbrev pub away_reply : Arrival → ReplyParts
 away_reply (Read message) = closing_reply (is_head message)
@@ -43,7 +45,8 @@ IsUnanswered bytes Closed out = ⊥
 IsUnanswered bytes InputEnded out = IsRest bytes × WritesAsked (Some []) (Some out) bytes
 IsUnanswered bytes (Fault fault) out = WritesUpTo (Some []) (Some out) bytes fault
 
--- The bytes begin with an arrival. Its interim response was written, and behind it the 503 that closes, or the first bytes of that.
+-- The bytes begin with an arrival. Its interim response was written, and behind it the 503 that closes, or the first
+-- bytes of that.
 pub record AnswersAway (bytes : List ℕ) (mark : Mark) (ended : Ended) (out : List ℕ) : Type 0 where
   pub arrival : Arrival
   pub begins : BeginsArrivals bytes (arrival ∷ []) Ending.Closed

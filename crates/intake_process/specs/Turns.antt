@@ -1,5 +1,6 @@
 -- Connections of a port that are served in turn, or turned away while the register is closed; own rules.
-use Rattle.std.specs.Prelude.{◌≡◌, ℕ, Bool, true, false, List, [], ◌∷◌, map, take, Option, Some, None, IfSome, IsSome, option_map, Result, Ok, Err, OnOk}
+use Rattle.std.specs.Prelude.{◌≡◌, ℕ, Bool, true, false, List, [], ◌∷◌, map, take, Option, Some, None, IfSome, IsSome}
+use Rattle.std.specs.Prelude.{option_map, Result, Ok, Err, OnOk}
 use Rattle.std.specs.Result.{result_ok}
 use Rattle.sqlite_disk.specs.declared.Disk.{Ghosts}
 use Rattle.filing_model.specs.Request.{Request}
@@ -10,7 +11,8 @@ use Rattle.intake_process.specs.declared.begun.Totals.{Totals}
 use Rattle.intake_process.specs.declared.process.Closed.{Closed}
 use Rattle.intake_process.specs.declared.serving.ServingFault.{ServingFault}
 use Rattle.intake_process.specs.declared.serving.ServingFault.TheVariants.{Register, Port}
-use Rattle.intake_process.specs.Process.{Parts, IsHonest, Keeps, KeepsBy, IsUnrefused, StaysUp, OpensProcess, ClosesProcess}
+use Rattle.intake_process.specs.Process.{Parts, IsHonest, Keeps, KeepsBy, IsUnrefused, StaysUp, OpensProcess}
+use Rattle.intake_process.specs.Process.{ClosesProcess}
 use Rattle.intake_process.specs.Turning.{IsTurnedAway}
 
 -- a connection that came: it was served, or turned away
@@ -36,10 +38,11 @@ abbrev pub AreTurnedAway : List Turn → Type 0
 AreTurnedAway [] = Unit {0}
 AreTurnedAway (Served connection ∷ turns) = AreTurnedAway turns
 AreTurnedAway (TurnedAway connection ∷ turns) =
-    IsTurnedAway connection.read connection.output.marks connection.output.ended connection.output.bytes × AreTurnedAway turns
+    IsTurnedAway connection.read connection.output.marks connection.output.ended connection.output.bytes
+    × AreTurnedAway turns
 
--- These connections of a port were answered: the first that came, none left out. Those that were served were served in turn, whatever
--- was turned away between them.
+-- These connections of a port were answered: the first that came, none left out. Those that were served were served in
+-- turn, whatever was turned away between them.
 pub record AreAnswered (requests : Keeping) (old new : Traffic) (turns : List Turn) (taken : Option ℕ) : Type 0 where
   pub in_turn : ServeInTurn requests (served_in turns)
   pub away : AreTurnedAway turns
@@ -48,17 +51,24 @@ pub record AreAnswered (requests : Keeping) (old new : Traffic) (turns : List Tu
   pub counted : IfSome taken (AreCounted old.coming (connections_of turns))
   pub told : IfSome taken (λ _. Grows old.over new.over (outputs_of (connections_of turns)))
 
--- What answering some connections of a port does with it and with the process of an intake. `taken` says how many came, where that is
--- answered.
-pub record AnswersSome {D : Type 0} {g : Ghosts D} (limit : ℕ) (port port' : Traffic) (old new : Parts g) (taken : Option ℕ) : Type 0 where
-  -- As long as no close and no opening failed, some connections were answered, the first after the requests that were kept before, and
-  -- those are kept now that the last one left: by the intake, or in the place. As long as its database refused no call, none was turned away.
-  pub answers : (early : ℕ) (before : List Request) → Keeps old limit early before → new.is_certain ≡ true
-      → (after : List Request) × KeepsBy new.intake new.lying limit early after × (take early after ≡ take early before) × (turns : List Turn) × AreAnswered (keeping limit (take early before) before after) port port' turns taken × (IsUnrefused old new → served_in turns ≡ connections_of turns)
+-- What answering some connections of a port does with it and with the process of an intake. `taken` says how many came,
+-- where that is answered.
+pub record AnswersSome {D : Type 0} {g : Ghosts D} (limit : ℕ) (port port' : Traffic) (old new : Parts g)
+    (taken : Option ℕ) : Type 0 where
+  -- As long as no close and no opening failed, some connections were answered, the first after the requests that were
+  -- kept before, and those are kept now that the last one left: by the intake, or in the place. As long as its database
+  -- refused no call, none was turned away.
+  pub answers : (old_style : ℕ) (before : List Request) → Keeps old limit old_style before → new.is_certain ≡ true
+      → (after : List Request) × KeepsBy new.intake new.lying limit old_style after
+      × (take old_style after ≡ take old_style before) × (turns : List Turn)
+      × AreAnswered (keeping limit (take old_style before) before after) port port' turns taken
+      × (IsUnrefused old new → served_in turns ≡ connections_of turns)
   pub certain : new.is_certain ≡ true → old.is_certain ≡ true
 
--- It was opened, or made; it answered connections of the port, and was up as long as its database refused no call; and it was closed.
-pub record IsServed {D : Type 0} {g : Ghosts D} (has_to_be_there : Bool) (limit : ℕ) (port port' : Traffic) (old new : Parts g) (taken : Option ℕ) : Type 0 where
+-- It was opened, or made; it answered connections of the port, and was up as long as its database refused no call; and
+-- it was closed.
+pub record IsServed {D : Type 0} {g : Ghosts D} (has_to_be_there : Bool) (limit : ℕ) (port port' : Traffic)
+    (old new : Parts g) (taken : Option ℕ) : Type 0 where
   pub totals : Option Totals
   pub opened : Parts g
   pub last : Parts g
@@ -69,17 +79,24 @@ pub record IsServed {D : Type 0} {g : Ghosts D} (has_to_be_there : Bool) (limit 
   pub closes : ClosesProcess g last new closed
 
 -- the same, as long as the port did not fail; or it was not opened, and no connection was accepted
-abbrev pub IsServedOrRefused : {D : Type 0} {g : Ghosts D} → Bool → ℕ → ℕ → Traffic → Traffic → Parts g → Parts g → Result (Unit {0}) ServingFault → Type 0
-IsServedOrRefused has_to_be_there limit most port port' old new (Ok done) = IsServed has_to_be_there limit port port' old new (Some most)
-IsServedOrRefused has_to_be_there limit most port port' old new (Err (Port fault)) = IsServed has_to_be_there limit port port' old new None
-IsServedOrRefused {D} {g} has_to_be_there limit most port port' old new (Err (Register fault)) = OpensProcess g has_to_be_there limit old new (Err fault) × (port' ≡ port)
+abbrev pub IsServedOrRefused : {D : Type 0} {g : Ghosts D} → Bool → ℕ → ℕ → Traffic → Traffic → Parts g → Parts g
+    → Result (Unit {0}) ServingFault → Type 0
+IsServedOrRefused has_to_be_there limit most port port' old new (Ok done) =
+    IsServed has_to_be_there limit port port' old new (Some most)
+IsServedOrRefused has_to_be_there limit most port port' old new (Err (Port fault)) =
+    IsServed has_to_be_there limit port port' old new None
+IsServedOrRefused {D} {g} has_to_be_there limit most port port' old new (Err (Register fault)) =
+    OpensProcess g has_to_be_there limit old new (Err fault) × (port' ≡ port)
 
--- What serving a port by a register that lies in a place does, as a whole: it is opened, if it has to be there, or made, serves the port, and
--- is closed.
-pub record ServesRegister {D : Type 0} {g : Ghosts D} (has_to_be_there : Bool) (limit most : ℕ) (port port' : Traffic) (old new : Parts g) (result : Result (Unit {0}) ServingFault) : Type 0 where
+-- What serving a port by a register that lies in a place does, as a whole: it is opened, if it has to be there, or
+-- made, serves the port, and is closed.
+pub record ServesRegister {D : Type 0} {g : Ghosts D} (has_to_be_there : Bool) (limit most : ℕ) (port port' : Traffic)
+    (old new : Parts g) (result : Result (Unit {0}) ServingFault) : Type 0 where
   -- from the requests that lay there
-  pub found : IsHonest g → has_to_be_there ≡ true → AnswersSome limit port port' old new (option_map (λ _. most) (result_ok result))
+  pub found : IsHonest g → has_to_be_there ≡ true
+      → AnswersSome limit port port' old new (option_map (λ _. most) (result_ok result))
   -- from none
-  pub made : IsHonest g → has_to_be_there ≡ false → old.intake ≡ None → IsSome old.lying → OnOk result ((opened : Parts g) × Keeps opened limit 0 [] × AnswersSome limit port port' opened new (Some most))
+  pub made : IsHonest g → has_to_be_there ≡ false → old.intake ≡ None → IsSome old.lying
+      → OnOk result ((opened : Parts g) × Keeps opened limit 0 [] × AnswersSome limit port port' opened new (Some most))
   pub closed : new.intake ≡ None
   pub steps : IsServedOrRefused has_to_be_there limit most port port' old new result

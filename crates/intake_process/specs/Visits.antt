@@ -1,5 +1,5 @@
--- What a visit to the register that lies in a place does: it is opened, an errand to it is done, and it is closed. `out` and `out'` are what
--- the output and the folder have before and after, where that is known.
+-- What a visit to the register that lies in a place does: it is opened, an errand to it is done, and it is closed.
+-- `out` and `out'` are what the output and the folder have before and after, where that is known.
 use Rattle.std.specs.Prelude.{◌≡◌, ℕ, Bool, true, false, List, Option, None, Result, Ok, Err, OnOk, is_err, ◌||◌}
 use Rattle.sqlite_disk.specs.declared.Disk.{Ghosts}
 use Rattle.sqlite_disk.specs.declared.Files.{Files}
@@ -32,15 +32,17 @@ abbrev pub outputs : Option (List ℕ) → Option (List (List ℕ)) → Outputs
 outputs text pages = record { text = text; pages = pages }
 
 -- the files hold the register of these requests in the version that the errand is for, and can be opened
-pub record HoldFor {D : Type 0} (g : Ghosts D) (errand : Errand) (files : Files D) (early : ℕ) (requests : List Request) : Type 0 where
+pub record HoldFor {D : Type 0} (g : Ghosts D) (errand : Errand) (files : Files D) (old_style : ℕ)
+    (requests : List Request) : Type 0 where
   pub db : Database
-  pub register : IsRegisterFor errand early requests db
+  pub register : IsRegisterFor errand old_style requests db
   pub held : HoldsDatabase g files db
   pub usable : AreUsable g files
 
 -- it lies there
 abbrev pub LiesFor : {D : Type 0} → Ghosts D → Errand → Option (Option (Files D)) → ℕ → List Request → Type 0
-LiesFor g errand lying early requests = (firsts requests ≡ requests) × Lie lying (λ files. HoldFor g errand files early requests)
+LiesFor g errand lying old_style requests =
+    (firsts requests ≡ requests) × Lie lying (λ files. HoldFor g errand files old_style requests)
 
 -- no register was opened, or it was not closed: what lies in the place may be what a crash leaves
 abbrev pub is_doubtful : Visited → Bool
@@ -49,23 +51,28 @@ is_doubtful visited = is_refused visited.done || is_err visited.closed
 -- ---- whatever lies there
 
 module _ {D : Type 0} {g : Ghosts D} where
-  -- the files are as a refused errand gave them up; else the connection is closed in them, or the error says why its last commit isn't all in
-  -- the database file
+  -- the files are as a refused errand gave them up; else the connection is closed in them, or the error says why its
+  -- last commit isn't all in the database file
   abbrev pub IsLeftIn : Bool → Held (FileStore D g) → Files D → Result (Unit {0}) Error → Type 0
   IsLeftIn true conn files closed = IsGivenUp conn files × (closed ≡ Ok tt)
   IsLeftIn false conn files (Ok done) = IsClosedIn g conn files
   IsLeftIn false conn files (Err error) = IsNotClosed conn files error
 
-  -- The database was not opened, and nothing is done; or the errand is done with the connection to it, and its files lie there again.
-  abbrev pub GoesOn : Errand → Outputs → Outputs → Option (Option (Files D)) → Option (Option (Files D)) → Result (Held (FileStore D g)) DatabaseFault → Visited → Type 0
-  GoesOn errand out out' between lying (Err why) visited = (visited.done ≡ Err (fault.Files why)) × (visited.closed ≡ Ok tt) × (lying ≡ between) × (out' ≡ out)
+  -- The database was not opened, and nothing is done; or the errand is done with the connection to it, and its files
+  -- lie there again.
+  abbrev pub GoesOn : Errand → Outputs → Outputs → Option (Option (Files D)) → Option (Option (Files D))
+      → Result (Held (FileStore D g)) DatabaseFault → Visited → Type 0
+  GoesOn errand out out' between lying (Err why) visited =
+      (visited.done ≡ Err (fault.Files why)) × (visited.closed ≡ Ok tt) × (lying ≡ between) × (out' ≡ out)
   GoesOn errand out out' between lying (Ok conn) visited =
       (left : Held (FileStore D g)) × RunsErrand over_files errand out.text out'.text conn left visited.done
       × FillsFolder over_files errand out.pages out'.pages conn left visited.done
-      × ((files : Files D) × place.Leaves between lying files × IsLeftIn (is_refused visited.done) left files visited.closed)
+      × ((files : Files D) × place.Leaves between lying files
+      × IsLeftIn (is_refused visited.done) left files visited.closed)
 
 -- What a visit does with what lies in a place, whatever that is.
-pub record VisitsPlace {D : Type 0} (g : Ghosts D) (errand : Errand) (out out' : Outputs) (old new : Option (Option (Files D))) (visited : Visited) : Type 0 where
+pub record VisitsPlace {D : Type 0} (g : Ghosts D) (errand : Errand) (out out' : Outputs)
+    (old new : Option (Option (Files D))) (visited : Visited) : Type 0 where
   pub opened : Result (Held (FileStore D g)) DatabaseFault
   pub between : Option (Option (Files D))
   pub opens : OpensPlace g true old between opened
@@ -73,16 +80,20 @@ pub record VisitsPlace {D : Type 0} (g : Ghosts D) (errand : Errand) (out out' :
 
 -- ---- a register
 
--- What a visit does with a process that is closed. A register of the version that the errand is for is told as it is, and, as long as no close
--- and no opening failed, its requests are kept as a register of this version. Its pages are written if the errand is for them, and else
--- none.
-pub record VisitsRegister {D : Type 0} {g : Ghosts D} (errand : Errand) (out out' : Outputs) (old new : Parts g) (visited : Visited) : Type 0 where
-  pub told : IsHonest g → (early : ℕ) (requests : List Request) → LiesFor g errand old.lying early requests → Tells errand requests out.text out'.text visited.done
-  pub filled : IsHonest g → (early : ℕ) (requests : List Request) → LiesFor g errand old.lying early requests → is_for_pages errand ≡ true
+-- What a visit does with a process that is closed. A register of the version that the errand is for is told as it is,
+-- and, as long as no close and no opening failed, its requests are kept as a register of this version. Its pages are
+-- written if the errand is for them, and else none.
+pub record VisitsRegister {D : Type 0} {g : Ghosts D} (errand : Errand) (out out' : Outputs) (old new : Parts g)
+    (visited : Visited) : Type 0 where
+  pub told : IsHonest g → (old_style : ℕ) (requests : List Request) → LiesFor g errand old.lying old_style requests
+      → Tells errand requests out.text out'.text visited.done
+  pub filled : IsHonest g → (old_style : ℕ) (requests : List Request) → LiesFor g errand old.lying old_style requests
+      → is_for_pages errand ≡ true
       → OnOk visited.done (WritesSite (register requests) out.pages out'.pages)
   pub unfilled : is_for_pages errand ≡ false → out'.pages ≡ out.pages
-  pub kept : IsHonest g → new.is_certain ≡ true → (early : ℕ) (requests : List Request) → LiesFor g errand old.lying early requests
-      → KeepsBy {g = g} None new.lying 0 early requests
+  pub kept : IsHonest g → new.is_certain ≡ true → (old_style : ℕ) (requests : List Request)
+      → LiesFor g errand old.lying old_style requests
+      → KeepsBy {g = g} None new.lying 0 old_style requests
   pub visits : VisitsPlace g errand out out' old.lying new.lying visited
   pub certain : new.is_certain ≡ true → old.is_certain ≡ true
   pub stays : is_doubtful visited ≡ false → new.is_certain ≡ old.is_certain

@@ -1,5 +1,7 @@
--- What the tasks do, and what they print. `out` and `out'` are what the output has before and after a task, where that is known.
-use Rattle.std.specs.Prelude.{◌≡◌, ◌⊎◌, ◌↔◌, ℕ, true, false, List, [], length, Option, Some, None, Result, Ok, Err, IfOk, IfErr, OnOk, OnErr}
+-- What the tasks do, and what they print. `out` and `out'` are what the output has before and after a task, where that
+-- is known.
+use Rattle.std.specs.Prelude.{◌≡◌, ◌⊎◌, ◌↔◌, ℕ, true, false, List, [], length, Option, Some, None, Result, Ok, Err}
+use Rattle.std.specs.Prelude.{IfOk, IfErr, OnOk, OnErr}
 use Rattle.std.specs.Io.KnownBytes.{Appends}
 use Rattle.std.specs.Result.{result_map_both}
 use Rattle.sqlite.specs.Store.{Ghosts}
@@ -14,10 +16,10 @@ use Rattle.filing_model.specs.declared.served.Mark.{Mark}
 use Rattle.filing_model.specs.Request.{Request}
 use Rattle.filing_model.specs.Register.{register}
 use Rattle.filing_model.specs.Serving.{keeping}
-use Rattle.register_opening.specs.declared.fault.OpenFault.{OpenFault}
-use Rattle.register_opening.specs.Faults.{IsFailure}
-use Rattle.register_opening.specs.Opening.{IsRefused}
-use Rattle.register_opening.specs.Registers.{ForRows, IsRegisterOf}
+use Rattle.register_tables.specs.declared.fault.OpenFault.{OpenFault}
+use Rattle.register_tables.specs.Faults.{IsFailure}
+use Rattle.register_tables.specs.Opening.{IsRefused}
+use Rattle.register_tables.specs.Registers.{ForRows, IsRegisterOf}
 use Rattle.register_rows.specs.Schema.{IsDeclared}
 use Rattle.register_store.specs.Calls.{KeepsStore, MigratesOrGivesBack}
 use Rattle.register_store.specs.Store as store
@@ -42,7 +44,8 @@ abbrev pub PrintsNothing : {E : Type 0} → E → Option (List ℕ) → Option (
 PrintsNothing failed out out' fault = (fault ≡ failed) ⊎ (out' ≡ out)
 
 -- What `list` prints: the filings of the filer among the requests that the intake holds, which stay.
-pub record ListsFilings {S X : Type 0} (g : Ghosts S) (filer : List ℕ) (out out' : Option (List ℕ)) (old new : Intake S) (result : Result X ListFault) : Type 0 where
+pub record ListsFilings {S X : Type 0} (g : Ghosts S) (filer : List ℕ) (out out' : Option (List ℕ)) (old new : Intake S)
+    (result : Result X ListFault) : Type 0 where
   pub listed : ForRequests g old new (λ requests. OnOk result (Appends out out' (list_line filer (register requests))))
   pub refused : IfErr result (PrintsNothing (listing.Text Output) out out')
   pub kept : ForRequests g old new (HoldsRequests g new)
@@ -51,13 +54,18 @@ pub record ListsFilings {S X : Type 0} (g : Ghosts S) (filer : List ℕ) (out ou
   pub stops : (has_stopped new ≡ true) ↔ ((has_stopped old ≡ true) ⊎ (result ≡ Err (listing.Intake Store)))
   pub up : result ≡ Err (listing.Intake Down) → has_stopped old ≡ true
 
--- What `show` prints: the facts of the filing of this number in the register, which stays. It is missing exactly where the register has none.
-pub record ShowsFiling {S X : Type 0} (g : Ghosts S) (number : ℕ) (out out' : Option (List ℕ)) (old new : store.StoreParts S) (result : Result X ShowFault) : Type 0 where
+-- What `show` prints: the facts of the filing of this number in the register, which stays. It is missing exactly where
+-- the register has none.
+pub record ShowsFiling {S X : Type 0} (g : Ghosts S) (number : ℕ) (out out' : Option (List ℕ))
+    (old new : store.StoreParts S) (result : Result X ShowFault) : Type 0 where
   pub shown : store.ForRequests g old new (λ requests.
-      OnOk result ((facts : List FactRecord) × (facts_numbered number (register requests) ≡ Some facts) × Appends out out' (fact_lines facts)))
-  pub missing : store.ForRequests g old new (λ requests. result ≡ Err showing.NoFiling → facts_numbered number (register requests) ≡ None)
+      OnOk result ((facts : List FactRecord) × (facts_numbered number (register requests) ≡ Some facts)
+      × Appends out out' (fact_lines facts)))
+  pub missing : store.ForRequests g old new (λ requests. result ≡ Err showing.NoFiling
+      → facts_numbered number (register requests) ≡ None)
   pub found : store.ForRequests g old new (λ requests. IfErr result (λ fault.
-      facts_numbered number (register requests) ≡ None → (fault ≡ showing.NoFiling) ⊎ ((why : StoreFault) × (fault ≡ showing.Store why))))
+      facts_numbered number (register requests) ≡ None
+      → (fault ≡ showing.NoFiling) ⊎ ((why : StoreFault) × (fault ≡ showing.Store why))))
   pub refused : IfErr result (PrintsNothing (showing.Text Output) out out')
   pub keeps : KeepsStore g old new
 
@@ -72,23 +80,30 @@ UnlessRefused (Ok done) Holds = Holds
 UnlessRefused (Err (checking.Text why)) Holds = Holds
 UnlessRefused (Err (checking.Open why)) Holds = Unit {0}
 
--- What `check` prints: how many requests the rows stand for, and how many of them are filings. Nothing is written to the database.
-pub record ChecksRegister {S X : Type 0} (g : Ghosts S) (out out' : Option (List ℕ)) (old new : Held S) (result : Result X CheckFault) : Type 0 where
+-- What `check` prints: how many requests the rows stand for, and how many of them are filings. Nothing is written to
+-- the database.
+pub record ChecksRegister {S X : Type 0} (g : Ghosts S) (out out' : Option (List ℕ)) (old new : Held S)
+    (result : Result X CheckFault) : Type 0 where
   -- There is one such list of requests at most.
   pub sound : HasCleanDisk (state g new) → IsDeclared (state g old).now.schema
-      → OnOk result ((early : ℕ) × (requests : List Request) × IsRegisterOf early requests (state g old).now
+      → OnOk result ((old_style : ℕ) × (requests : List Request) × IsRegisterOf old_style requests (state g old).now
       × Appends out out' (sound_line (length requests) (length (register requests))))
   pub only : HasCleanDisk (state g new)
-      → OnOk result (ForRows g old (λ _ requests. Appends out out' (sound_line (length requests) (length (register requests)))))
+      → OnOk result (ForRows g old (λ _ requests. Appends out out'
+      (sound_line (length requests) (length (register requests)))))
   -- Unless it is refused, the tables of a register are a register, and what its rows stand for is committed still.
   pub found : HasCleanDisk (state g new) → IsDeclared (state g old).now.schema
-      → UnlessRefused result ((early : ℕ) × (requests : List Request) × IsRegisterOf early requests (state g old).now)
-  pub kept : HasCleanDisk (state g new) → UnlessRefused result (ForRows g old (λ early requests. HasCommitted (IsRegisterOf early requests) (state g new)))
+      → UnlessRefused result ((old_style : ℕ) × (requests : List Request)
+      × IsRegisterOf old_style requests (state g old).now)
+  pub kept : HasCleanDisk (state g new)
+      → UnlessRefused result (ForRows g old (λ old_style requests. HasCommitted (IsRegisterOf old_style requests)
+      (state g new)))
   -- A refusal says why. Where the rows stand for requests, it is by memory or disk.
   pub refused : HasCleanDisk (state g new) → IfErr result (IfOpen (λ why. IsRefused g why old new))
   pub failed : HasCleanDisk (state g new) → IfErr result (IfOpen (λ why. ForRows g old (λ _ _. IsFailure why)))
   pub quiet : IfErr result (PrintsNothing (checking.Text Output) out out')
-  -- The connection is as it was, and after a refusal at least what is committed. A crash leaves what it could leave before.
+  -- The connection is as it was, and after a refusal at least what is committed. A crash leaves what it could leave
+  -- before.
   pub same : StaysOnOk (state g old) (state g new) result
   pub mode : new.in_transaction ≡ false
   pub survives : CommitsNothing (state g old) (state g new)
@@ -98,7 +113,8 @@ abbrev pub register_of : {S E : Type 0} → Result (Migrated S) E → Result (st
 register_of = result_map_both (λ migrated. migrated.register) (λ refusal. refusal)
 
 -- What `migrate` does, and that it prints so exactly where it was done.
-pub record MigratesRegister {S : Type 0} (g : Ghosts S) (out out' : Option (List ℕ)) (conn : Held S) (result : Result (Migrated S) (OpenFault × Held S)) : Type 0 where
+pub record MigratesRegister {S : Type 0} (g : Ghosts S) (out out' : Option (List ℕ)) (conn : Held S)
+    (result : Result (Migrated S) (OpenFault × Held S)) : Type 0 where
   pub migrates : MigratesOrGivesBack g conn (register_of result)
   pub printed : IfOk result (λ migrated. OnOk migrated.printed (Appends out out' migrated_line))
   pub failed : IfOk result (λ migrated. IfErr migrated.printed (λ fault. fault ≡ Output))

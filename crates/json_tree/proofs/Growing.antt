@@ -14,11 +14,13 @@ pub items_before-no_items : (vs : List Tree) → items_before vs no_items ≡ it
 items_before-no_items [] = refl
 items_before-no_items (v ∷ vs) = ap (item (view v)) (items_before-no_items vs)
 
-items_push : (vs : List Tree) (v : Tree) (rest : Items) → items_before vs (item (view v) rest) ≡ items_before (vs ++ v ∷ []) rest
+items_push : (vs : List Tree) (v : Tree) (rest : Items)
+    → items_before vs (item (view v) rest) ≡ items_before (vs ++ v ∷ []) rest
 items_push [] v rest = refl
 items_push (w ∷ vs) v rest = ap (item (view w)) (items_push vs v rest)
 
-pub one_more_item : (vs : List Tree) (v : Tree) (r : Option (Items × List Token)) → parse_map (items_before vs) (parse_map (item (view v)) r) ≡ parse_map (items_before (vs ++ v ∷ [])) r
+pub one_more_item : (vs : List Tree) (v : Tree) (r : Option (Items × List Token))
+    → parse_map (items_before vs) (parse_map (item (view v)) r) ≡ parse_map (items_before (vs ++ v ∷ [])) r
 one_more_item vs v None = refl
 one_more_item vs v (Some p) = ap (λ ds. Some (ds, p.1)) (items_push vs v p.0)
 

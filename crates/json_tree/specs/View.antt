@@ -1,7 +1,8 @@
 -- The value that a tree stands for, in the words of `serde_json`.
 use Rattle.std.specs.Prelude.{ℕ, List, [], ◌∷◌, map}
 use Rattle.std.specs.Borrow.{Bor}
-use Rattle.serde_json.specs.Data.{Data, null, boolean, number, string, array, object, Items, no_items, item, Members, no_members, member}
+use Rattle.serde_json.specs.Data.{Data, null, boolean, number, string, array, object, Items, no_items, item, Members}
+use Rattle.serde_json.specs.Data.{no_members, member}
 use Rattle.serde_json.specs.View.{number_view}
 use Rattle.json_tree.specs.declared.tree.Tree.{Tree, fold-Tree}
 use Rattle.json_tree.specs.declared.tree.Tree.TheOpen.{Tree-F}

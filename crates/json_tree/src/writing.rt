@@ -4,7 +4,8 @@ ghost use Rattle.json.specs.Token.{number as number_token};
 ghost use Rattle.json.specs.Tree.{json_tokens, items_tokens, members_tokens};
 ghost use Rattle.serde_json.specs.Find.{is_float};
 ghost use Rattle.serde_json.specs.View.{number_view};
-ghost use Rattle.serde_json.specs.Written.{has_float, items_have_float, members_have_float, compact_text, number_text, outline, items_outline, members_outline};
+ghost use Rattle.serde_json.specs.Written.{has_float, items_have_float, members_have_float, compact_text, number_text};
+ghost use Rattle.serde_json.specs.Written.{outline, items_outline, members_outline};
 ghost use Rattle.json_tree.specs.View.{view, items_view, members_view};
 
 use crate::tree::{Member, Tree};

@@ -1,5 +1,7 @@
 -- An idempotency key, and its one spelling as a String of structured fields (RFC 8941, section 3.3.3).
-use Rattle.std.specs.Prelude.{◌≡◌, ℕ, ◌-◌, ◌<◌, ◌≤◌, Bool, true, false, ◌&&◌, ◌||◌, not, List, [], ◌∷◌, ◌++◌, length, ◌==◌, nat_lt, nat_le, bytes_eq, take, drop, if◌then◌else◌, IsTrue, All, Option, Some, None, position}
+use Rattle.std.specs.Prelude.{◌≡◌, ℕ, ◌-◌, ◌<◌, ◌≤◌, Bool, true, false, ◌&&◌, ◌||◌, not, List, [], ◌∷◌, ◌++◌, length}
+use Rattle.std.specs.Prelude.{◌==◌, nat_lt, nat_le, bytes_eq, take, drop, if◌then◌else◌, IsTrue, All, Option, Some}
+use Rattle.std.specs.Prelude.{None, position}
 use Rattle.std.specs.List.{flat_map, list_all}
 use Rattle.key_string.specs.declared.fault.KeyFault.{KeyFault}
 use Rattle.key_string.specs.declared.fault.KeyFault.TheVariants.{NotString, Empty, TooLong, NotPrintable, Memory}
@@ -64,7 +66,8 @@ abbrev pub IsTextFault : List ℕ → KeyFault → Type 0
 IsTextFault text NotString = ⊥
 IsTextFault text Empty = text ≡ []
 IsTextFault text TooLong = 1024 < length text
-IsTextFault text (NotPrintable at) = (0 < length text) × (length text ≤ 1024) × (position (λ c. not (is_printable c)) text ≡ Some at)
+IsTextFault text (NotPrintable at) =
+    (0 < length text) × (length text ≤ 1024) × (position (λ c. not (is_printable c)) text ≡ Some at)
 IsTextFault text Memory = IsKey text
 
 -- why a field's value is no key: the first of these that holds, and memory last
@@ -84,7 +87,8 @@ is_key text = nat_lt 0 (length text) && nat_le (length text) 1024 && list_all is
 -- the characters without the backslashes that escape one; `escaped` says whether one stood before
 abbrev pub without_escapes : Bool → List ℕ → List ℕ
 without_escapes escaped [] = []
-without_escapes escaped (c ∷ cs) = if c == backslash && not escaped then without_escapes true cs else c ∷ without_escapes false cs
+without_escapes escaped (c ∷ cs) =
+    if c == backslash && not escaped then without_escapes true cs else c ∷ without_escapes false cs
 
 -- what stands between the first byte and the last
 abbrev pub inside : List ℕ → List ℕ
@@ -92,4 +96,5 @@ inside bytes = drop 1 (take (length bytes - 1) bytes)
 
 -- the key that a field's value spells, if it spells one
 unfoldable pub key_of_field : List ℕ → Option (List ℕ)
-key_of_field field = let text = without_escapes false (inside field) in if is_key text && bytes_eq field (spelling text) then Some text else None
+key_of_field field = let text = without_escapes false (inside field) in
+    if is_key text && bytes_eq field (spelling text) then Some text else None

@@ -1,7 +1,9 @@
 //! The keys, how a field spells one, and how it is spelled.
 
-ghost use Rattle.std.specs.Prelude.{◌≡◌, ◌↔◌, ℕ, List, ◌++◌, IsTrue, IfOk, IfErr, OnOk, OnErr, MatchOption, string_bytes, position, not, IfNone};
-ghost use Rattle.key_string.specs.Key.{is_key, is_printable, IsPrintable, spelling, SpellsKey, IsKey, IsTextFault, IsFieldFault, IsNoString, IsStringOf, BeginsNoCharacter, IsCharacterAt};
+ghost use Rattle.std.specs.Prelude.{◌≡◌, ◌↔◌, ℕ, List, ◌++◌, IsTrue, IfOk, IfErr, OnOk, OnErr, MatchOption};
+ghost use Rattle.std.specs.Prelude.{string_bytes, position, not, IfNone};
+ghost use Rattle.key_string.specs.Key.{is_key, is_printable, IsPrintable, spelling, SpellsKey, IsKey, IsTextFault};
+ghost use Rattle.key_string.specs.Key.{IsFieldFault, IsNoString, IsStringOf, BeginsNoCharacter, IsCharacterAt};
 ghost use Rattle.std.specs.Io.{StartsWith};
 ghost use Rattle.std.specs.List.{list_all};
 

@@ -7,8 +7,10 @@ use Rattle.markup.specs.Reading.{AddsText, Reads, Refers, is_markup, nothing, re
 pub reads-append : (a b s t : List ℕ) → Reads a s → Reads b t → Reads (a ++ b) (s ++ t)
 reads-append a b s t nothing later = later
 reads-append a b s t (reference {name = name} {rest = rest} {text = text} {b = c} is more) later =
-    subst (λ w. Reads w (c ∷ (text ++ t))) (sym (append_assoc name rest b)) (reference is (reads-append rest b text t more later))
-reads-append a b s t (character {rest = rest} {text = text} c plain more) later = character c plain (reads-append rest b text t more later)
+    subst (λ w. Reads w (c ∷ (text ++ t))) (sym (append_assoc name rest b))
+    (reference is (reads-append rest b text t more later))
+reads-append a b s t (character {rest = rest} {text = text} c plain more) later =
+    character c plain (reads-append rest b text t more later)
 
 -- a reference alone
 pub reads_reference : (name : List ℕ) (b : ℕ) → Refers name b → Reads name (b ∷ [])

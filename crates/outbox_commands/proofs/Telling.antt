@@ -1,7 +1,10 @@
 -- A refusal has the status that it is told with.
 use Rattle.std.proofs.Common.{◌≡◌, Bool, true, false, true≢false, refl, sym, ◌∙◌, ap}
 use Rattle.command_line.specs.declared.fault.DatabaseFault.{DatabaseFault}
-use Rattle.command_line.specs.declared.fault.DatabaseFault.TheVariants.{Missing, Empty, NotADatabase, Foreign, AutoVacuum, Damaged, Unsummed, Busy, Memory, Denied, NotAFile, Linked, Journal, NoFolder, NoName, Descriptors, Full, Disk}
+use Rattle.command_line.specs.declared.fault.DatabaseFault.TheVariants.{Missing, Empty, NotADatabase, Foreign}
+use Rattle.command_line.specs.declared.fault.DatabaseFault.TheVariants.{AutoVacuum, Damaged, Unsummed, Busy, Memory}
+use Rattle.command_line.specs.declared.fault.DatabaseFault.TheVariants.{Denied, NotAFile, Linked, Journal, NoFolder}
+use Rattle.command_line.specs.declared.fault.DatabaseFault.TheVariants.{NoName, Descriptors, Full, Disk}
 use Rattle.command_line.specs.Status.{database_status}
 use Rattle.command_files.specs.Verdicts.{goes_by_pages, IsRefusalOf}
 use Rattle.outbox_process.specs.declared.fault.OpeningFault.{OpeningFault}

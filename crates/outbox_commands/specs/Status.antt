@@ -2,8 +2,8 @@
 use Rattle.std.specs.Prelude.{ℕ, zero, suc, Result, Ok, Err}
 use Rattle.key_string.specs.declared.fault.KeyFault.{KeyFault}
 use Rattle.key_string.specs.declared.fault.KeyFault.TheVariants as key
-use Rattle.outbox_opening.specs.declared.fault.OutboxFault.{OutboxFault}
-use Rattle.outbox_opening.specs.declared.fault.OutboxFault.TheVariants as made
+use Rattle.outbox_tables.specs.declared.fault.OutboxFault.{OutboxFault}
+use Rattle.outbox_tables.specs.declared.fault.OutboxFault.TheVariants as made
 use Rattle.outbox_core.specs.declared.fault.PutFault.{PutFault}
 use Rattle.outbox_core.specs.declared.fault.PutFault.TheVariants as put
 use Rattle.outbox_core.specs.declared.fault.TakeFault.TheVariants as take
@@ -27,7 +27,8 @@ use Rattle.outbox_commands.specs.declared.fault.Fault.TheVariants as fault
 
 -- ---- of what went wrong in the libraries
 
--- 1 if the database is no outbox of this version or cannot become one, 2 if the filer is none, and 3 if memory or the disk failed
+-- 1 if the database is no outbox of this version or cannot become one, 2 if the filer is none, and 3 if memory or the
+-- disk failed
 abbrev pub outbox_status : OutboxFault → ℕ
 outbox_status made.BadFiler = 2
 outbox_status made.Taken = 1

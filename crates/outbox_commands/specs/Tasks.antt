@@ -1,5 +1,5 @@
--- What each task of `outbox` does: what becomes of the process of its outbox, what is sent and printed, and the status. `net` and `net'` are the
--- traffic of the network before and after, and `out` and `out'` what the output has.
+-- What each task of `outbox` does: what becomes of the process of its outbox, what is sent and printed, and the status.
+-- `net` and `net'` are the traffic of the network before and after, and `out` and `out'` what the output has.
 use Rattle.std.specs.Prelude.{◌≡◌, ◌⊎◌, ℕ, false, List, codes, Option, Some, None, Result, Ok, Err}
 use Rattle.std.specs.Borrow.{Bor}
 use Rattle.std.specs.Io.KnownBytes.{Appends}
@@ -30,7 +30,8 @@ use Rattle.outbox_commands.specs.Visits.{IsToldAs, IsRefused, VisitsOutbox, open
 abbrev pub MakesOutbox : {D : Type 0} (g : Ghosts D) → Bor (List ℕ) → Parts g → Parts g → ℕ → Type 0
 MakesOutbox g filer old new status =
     ((is_filer filer.now ≡ false) × (new ≡ old) × (status ≡ 2))
-    ⊎ (((made : Parts g) × (closed : Result (Unit {0}) Error) × OpensProcess g (beginning.Made filer) old made (Ok tt) × ClosesProcess g made new closed × (status ≡ 0))
+    ⊎ (((made : Parts g) × (closed : Result (Unit {0}) Error) × OpensProcess g (beginning.Made filer) old made (Ok tt)
+    × ClosesProcess g made new closed × (status ≡ 0))
     ⊎ IsRefused g (beginning.Made filer) old new status)
 
 -- ---- put
@@ -57,7 +58,8 @@ abbrev pub IsNotRead : Option (Bor (List ℕ)) → Fault → Type 0
 IsNotRead text (fault.Report why) = Unit {0}
 IsNotRead text why = IsNoKeyFor text why
 
-abbrev pub PutsReport : {D X : Type 0} (g : Ghosts D) → Option (Bor (List ℕ)) → Target → Traffic → Traffic → Option (List ℕ) → Option (List ℕ) → Parts g → Parts g → Result X Fault → Type 0
+abbrev pub PutsReport : {D X : Type 0} (g : Ghosts D) → Option (Bor (List ℕ)) → Target → Traffic → Traffic
+    → Option (List ℕ) → Option (List ℕ) → Parts g → Parts g → Result X Fault → Type 0
 PutsReport g text target net net' out out' old new result =
     ((put : Errand) × PutsUnder text target put × VisitsOutbox g put net net' out out' old new (status_by result))
     ⊎ ((why : Fault) × (result ≡ Err why) × IsNotRead text why × (new ≡ old) × (net' ≡ net) × (out' ≡ out))
@@ -76,22 +78,35 @@ abbrev pub IsJudged : Option Verdict → Option (List ℕ) → Option (List ℕ)
 IsJudged (Some verdict) out out' done status = IsPrinted out out' (verdict_text verdict (codes "an outbox")) done status
 IsJudged None out out' done status = (status ≡ done) × (out' ≡ out)
 
--- An outbox of the version before was brought into this one, that was printed, and it was closed; or it was refused, and that was told.
-abbrev pub MigratesOutbox : {D : Type 0} (g : Ghosts D) → Option (List ℕ) → Option (List ℕ) → Parts g → Parts g → ℕ → Type 0
+-- An outbox of the version before was brought into this one, that was printed, and it was closed; or it was refused,
+-- and that was told.
+abbrev pub MigratesOutbox : {D : Type 0} (g : Ghosts D) → Option (List ℕ) → Option (List ℕ) → Parts g → Parts g → ℕ
+    → Type 0
 MigratesOutbox g out out' old new status =
-    ((migrated : Parts g) × (closed : Result (Unit {0}) Error) × OpensProcess g beginning.Migrated old migrated (Ok tt) × ClosesProcess g migrated new closed
+    ((migrated : Parts g) × (closed : Result (Unit {0}) Error) × OpensProcess g beginning.Migrated old migrated (Ok tt)
+    × ClosesProcess g migrated new closed
     × IsPrinted out out' migrated_line 0 status)
-    ⊎ ((why : OpeningFault) × (told : OpeningFault) × OpensProcess g beginning.Migrated old new (Err why) × IsToldAs why told
+    ⊎ ((why : OpeningFault) × (told : OpeningFault) × OpensProcess g beginning.Migrated old new (Err why)
+    × IsToldAs why told
     × IsJudged (opening_verdict told) out out' (opening_status told) status)
 
 -- ---- all tasks
 
-abbrev pub Does : {D X : Type 0} (g : Ghosts D) → Task → Traffic → Traffic → Option (List ℕ) → Option (List ℕ) → Parts g → Parts g → Result X Fault → Type 0
-Does g (Init database filer) net net' out out' old new result = MakesOutbox g filer old new (status_by result) × (net' ≡ net) × (out' ≡ out)
-Does g (Put database body key target) net net' out out' old new result = PutsReport g key target net net' out out' old new result
-Does g (Migrate database) net net' out out' old new result = MigratesOutbox g out out' old new (status_by result) × (net' ≡ net)
-Does g (Send database peer which) net net' out out' old new result = VisitsOutbox g (errand.Send which) net net' out out' old new (status_by result)
-Does g (Ask database peer id form) net net' out out' old new result = VisitsOutbox g (errand.Ask id form) net net' out out' old new (status_by result)
-Does g (Status database) net net' out out' old new result = VisitsOutbox g errand.ShowStates net net' out out' old new (status_by result)
-Does g (Show database None) net net' out out' old new result = VisitsOutbox g errand.ShowEach net net' out out' old new (status_by result)
-Does g (Show database (Some id)) net net' out out' old new result = VisitsOutbox g (errand.ShowEntry id) net net' out out' old new (status_by result)
+abbrev pub Does : {D X : Type 0} (g : Ghosts D) → Task → Traffic → Traffic → Option (List ℕ) → Option (List ℕ) → Parts g
+    → Parts g → Result X Fault → Type 0
+Does g (Init database filer) net net' out out' old new result =
+    MakesOutbox g filer old new (status_by result) × (net' ≡ net) × (out' ≡ out)
+Does g (Put database body key target) net net' out out' old new result =
+    PutsReport g key target net net' out out' old new result
+Does g (Migrate database) net net' out out' old new result =
+    MigratesOutbox g out out' old new (status_by result) × (net' ≡ net)
+Does g (Send database peer which) net net' out out' old new result =
+    VisitsOutbox g (errand.Send which) net net' out out' old new (status_by result)
+Does g (Ask database peer id form) net net' out out' old new result =
+    VisitsOutbox g (errand.Ask id form) net net' out out' old new (status_by result)
+Does g (Status database) net net' out out' old new result =
+    VisitsOutbox g errand.ShowStates net net' out out' old new (status_by result)
+Does g (Show database None) net net' out out' old new result =
+    VisitsOutbox g errand.ShowEach net net' out out' old new (status_by result)
+Does g (Show database (Some id)) net net' out out' old new result =
+    VisitsOutbox g (errand.ShowEntry id) net net' out out' old new (status_by result)

@@ -5,8 +5,8 @@ use Rattle.sqlite.specs.declared.error.Error.{Error}
 use Rattle.command_files.specs.declared.verdict.Verdict.{Verdict}
 use Rattle.command_files.specs.declared.verdict.Verdict.TheVariants as verdict
 use Rattle.command_files.specs.Verdicts.{verdict_of, IsRefusalOf}
-use Rattle.outbox_opening.specs.declared.fault.OutboxFault.{OutboxFault}
-use Rattle.outbox_opening.specs.declared.fault.OutboxFault.TheVariants as made
+use Rattle.outbox_tables.specs.declared.fault.OutboxFault.{OutboxFault}
+use Rattle.outbox_tables.specs.declared.fault.OutboxFault.TheVariants as made
 use Rattle.outbox_tasks.specs.Dials.{Traffic}
 use Rattle.outbox_tasks.specs.declared.fault.TaskFault.{TaskFault}
 use Rattle.outbox_process.specs.declared.begun.Beginning.{Beginning}
@@ -31,14 +31,17 @@ IsTold (Ok done) result = result ≡ Ok tt
 IsTold (Err why) result = (told : OpeningFault) × (result ≡ Err told) × IsToldAs why told
 
 -- it was opened so, or was refused, and that is told
-abbrev pub OpensTold : {D : Type 0} (g : Ghosts D) → Beginning → Parts g → Parts g → Result (Unit {0}) OpeningFault → Type 0
-OpensTold g beginning old new result = (came : Result (Unit {0}) OpeningFault) × OpensProcess g beginning old new came × IsTold came result
+abbrev pub OpensTold : {D : Type 0} (g : Ghosts D) → Beginning → Parts g → Parts g → Result (Unit {0}) OpeningFault
+    → Type 0
+OpensTold g beginning old new result =
+    (came : Result (Unit {0}) OpeningFault) × OpensProcess g beginning old new came × IsTold came result
 
 -- ---- an errand
 
--- The outbox that lay there was opened, the errand was done on it, perhaps its entries were looked at again, and it was closed. The status
--- says whether all was done.
-pub record DoesOn {D : Type 0} (g : Ghosts D) (errand : Errand) (net net' : Traffic) (out out' : Option (List ℕ)) (old new : Parts g) (status : ℕ) : Type 0 where
+-- The outbox that lay there was opened, the errand was done on it, perhaps its entries were looked at again, and it was
+-- closed. The status says whether all was done.
+pub record DoesOn {D : Type 0} (g : Ghosts D) (errand : Errand) (net net' : Traffic) (out out' : Option (List ℕ))
+    (old new : Parts g) (status : ℕ) : Type 0 where
   pub opened : Parts g
   pub opens : OpensProcess g Found old opened (Ok tt)
   pub done : Parts g
@@ -57,7 +60,8 @@ pub record IsRefused {D : Type 0} (g : Ghosts D) (beginning : Beginning) (old ne
   pub says : status ≡ opening_status why
 
 -- one of the two
-abbrev pub VisitsOutbox : {D : Type 0} (g : Ghosts D) → Errand → Traffic → Traffic → Option (List ℕ) → Option (List ℕ) → Parts g → Parts g → ℕ → Type 0
+abbrev pub VisitsOutbox : {D : Type 0} (g : Ghosts D) → Errand → Traffic → Traffic → Option (List ℕ) → Option (List ℕ)
+    → Parts g → Parts g → ℕ → Type 0
 VisitsOutbox g errand net net' out out' old new status =
     DoesOn g errand net net' out out' old new status ⊎ (IsRefused g Found old new status × (net' ≡ net) × (out' ≡ out))
 

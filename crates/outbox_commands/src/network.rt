@@ -1,4 +1,5 @@
-//! The network of `outbox send` and `outbox ask`: a port of this machine, what its peer answered, and the receipts of that.
+//! The network of `outbox send` and `outbox ask`: a port of this machine, what its peer answered, and the receipts of
+//! that.
 
 ghost use Rattle.std.specs.Prelude.{◌≡◌};
 

@@ -22,10 +22,13 @@ use Rattle.outbox_core.specs.Files.{HoldOutbox}
 
 module _ {D : Type 0} {g : Ghosts D} where
   -- where it was no want of memory, the database was shut or the disk failed
-  pub excused : (conn : Held (FileStore D g)) (last : FileStore D g) (error : Error) → FailsToClose conn last error → store_fault error ≡ stores.Store → ((view conn.store).is_open ≡ false) ⊎ MoreFaults (faults conn.store) (faults last)
+  pub excused : (conn : Held (FileStore D g)) (last : FileStore D g) (error : Error) → FailsToClose conn last error
+      → store_fault error ≡ stores.Store → ((view conn.store).is_open ≡ false)
+      ⊎ MoreFaults (faults conn.store) (faults last)
   excused conn last error failed is = of failed.0 (ap store_fault (sym failed.1) ∙ is) failed.2
     where
-      of : (cause : StoreError) → store_fault (store_error cause) ≡ stores.Store → ExcusesClose conn last cause → ((view conn.store).is_open ≡ false) ⊎ MoreFaults (faults conn.store) (faults last)
+      of : (cause : StoreError) → store_fault (store_error cause) ≡ stores.Store → ExcusesClose conn last cause
+          → ((view conn.store).is_open ≡ false) ⊎ MoreFaults (faults conn.store) (faults last)
       of causes.OutOfMemory is excuse = absurd (cc)
       of causes.Io is excuse = inr excuse
       of causes.Corrupt is excuse = inr excuse
@@ -33,7 +36,15 @@ module _ {D : Type 0} {g : Ghosts D} where
       of causes.Broken is excuse = excuse
       of causes.Unstorable is excuse = absurd excuse
 
-  pub closed_outbox : (box : OutboxParts (FileStore D g)) (entries : List Entry) (files : Files D) → HasEntries over_files box entries → IsCopied box.conn files → AreUsable g files → HoldOutbox g files (contents box entries)
+  pub closed_outbox : (box : OutboxParts (FileStore D g)) (entries : List Entry) (files : Files D)
+      → HasEntries over_files box entries → IsCopied box.conn files → AreUsable g files
+      → HoldOutbox g files (contents box entries)
   closed_outbox box entries files has copied usable =
       let is = has.stands.now copied.was_open in
-      record { db = (file_state box.conn).now; outbox = is; held = leaves box.conn files copied (file_state box.conn).now is.sound (has.stands.committed copied.was_open); usable = usable }
+      record {
+        db = (file_state box.conn).now;
+        outbox = is;
+        held =
+            leaves box.conn files copied (file_state box.conn).now is.sound (has.stands.committed copied.was_open);
+        usable = usable;
+      }

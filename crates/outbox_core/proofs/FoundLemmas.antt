@@ -4,23 +4,27 @@ use Rattle.sqlite.specs.Store.{Ghosts}
 use Rattle.sqlite.specs.Tree.{Trees}
 use Rattle.sqlite.specs.Held.{Held, state}
 use Rattle.table_rows.specs.Standing.{HasCommitted}
-use Rattle.outbox_opening.specs.declared.fault.OutboxFault.{OutboxFault}
-use Rattle.outbox_opening.specs.declared.opening.FoundOutbox.{FoundOutbox}
-use Rattle.outbox_opening.specs.Entries.{contents_of}
-use Rattle.outbox_opening.specs.Migrating.{MigratesOutbox}
-use Rattle.outbox_opening.specs.Opening.{ReadsOutbox}
-use Rattle.outbox_opening.specs.Rows.{IsOutboxOf}
+use Rattle.outbox_tables.specs.declared.fault.OutboxFault.{OutboxFault}
+use Rattle.outbox_tables.specs.declared.opening.FoundOutbox.{FoundOutbox}
+use Rattle.outbox_tables.specs.Entries.{contents_of}
+use Rattle.outbox_tables.specs.Migrating.{MigratesOutbox}
+use Rattle.outbox_tables.specs.Opening.{ReadsOutbox}
+use Rattle.outbox_tables.specs.Rows.{IsOutboxOf}
 use Rattle.outbox_core.specs.HandedOut.{FindsOrGivesBack, MigratesOrGivesBack, over}
 use Rattle.outbox_core.specs.Refusals.{GivesBackMigrating, GivesBackOpening}
 use Rattle.outbox_core.proofs.ListLemmas.{leaves_last}
 use Rattle.outbox_core.proofs.UniqueLemmas.{holds_same, one_earlier, one_outbox}
 
-module _ {S : Type 0} (g : Ghosts S) (conn last : Held S) (unlimited : conn.step_limit ≡ None) (settled : IsTrue (state g last).is_open → (state g last).now ≡ (state g last).committed) where
-  pub opened : (r : Result FoundOutbox OutboxFault) → ((trees : Trees) → IsTrue (state g last).is_open → (state g last).may_leave trees → trees ≡ (state g last).committed.trees) → ReadsOutbox g conn last r
+module _ {S : Type 0} (g : Ghosts S) (conn last : Held S) (unlimited : conn.step_limit ≡ None)
+    (settled : IsTrue (state g last).is_open → (state g last).now ≡ (state g last).committed) where
+  pub opened : (r : Result FoundOutbox OutboxFault)
+      → ((trees : Trees) → IsTrue (state g last).is_open → (state g last).may_leave trees
+      → trees ≡ (state g last).committed.trees) → ReadsOutbox g conn last r
       → FindsOrGivesBack g conn (over last r)
   opened (Ok it) lasts h = record {
     outcome = record {
-      opened = λ clean declared. let found = h.found clean declared in (found.0, found.1, record { stands = found.2; count = found.3 });
+      opened = λ clean declared. let found = h.found clean declared in
+          (found.0, found.1, record { stands = found.2; count = found.3 });
       able = refl;
       same = λ clean outbox is.
           let found = h.found clean is.rows.declared in
@@ -29,8 +33,12 @@ module _ {S : Type 0} (g : Ghosts S) (conn last : Held S) (unlimited : conn.step
       durable = λ clean outbox is.
           let found = h.found clean is.rows.declared in
           let one = one_outbox (contents_of (string_bytes it.filer) found.0) outbox (state g conn).now found.1 is in
-          let alive = h.«open» clean is.rows.declared in
-          (alive, λ trees may. leaves_last (state g last) outbox (subst (λ i. HasCommitted (IsOutboxOf i) (state g last)) one found.2) alive trees (lasts trees alive may));
+          let alive = h.«open» clean is.rows.declared in (
+            alive,
+            λ trees may. leaves_last (state g last) outbox
+                (subst (λ i. HasCommitted (IsOutboxOf i) (state g last)) one found.2) alive trees
+                (lasts trees alive may),
+          );
       crash = h.crash;
       refused = tt;
       no_other = tt;
@@ -46,12 +54,26 @@ module _ {S : Type 0} (g : Ghosts S) (conn last : Held S) (unlimited : conn.step
         sound = h.sound;
         crash = h.crash;
       } in
-      record { outcome = record { opened = tt; able = tt; same = tt; durable = tt; crash = tt; refused = (last, back); no_other = h.others }; back = back }
+      record {
+        outcome = record {
+          opened = tt;
+          able = tt;
+          same = tt;
+          durable = tt;
+          crash = tt;
+          refused =
+              (last, back);
+          no_other = h.others;
+        };
+        back = back;
+      }
 
-  pub migrated : (r : Result FoundOutbox OutboxFault) → MigratesOutbox g conn last r → MigratesOrGivesBack g conn (over last r)
+  pub migrated : (r : Result FoundOutbox OutboxFault) → MigratesOutbox g conn last r
+      → MigratesOrGivesBack g conn (over last r)
   migrated (Ok it) h = record {
     outcome = record {
-      migrated = λ clean alone. let found = h.migrated clean alone in (found.0, found.1, record { stands = found.2; count = found.3 });
+      migrated = λ clean alone. let found = h.migrated clean alone in
+          (found.0, found.1, record { stands = found.2; count = found.3 });
       only = λ clean outbox alone is.
           let found = h.migrated clean alone in
           let one = one_earlier (contents_of (string_bytes it.filer) found.0) outbox (state g conn).now found.1 is in
@@ -60,8 +82,15 @@ module _ {S : Type 0} (g : Ghosts S) (conn last : Held S) (unlimited : conn.step
       refused = tt;
       crash = h.crash;
       durable = λ clean entries had.
-          let alive = h.«open» clean in
-          (alive, λ trees left. record { db = (state g last).now; is = h.durable clean trees left; outbox = had.stands.now alive });
+          let alive = h.«open» clean in (
+            alive,
+            λ trees left. record {
+              db = (state g last).now;
+              is = h.durable clean trees left;
+              outbox =
+                  had.stands.now alive;
+            },
+          );
     };
     back = tt;
   }
@@ -74,4 +103,15 @@ module _ {S : Type 0} (g : Ghosts S) (conn last : Held S) (unlimited : conn.step
         sound = h.sound;
         crash = h.crash;
       } in
-      record { outcome = record { migrated = tt; only = tt; able = tt; refused = (last, back); crash = tt; durable = tt }; back = back }
+      record {
+        outcome = record {
+          migrated = tt;
+          only = tt;
+          able = tt;
+          refused = (last, back);
+          crash = tt;
+          durable =
+              tt;
+        };
+        back = back;
+      }

@@ -1,5 +1,6 @@
 -- The hyphenated form of a UUID is a key.
-use Rattle.std.proofs.Common.{◌≡◌, ◌<◌, ◌+◌, ◌-◌, ◌/◌, ◌%◌, ℕ, zero, suc, Bool, true, false, not, cond, List, [], ◌∷◌, length, length-append, nat_lt, nat_le, arith, refl, sym, ap, ◌∙◌, true≢false, None}
+use Rattle.std.proofs.Common.{◌≡◌, ◌<◌, ◌+◌, ◌-◌, ◌/◌, ◌%◌, ℕ, zero, suc, Bool, true, false, not, cond, List, [], ◌∷◌}
+use Rattle.std.proofs.Common.{length, length-append, nat_lt, nat_le, arith, refl, sym, ap, ◌∙◌, true≢false, None}
 use Rattle.std.specs.List.{list_all, position, prefix_len}
 use Rattle.std.specs.Prelude.{◌==◌, ◌&&◌, slice_index}
 use Rattle.std.proofs.lemmas.Bool.Decides.{nat_tests}
@@ -37,7 +38,8 @@ nibble_low xs k = go (k % 2 == 0)
     go true = below _
     go false = below _
 
-place_printable : (xs : List ℕ) (k : ℕ) → is_printable (cond (is_hyphen_place k) hyphen (hex_digit lower (nibble xs (digit_place k)))) ≡ true
+place_printable : (xs : List ℕ) (k : ℕ)
+    → is_printable (cond (is_hyphen_place k) hyphen (hex_digit lower (nibble xs (digit_place k)))) ≡ true
 place_printable xs k = go (is_hyphen_place k)
   where
     go : (b : Bool) → is_printable (cond b hyphen (hex_digit lower (nibble xs (digit_place k)))) ≡ true
@@ -56,11 +58,14 @@ is_made_key xs =
     let printable : list_all is_printable text ≡ true = all_by_index 36 _ (place_printable xs) in
     is_key-IsKey text (rw (long, printable) refl)
 
-all_long : {X : Type 0} (p : X → Bool) (xs : List X) → list_all p xs ≡ true → prefix_len (λ x. not (not (p x))) xs ≡ length xs
+all_long : {X : Type 0} (p : X → Bool) (xs : List X) → list_all p xs ≡ true
+    → prefix_len (λ x. not (not (p x))) xs ≡ length xs
 all_long p [] all = refl
 all_long p (x ∷ xs) all = go (p x) all (all_long p xs)
   where
-    go : (b : Bool) → (b && list_all p xs) ≡ true → (list_all p xs ≡ true → prefix_len (λ x. not (not (p x))) xs ≡ length xs) → cond (not (not b)) (1 + prefix_len (λ x. not (not (p x))) xs) 0 ≡ suc (length xs)
+    go : (b : Bool) → (b && list_all p xs) ≡ true
+        → (list_all p xs ≡ true → prefix_len (λ x. not (not (p x))) xs ≡ length xs)
+        → cond (not (not b)) (1 + prefix_len (λ x. not (not (p x))) xs) 0 ≡ suc (length xs)
     go true all more = let one : 1 + length xs ≡ suc (length xs) = omega arith in ap (λ n. 1 + n) (more all) ∙ one
     go false all more = absurd (true≢false (sym all))
 
@@ -76,5 +81,7 @@ only_memory text NotString key why = absurd why
 only_memory text Empty key why = absurd (let none : length text ≡ 0 = ap length why in omega (arith, key.nonempty))
 only_memory text TooLong key why = absurd (omega (arith, key.short))
 only_memory text (NotPrintable at) key why =
-    absurd (let parts = IsKey-is_key text key in let none = none_fails is_printable text (last_part (nat_lt 0 (length text)) (nat_le (length text) 1024) (list_all is_printable text) parts) in cc)
+    absurd (let parts = IsKey-is_key text key in let none =
+    none_fails is_printable text (last_part (nat_lt 0 (length text)) (nat_le (length text) 1024)
+    (list_all is_printable text) parts) in cc)
 only_memory text Memory key why = refl

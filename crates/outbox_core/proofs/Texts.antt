@@ -17,8 +17,8 @@ use Rattle.table_rows.specs.Tables.{schema_with}
 use Rattle.table_rows.proofs.SelectLemmas.{one_table}
 use Rattle.table_rows.proofs.QueryLemmas.{Asks}
 use Rattle.table_rows.proofs.TextLemmas.{IsQueryText}
-use Rattle.outbox_opening.specs.Schema.{outbox_tables, IsDeclared}
-use Rattle.outbox_opening.proofs.Texts.{equals, by_id, entry_query, names}
+use Rattle.outbox_tables.specs.Schema.{outbox_tables, IsDeclared}
+use Rattle.outbox_tables.proofs.Texts.{equals, by_id, entry_query, names}
 
 abbrev pub by_key_text : List ℕ
 by_key_text = codes "SELECT id FROM entry WHERE idem = ?1 ORDER BY id"
@@ -125,7 +125,14 @@ module _ (tables : List Table) (indexes : List Index) (views : List View) where
 
   asks_states : Asks schema states_text states_query
   unfolding understood everything
-  asks_states = record { names = codes "id" ∷ codes "state" ∷ codes "number" ∷ []; is = refl; plain = (refl, refl); listing = refl }
+  asks_states =
+      record {
+        names = codes "id" ∷ codes "state" ∷ codes "number" ∷ [];
+        is = refl;
+        plain = (refl, refl);
+        listing =
+            refl;
+      }
 
   asks_target : Asks schema target_text target_query
   unfolding understood everything
@@ -157,22 +164,36 @@ module _ (tables : List Table) (indexes : List Index) (views : List View) where
 
 module _ (schema : Schema) (d : IsDeclared schema) where
   pub by_key_asks : Asks schema by_key_text key_query
-  by_key_asks = subst (λ s. Asks s by_key_text key_query) (sym d.begins.is) (asks_by_key d.begins.tables d.begins.indexes d.begins.views)
+  by_key_asks =
+      subst (λ s. Asks s by_key_text key_query) (sym d.begins.is)
+      (asks_by_key d.begins.tables d.begins.indexes d.begins.views)
 
   pub state_asks : Asks schema state_text state_query
-  state_asks = subst (λ s. Asks s state_text state_query) (sym d.begins.is) (asks_state d.begins.tables d.begins.indexes d.begins.views)
+  state_asks =
+      subst (λ s. Asks s state_text state_query) (sym d.begins.is)
+      (asks_state d.begins.tables d.begins.indexes d.begins.views)
 
   pub by_state_asks : Asks schema by_state_text (entry_query (equals 4))
-  by_state_asks = subst (λ s. Asks s by_state_text (entry_query (equals 4))) (sym d.begins.is) (asks_by_state d.begins.tables d.begins.indexes d.begins.views)
+  by_state_asks =
+      subst (λ s. Asks s by_state_text (entry_query (equals 4))) (sym d.begins.is)
+      (asks_by_state d.begins.tables d.begins.indexes d.begins.views)
 
   pub states_asks : Asks schema states_text states_query
-  states_asks = subst (λ s. Asks s states_text states_query) (sym d.begins.is) (asks_states d.begins.tables d.begins.indexes d.begins.views)
+  states_asks =
+      subst (λ s. Asks s states_text states_query) (sym d.begins.is)
+      (asks_states d.begins.tables d.begins.indexes d.begins.views)
 
   pub target_asks : Asks schema target_text target_query
-  target_asks = subst (λ s. Asks s target_text target_query) (sym d.begins.is) (asks_target d.begins.tables d.begins.indexes d.begins.views)
+  target_asks =
+      subst (λ s. Asks s target_text target_query) (sym d.begins.is)
+      (asks_target d.begins.tables d.begins.indexes d.begins.views)
 
   pub update_is : command_of (understood schema update_text) ≡ update_command
-  update_is = subst (λ s. command_of (understood s update_text) ≡ update_command) (sym d.begins.is) (does_update d.begins.tables d.begins.indexes d.begins.views)
+  update_is =
+      subst (λ s. command_of (understood s update_text) ≡ update_command) (sym d.begins.is)
+      (does_update d.begins.tables d.begins.indexes d.begins.views)
 
   pub update_plain : IsPlain (understood schema update_text)
-  update_plain = subst (λ s. IsPlain (understood s update_text)) (sym d.begins.is) (plain_update d.begins.tables d.begins.indexes d.begins.views)
+  update_plain =
+      subst (λ s. IsPlain (understood s update_text)) (sym d.begins.is)
+      (plain_update d.begins.tables d.begins.indexes d.begins.views)

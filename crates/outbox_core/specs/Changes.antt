@@ -7,10 +7,10 @@ use Rattle.sqlite.specs.Effect.{Database, IsDatabase}
 use Rattle.sqlite.specs.State.{State}
 use Rattle.filing_model.specs.Outbox.{Entry}
 use Rattle.table_rows.specs.Rows.{GainsInside}
-use Rattle.outbox_opening.specs.Schema.{IsDeclared, outbox_tables}
-use Rattle.outbox_opening.specs.Entries.{Contents}
+use Rattle.outbox_tables.specs.Schema.{IsDeclared, outbox_tables}
+use Rattle.outbox_tables.specs.Entries.{Contents}
 use Rattle.outbox_core.specs.Entries.{with_entry}
-use Rattle.outbox_opening.specs.Rows.{HasRows}
+use Rattle.outbox_tables.specs.Rows.{HasRows}
 
 -- a table of ours gains these rows inside a transaction, and the others stay
 abbrev pub GainsRows : Table → List Row → State → State → Type 0

@@ -2,7 +2,7 @@
 use Rattle.std.specs.Prelude.{ℕ, ◌==◌, Bool, true, false, List, [], ◌∷◌, ◌++◌, bytes_eq, find, Option, option_map}
 use Rattle.filing_model.specs.Numbered.{changed}
 use Rattle.filing_model.specs.Outbox.{Entry, State, Open}
-use Rattle.outbox_opening.specs.Entries.{Contents, numbered, entry_at}
+use Rattle.outbox_tables.specs.Entries.{Contents, numbered, entry_at}
 
 -- the entry of an id under it, if there is one
 abbrev pub found_at : List Entry → ℕ → Option (ℕ × Entry)

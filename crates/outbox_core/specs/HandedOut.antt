@@ -8,26 +8,28 @@ use Rattle.sqlite.specs.State.{Survives}
 use Rattle.filing_model.specs.Outbox.{Entry}
 use Rattle.table_rows.specs.Tables.{no_schema}
 use Rattle.table_rows.specs.Standing.{CommitsNothing}
-use Rattle.outbox_opening.specs.declared.fault.OutboxFault.{OutboxFault}
-use Rattle.outbox_opening.specs.declared.opening.FoundOutbox.{FoundOutbox}
-use Rattle.outbox_opening.specs.declared.fault.OutboxFault.TheVariants.{BadFiler, Taken}
-use Rattle.outbox_opening.specs.Schema.{IsDeclared, is_taken}
-use Rattle.outbox_opening.specs.Entries.{empty}
-use Rattle.outbox_opening.specs.Rows.{IsOutboxOf}
-use Rattle.outbox_opening.specs.Faults.{IsOfMaking, IsOfOpening}
+use Rattle.outbox_tables.specs.declared.fault.OutboxFault.{OutboxFault}
+use Rattle.outbox_tables.specs.declared.opening.FoundOutbox.{FoundOutbox}
+use Rattle.outbox_tables.specs.declared.fault.OutboxFault.TheVariants.{BadFiler, Taken}
+use Rattle.outbox_tables.specs.Schema.{IsDeclared, is_taken}
+use Rattle.outbox_tables.specs.Entries.{empty}
+use Rattle.outbox_tables.specs.Rows.{IsOutboxOf}
+use Rattle.outbox_tables.specs.Faults.{IsOfMaking, IsOfOpening}
 use Rattle.outbox_core.specs.OutboxParts.{OutboxParts, shows, contents, HandsOut, HasEntries, IsDurableAs}
-use Rattle.outbox_opening.specs.Promises.{ForOutbox}
-use Rattle.outbox_opening.specs.Making.{LeavesMade}
-use Rattle.outbox_opening.specs.Earlier.{ForEarlier, IsAlone, IsEarlierOf, LeavesMigrated}
-use Rattle.outbox_core.specs.Refusals.{GivesBackMaking, GivesBackOpening, GivesBackMigrating, GivesUpMaking, GivesUpOpening, GivesUpMigrating}
+use Rattle.outbox_tables.specs.Promises.{ForOutbox}
+use Rattle.outbox_tables.specs.Making.{LeavesMade}
+use Rattle.outbox_tables.specs.Earlier.{ForEarlier, IsAlone, IsEarlierOf, LeavesMigrated}
+use Rattle.outbox_core.specs.Refusals.{GivesBackMaking, GivesBackOpening, GivesBackMigrating, GivesUpMaking}
+use Rattle.outbox_core.specs.Refusals.{GivesUpOpening, GivesUpMigrating}
 
 -- An outbox of the filer of this code was made, in one transaction; or it was refused, and the connection is given up.
-pub record HandsOutMade {S : Type 0} (g : Ghosts S) (code : List ℕ) (conn : Held S) (result : Result (OutboxParts S) OutboxFault) : Type 0 where
+pub record HandsOutMade {S : Type 0} (g : Ghosts S) (code : List ℕ) (conn : Held S)
+    (result : Result (OutboxParts S) OutboxFault) : Type 0 where
   -- Where the database had no tables before, it has no entry.
   pub made : HandsOut g result (λ outbox. (state g conn).now.schema ≡ no_schema → HasEntries g outbox [])
   pub filer : IfOk result (λ outbox. (outbox.filer ≡ code) × (outbox.has_failed ≡ false))
-  -- BadFiler comes where the text is no filer code, and always there; Taken where it is one and one of the names is in use, and always
-  -- there.
+  -- BadFiler comes where the text is no filer code, and always there; Taken where it is one and one of the names is in
+  -- use, and always there.
   pub bad_filer : (result ≡ Err BadFiler) ↔ (is_filer code ≡ false)
   pub taken : (result ≡ Err Taken) ↔ ((is_filer code ≡ true) × IsTrue (is_taken (state g conn).now.schema))
   pub no_other : IfErr result IsOfMaking
@@ -37,35 +39,43 @@ pub record HandsOutMade {S : Type 0} (g : Ghosts S) (code : List ℕ) (conn : He
   pub crash : IfOk result (λ outbox. Survives (state g conn) (shows g outbox) (LeavesMade g code conn))
   pub durable : HandsOut g result (λ outbox. (state g conn).now.schema ≡ no_schema → IsDurableAs g outbox (empty code))
 
--- The outbox that the database holds was opened; or it was refused, and the connection is given up. Nothing was written.
-pub record HandsOutFound {S : Type 0} (g : Ghosts S) (conn : Held S) (result : Result (OutboxParts S) OutboxFault) : Type 0 where
+-- The outbox that the database holds was opened; or it was refused, and the connection is given up. Nothing was
+-- written.
+pub record HandsOutFound {S : Type 0} (g : Ghosts S) (conn : Held S)
+    (result : Result (OutboxParts S) OutboxFault) : Type 0 where
   -- Where the tables are declared as an outbox has them, the rows are those of the entries that it has.
   pub opened :
       HandsOut g result (λ outbox.
-      IsDeclared (state g conn).now.schema → (entries : List Entry) × IsOutboxOf (contents outbox entries) (state g conn).now × HasEntries g outbox entries)
+      IsDeclared (state g conn).now.schema → (entries : List Entry)
+      × IsOutboxOf (contents outbox entries) (state g conn).now × HasEntries g outbox entries)
   pub able : IfOk result (λ outbox. outbox.has_failed ≡ false)
   -- Where the database is an outbox, it is that one that is opened, and after the call a crash leaves it alone.
-  pub same : IfOk result (λ outbox. ForOutbox g conn outbox.conn (λ it. (outbox.filer ≡ it.filer) × HasEntries g outbox it.entries))
+  pub same : IfOk result (λ outbox. ForOutbox g conn outbox.conn (λ it. (outbox.filer ≡ it.filer)
+      × HasEntries g outbox it.entries))
   pub durable : IfOk result (λ outbox. ForOutbox g conn outbox.conn (IsDurableAs g outbox))
   pub crash : IfOk result (λ outbox. CommitsNothing (state g conn) (shows g outbox))
   -- Of some last state of the connection, which is given up: `open_or_back` says it of the one that comes back.
   pub refused : IfErr result (GivesUpOpening g conn)
   pub no_other : IfErr result IsOfOpening
 
--- The outbox that the database holds in the form before this one was brought into this one, in one transaction, and opened; or it was
--- refused, and the connection is given up.
-pub record HandsOutMigrated {S : Type 0} (g : Ghosts S) (conn : Held S) (result : Result (OutboxParts S) OutboxFault) : Type 0 where
+-- The outbox that the database holds in the form before this one was brought into this one, in one transaction, and
+-- opened; or it was refused, and the connection is given up.
+pub record HandsOutMigrated {S : Type 0} (g : Ghosts S) (conn : Held S)
+    (result : Result (OutboxParts S) OutboxFault) : Type 0 where
   -- Where the database has no other tables, the rows were in that form those of the entries that it has.
   pub migrated :
       HandsOut g result (λ outbox.
-      IsAlone (state g conn).now.schema → (entries : List Entry) × IsEarlierOf (contents outbox entries) (state g conn).now × HasEntries g outbox entries)
-  pub only : HandsOut g result (λ outbox. ForEarlier (state g conn) (λ it. (outbox.filer ≡ it.filer) × HasEntries g outbox it.entries))
+      IsAlone (state g conn).now.schema → (entries : List Entry)
+      × IsEarlierOf (contents outbox entries) (state g conn).now × HasEntries g outbox entries)
+  pub only : HandsOut g result (λ outbox. ForEarlier (state g conn) (λ it. (outbox.filer ≡ it.filer)
+      × HasEntries g outbox it.entries))
   pub able : IfOk result (λ outbox. outbox.has_failed ≡ false)
   -- Of some last state of the connection, which is given up: `migrate_or_back` says it of the one that comes back.
   pub refused : IfErr result (GivesUpMigrating g conn)
   -- A crash leaves what it could leave before, or the migrated rows, and after the call these alone.
   pub crash : IfOk result (λ outbox. Survives (state g conn) (shows g outbox) (LeavesMigrated (state g conn)))
-  pub durable : HandsOut g result (λ outbox. (entries : List Entry) → HasEntries g outbox entries → IsDurableAs g outbox (contents outbox entries))
+  pub durable : HandsOut g result (λ outbox. (entries : List Entry) → HasEntries g outbox entries
+      → IsDurableAs g outbox (contents outbox entries))
 
 -- ---- or the connection comes back
 
@@ -75,20 +85,25 @@ without_conn = result_map_both (λ outbox. outbox) (λ refusal. refusal.0)
 
 -- over this connection, the outbox that was found; or the fault and the connection
 abbrev pub over : {S : Type 0} → Held S → Result FoundOutbox OutboxFault → Result (OutboxParts S) (OutboxFault × Held S)
-over conn (Ok found) = Ok (record { conn = conn; filer = string_bytes found.filer; count = found.count; has_failed = false })
+over conn (Ok found) =
+    Ok (record { conn = conn; filer = string_bytes found.filer; count = found.count; has_failed = false })
 over conn (Err fault) = Err (fault, conn)
 
--- What `create_or_back` does: what `create` does, and of the connection that comes back it says what was left of the database.
-pub record MakesOrGivesBack {S : Type 0} (g : Ghosts S) (code : List ℕ) (conn : Held S) (result : Result (OutboxParts S) (OutboxFault × Held S)) : Type 0 where
+-- What `create_or_back` does: what `create` does, and of the connection that comes back it says what was left of the
+-- database.
+pub record MakesOrGivesBack {S : Type 0} (g : Ghosts S) (code : List ℕ) (conn : Held S)
+    (result : Result (OutboxParts S) (OutboxFault × Held S)) : Type 0 where
   pub outcome : HandsOutMade g code conn (without_conn result)
   pub back : IfErr result (λ refusal. GivesBackMaking g code conn refusal.0 refusal.1)
 
 -- What `open_or_back` does, in the same way.
-pub record FindsOrGivesBack {S : Type 0} (g : Ghosts S) (conn : Held S) (result : Result (OutboxParts S) (OutboxFault × Held S)) : Type 0 where
+pub record FindsOrGivesBack {S : Type 0} (g : Ghosts S) (conn : Held S)
+    (result : Result (OutboxParts S) (OutboxFault × Held S)) : Type 0 where
   pub outcome : HandsOutFound g conn (without_conn result)
   pub back : IfErr result (λ refusal. GivesBackOpening g conn refusal.0 refusal.1)
 
 -- What `migrate_or_back` does, in the same way.
-pub record MigratesOrGivesBack {S : Type 0} (g : Ghosts S) (conn : Held S) (result : Result (OutboxParts S) (OutboxFault × Held S)) : Type 0 where
+pub record MigratesOrGivesBack {S : Type 0} (g : Ghosts S) (conn : Held S)
+    (result : Result (OutboxParts S) (OutboxFault × Held S)) : Type 0 where
   pub outcome : HandsOutMigrated g conn (without_conn result)
   pub back : IfErr result (λ refusal. GivesBackMigrating g conn refusal.0 refusal.1)

@@ -8,9 +8,9 @@ use Rattle.sqlite.specs.State.{State, HasCleanDisk, Survives}
 use Rattle.http_messages.specs.Reply.{ReplyParts}
 use Rattle.filing_model.specs.Outbox.{Entry, moved}
 use Rattle.table_rows.specs.Standing.{HasCommitted}
-use Rattle.outbox_opening.specs.Entries.{Contents, entry_at}
+use Rattle.outbox_tables.specs.Entries.{Contents, entry_at}
 use Rattle.outbox_core.specs.Entries.{with_state}
-use Rattle.outbox_opening.specs.Rows.{IsOutboxOf, LeavesOutbox}
+use Rattle.outbox_tables.specs.Rows.{IsOutboxOf, LeavesOutbox}
 
 -- a connection, the filer, how many entries there are, and whether a call was refused as Store
 pub record OutboxParts (S : Type 0) : Type 0 where
@@ -21,8 +21,10 @@ pub record OutboxParts (S : Type 0) : Type 0 where
 
 abbrev pub parts_code : {S : Type 0} → Coded S → Coded (OutboxParts S)
 parts_code {S} store =
-    code_by (Held S × (List ℕ × (ℕ × Bool))) (coded× (held_code store) (coded× (coded_list coded_ℕ) (coded× coded_ℕ coded_bool)))
-    (λ b. (b.conn, (b.filer, (b.count, b.has_failed)))) (λ p. record { conn = p.0; filer = p.1.0; count = p.1.1.0; has_failed = p.1.1.1 }) (λ _. refl)
+    code_by (Held S × (List ℕ × (ℕ × Bool))) (coded× (held_code store)
+    (coded× (coded_list coded_ℕ) (coded× coded_ℕ coded_bool)))
+    (λ b. (b.conn, (b.filer, (b.count, b.has_failed))))
+    (λ p. record { conn = p.0; filer = p.1.0; count = p.1.1.0; has_failed = p.1.1.1 }) (λ _. refl)
 
 -- what its connection shows
 abbrev pub shows : {S : Type 0} → Ghosts S → OutboxParts S → State
@@ -32,8 +34,8 @@ shows g box = state g box.conn
 abbrev pub contents : {S : Type 0} → OutboxParts S → List Entry → Contents
 contents box entries = record { filer = box.filer; entries = entries }
 
--- While it is open, the outbox holds these entries, and they are committed. One that a fault of the disk shut says nothing of
--- its rows.
+-- While it is open, the outbox holds these entries, and they are committed. One that a fault of the disk shut says
+-- nothing of its rows.
 pub record HasEntries {S : Type 0} (g : Ghosts S) (box : OutboxParts S) (entries : List Entry) : Type 0 where
   pub stands : HasCommitted (IsOutboxOf (contents box entries)) (shows g box)
   pub count : box.count ≡ length entries
@@ -52,13 +54,16 @@ KeepsOnRefusal g old new result = ForEntries g old new (λ entries. OnErr result
 
 -- It is open, and a crash now leaves this outbox alone.
 abbrev pub IsDurableAs : {S : Type 0} → Ghosts S → OutboxParts S → Contents → Type 0
-IsDurableAs g box it = IsTrue (shows g box).is_open × ((trees : Trees) → (shows g box).may_leave trees → LeavesOutbox it trees)
+IsDurableAs g box it =
+    IsTrue (shows g box).is_open × ((trees : Trees) → (shows g box).may_leave trees → LeavesOutbox it trees)
 
 -- A crash inside the call leaves what one before it could leave, or this, by the entries of before.
 abbrev pub SurvivesAs : {S : Type 0} → Ghosts S → OutboxParts S → OutboxParts S → (List Entry → Trees → Type 0) → Type 0
 SurvivesAs g old new Leaves =
-    Survives (shows g old) (shows g new) (λ trees. (entries : List Entry) → HasEntries g old entries → IsTrue (shows g old).is_open → Leaves entries trees)
+    Survives (shows g old) (shows g new) (λ trees. (entries : List Entry) → HasEntries g old entries
+    → IsTrue (shows g old).is_open → Leaves entries trees)
 
 -- the id names an entry, and the trees are of this outbox after its move by the reply
 abbrev pub LeavesMoved : Contents → ℕ → ReplyParts → Trees → Type 0
-LeavesMoved it id reply trees = (e : Entry) × (entry_at it.entries id ≡ Some e) × LeavesOutbox (with_state it id (moved e.state reply)) trees
+LeavesMoved it id reply trees =
+    (e : Entry) × (entry_at it.entries id ≡ Some e) × LeavesOutbox (with_state it id (moved e.state reply)) trees

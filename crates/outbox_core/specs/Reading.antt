@@ -8,7 +8,7 @@ use Rattle.filing_model.specs.Outbox.{Entry, State, Open, Confirmed, Refused, Cl
 use Rattle.filing_model.specs.Views.{view_state}
 use Rattle.filing_model.specs.declared.state.State.{State as Stored}
 use Rattle.outbox_core.specs.declared.entry.Entry.{Entry as Read}
-use Rattle.outbox_opening.specs.Rows.{code_of, number_of}
+use Rattle.outbox_tables.specs.Rows.{code_of, number_of}
 
 -- the id of an entry, and the rest
 abbrev pub view_entry : Read → ℕ × Entry
@@ -33,7 +33,9 @@ nat_in (Int (pos n)) = n
 nat_in _ = 0
 
 abbrev pub state_in : Value → Value → State
-state_in (Int code) number = if int_eq code (pos 1) then Confirmed (nat_in number) else (if int_eq code (pos 2) then Refused else (if int_eq code (pos 3) then Clashed else Open))
+state_in (Int code) number =
+    if int_eq code (pos 1) then Confirmed (nat_in number)
+    else (if int_eq code (pos 2) then Refused else (if int_eq code (pos 3) then Clashed else Open))
 state_in _ number = Open
 
 -- the id and the state that a row of id, state and number tells

@@ -4,23 +4,26 @@ use Rattle.sqlite.specs.Store.{Ghosts}
 use Rattle.sqlite.specs.Held.{Held, state}
 use Rattle.sqlite.specs.State.{HasCleanDisk, KeepsCommit, Survives}
 use Rattle.table_rows.specs.Standing.{CommitsNothing}
-use Rattle.outbox_opening.specs.declared.fault.OutboxFault.{OutboxFault}
-use Rattle.outbox_opening.specs.declared.fault.OutboxFault.TheVariants.{BadFiler, Taken}
-use Rattle.outbox_opening.specs.Audit.{IsRefused}
-use Rattle.outbox_opening.specs.Earlier.{IsEarlierOf, IsNotMigrated, LeavesMigrated, is_blocked}
-use Rattle.outbox_opening.specs.Entries.{Contents}
-use Rattle.outbox_opening.specs.Faults.{IsFailure}
-use Rattle.outbox_opening.specs.Making.{LeavesMade}
-use Rattle.outbox_opening.specs.Promises.{ForOutbox}
+use Rattle.outbox_tables.specs.declared.fault.OutboxFault.{OutboxFault}
+use Rattle.outbox_tables.specs.declared.fault.OutboxFault.TheVariants.{BadFiler, Taken}
+use Rattle.outbox_tables.specs.Audit.{IsRefused}
+use Rattle.outbox_tables.specs.Earlier.{IsEarlierOf, IsNotMigrated, LeavesMigrated, is_blocked}
+use Rattle.outbox_tables.specs.Entries.{Contents}
+use Rattle.outbox_tables.specs.Faults.{IsFailure}
+use Rattle.outbox_tables.specs.Making.{LeavesMade}
+use Rattle.outbox_tables.specs.Promises.{ForOutbox}
 
 -- ---- the connection comes back
 
 -- What is written is what was committed, and it is committed still: so the rows are as they were.
 abbrev pub ShowsCommitted : {S : Type 0} → Ghosts S → Held S → Held S → Type 0
-ShowsCommitted g conn back = HasCleanDisk (state g back) → KeepsCommit (state g conn) (state g back) × (IsTrue (state g back).is_open → (state g back).now ≡ (state g conn).committed)
+ShowsCommitted g conn back = HasCleanDisk (state g back)
+    → KeepsCommit (state g conn) (state g back) × (IsTrue (state g back).is_open
+    → (state g back).now ≡ (state g conn).committed)
 
 -- No outbox was made, and the connection comes back as one that may be used again.
-pub record GivesBackMaking {S : Type 0} (g : Ghosts S) (filer : List ℕ) (conn : Held S) (fault : OutboxFault) (back : Held S) : Type 0 where
+pub record GivesBackMaking {S : Type 0} (g : Ghosts S) (filer : List ℕ) (conn : Held S) (fault : OutboxFault)
+    (back : Held S) : Type 0 where
   pub autocommit : back.in_transaction ≡ false
   pub unlimited : back.step_limit ≡ None
   pub untouched : (fault ≡ BadFiler) ⊎ (fault ≡ Taken) → back ≡ conn
@@ -29,7 +32,8 @@ pub record GivesBackMaking {S : Type 0} (g : Ghosts S) (filer : List ℕ) (conn 
   pub crash : Survives (state g conn) (state g back) (LeavesMade g filer conn)
 
 -- No outbox was opened, and the connection comes back as one that may be used again. The fault says why.
-pub record GivesBackOpening {S : Type 0} (g : Ghosts S) (conn : Held S) (fault : OutboxFault) (back : Held S) : Type 0 where
+pub record GivesBackOpening {S : Type 0} (g : Ghosts S) (conn : Held S) (fault : OutboxFault) (back : Held S)
+    : Type 0 where
   pub autocommit : back.in_transaction ≡ false
   pub unlimited : back.step_limit ≡ None
   pub same : ShowsCommitted g conn back
@@ -40,20 +44,22 @@ pub record GivesBackOpening {S : Type 0} (g : Ghosts S) (conn : Held S) (fault :
   pub crash : CommitsNothing (state g conn) (state g back)
 
 -- No outbox was migrated, and the connection comes back as one that may be used again. The fault says why.
-pub record GivesBackMigrating {S : Type 0} (g : Ghosts S) (conn : Held S) (fault : OutboxFault) (back : Held S) : Type 0 where
+pub record GivesBackMigrating {S : Type 0} (g : Ghosts S) (conn : Held S) (fault : OutboxFault) (back : Held S)
+    : Type 0 where
   pub autocommit : back.in_transaction ≡ false
   pub unlimited : back.step_limit ≡ None
   pub same : ShowsCommitted g conn back
   pub why : HasCleanDisk (state g back) → IsNotMigrated g fault conn back
   -- Where the rows hold an outbox in the earlier form, and the name is not in the way, it is by memory or disk.
-  pub sound : HasCleanDisk (state g back) → (it : Contents) → IsEarlierOf it (state g conn).now → is_blocked (state g conn).now.schema ≡ false → IsFailure fault
+  pub sound : HasCleanDisk (state g back) → (it : Contents) → IsEarlierOf it (state g conn).now
+      → is_blocked (state g conn).now.schema ≡ false → IsFailure fault
   -- A crash leaves what it could leave before, or the migrated rows.
   pub crash : Survives (state g conn) (state g back) (LeavesMigrated (state g conn))
 
 -- ---- the connection is given up
 
--- No clause can name the last state of a connection that is given up: this says that some such state is its last. The calls that give the
--- connection back say it of the one that comes back.
+-- No clause can name the last state of a connection that is given up: this says that some such state is its last. The
+-- calls that give the connection back say it of the one that comes back.
 abbrev pub GivesUpMaking : {S : Type 0} → Ghosts S → List ℕ → Held S → OutboxFault → Type 0
 GivesUpMaking {S} g filer conn fault = (last : Held S) × GivesBackMaking g filer conn fault last
 

@@ -3,7 +3,7 @@ use Rattle.std.specs.Prelude.{ℕ, pos, [], ◌∷◌}
 use Rattle.sqlite.specs.declared.types.Value.TheVariants.{Int}
 use Rattle.sqlite.specs.Order.{Row}
 use Rattle.filing_model.specs.Outbox.{Entry}
-use Rattle.outbox_opening.specs.Rows.{code_of, number_of}
+use Rattle.outbox_tables.specs.Rows.{code_of, number_of}
 
 -- its id alone
 abbrev pub id_row : ℕ × Entry → Row

@@ -1,6 +1,7 @@
 //! What the calls on an outbox do to its entries, in two statements at most.
 
-ghost use Rattle.std.specs.Prelude.{◌≡◌, ◌≢◌, ◌+◌, ◌^◌, ◌<◌, ◌≤◌, ℕ, Option, length, find, map, option_map, None, Some, IsTrue, IfOk, IfErr, OnOk, IfSome, ◌⊎◌};
+ghost use Rattle.std.specs.Prelude.{◌≡◌, ◌≢◌, ◌+◌, ◌^◌, ◌<◌, ◌≤◌, ℕ, Option, length, find, map, option_map, None, Some};
+ghost use Rattle.std.specs.Prelude.{IsTrue, IfOk, IfErr, OnOk, IfSome, ◌⊎◌};
 ghost use Rattle.sqlite.specs.State.{Survives};
 ghost use Rattle.sqlite.specs.Held.{state};
 ghost use Rattle.key_string.specs.Key.{IsKey};
@@ -10,9 +11,9 @@ ghost use Rattle.http_messages.specs.Replies.{reply_parts};
 ghost use Rattle.filing_model.specs.Outbox.{Entry as Item, moved};
 ghost use Rattle.table_rows.specs.Leaving.{MayRead, OnlyReads};
 ghost use Rattle.table_rows.specs.Standing.{HasCommitted, Commits};
-ghost use Rattle.outbox_opening.specs.Entries.{IsOutbox, numbered, entry_at};
+ghost use Rattle.outbox_tables.specs.Entries.{IsOutbox, numbered, entry_at};
 ghost use Rattle.outbox_core.specs.Entries.{opened, has_text, found_at, first_open, with_entry, with_state};
-ghost use Rattle.outbox_opening.specs.Rows.{IsOutboxOf, LeavesOutbox, entry_row};
+ghost use Rattle.outbox_tables.specs.Rows.{IsOutboxOf, LeavesOutbox, entry_row};
 ghost use Rattle.filing_model.specs.Views.{view_state};
 ghost use Rattle.outbox_core.specs.Reading.{Finds, view_entry, view_pair, id_and_state};
 ghost use Rattle.outbox_core.specs.OutboxParts.{LeavesMoved};
@@ -25,8 +26,8 @@ use crate::state::moved;
 use crate::write::keep_entry;
 use filing_model::State;
 use http_messages::Reply;
-use outbox_opening::MAX_ENTRIES;
-use outbox_opening::columns::entry;
+use outbox_tables::MAX_ENTRIES;
+use outbox_tables::columns::entry;
 use sqlite::{Alter, Connection, Row};
 use std::alloc::Global;
 use table_rows::StoreFault;

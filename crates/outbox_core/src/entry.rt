@@ -6,7 +6,7 @@ ghost use Rattle.http_messages.specs.Posting.{IsTarget};
 ghost use Rattle.sqlite.specs.declared.types.Value.TheVariants.{Int};
 ghost use Rattle.sqlite.specs.Order.{column};
 ghost use Rattle.sqlite.specs.Values.{or_null};
-ghost use Rattle.outbox_opening.specs.Rows.{code_of, number_of};
+ghost use Rattle.outbox_tables.specs.Rows.{code_of, number_of};
 ghost use Rattle.filing_model.specs.Views.{view_state};
 ghost use Rattle.outbox_core.specs.Reading.{view_pair, state_told};
 
@@ -14,7 +14,7 @@ use crate::columns::{state, states};
 use filing_model::{State, is_target};
 use http_messages::MAX_BODY_LEN;
 use key_string::{KeyFault, KeyText};
-use outbox_opening::columns::entry;
+use outbox_tables::columns::entry;
 use sqlite::Row;
 use std::alloc::Global;
 use table_rows::StoreFault;

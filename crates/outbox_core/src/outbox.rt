@@ -4,7 +4,7 @@ ghost use Rattle.std.specs.Prelude.{◌≡◌, ◌^◌, ◌≤◌, ◌↔◌, ma
 ghost use Rattle.key_string.specs.Filer.{is_filer};
 ghost use Rattle.http_messages.specs.Posting.{IsTarget};
 ghost use Rattle.http_messages.specs.Replies.{reply_parts};
-ghost use Rattle.outbox_opening.specs.Entries.{numbered};
+ghost use Rattle.outbox_tables.specs.Entries.{numbered};
 ghost use Rattle.outbox_core.specs.Entries.{found_at, first_open};
 ghost use Rattle.outbox_core.specs.Reading.{view_pair, id_and_state};
 ghost use Rattle.table_rows.specs.Standing.{CommitsNothing, IsAtRest};
@@ -17,7 +17,7 @@ use crate::fault::{PutFault, TakeFault};
 use filing_model::State;
 use http_messages::{MAX_BODY_LEN, Reply};
 use key_string::KeyText;
-use outbox_opening::{FoundOutbox, OutboxFault, make_outbox, migrate_outbox, read_outbox};
+use outbox_tables::{FoundOutbox, OutboxFault, make_outbox, migrate_outbox, read_outbox};
 use sqlite::{Alter, Connection};
 use std::alloc::Global;
 use std::marker::Model;
@@ -204,8 +204,8 @@ impl<S: Alter> Outbox<S> {
         conn
     }
 
-    /// Puts a report in as an open entry, which may be to replace the filing of a number, and answers its id: 1, 2, 3, .. A
-    /// refusal gives the key and the body up. With 2^62 entries the answer is Store.
+    /// Puts a report in as an open entry, which may be to replace the filing of a number, and answers its id: 1, 2, 3,
+    /// .. A refusal gives the key and the body up. With 2^62 entries the answer is Store.
     pub fn put(&mut self, key: KeyText, target: Option<u64>, body: Vec<u8>) -> Result<u64, PutFault>
         requires { IsTarget target }
         ensures { PutsEntry S.Store self.old self.new key target body.items result }

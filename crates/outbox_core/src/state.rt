@@ -5,7 +5,7 @@ ghost use Rattle.serde_json.specs.View.{view};
 ghost use Rattle.xbrl_report.specs.Findings.{tree};
 ghost use Rattle.http_messages.specs.Replies.{reply_parts};
 ghost use Rattle.filing_model.specs.Outbox.{has_word, has_status, refuses, confirmed_by, state_by, state_told, moved};
-ghost use Rattle.outbox_opening.specs.Entries.{FitsNumber};
+ghost use Rattle.outbox_tables.specs.Entries.{FitsNumber};
 ghost use Rattle.filing_model.specs.Views.{view_state};
 
 use filing_model::State;
@@ -30,8 +30,8 @@ fn has_status(tree: &Value, word: &str) -> bool
     has_word(tree, "status", word)
 }
 
-/// Whether the report is refused for this reason: problem details have it in `reason` (RFC 9457), and contents of before in
-/// `status`.
+/// Whether the report is refused for this reason: problem details have it in `reason` (RFC 9457), and contents of
+/// before in `status`.
 fn refuses(tree: &Value, word: &str) -> bool
     ensures { result ≡ refuses word.now (view tree.now) }
 {

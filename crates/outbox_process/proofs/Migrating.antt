@@ -10,30 +10,33 @@ use Rattle.sqlite.specs.Store.{Ghosts}
 use Rattle.table_rows.specs.Causes.{cause_of}
 use Rattle.table_rows.specs.declared.cause.Cause.TheVariants.{Other}
 use Rattle.table_rows.proofs.TextLemmas.{no_returning, query_same}
-use Rattle.outbox_opening.specs.Audit.{meta_text, IsNoOutbox}
-use Rattle.outbox_opening.specs.Earlier.{IsAlone, IsEarlierOf}
-use Rattle.outbox_opening.specs.Faults.{IsFailure}
-use Rattle.outbox_opening.specs.declared.fault.OutboxFault.TheVariants.{NotOurs}
+use Rattle.outbox_tables.specs.Audit.{meta_text, IsNoOutbox}
+use Rattle.outbox_tables.specs.Earlier.{IsAlone, IsEarlierOf}
+use Rattle.outbox_tables.specs.Faults.{IsFailure}
+use Rattle.outbox_tables.specs.declared.fault.OutboxFault.TheVariants.{NotOurs}
 use Rattle.outbox_core.specs.OutboxParts.{OutboxParts}
 use Rattle.outbox_core.specs.Refusals.{GivesBackOpening, GivesBackMigrating}
 use Rattle.outbox_process.specs.Begun.{MigratesEarlier, MigratesOutbox}
 use Rattle.outbox_process.specs.Refusals.{IsNotEarlier, RefusesMigrating}
 use Rattle.outbox_process.specs.declared.fault.OpeningFault.{OpeningFault}
 use Rattle.outbox_process.specs.declared.fault.OpeningFault.TheVariants.{Files, Taken, Create, Open, IsCurrent, Migrate}
-use Rattle.outbox_opening.proofs.StopLemmas.{unchanged_other}
-use Rattle.outbox_opening.proofs.Texts.{meta_reads}
+use Rattle.outbox_tables.proofs.StopLemmas.{unchanged_other}
+use Rattle.outbox_tables.proofs.Texts.{meta_reads}
 
-not_run_kept : (old new : State) (e : Error) → cause_of e ≡ Other → IsNotRun old new meta_text [] e → IsUnchanged old new
+not_run_kept : (old new : State) (e : Error) → cause_of e ≡ Other → IsNotRun old new meta_text [] e
+    → IsUnchanged old new
 unfolding IsNotRun
 not_run_kept old new e other (inl not_run) = not_run.1
 not_run_kept old new e other (inr failed) = unchanged_other old new e other (inr failed)
 
-unread_kept : (old new : State) (e : Error) → cause_of e ≡ Other → FailsToQuery meta_text [] old new e → IsUnchanged old new
+unread_kept : (old new : State) (e : Error) → cause_of e ≡ Other → FailsToQuery meta_text [] old new e
+    → IsUnchanged old new
 unfolding FailsToQuery
 unread_kept old new e other (inl not_run) = not_run_kept old new e other not_run
 unread_kept old new e other (inr it) = go it.0.returning (no_returning meta_text meta_reads [] old new it.0 it.1) it.2
   where
-    go : (o : Option Returning) → o ≡ None → FailsToShow old new meta_text it.0 (timed [] it.0.formats it.1.now) e o → IsUnchanged old new
+    go : (o : Option Returning) → o ≡ None → FailsToShow old new meta_text it.0 (timed [] it.0.formats it.1.now) e o
+        → IsUnchanged old new
     go None none fails = fails.3
     go (Some what) none fails = absurd cc
 
@@ -51,15 +54,18 @@ module _ {S : Type 0} (g : Ghosts S) (conn back : Held S) (given : GivesBackOpen
   migrated outbox earlier clean =
       let was = earlier clean in
       let same = (no_outbox_kept 2 (state g conn) (state g back) (given.why was.0)).0.now_is in (
-        λ it alone is. was.1 it (subst (λ (db : Database). IsAlone db.schema) (sym same) alone) (subst (IsEarlierOf it) (sym same) is),
+        λ it alone is. was.1 it (subst (λ (db : Database). IsAlone db.schema) (sym same) alone)
+            (subst (IsEarlierOf it) (sym same) is),
         λ it is. not_failed (given.sound was.0 it is),
       )
 
-  pub all_migrated : {E : Type 0} (r : Result (OutboxParts S) E) → IfOk r (MigratesEarlier g back) → IfOk r (MigratesOutbox g conn)
+  pub all_migrated : {E : Type 0} (r : Result (OutboxParts S) E) → IfOk r (MigratesEarlier g back)
+      → IfOk r (MigratesOutbox g conn)
   all_migrated (Ok outbox) earlier = migrated outbox earlier
   all_migrated (Err fault) earlier = tt
 
-  refused : (fault : OpeningFault) (last : Held S) → IsNotEarlier fault (λ why. GivesBackMigrating g back why last) → RefusesMigrating g conn last fault
+  refused : (fault : OpeningFault) (last : Held S) → IsNotEarlier fault (λ why. GivesBackMigrating g back why last)
+      → RefusesMigrating g conn last fault
   refused (Migrate why holding) last is = inr (back, given, is)
   refused (Files why) last is = absurd is
   refused (Taken holding) last is = absurd is
@@ -67,6 +73,8 @@ module _ {S : Type 0} (g : Ghosts S) (conn back : Held S) (given : GivesBackOpen
   refused (Open why holding) last is = absurd is
   refused IsCurrent last is = absurd is
 
-  pub all_refused : {A : Type 0} (r : Result A (OpeningFault × Held S)) → IfErr r (λ refusal. IsNotEarlier refusal.0 (λ why. GivesBackMigrating g back why refusal.1)) → IfErr r (λ refusal. RefusesMigrating g conn refusal.1 refusal.0)
+  pub all_refused : {A : Type 0} (r : Result A (OpeningFault × Held S))
+      → IfErr r (λ refusal. IsNotEarlier refusal.0 (λ why. GivesBackMigrating g back why refusal.1))
+      → IfErr r (λ refusal. RefusesMigrating g conn refusal.1 refusal.0)
   all_refused (Ok outbox) is = tt
   all_refused (Err refusal) is = refused refusal.0 refusal.1 is

@@ -3,9 +3,9 @@ use Rattle.std.specs.Prelude.{◌≡◌, ℕ, List}
 use Rattle.sqlite.specs.Store.{Ghosts}
 use Rattle.sqlite.specs.Held.{Held, state}
 use Rattle.sqlite.specs.State.{HasCleanDisk}
-use Rattle.outbox_opening.specs.Earlier.{ForEarlier}
-use Rattle.outbox_opening.specs.Entries.{Contents, empty}
-use Rattle.outbox_opening.specs.Rows.{IsOutboxOf}
+use Rattle.outbox_tables.specs.Earlier.{ForEarlier}
+use Rattle.outbox_tables.specs.Entries.{Contents, empty}
+use Rattle.outbox_tables.specs.Rows.{IsOutboxOf}
 use Rattle.outbox_core.specs.OutboxParts.{OutboxParts, shows, HasEntries}
 use Rattle.outbox_process.specs.declared.begun.Beginning.{Beginning}
 use Rattle.outbox_process.specs.declared.begun.Beginning.TheVariants.{Found, Made, Migrated}
@@ -16,7 +16,8 @@ HasContents g outbox it = HasEntries g outbox it.entries × (outbox.filer ≡ it
 
 -- it is the outbox of the database's rows
 abbrev pub FindsOutbox : {S : Type 0} → Ghosts S → Held S → OutboxParts S → Type 0
-FindsOutbox g conn outbox = HasCleanDisk (shows g outbox) → (it : Contents) → IsOutboxOf it (state g conn).now → HasContents g outbox it
+FindsOutbox g conn outbox = HasCleanDisk (shows g outbox) → (it : Contents) → IsOutboxOf it (state g conn).now
+    → HasContents g outbox it
 
 -- it has no entry yet
 abbrev pub MakesOutbox : {S : Type 0} → Ghosts S → List ℕ → OutboxParts S → Type 0
@@ -24,12 +25,14 @@ MakesOutbox g filer outbox = HasCleanDisk (shows g outbox) → HasContents g out
 
 -- it has what the rows had in the version before, which stood alone in the database
 abbrev pub MigratesEarlier : {S : Type 0} → Ghosts S → Held S → OutboxParts S → Type 0
-MigratesEarlier g conn outbox = HasCleanDisk (shows g outbox) → HasCleanDisk (state g conn) × ForEarlier (state g conn) (HasContents g outbox)
+MigratesEarlier g conn outbox = HasCleanDisk (shows g outbox)
+    → HasCleanDisk (state g conn) × ForEarlier (state g conn) (HasContents g outbox)
 
 -- so it is, and the rows were no outbox of this version
 abbrev pub MigratesOutbox : {S : Type 0} → Ghosts S → Held S → OutboxParts S → Type 0
 MigratesOutbox g conn outbox =
-    HasCleanDisk (shows g outbox) → ForEarlier (state g conn) (HasContents g outbox) × ((it : Contents) → ¬ IsOutboxOf it (state g conn).now)
+    HasCleanDisk (shows g outbox) → ForEarlier (state g conn) (HasContents g outbox)
+    × ((it : Contents) → ¬ IsOutboxOf it (state g conn).now)
 
 abbrev pub BeginsOutbox : {S : Type 0} → Ghosts S → Beginning → Held S → OutboxParts S → Type 0
 BeginsOutbox g Found conn outbox = FindsOutbox g conn outbox

@@ -27,17 +27,25 @@ abbrev pub Answers : {A : Type 0} → (A → Done) → Result Done TaskFault →
 Answers {A} done result Came = (came : Result A TaskFault) × Came came × (result ≡ answer done came)
 
 -- the open entry with the least id, the one of this id, or each that is open
-abbrev pub Sends : {S : Type 0} → Ghosts S → Which → Traffic → Traffic → OutboxParts S → OutboxParts S → Option (List ℕ) → Option (List ℕ) → Result Done TaskFault → Type 0
-Sends g Next net net' box box' out out' result = Answers (λ _. done.Sent) result (SendsNext g net net' box box' out out')
-Sends g (Entry id) net net' box box' out out' result = Answers (λ _. done.Sent) result (SendsEntry g id net net' box box' out out')
+abbrev pub Sends : {S : Type 0} → Ghosts S → Which → Traffic → Traffic → OutboxParts S → OutboxParts S → Option (List ℕ)
+    → Option (List ℕ) → Result Done TaskFault → Type 0
+Sends g Next net net' box box' out out' result =
+    Answers (λ _. done.Sent) result (SendsNext g net net' box box' out out')
+Sends g (Entry id) net net' box box' out out' result =
+    Answers (λ _. done.Sent) result (SendsEntry g id net net' box box' out out')
 Sends g All net net' box box' out out' result = Answers done.Round result (SendsAll g net net' box box' out out')
 
 -- no connection is made but to send and to ask
-abbrev pub DoesErrand : {S : Type 0} → Ghosts S → Errand → Traffic → Traffic → OutboxParts S → OutboxParts S → Option (List ℕ) → Option (List ℕ) → Result Done TaskFault → Type 0
+abbrev pub DoesErrand : {S : Type 0} → Ghosts S → Errand → Traffic → Traffic → OutboxParts S → OutboxParts S
+    → Option (List ℕ) → Option (List ℕ) → Result Done TaskFault → Type 0
 DoesErrand g (Put key target body) net net' box box' out out' result =
     Answers done.Put result (PutsAndTells g box box' key target.number body.items out out') × (net' ≡ net)
 DoesErrand g (Send which) net net' box box' out out' result = Sends g which net net' box box' out out' result
-DoesErrand g (Ask id form) net net' box box' out out' result = Answers {A = Unit {0}} (λ _. done.Asked) result (AsksEntry g form id net net' box box' out out')
-DoesErrand g ShowStates net net' box box' out out' result = Answers {A = Unit {0}} (λ _. done.Shown) result (ShowsStates g box box' out out') × (net' ≡ net)
-DoesErrand g (ShowEntry id) net net' box box' out out' result = Answers {A = Unit {0}} (λ _. done.Shown) result (ShowsEntry g id box box' out out') × (net' ≡ net)
-DoesErrand g ShowEach net net' box box' out out' result = Answers {A = Unit {0}} (λ _. done.Shown) result (ShowsEach g AreAny box box' out out') × (net' ≡ net)
+DoesErrand g (Ask id form) net net' box box' out out' result =
+    Answers {A = Unit {0}} (λ _. done.Asked) result (AsksEntry g form id net net' box box' out out')
+DoesErrand g ShowStates net net' box box' out out' result =
+    Answers {A = Unit {0}} (λ _. done.Shown) result (ShowsStates g box box' out out') × (net' ≡ net)
+DoesErrand g (ShowEntry id) net net' box box' out out' result =
+    Answers {A = Unit {0}} (λ _. done.Shown) result (ShowsEntry g id box box' out out') × (net' ≡ net)
+DoesErrand g ShowEach net net' box box' out out' result =
+    Answers {A = Unit {0}} (λ _. done.Shown) result (ShowsEach g AreAny box box' out out') × (net' ≡ net)

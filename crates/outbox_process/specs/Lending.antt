@@ -10,7 +10,10 @@ use Rattle.outbox_core.specs.contracts.outbox.Outbox as outbox
 use Rattle.outbox_process.specs.declared.process.OutboxProcess.{OutboxProcess}
 use Rattle.outbox_process.specs.contracts.process.OutboxProcess as process
 
--- once the borrow ends, the outbox is the last one behind it, and nothing else has changed; a process that is closed stays as it is
-abbrev pub LendsOutbox : (D P : RattleType) (g : disk.Ghosts D.Denot) → MutBor (OutboxProcess D.Denot P.Denot g) → Option (MutBor (OutboxParts (FileStore D.Denot g))) → Fml
+-- once the borrow ends, the outbox is the last one behind it, and nothing else has changed; a process that is closed
+-- stays as it is
+abbrev pub LendsOutbox : (D P : RattleType) (g : disk.Ghosts D.Denot) → MutBor (OutboxProcess D.Denot P.Denot g)
+    → Option (MutBor (OutboxParts (FileStore D.Denot g))) → Fml
 LendsOutbox D P g self result =
-    LendsIf (process.the_row D P g) (outbox.the_row (file.the_row D g) over_files) self result (λ last. record self.now { outbox = Some last }) self.now
+    LendsIf (process.the_row D P g) (outbox.the_row (file.the_row D g) over_files) self result
+    (λ last. record self.now { outbox = Some last }) self.now

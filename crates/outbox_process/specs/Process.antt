@@ -8,8 +8,8 @@ use Rattle.sqlite.specs.Held.{Held}
 use Rattle.sqlite.specs.declared.error.Error.{Error}
 use Rattle.table_rows.specs.Files.{HoldsDatabase, AreUsable}
 use Rattle.sqlite.specs.Effect.{Database}
-use Rattle.outbox_opening.specs.Earlier.{IsAlone, IsEarlierOf}
-use Rattle.outbox_opening.specs.Entries.{Contents, empty}
+use Rattle.outbox_tables.specs.Earlier.{IsAlone, IsEarlierOf}
+use Rattle.outbox_tables.specs.Entries.{Contents, empty}
 use Rattle.outbox_core.specs.Files.{HoldOutbox}
 use Rattle.outbox_core.specs.OutboxParts.{OutboxParts}
 use Rattle.database_places.specs.Closing.{IsGivenUp, IsNotClosed}
@@ -29,8 +29,8 @@ use Rattle.outbox_process.specs.Begun.{HasContents}
 use Rattle.outbox_process.specs.Errands.{DoesErrand}
 use Rattle.outbox_process.specs.Refusals.{RefusesOutbox}
 
--- What contracts see of it: the outbox, if it is open; the files that lie in its place, if there are some, where that is known; and whether
--- no close and no opening failed.
+-- What contracts see of it: the outbox, if it is open; the files that lie in its place, if there are some, where that
+-- is known; and whether no close and no opening failed.
 pub record Parts {D : Type 0} (g : Ghosts D) : Type 0 where
   pub outbox : Option (OutboxParts (FileStore D g))
   pub lying : Option (Option (Files D))
@@ -46,7 +46,8 @@ IsHonest {D} g = (disk : D) → g.is_clean disk ≡ true
 -- ---- what it keeps
 
 -- the outbox is open, and this filer's with these entries; or it is closed, and the files in the place hold it
-abbrev pub KeepsBy : {D : Type 0} {g : Ghosts D} → Option (OutboxParts (FileStore D g)) → Option (Option (Files D)) → Contents → Type 0
+abbrev pub KeepsBy : {D : Type 0} {g : Ghosts D} → Option (OutboxParts (FileStore D g)) → Option (Option (Files D))
+    → Contents → Type 0
 KeepsBy (Some outbox) lying it = HasContents over_files outbox it × (lying ≡ Some None)
 KeepsBy {D} {g} None lying it = Lie lying (λ files. HoldOutbox g files it)
 
@@ -75,23 +76,26 @@ pub record HoldEarlier {D : Type 0} (g : Ghosts D) (files : Files D) (it : Conte
   pub held : HoldsDatabase g files db
   pub usable : AreUsable g files
 
--- These are the contents that an outbox has that begins so: those that are kept; none, of the filer for which it is made, while it is closed;
--- or those that it had in the version before.
+-- These are the contents that an outbox has that begins so: those that are kept; none, of the filer for which it is
+-- made, while it is closed; or those that it had in the version before.
 abbrev pub BeginsWith : {D : Type 0} {g : Ghosts D} → Beginning → Parts g → Contents → Type 0
 BeginsWith Found old it = Keeps old it
 BeginsWith (Made filer) old it = (old.outbox ≡ None) × IsSome old.lying × (it ≡ empty filer.now)
 BeginsWith {D} {g} Migrated old it = (old.outbox ≡ None) × Lie old.lying (λ files. HoldEarlier g files it)
 
 -- what this connection, which was given up, left of its files lies there, where that is known
-abbrev pub LieGivenUp : {D : Type 0} {g : Ghosts D} → Option (Option (Files D)) → Option (Option (Files D)) → Held (FileStore D g) → Type 0
+abbrev pub LieGivenUp : {D : Type 0} {g : Ghosts D} → Option (Option (Files D)) → Option (Option (Files D))
+    → Held (FileStore D g) → Type 0
 LieGivenUp None new conn = Unit {0}
 LieGivenUp (Some there) new conn = (files : Files _) × (new ≡ Some (Some files)) × IsGivenUp conn files
 
 -- why it was not opened: the files gave no database; or a connection to these gave no outbox, and was given up
-abbrev pub IsNotOpened : {D : Type 0} → Ghosts D → Beginning → Option (Option (Files D)) → Option (Option (Files D)) → OpeningFault → Type 0
+abbrev pub IsNotOpened : {D : Type 0} → Ghosts D → Beginning → Option (Option (Files D)) → Option (Option (Files D))
+    → OpeningFault → Type 0
 IsNotOpened g beginning old new (fault.Files why) = OpensPlace g (has_to_be_there beginning) old new (Err why)
 IsNotOpened {D} g beginning old new why =
-    (conn : Held (FileStore D g)) × (back : Held (FileStore D g)) × ComesFrom old (Some None) conn × RefusesOutbox over_files beginning conn back why × LieGivenUp old new back
+    (conn : Held (FileStore D g)) × (back : Held (FileStore D g)) × ComesFrom old (Some None) conn
+    × RefusesOutbox over_files beginning conn back why × LieGivenUp old new back
 
 -- it is open, and its database refused no call
 abbrev pub IsUp : {S : Type 0} → Option (OutboxParts S) → Type 0
@@ -99,23 +103,29 @@ IsUp (Some outbox) = outbox.has_failed ≡ false
 IsUp None = ⊥
 
 -- What opening it does.
-pub record OpensProcess {D : Type 0} (g : Ghosts D) (beginning : Beginning) (old new : Parts g) (result : Result (Unit {0}) OpeningFault) : Type 0 where
+pub record OpensProcess {D : Type 0} (g : Ghosts D) (beginning : Beginning) (old new : Parts g)
+    (result : Result (Unit {0}) OpeningFault) : Type 0 where
   pub keeps : IsHonest g → (it : Contents) → BeginsWith beginning old it → OnOk result (Keeps new it)
   -- an outbox of this version is not migrated
-  pub current : IsHonest g → beginning ≡ Migrated → old.outbox ≡ None → old.is_certain ≡ true → (it : Contents) → Keeps old it → OnOk result ⊥
+  pub current : IsHonest g → beginning ≡ Migrated → old.outbox ≡ None → old.is_certain ≡ true → (it : Contents)
+      → Keeps old it → OnOk result ⊥
   pub certain : OnOk result (new.is_certain ≡ old.is_certain)
   pub is_open : OnOk result (IsSome new.outbox)
   pub up : old.outbox ≡ None → OnOk result (IsUp new.outbox)
   -- one that is open stays as it is
   pub already : IsSome old.outbox → (new ≡ old) × (result ≡ Ok tt)
-  -- after a refusal it is closed, and the fault says why; files that lay in the place lie there still, or what an opening left of them
-  pub refused : IfErr result (λ why. IsNotOpened g beginning old.lying new.lying why × (new.outbox ≡ None) × (new.is_certain ≡ false))
-  pub back : IfErr result (λ _. (there : Files D) → old.lying ≡ Some (Some there) → (files : Files D) × (new.lying ≡ Some (Some files)))
+  -- after a refusal it is closed, and the fault says why; files that lay in the place lie there still, or what an
+  -- opening left of them
+  pub refused : IfErr result (λ why. IsNotOpened g beginning old.lying new.lying why × (new.outbox ≡ None)
+      × (new.is_certain ≡ false))
+  pub back : IfErr result (λ _. (there : Files D) → old.lying ≡ Some (Some there)
+      → (files : Files D) × (new.lying ≡ Some (Some files)))
 
 -- ---- an errand is done
 
 -- The outbox that is open did it, and nothing else changed.
-pub record PerformsErrand {D : Type 0} {g : Ghosts D} (errand : Errand) (net net' : Traffic) (out out' : Option (List ℕ)) (old new : Parts g) (result : Result Done TaskFault) : Type 0 where
+pub record PerformsErrand {D : Type 0} {g : Ghosts D} (errand : Errand) (net net' : Traffic)
+    (out out' : Option (List ℕ)) (old new : Parts g) (result : Result Done TaskFault) : Type 0 where
   pub before : OutboxParts (FileStore D g)
   pub after : OutboxParts (FileStore D g)
   pub was : old.outbox ≡ Some before
@@ -127,12 +137,15 @@ pub record PerformsErrand {D : Type 0} {g : Ghosts D} (errand : Errand) (net net
 -- ---- it is closed
 
 -- the last commit of the outbox was not copied into the database file, and this is why; what the close left lies there
-abbrev pub IsLeftOpen : {D : Type 0} {g : Ghosts D} → Option (OutboxParts (FileStore D g)) → Option (Option (Files D)) → Option (Option (Files D)) → Error → Type 0
-IsLeftOpen {D} (Some outbox) old new error = (files : Files D) × place.Leaves old new files × IsNotClosed outbox.conn files error
+abbrev pub IsLeftOpen : {D : Type 0} {g : Ghosts D} → Option (OutboxParts (FileStore D g)) → Option (Option (Files D))
+    → Option (Option (Files D)) → Error → Type 0
+IsLeftOpen {D} (Some outbox) old new error =
+    (files : Files D) × place.Leaves old new files × IsNotClosed outbox.conn files error
 IsLeftOpen None old new error = ⊥
 
 -- What closing it does.
-pub record ClosesProcess {D : Type 0} (g : Ghosts D) (old new : Parts g) (result : Result (Unit {0}) Error) : Type 0 where
+pub record ClosesProcess {D : Type 0} (g : Ghosts D) (old new : Parts g) (result : Result (Unit {0}) Error)
+    : Type 0 where
   pub leaves : IsHonest g → Leaves old new
   pub certain : OnOk result (new.is_certain ≡ old.is_certain)
   pub is_closed : new.outbox ≡ None

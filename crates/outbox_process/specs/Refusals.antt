@@ -3,8 +3,8 @@ use Rattle.std.specs.Prelude.{◌≡◌, ◌≢◌, ◌⊎◌, ℕ, List, Ok}
 use Rattle.sqlite.specs.Store.{Ghosts}
 use Rattle.sqlite.specs.Held.{Held}
 use Rattle.table_rows.specs.Tables.{no_schema}
-use Rattle.outbox_opening.specs.declared.fault.OutboxFault.{OutboxFault}
-use Rattle.outbox_opening.specs.declared.fault.OutboxFault.TheVariants.{NotOurs}
+use Rattle.outbox_tables.specs.declared.fault.OutboxFault.{OutboxFault}
+use Rattle.outbox_tables.specs.declared.fault.OutboxFault.TheVariants.{NotOurs}
 use Rattle.outbox_core.specs.HandedOut.{HandsOutFound}
 use Rattle.outbox_core.specs.OutboxParts.{OutboxParts}
 use Rattle.outbox_core.specs.Refusals.{GivesBackMaking, GivesBackOpening, GivesBackMigrating}
@@ -29,9 +29,11 @@ abbrev pub IsNotEarlier : OpeningFault → (OutboxFault → Type 0) → Type 0
 IsNotEarlier (Migrate fault holding) Says = Says fault
 IsNotEarlier _ Says = ⊥
 
--- It is an outbox of this version; or it was not found to be one or none; or it is none, and the fault says why the migration failed.
+-- It is an outbox of this version; or it was not found to be one or none; or it is none, and the fault says why the
+-- migration failed.
 abbrev pub RefusesMigrating : {S : Type 0} → Ghosts S → Held S → Held S → OpeningFault → Type 0
-RefusesMigrating {S} g conn back IsCurrent = (outbox : OutboxParts S) × HandsOutFound g conn (Ok outbox) × (back ≡ outbox.conn)
+RefusesMigrating {S} g conn back IsCurrent =
+    (outbox : OutboxParts S) × HandsOutFound g conn (Ok outbox) × (back ≡ outbox.conn)
 RefusesMigrating {S} g conn back (Migrate fault holding) =
     ((fault ≢ NotOurs) × GivesBackOpening g conn fault back)
     ⊎ ((mid : Held S) × GivesBackOpening g conn NotOurs mid × GivesBackMigrating g mid fault back)

@@ -1,5 +1,6 @@
 -- An entry that was looked for, and was sent or told.
-use Rattle.std.proofs.Common.{◌≡◌, ◌≢◌, ◌⊎◌, ◌∙◌, ℕ, List, Option, Some, None, option_map, Result, Ok, Err, refl, sym, ap, subst, inl}
+use Rattle.std.proofs.Common.{◌≡◌, ◌≢◌, ◌⊎◌, ◌∙◌, ℕ, List, Option, Some, None, option_map, Result, Ok, Err, refl, sym}
+use Rattle.std.proofs.Common.{ap, subst, inl}
 use Rattle.std.specs.Io.KnownBytes.{Appends}
 use Rattle.sqlite.specs.Store.{Ghosts}
 use Rattle.sqlite.specs.State.{HasCleanDisk}
@@ -18,12 +19,16 @@ use Rattle.outbox_tasks.specs.Dials.{Traffic}
 use Rattle.outbox_tasks.specs.Faults.{IsNotPrinted}
 use Rattle.outbox_tasks.specs.Lines.{nothing_open}
 use Rattle.outbox_tasks.specs.Looking.{AreAny}
-use Rattle.outbox_tasks.specs.Sending.{IsOpenAt, IsTried, entries_after, IsTold, Sends, SendsFirst, SendsNone, answer_of_some}
+use Rattle.outbox_tasks.specs.Sending.{IsOpenAt, IsTried, entries_after, IsTold, Sends, SendsFirst, SendsNone}
+use Rattle.outbox_tasks.specs.Sending.{answer_of_some}
 use Rattle.outbox_tasks.proofs.Looks.{entry_found, was_clean}
 use Rattle.outbox_tasks.proofs.Opens.{first_is_open}
 
-open_found : (entries : List Entry) (id : ℕ) (entry : Read) → Some (view_entry entry) ≡ found_at entries id → entry.state ≡ State.Open → IsOpenAt entries id
-open_found entries id entry found opened = ap (option_map (λ (e : Entry). e.state)) (entry_found entries id entry found).0 ∙ ap (λ s. Some (view_state s)) opened
+open_found : (entries : List Entry) (id : ℕ) (entry : Read) → Some (view_entry entry) ≡ found_at entries id
+    → entry.state ≡ State.Open → IsOpenAt entries id
+open_found entries id entry found opened =
+    ap (option_map (λ (e : Entry). e.state)) (entry_found entries id entry found).0
+    ∙ ap (λ s. Some (view_state s)) opened
 
 not_open : (state : State) → state ≢ State.Open → view_state state ≢ Open
 not_open State.Open settled = λ same. settled refl
@@ -33,34 +38,57 @@ not_open State.Clashed settled = λ same. cc
 
 module _ {S : Type 0} (g : Ghosts S) where
   -- an entry that is open, by a look at the entries
-  sent : (id : ℕ) (old new : Traffic) (box mid box' : OutboxParts S) (out out' : Option (List ℕ)) (result : Result State TaskFault) → ForEntries g box mid (λ entries. IsOpenAt entries id × HasEntries g mid entries) → mid.filer ≡ box.filer
-      → (HasCleanDisk (shows g mid) → HasCleanDisk (shows g box)) → Sends g (λ entries. IsOpenAt entries id) id old new mid box' out out' result → Sends g AreAny id old new box box' out out' result
+  sent : (id : ℕ) (old new : Traffic) (box mid box' : OutboxParts S) (out out' : Option (List ℕ))
+      (result : Result State TaskFault)
+      → ForEntries g box mid (λ entries. IsOpenAt entries id × HasEntries g mid entries) → mid.filer ≡ box.filer
+      → (HasCleanDisk (shows g mid) → HasCleanDisk (shows g box))
+      → Sends g (λ entries. IsOpenAt entries id) id old new mid box' out out' result
+      → Sends g AreAny id old new box box' out out' result
   sent id old new box mid box' out out' result looked named clean_before sends = record {
     came = sends.came;
     tries = record {
       tried = λ clean entries had any.
           let found = looked (sends.tries.clean clean) entries had in
-          subst (λ filer. IsTried filer entries id old new sends.came × HasEntries g box' (entries_after entries id sends.came)) named (sends.tries.tried clean entries found.1 found.0);
+          subst (λ filer. IsTried filer entries id old new sends.came
+          × HasEntries g box' (entries_after entries id sends.came)) named
+          (sends.tries.tried clean entries found.1 found.0);
       filer = sends.tries.filer ∙ named;
       clean = λ clean. clean_before (sends.tries.clean clean);
     };
     told = sends.told;
   }
 
-  module _ (id : ℕ) (box mid : OutboxParts S) (entry : Read) (found : ForEntries g box mid (λ entries. Some (view_entry entry) ≡ found_at entries id)) (kept : ForEntries g box mid (HasEntries g mid)) (named : mid.filer ≡ box.filer)
+  module _ (id : ℕ) (box mid : OutboxParts S) (entry : Read)
+      (found : ForEntries g box mid (λ entries. Some (view_entry entry) ≡ found_at entries id))
+      (kept : ForEntries g box mid (HasEntries g mid)) (named : mid.filer ≡ box.filer)
       (clean_before : HasCleanDisk (shows g mid) → HasCleanDisk (shows g box)) where
-    pub sent_open : (old new : Traffic) (box' : OutboxParts S) (out out' : Option (List ℕ)) (result : Result State TaskFault) → entry.state ≡ State.Open
-        → Sends g (λ entries. IsOpenAt entries id) id old new mid box' out out' result → Sends g AreAny id old new box box' out out' result
+    pub sent_open : (old new : Traffic) (box' : OutboxParts S) (out out' : Option (List ℕ))
+        (result : Result State TaskFault) → entry.state ≡ State.Open
+        → Sends g (λ entries. IsOpenAt entries id) id old new mid box' out out' result
+        → Sends g AreAny id old new box box' out out' result
     sent_open old new box' out out' result opened sends =
-        sent id old new box mid box' out out' result (λ clean entries had. (open_found entries id entry (found clean entries had) opened, kept clean entries had)) named clean_before sends
+        sent id old new box mid box' out out' result (λ clean entries had.
+        (open_found entries id entry (found clean entries had) opened, kept clean entries had)) named clean_before
+        sends
 
-    pub told_settled : (traffic : Traffic) (out out' : Option (List ℕ)) (result : Result State TaskFault) → entry.state ≢ State.Open → IsTold id (Ok entry.state) out out' result → Sends g AreAny id traffic traffic box mid out out' result
+    pub told_settled : (traffic : Traffic) (out out' : Option (List ℕ)) (result : Result State TaskFault)
+        → entry.state ≢ State.Open → IsTold id (Ok entry.state) out out' result
+        → Sends g AreAny id traffic traffic box mid out out' result
     told_settled traffic out out' result settled told = record {
       came = Ok entry.state;
       tries = record {
         tried = λ clean entries had any.
-            let is : IsSettled entries id (view_state entry.state) = record { entry = (view_entry entry).1; at = (entry_found entries id entry (found clean entries had)).0; state_is = refl; settled = not_open entry.state settled } in
-            (inl (is, refl), subst (HasEntries g mid) (sym (set_settled entries id (view_state entry.state) is)) (kept clean entries had));
+            let is : IsSettled entries id (view_state entry.state) =
+            record {
+              entry = (view_entry entry).1;
+              at = (entry_found entries id entry (found clean entries had)).0;
+              state_is = refl;
+              settled = not_open entry.state settled;
+            } in (
+              inl (is, refl),
+              subst (HasEntries g mid) (sym (set_settled entries id (view_state entry.state) is))
+                  (kept clean entries had),
+            );
         filer = named;
         clean = clean_before;
       };
@@ -68,22 +96,32 @@ module _ {S : Type 0} (g : Ghosts S) where
     }
 
   -- the first that is open
-  pub sent_first : (old new : Traffic) (box mid box' : OutboxParts S) (out out' : Option (List ℕ)) (entry : Read) (result : Result State TaskFault) → LooksUp g box mid first_open (Ok (Some entry))
-      → Sends g (λ entries. IsOpenAt entries entry.id) entry.id old new mid box' out out' result → SendsFirst g old new box box' out out' (answer_of_some result)
+  pub sent_first : (old new : Traffic) (box mid box' : OutboxParts S) (out out' : Option (List ℕ)) (entry : Read)
+      (result : Result State TaskFault) → LooksUp g box mid first_open (Ok (Some entry))
+      → Sends g (λ entries. IsOpenAt entries entry.id) entry.id old new mid box' out out' result
+      → SendsFirst g old new box box' out out' (answer_of_some result)
   sent_first old new box mid box' out out' entry result looks sends = record {
     id = entry.id;
-    first = λ clean entries had. ap (option_map (λ (e : ℕ × Entry). e.0)) (sym (looks.found (sends.tries.clean clean) entries had));
+    first = λ clean entries had. ap (option_map (λ (e : ℕ × Entry). e.0))
+        (sym (looks.found (sends.tries.clean clean) entries had));
     sent = result;
     sends =
         sent entry.id old new box mid box' out out' result
-        (λ clean entries had. (first_is_open entries entry.id (view_entry entry).1 (sym (looks.found clean entries had)), looks.kept clean entries had)) looks.filer
+        (λ clean entries had. (
+          first_is_open entries entry.id (view_entry entry).1
+              (sym (looks.found clean entries had)),
+          looks.kept clean entries had,
+        )) looks.filer
         (was_clean (shows g box) (shows g mid) _ looks.crash) sends;
     answered = refl;
   }
 
   -- none is open
-  pub sent_none : (traffic : Traffic) (box mid : OutboxParts S) (out out' : Option (List ℕ)) (result : Result (Option State) TaskFault) → LooksUp g box mid first_open (Ok None)
-      → ((result ≡ Ok None) × Appends out out' nothing_open) ⊎ ((fault : TaskFault) × (result ≡ Err fault) × IsNotPrinted fault) → SendsNone g traffic traffic box mid out out' result
+  pub sent_none : (traffic : Traffic) (box mid : OutboxParts S) (out out' : Option (List ℕ))
+      (result : Result (Option State) TaskFault) → LooksUp g box mid first_open (Ok None)
+      → ((result ≡ Ok None) × Appends out out' nothing_open)
+      ⊎ ((fault : TaskFault) × (result ≡ Err fault) × IsNotPrinted fault)
+      → SendsNone g traffic traffic box mid out out' result
   sent_none traffic box mid out out' result looks told = record {
     none = λ clean entries had. (sym (looks.found clean entries had), looks.kept clean entries had);
     filer = looks.filer;

@@ -1,5 +1,7 @@
 -- Entries that have their turns, one behind another.
-use Rattle.std.proofs.Common.{◌≡◌, ◌≢◌, ◌∙◌, ℕ, suc, ◌+◌, ◌<◌, ◌≤◌, Bool, true, false, List, [], ◌∷◌, ◌++◌, length, take, drop, slice_index_or, Option, Result, Ok, Err, refl, sym, ap, ap₂, subst, inl, inr, append_assoc, append-nil, arith, true≢false, option_map}
+use Rattle.std.proofs.Common.{◌≡◌, ◌≢◌, ◌∙◌, ℕ, suc, ◌+◌, ◌<◌, ◌≤◌, Bool, true, false, List, [], ◌∷◌, ◌++◌, length}
+use Rattle.std.proofs.Common.{take, drop, slice_index_or, Option, Result, Ok, Err, refl, sym, ap, ap₂, subst, inl, inr}
+use Rattle.std.proofs.Common.{append_assoc, append-nil, arith, true≢false, option_map}
 use Rattle.std.specs.Prelude.{if◌then◌else◌}
 use Rattle.std.specs.List.{AllByRecursion}
 use Rattle.std.specs.Io.KnownBytes.{Appends}
@@ -25,29 +27,41 @@ use Rattle.outbox_tasks.specs.Dials.{Traffic}
 use Rattle.outbox_tasks.specs.Faults.{belongs_to_entry, IsNotPrinted}
 use Rattle.outbox_tasks.specs.Lines.{line_of, nothing_open}
 use Rattle.outbox_tasks.specs.Looking.{AreAny}
-use Rattle.outbox_tasks.specs.Rounds.{open_ids, EndsIn, FindsNone, SendsSome, SendsWhole, Turn, IsTurn, SentInTurn, ids_of, lines_of, failures, HaveTurns, EndsRound, StopsAt, AreToSend, TakesTurn}
+use Rattle.outbox_tasks.specs.Rounds.{open_ids, EndsIn, FindsNone, SendsSome, SendsWhole, Turn, IsTurn, SentInTurn}
+use Rattle.outbox_tasks.specs.Rounds.{ids_of, lines_of, failures, HaveTurns, EndsRound, StopsAt, AreToSend, TakesTurn}
 use Rattle.outbox_tasks.specs.Sending.{IsOpenAt, IsTried, entries_after, IsTold, Tries, Sends}
 use Rattle.outbox_tasks.proofs.Opens.{other_stays, to_send}
 
 -- ---- some turns, and then more
 
-joined : (filer : List ℕ) (before between after : List Entry) (old mid new : Traffic) (xs ys : List Turn) → SentInTurn filer before old xs between mid → SentInTurn filer between mid ys after new → SentInTurn filer before old (xs ++ ys) after new
+joined : (filer : List ℕ) (before between after : List Entry) (old mid new : Traffic) (xs ys : List Turn)
+    → SentInTurn filer before old xs between mid → SentInTurn filer between mid ys after new
+    → SentInTurn filer before old (xs ++ ys) after new
 joined filer before between after old mid new [] ys first second =
-    subst (λ e. SentInTurn filer e old ys after new) first.0 (subst (λ t. SentInTurn filer between t ys after new) first.1 second)
-joined filer before between after old mid new (x ∷ xs) ys first second =
-    (first.0, first.1, joined filer (entries_after before x.id x.came) between after first.0 mid new xs ys first.2 second)
+    subst (λ e. SentInTurn filer e old ys after new) first.0
+    (subst (λ t. SentInTurn filer between t ys after new) first.1 second)
+joined filer before between after old mid new (x ∷ xs) ys first second = (
+  first.0,
+  first.1,
+  joined filer (entries_after before x.id x.came) between after first.0 mid new xs ys first.2
+      second,
+)
 
 failures_join : (xs ys : List Turn) → failures (xs ++ ys) ≡ failures xs + failures ys
 failures_join xs ys = grind (arith, sum_by-append)
 
 -- an entry that had no turn is open still
-still_open : (filer : List ℕ) (turns : List Turn) (before after : List Entry) (old new : Traffic) (id : ℕ) → AllByRecursion (λ other. id ≢ other) (ids_of turns) → SentInTurn filer before old turns after new → IsOpenAt before id → IsOpenAt after id
-still_open filer [] before after old new id apart made opened = subst (λ entries. IsOpenAt entries id) (sym made.0) opened
+still_open : (filer : List ℕ) (turns : List Turn) (before after : List Entry) (old new : Traffic) (id : ℕ)
+    → AllByRecursion (λ other. id ≢ other) (ids_of turns) → SentInTurn filer before old turns after new
+    → IsOpenAt before id → IsOpenAt after id
+still_open filer [] before after old new id apart made opened =
+    subst (λ entries. IsOpenAt entries id) (sym made.0) opened
 still_open filer (turn ∷ turns) before after old new id apart made opened =
     still_open filer turns (entries_after before turn.id turn.came) after made.0 new id apart.1 made.2 (one turn.came)
   where
     one : (came : Result State ExchangeFault) → IsOpenAt (entries_after before turn.id came) id
-    one (Ok to) = ap (option_map (λ (e : Entry). e.state)) (other_stays before turn.id id (view_state to) apart.0) ∙ opened
+    one (Ok to) =
+        ap (option_map (λ (e : Entry). e.state)) (other_stays before turn.id id (view_state to) apart.0) ∙ opened
     one (Err fault) = opened
 
 -- ---- the next of those that are to be sent
@@ -56,13 +70,16 @@ all_mid : (P : ℕ → Type 0) (xs : List ℕ) (y : ℕ) (zs : List ℕ) → All
 all_mid P [] y zs all = all.0
 all_mid P (x ∷ xs) y zs all = all_mid P xs y zs all.1
 
-next_open : (done : List ℕ) (next : ℕ) (rest : List ℕ) (entries : List Entry) → AreToSend (done ++ next ∷ rest) entries → IsOpenAt entries next
+next_open : (done : List ℕ) (next : ℕ) (rest : List ℕ) (entries : List Entry) → AreToSend (done ++ next ∷ rest) entries
+    → IsOpenAt entries next
 next_open [] next rest entries are = are.0
 next_open (id ∷ done) next rest entries are = next_open done next rest entries are.2
 
-next_apart : (done : List ℕ) (next : ℕ) (rest : List ℕ) (entries : List Entry) → AreToSend (done ++ next ∷ rest) entries → AllByRecursion (λ other. next ≢ other) done
+next_apart : (done : List ℕ) (next : ℕ) (rest : List ℕ) (entries : List Entry) → AreToSend (done ++ next ∷ rest) entries
+    → AllByRecursion (λ other. next ≢ other) done
 next_apart [] next rest entries are = tt
-next_apart (id ∷ done) next rest entries are = (all_mid (λ other. other ≢ id) done next rest are.1, next_apart done next rest entries are.2)
+next_apart (id ∷ done) next rest entries are =
+    (all_mid (λ other. other ≢ id) done next rest are.1, next_apart done next rest entries are.2)
 
 empty_list : (ids : List ℕ) → length ids ≡ 0 → ids ≡ []
 empty_list [] empty = refl
@@ -76,14 +93,16 @@ abbrev round_of : ℕ → ℕ → Round
 round_of sent failed = record { sent = sent; failed = failed }
 
 module _ {S : Type 0} (g : Ghosts S) where
-  abbrev Made : List ℕ → List ℕ → Traffic → Traffic → OutboxParts S → OutboxParts S → Option (List ℕ) → Option (List ℕ) → Type 0
+  abbrev Made : List ℕ → List ℕ → Traffic → Traffic → OutboxParts S → OutboxParts S → Option (List ℕ) → Option (List ℕ)
+      → Type 0
   Made all ids old new box box' out out' = HaveTurns g (AreToSend all) ids old new box box' out out'
 
   abbrev One : ℕ → Traffic → Traffic → OutboxParts S → OutboxParts S → Option (List ℕ) → Option (List ℕ) → Type 0
   One id old new box box' out out' = HaveTurns g (λ entries. IsOpenAt entries id) (id ∷ []) old new box box' out out'
 
   -- none had a turn
-  pub none : (all : List ℕ) (old : Traffic) (box : OutboxParts S) (out : Option (List ℕ)) → (made : Made all [] old old box box out out) × (0 ≡ failures made.turns)
+  pub none : (all : List ℕ) (old : Traffic) (box : OutboxParts S) (out : Option (List ℕ))
+      → (made : Made all [] old old box box out out) × (0 ≡ failures made.turns)
   none all old box out = (
     record {
       turns = [];
@@ -97,36 +116,60 @@ module _ {S : Type 0} (g : Ghosts S) where
   )
 
   -- the next has its turn
-  reach : (all done : List ℕ) (next : ℕ) (rest : List ℕ) (old mid : Traffic) (box between : OutboxParts S) (out so_far : Option (List ℕ)) → all ≡ done ++ next ∷ rest → (made : Made all done old mid box between out so_far)
-      → ForEntries g box between (λ entries. AreToSend all entries → (after : List Entry) × SentInTurn box.filer entries old made.turns after mid × HasEntries g between after × IsOpenAt after next)
+  reach : (all done : List ℕ) (next : ℕ) (rest : List ℕ) (old mid : Traffic) (box between : OutboxParts S)
+      (out so_far : Option (List ℕ)) → all ≡ done ++ next ∷ rest → (made : Made all done old mid box between out so_far)
+      → ForEntries g box between (λ entries. AreToSend all entries
+      → (after : List Entry) × SentInTurn box.filer entries old made.turns after mid × HasEntries g between after
+      × IsOpenAt after next)
   reach all done next rest old mid box between out so_far splits made clean entries had are =
       let came = made.in_turn clean entries had are in
       let all_are : AreToSend (done ++ next ∷ rest) entries = subst (λ ids. AreToSend ids entries) splits are in
-      let apart = subst (AllByRecursion (λ other. next ≢ other)) (sym made.they) (next_apart done next rest entries all_are) in
-      (came.0, came.1, came.2, still_open box.filer made.turns entries came.0 old mid next apart came.1 (next_open done next rest entries all_are))
+      let apart =
+      subst (AllByRecursion (λ other. next ≢ other)) (sym made.they) (next_apart done next rest entries all_are) in (
+        came.0,
+        came.1,
+        came.2,
+        still_open box.filer made.turns entries came.0 old mid next apart came.1
+            (next_open done next rest entries all_are),
+      )
 
-  pub more : (all done : List ℕ) (next : ℕ) (rest : List ℕ) (old mid new : Traffic) (box between box' : OutboxParts S) (out so_far out' : Option (List ℕ)) → all ≡ done ++ next ∷ rest
-      → Made all done old mid box between out so_far → One next mid new between box' so_far out' → Made all (done ++ next ∷ []) old new box box' out out'
+  pub more : (all done : List ℕ) (next : ℕ) (rest : List ℕ) (old mid new : Traffic) (box between box' : OutboxParts S)
+      (out so_far out' : Option (List ℕ)) → all ≡ done ++ next ∷ rest
+      → Made all done old mid box between out so_far → One next mid new between box' so_far out'
+      → Made all (done ++ next ∷ []) old new box box' out out'
   more all done next rest old mid new box between box' out so_far out' splits a b = record {
     turns = a.turns ++ b.turns;
     they = map-append (λ (turn : Turn). turn.id) a.turns b.turns ∙ ap₂ (λ (xs ys : List ℕ). xs ++ ys) a.they b.they;
     in_turn = λ clean entries had are.
         let came = reach all done next rest old mid box between out so_far splits a (b.clean clean) entries had are in
-        let last = b.in_turn clean came.0 came.2 came.3 in
-        (last.0, joined box.filer entries came.0 last.0 old mid new a.turns b.turns came.1 (subst (λ filer. SentInTurn filer came.0 mid b.turns last.0 new) a.filer last.1), last.2);
-    told = subst (Appends out out') (sym (flat_map-append (λ (turn : Turn). line_of turn.id turn.came) a.turns b.turns)) (Appends-trans out so_far out' (lines_of a.turns) (lines_of b.turns) a.told b.told);
+        let last = b.in_turn clean came.0 came.2 came.3 in (
+          last.0,
+          joined box.filer entries came.0 last.0 old mid new a.turns b.turns came.1
+              (subst (λ filer. SentInTurn filer came.0 mid b.turns last.0 new) a.filer last.1),
+          last.2,
+        );
+    told = subst (Appends out out') (sym (flat_map-append (λ (turn : Turn). line_of turn.id turn.came) a.turns b.turns))
+        (Appends-trans out so_far out' (lines_of a.turns) (lines_of b.turns) a.told b.told);
     filer = b.filer ∙ a.filer;
     clean = λ clean. a.clean (b.clean clean);
   }
 
-  pub more_failures : (all done : List ℕ) (next : ℕ) (rest : List ℕ) (old mid new : Traffic) (box between box' : OutboxParts S) (out so_far out' : Option (List ℕ)) (splits : all ≡ done ++ next ∷ rest)
-      (a : Made all done old mid box between out so_far) (b : One next mid new between box' so_far out') → failures (more all done next rest old mid new box between box' out so_far out' splits a b).turns ≡ failures a.turns + failures b.turns
+  pub more_failures : (all done : List ℕ) (next : ℕ) (rest : List ℕ) (old mid new : Traffic)
+      (box between box' : OutboxParts S) (out so_far out' : Option (List ℕ)) (splits : all ≡ done ++ next ∷ rest)
+      (a : Made all done old mid box between out so_far) (b : One next mid new between box' so_far out')
+      → failures (more all done next rest old mid new box between box' out so_far out' splits a b).turns
+      ≡ failures a.turns + failures b.turns
   unfolding more
-  more_failures all done next rest old mid new box between box' out so_far out' splits a b = failures_join a.turns b.turns
+  more_failures all done next rest old mid new box between box' out so_far out' splits a b =
+      failures_join a.turns b.turns
 
   -- the next ends the round
-  pub stopped : (all done : List ℕ) (next : ℕ) (rest : List ℕ) (old mid new : Traffic) (box between box' : OutboxParts S) (out so_far out' : Option (List ℕ)) (fault : TaskFault) → all ≡ done ++ next ∷ rest
-      → Made all done old mid box between out so_far → Sends g (λ entries. IsOpenAt entries next) next mid new between box' so_far out' (Err fault) → EndsRound new fault
+  pub stopped : (all done : List ℕ) (next : ℕ) (rest : List ℕ) (old mid new : Traffic)
+      (box between box' : OutboxParts S) (out so_far out' : Option (List ℕ)) (fault : TaskFault)
+      → all ≡ done ++ next ∷ rest
+      → Made all done old mid box between out so_far
+      → Sends g (λ entries. IsOpenAt entries next) next mid new between box' so_far out' (Err fault)
+      → EndsRound new fault
       → StopsAt g (AreToSend all) all old new box box' out out' fault
   stopped all done next rest old mid new box between box' out so_far out' fault splits a b ends = record {
     turns = a.turns;
@@ -135,7 +178,8 @@ module _ {S : Type 0} (g : Ghosts S) where
     splits = splits ∙ ap (λ (ids : List ℕ). ids ++ next ∷ rest) (sym a.they);
     came = b.came;
     tried = λ clean entries had are.
-        let came = reach all done next rest old mid box between out so_far splits a (b.tries.clean clean) entries had are in
+        let came =
+        reach all done next rest old mid box between out so_far splits a (b.tries.clean clean) entries had are in
         let last = b.tries.tried clean came.0 came.2 came.3 in
         (came.0, mid, came.1, subst (λ filer. IsTried filer came.0 next mid new b.came) a.filer last.0, last.1);
     so_far = so_far;
@@ -149,15 +193,19 @@ module _ {S : Type 0} (g : Ghosts S) where
   -- ---- going through the ids
 
   -- so many of the exchanges so far failed
-  abbrev pub Going : List ℕ → List ℕ → Traffic → Traffic → OutboxParts S → OutboxParts S → Option (List ℕ) → Option (List ℕ) → ℕ → Type 0
-  Going all done old new box box' out out' failed = (made : Made all done old new box box' out out') × (failed ≡ failures made.turns)
+  abbrev pub Going : List ℕ → List ℕ → Traffic → Traffic → OutboxParts S → OutboxParts S → Option (List ℕ)
+      → Option (List ℕ) → ℕ → Type 0
+  Going all done old new box box' out out' failed =
+      (made : Made all done old new box box' out out') × (failed ≡ failures made.turns)
 
-  split : (ids : List ℕ) (at or : ℕ) → at < length ids → ids ≡ take at ids ++ slice_index_or ids at or ∷ drop (suc at) ids
+  split : (ids : List ℕ) (at or : ℕ) → at < length ids
+      → ids ≡ take at ids ++ slice_index_or ids at or ∷ drop (suc at) ids
   split ids at or within =
       sym (take-append-drop (suc at) ids) ∙ ap (λ (xs : List ℕ). xs ++ drop (suc at) ids) (take-suc ids at or within)
       ∙ append_assoc (take at ids) (slice_index_or ids at or ∷ []) (drop (suc at) ids)
 
-  counted : (failed now : ℕ) (has_failed : Bool) → now ≡ bool_byte has_failed → (n m : ℕ) → failed ≡ n → m ≡ (if has_failed then 1 else 0) → failed + now ≡ n + m
+  counted : (failed now : ℕ) (has_failed : Bool) → now ≡ bool_byte has_failed → (n m : ℕ) → failed ≡ n
+      → m ≡ (if has_failed then 1 else 0) → failed + now ≡ n + m
   counted failed now true byte n m were is = omega (arith, byte, were, is)
   counted failed now false byte n m were is = omega (arith, byte, were, is)
 
@@ -165,41 +213,57 @@ module _ {S : Type 0} (g : Ghosts S) where
   at_most_one now true byte = omega (arith, byte)
   at_most_one now false byte = omega (arith, byte)
 
-  pub step : (ids : List ℕ) (at or : ℕ) (old mid new : Traffic) (box between box' : OutboxParts S) (out so_far out' : Option (List ℕ)) (failed now : ℕ) (has_failed : Bool) → at < length ids
-      → (made : Made ids (take at ids) old mid box between out so_far) × (failed ≡ failures made.turns) × (failed ≤ at) → TakesTurn g (slice_index_or ids at or) mid new between box' so_far out' (Ok has_failed) → now ≡ bool_byte has_failed
-      → (made : Made ids (take (at + 1) ids) old new box box' out out') × (failed + now ≡ failures made.turns) × (failed + now ≤ at + 1)
+  pub step : (ids : List ℕ) (at or : ℕ) (old mid new : Traffic) (box between box' : OutboxParts S)
+      (out so_far out' : Option (List ℕ)) (failed now : ℕ) (has_failed : Bool) → at < length ids
+      → (made : Made ids (take at ids) old mid box between out so_far) × (failed ≡ failures made.turns) × (failed ≤ at)
+      → TakesTurn g (slice_index_or ids at or) mid new between box' so_far out' (Ok has_failed)
+      → now ≡ bool_byte has_failed
+      → (made : Made ids (take (at + 1) ids) old new box box' out out') × (failed + now ≡ failures made.turns)
+      × (failed + now ≤ at + 1)
   step ids at or old mid new box between box' out so_far out' failed now has_failed within had takes byte =
       let id = slice_index_or ids at or in
       let splits = split ids at or within in
       let rest = drop (suc at) ids in
       let made = more ids (take at ids) id rest old mid new box between box' out so_far out' splits had.0 takes.0 in
       let count : failed + now ≡ failures made.turns =
-      counted failed now has_failed byte (failures had.0.turns) (failures takes.0.turns) had.1 takes.1 ∙ sym (more_failures ids (take at ids) id rest old mid new box between box' out so_far out' splits had.0 takes.0) in
+      counted failed now has_failed byte (failures had.0.turns) (failures takes.0.turns) had.1 takes.1
+      ∙ sym (more_failures ids (take at ids) id rest old mid new box between box' out so_far out' splits had.0
+      takes.0) in
       let next : at + 1 ≡ suc at = omega arith in
-      let done : take at ids ++ id ∷ [] ≡ take (at + 1) ids = sym (ap (λ n. take n ids) next ∙ take-suc ids at or within) in
+      let done : take at ids ++ id ∷ [] ≡ take (at + 1) ids =
+      sym (ap (λ n. take n ids) next ∙ take-suc ids at or within) in
       let going : Going ids (take at ids ++ id ∷ []) old new box box' out out' (failed + now) = (made, count) in
       let all = subst (λ ids_done. Going ids ids_done old new box box' out out' (failed + now)) done going in
       (all.0, all.1, omega (arith, had.2, at_most_one now has_failed byte))
 
-  pub stop : (ids : List ℕ) (at or : ℕ) (old mid new : Traffic) (box between box' : OutboxParts S) (out so_far out' : Option (List ℕ)) (failed : ℕ) (fault : TaskFault) → at < length ids
-      → (made : Made ids (take at ids) old mid box between out so_far) × (failed ≡ failures made.turns) × (failed ≤ at) → TakesTurn g (slice_index_or ids at or) mid new between box' so_far out' (Err fault)
+  pub stop : (ids : List ℕ) (at or : ℕ) (old mid new : Traffic) (box between box' : OutboxParts S)
+      (out so_far out' : Option (List ℕ)) (failed : ℕ) (fault : TaskFault) → at < length ids
+      → (made : Made ids (take at ids) old mid box between out so_far) × (failed ≡ failures made.turns) × (failed ≤ at)
+      → TakesTurn g (slice_index_or ids at or) mid new between box' so_far out' (Err fault)
       → StopsAt g (AreToSend ids) ids old new box box' out out' fault
   stop ids at or old mid new box between box' out so_far out' failed fault within had takes =
-      stopped ids (take at ids) (slice_index_or ids at or) (drop (suc at) ids) old mid new box between box' out so_far out' fault (split ids at or within) had.0 takes.0 takes.1
+      stopped ids (take at ids) (slice_index_or ids at or) (drop (suc at) ids) old mid new box between box' out so_far
+      out' fault (split ids at or within) had.0 takes.0 takes.1
 
-  pub end : (ids : List ℕ) (at : ℕ) (old new : Traffic) (box box' : OutboxParts S) (out out' : Option (List ℕ)) (failed : ℕ) → length ids ≤ at → (made : Made ids (take at ids) old new box box' out out') × (failed ≡ failures made.turns) × (failed ≤ at)
+  pub end : (ids : List ℕ) (at : ℕ) (old new : Traffic) (box box' : OutboxParts S) (out out' : Option (List ℕ))
+      (failed : ℕ) → length ids ≤ at → (made : Made ids (take at ids) old new box box' out out')
+      × (failed ≡ failures made.turns) × (failed ≤ at)
       → Going ids ids old new box box' out out' failed
   end ids at old new box box' out out' failed least had =
-      let going : Going ids (take at ids) old new box box' out out' failed = (had.0, had.1) in subst (λ done. Going ids done old new box box' out out' failed) (take_all at ids least) going
+      let going : Going ids (take at ids) old new box box' out out' failed = (had.0, had.1) in
+      subst (λ done. Going ids done old new box box' out out' failed) (take_all at ids least) going
 
   -- ---- a round begins with a look at the entries
 
-  module _ (ids : List ℕ) (box mid : OutboxParts S) (looked : ForEntries g box mid (λ entries. (ids ≡ open_ids entries) × HasEntries g mid entries)) (named : mid.filer ≡ box.filer)
+  module _ (ids : List ℕ) (box mid : OutboxParts S)
+      (looked : ForEntries g box mid (λ entries. (ids ≡ open_ids entries) × HasEntries g mid entries))
+      (named : mid.filer ≡ box.filer)
       (clean_before : HasCleanDisk (shows g mid) → HasCleanDisk (shows g box)) where
     ready : (entries : List Entry) → ids ≡ open_ids entries → AreToSend ids entries
     ready entries are = subst (λ is. AreToSend is entries) (sym are) (to_send entries)
 
-    pub all_turns : (old new : Traffic) (box' : OutboxParts S) (out out' : Option (List ℕ)) (made : Made ids ids old new mid box' out out')
+    pub all_turns : (old new : Traffic) (box' : OutboxParts S) (out out' : Option (List ℕ))
+        (made : Made ids ids old new mid box' out out')
         → (all : HaveTurns g AreAny ids old new box box' out out') × (failures all.turns ≡ failures made.turns)
     all_turns old new box' out out' made = (
       record {
@@ -217,7 +281,8 @@ module _ {S : Type 0} (g : Ghosts S) where
     )
 
     -- all of them had their turns
-    pub whole : (old new : Traffic) (box' : OutboxParts S) (out out' : Option (List ℕ)) (sent failed : ℕ) → Going ids ids old new mid box' out out' failed → (length ids ≡ 0 → ⊥) → sent ≡ length ids
+    pub whole : (old new : Traffic) (box' : OutboxParts S) (out out' : Option (List ℕ)) (sent failed : ℕ)
+        → Going ids ids old new mid box' out out' failed → (length ids ≡ 0 → ⊥) → sent ≡ length ids
         → SendsWhole g old new box box' out out' (record { sent = sent; failed = failed })
     whole old new box' out out' sent failed going some count =
         let all = all_turns old new box' out out' going.0 in
@@ -231,7 +296,8 @@ module _ {S : Type 0} (g : Ghosts S) where
         }
 
     -- none is open, and that was printed
-    pub whole_none : (old : Traffic) (out out' : Option (List ℕ)) → length ids ≡ 0 → Appends out out' nothing_open → SendsWhole g old old box mid out out' (record { sent = 0; failed = 0 })
+    pub whole_none : (old : Traffic) (out out' : Option (List ℕ)) → length ids ≡ 0 → Appends out out' nothing_open
+        → SendsWhole g old old box mid out out' (record { sent = 0; failed = 0 })
     whole_none old out out' empty told =
         let is : ids ≡ [] = empty_list ids empty in
         record {
@@ -251,7 +317,8 @@ module _ {S : Type 0} (g : Ghosts S) where
         }
 
     -- none is open, and that could not be printed
-    pub found_none : (old : Traffic) (fault : TaskFault) → length ids ≡ 0 → IsNotPrinted fault → FindsNone g old old box mid fault
+    pub found_none : (old : Traffic) (fault : TaskFault) → length ids ≡ 0 → IsNotPrinted fault
+        → FindsNone g old old box mid fault
     found_none old fault empty told = record {
       none = λ clean entries had. let found = looked clean entries had in (sym found.0 ∙ empty_list ids empty, found.1);
       filer = named;
@@ -259,7 +326,8 @@ module _ {S : Type 0} (g : Ghosts S) where
       told = told;
     }
 
-    pub some_turns : (old new : Traffic) (box' : OutboxParts S) (out out' : Option (List ℕ)) (fault : TaskFault) → StopsAt g (AreToSend ids) ids old new mid box' out out' fault → SendsSome g old new box box' out out' fault
+    pub some_turns : (old new : Traffic) (box' : OutboxParts S) (out out' : Option (List ℕ)) (fault : TaskFault)
+        → StopsAt g (AreToSend ids) ids old new mid box' out out' fault → SendsSome g old new box box' out out' fault
     some_turns old new box' out out' fault stops = record {
       ids = ids;
       are = λ clean entries had. (looked (stops.clean clean) entries had).0;
@@ -289,46 +357,67 @@ module _ {S : Type 0} (g : Ghosts S) where
 
   -- ---- what came of one
 
-  abbrev Sent : ℕ → Traffic → Traffic → OutboxParts S → OutboxParts S → Option (List ℕ) → Option (List ℕ) → Result State TaskFault → Type 0
-  Sent id old new box box' out out' result = Sends g (λ entries. IsOpenAt entries id) id old new box box' out out' result
+  abbrev Sent : ℕ → Traffic → Traffic → OutboxParts S → OutboxParts S → Option (List ℕ) → Option (List ℕ)
+      → Result State TaskFault → Type 0
+  Sent id old new box box' out out' result =
+      Sends g (λ entries. IsOpenAt entries id) id old new box box' out out' result
 
-  turn : (id : ℕ) (old new : Traffic) (box box' : OutboxParts S) (out out' : Option (List ℕ)) (came : Result State ExchangeFault) (sent : Result State SendFault) → Tries g (λ entries. IsOpenAt entries id) id old new box box' sent
-      → ((entries : List Entry) → IsTried box.filer entries id old new sent → IsTurn box.filer entries id old new came) → ((entries : List Entry) → entries_after entries id came ≡ entries_after entries id sent) → line_of id came ≡ line_of id sent
+  turn : (id : ℕ) (old new : Traffic) (box box' : OutboxParts S) (out out' : Option (List ℕ))
+      (came : Result State ExchangeFault) (sent : Result State SendFault)
+      → Tries g (λ entries. IsOpenAt entries id) id old new box box' sent
+      → ((entries : List Entry) → IsTried box.filer entries id old new sent → IsTurn box.filer entries id old new came)
+      → ((entries : List Entry) → entries_after entries id came ≡ entries_after entries id sent)
+      → line_of id came ≡ line_of id sent
       → Appends out out' (line_of id sent) → One id old new box box' out out'
   turn id old new box box' out out' came sent tries turns same line told = record {
     turns = record { id = id; came = came } ∷ [];
     they = refl;
     in_turn = λ clean entries had opened.
-        let t = tries.tried clean entries had opened in
-        (entries_after entries id came, (new, turns entries t.0, (refl, refl)), subst (HasEntries g box') (sym (same entries)) t.1);
+        let t = tries.tried clean entries had opened in (
+          entries_after entries id came,
+          (new, turns entries t.0, (refl, refl)),
+          subst (HasEntries g box') (sym (same entries)) t.1,
+        );
     told = subst (Appends out out') (sym (append-nil _ ∙ line)) told;
     filer = tries.filer;
     clean = tries.clean;
   }
 
   -- it was sent
-  pub turn_sent : (id : ℕ) (old new : Traffic) (box box' : OutboxParts S) (out out' : Option (List ℕ)) (state : State) → Sent id old new box box' out out' (Ok state) → TakesTurn g id old new box box' out out' (Ok false)
+  pub turn_sent : (id : ℕ) (old new : Traffic) (box box' : OutboxParts S) (out out' : Option (List ℕ)) (state : State)
+      → Sent id old new box box' out out' (Ok state) → TakesTurn g id old new box box' out out' (Ok false)
   unfolding turn
   turn_sent id old new box box' out out' state sends = go sends.came sends.tries sends.told
     where
-      go : (came : Result State SendFault) → Tries g (λ entries. IsOpenAt entries id) id old new box box' came → IsTold id came out out' (Ok state) → TakesTurn g id old new box box' out out' (Ok false)
-      go (Ok to) tries (inl told) = (turn id old new box box' out out' (Ok to) (Ok to) tries (λ entries t. t) (λ entries. refl) refl told.1, refl)
+      go : (came : Result State SendFault) → Tries g (λ entries. IsOpenAt entries id) id old new box box' came
+          → IsTold id came out out' (Ok state) → TakesTurn g id old new box box' out out' (Ok false)
+      go (Ok to) tries (inl told) =
+          (turn id old new box box' out out' (Ok to) (Ok to) tries (λ entries t. t) (λ entries. refl) refl told.1, refl)
       go (Ok to) tries (inr fault) = absurd cc
       go (Err fault) tries (inl told) = absurd cc
       go (Err fault) tries (inr why) = absurd cc
 
   -- its exchange failed by a fault of its own
-  pub turn_failed : (id : ℕ) (old new : Traffic) (box box' : OutboxParts S) (out out' : Option (List ℕ)) (fault : TaskFault) → Sent id old new box box' out out' (Err fault) → belongs_to_entry fault ≡ true → new.gives_up ≡ false
+  pub turn_failed : (id : ℕ) (old new : Traffic) (box box' : OutboxParts S) (out out' : Option (List ℕ))
+      (fault : TaskFault) → Sent id old new box box' out out' (Err fault) → belongs_to_entry fault ≡ true
+      → new.gives_up ≡ false
       → TakesTurn g id old new box box' out out' (Ok true)
   unfolding turn
   turn_failed id old new box box' out out' fault sends own goes_on = go sends.came sends.tries sends.told
     where
-      go : (came : Result State SendFault) → Tries g (λ entries. IsOpenAt entries id) id old new box box' came → IsTold id came out out' (Err fault) → TakesTurn g id old new box box' out out' (Ok true)
+      go : (came : Result State SendFault) → Tries g (λ entries. IsOpenAt entries id) id old new box box' came
+          → IsTold id came out out' (Err fault) → TakesTurn g id old new box box' out out' (Ok true)
       go (Ok to) tries (inl told) = absurd cc
-      go (Ok to) tries (inr why) = let is : fault ≡ Line why.2.0 = cc in let no : belongs_to_entry fault ≡ false = ap belongs_to_entry is in absurd (true≢false (sym own ∙ no))
-      go (Err (Connect error)) tries (inl told) = let is : fault ≡ Send id (Connect error) = cc in let no : belongs_to_entry fault ≡ false = ap belongs_to_entry is in absurd (true≢false (sym own ∙ no))
+      go (Ok to) tries (inr why) = let is : fault ≡ Line why.2.0 = cc in let no : belongs_to_entry fault ≡ false =
+          ap belongs_to_entry is in absurd (true≢false (sym own ∙ no))
+      go (Err (Connect error)) tries (inl told) = let is : fault ≡ Send id (Connect error) = cc in
+          let no : belongs_to_entry fault ≡ false = ap belongs_to_entry is in absurd (true≢false (sym own ∙ no))
       go (Err (Exchange why)) tries (inl told) =
           let is : fault ≡ Send id (Exchange why) = cc in
-          let its_own = sym (ap belongs_to_entry is) ∙ own in
-          (turn id old new box box' out out' (Err why) (Err (Exchange why)) tries (λ entries t. (t, its_own, goes_on)) (λ entries. refl) refl told.1, refl)
-      go (Err sent) tries (inr why) = let is : fault ≡ Line why.2.0 = cc in let no : belongs_to_entry fault ≡ false = ap belongs_to_entry is in absurd (true≢false (sym own ∙ no))
+          let its_own = sym (ap belongs_to_entry is) ∙ own in (
+            turn id old new box box' out out' (Err why) (Err (Exchange why)) tries (λ entries t. (t, its_own, goes_on))
+                (λ entries. refl) refl told.1,
+            refl,
+          )
+      go (Err sent) tries (inr why) = let is : fault ≡ Line why.2.0 = cc in let no : belongs_to_entry fault ≡ false =
+          ap belongs_to_entry is in absurd (true≢false (sym own ∙ no))

@@ -1,5 +1,6 @@
 -- What is printed of the reply to a question about an entry; own rules.
-use Rattle.std.specs.Prelude.{◌≡◌, ℕ, ◌==◌, Bool, true, false, ◌&&◌, ◌||◌, not, List, [], ◌∷◌, ◌++◌, codes, Option, Some, None, is_some}
+use Rattle.std.specs.Prelude.{◌≡◌, ℕ, ◌==◌, Bool, true, false, ◌&&◌, ◌||◌, not, List, [], ◌∷◌, ◌++◌, codes, Option}
+use Rattle.std.specs.Prelude.{Some, None, is_some}
 use Rattle.std.specs.Fmt.{decimal}
 use Rattle.std.specs.Io.KnownBytes.{Appends}
 use Rattle.std.specs.Str.Lossy.{utf8_lossy}
@@ -23,12 +24,14 @@ HasString content string has = (place : Option ℕ) × FindsNeedle content strin
 -- a report is refused for what was found in it
 abbrev pub Refuses : ReplyParts → Bool → Type 0
 Refuses reply refused =
-    (named : Bool) × HasString reply.content (codes "\"refused\"") named × (refused ≡ (named && ((reply.status == 422) || (reply.status == 400))))
+    (named : Bool) × HasString reply.content (codes "\"refused\"") named
+    × (refused ≡ (named && ((reply.status == 422) || (reply.status == 400))))
 
 -- that it may not replace a filing is the one finding that the report alone doesn't show
 abbrev pub MayReplace : Option ℕ → List ℕ → Bool → Type 0
 MayReplace None content free = free ≡ true
-MayReplace (Some number) content free = (named : Bool) × HasString content (codes "\"not-replaceable\"") named × (free ≡ not named)
+MayReplace (Some number) content free =
+    (named : Bool) × HasString content (codes "\"not-replaceable\"") named × (free ≡ not named)
 
 -- a line for each of these findings in a body
 abbrev pub AreLines : Form → List ℕ → List ℕ → List Pair → List ℕ → Type 0
@@ -43,10 +46,12 @@ entry_name id = codes "entry-" ++ decimal id
 abbrev pub HasFindingsIf : Bool → Form → List ℕ → ℕ × Entry → List ℕ → List ℕ → Type 0
 HasFindingsIf false form filer (id, entry) content text = text ≡ []
 HasFindingsIf true form filer (id, entry) content text =
-    (free : Bool) × MayReplace entry.target content free × AreLines form (entry_name id) entry.body (amendment_findings filer entry.body free) text
+    (free : Bool) × MayReplace entry.target content free
+    × AreLines form (entry_name id) entry.body (amendment_findings filer entry.body free) text
 
 abbrev pub HasFindings : Form → List ℕ → ℕ × Entry → ReplyParts → List ℕ → Type 0
-HasFindings form filer entry reply text = (refused : Bool) × Refuses reply refused × HasFindingsIf refused form filer entry reply.content text
+HasFindings form filer entry reply text =
+    (refused : Bool) × Refuses reply refused × HasFindingsIf refused form filer entry reply.content text
 
 -- ---- all of it
 
@@ -57,12 +62,14 @@ phrase_part (Some words) = codes " " ++ words
 -- entry ID: STATUS PHRASE, and the content on the next line
 abbrev pub sentence_head : ℕ → ℕ → List ℕ → List ℕ
 sentence_head id status content =
-    (codes "entry " ++ decimal id ++ codes ": " ++ decimal status ++ phrase_part (phrase status) ++ codes "\n") ++ one_line content ++ codes "\n"
+    (codes "entry " ++ decimal id ++ codes ": " ++ decimal status ++ phrase_part (phrase status) ++ codes "\n")
+    ++ one_line content ++ codes "\n"
 
 -- a JSON object with these members, in byte order of their names
 abbrev pub object_head : ℕ → ℕ → List ℕ → List ℕ
 object_head id status content =
-    codes "{\"content\":" ++ json_text content ++ (codes ",\"entry\":" ++ decimal id ++ codes ",\"status\":" ++ decimal status) ++ codes "}\n"
+    codes "{\"content\":" ++ json_text content ++ (codes ",\"entry\":" ++ decimal id ++ codes ",\"status\":"
+    ++ decimal status) ++ codes "}\n"
 
 abbrev pub head_text : Form → ℕ → ReplyParts → List ℕ
 head_text Sentences id reply = sentence_head id reply.status (utf8_lossy reply.content)
@@ -71,7 +78,9 @@ head_text Objects id reply = object_head id reply.status (utf8_lossy reply.conte
 -- the status, the content, and a line for each finding, with its place in the body of the entry
 abbrev pub IsAnswerText : Form → List ℕ → ℕ × Entry → ReplyParts → List ℕ → Type 0
 IsAnswerText form filer entry reply text =
-    (findings : List ℕ) × HasFindings form filer entry reply findings × (text ≡ head_text form entry.0 reply ++ findings)
+    (findings : List ℕ) × HasFindings form filer entry reply findings
+    × (text ≡ head_text form entry.0 reply ++ findings)
 
 abbrev pub PrintsAnswer : Form → List ℕ → ℕ × Entry → ReplyParts → Option (List ℕ) → Option (List ℕ) → Type 0
-PrintsAnswer form filer entry reply out out' = (text : List ℕ) × IsAnswerText form filer entry reply text × Appends out out' text
+PrintsAnswer form filer entry reply out out' =
+    (text : List ℕ) × IsAnswerText form filer entry reply text × Appends out out' text

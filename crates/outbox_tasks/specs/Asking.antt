@@ -33,14 +33,16 @@ use Rattle.outbox_tasks.specs.Sending.{IsOneConnection, IsOpenAt}
 
 -- this is the entry of an id, and these are the bytes of its request
 abbrev pub IsAbout : List ℕ → List Entry → ℕ → Read → List ℕ → Type 0
-IsAbout filer entries id entry request = (Some (view_entry entry) ≡ found_at entries id) × (request ≡ bytes_of (request_of filer (view_entry entry).1))
+IsAbout filer entries id entry request =
+    (Some (view_entry entry) ≡ found_at entries id) × (request ≡ bytes_of (request_of filer (view_entry entry).1))
 
 -- why nothing is asked: the entry was not found, or it is open; or its request could not be built
 abbrev pub IsNotAsked : {S : Type 0} → Ghosts S → OutboxParts S → OutboxParts S → ℕ → TaskFault → Type 0
 IsNotAsked g box box' id fault =
     IsNotFound g box box' id fault
     ⊎ (((fault ≡ IsOpen id) × ForEntries g box box' (λ entries. IsOpenAt entries id))
-    ⊎ ((why : TakeFault) × (fault ≡ Send id (Exchange (Take why))) × ForEntries g box box' (λ entries. ¬ IsOpenAt entries id)))
+    ⊎ ((why : TakeFault) × (fault ≡ Send id (Exchange (Take why)))
+    × ForEntries g box box' (λ entries. ¬ IsOpenAt entries id)))
 
 -- The outbox was only read: it has the entries that it had, and nothing was committed.
 pub record OnlyReads {S : Type 0} (g : Ghosts S) (box box' : OutboxParts S) : Type 0 where
@@ -49,8 +51,10 @@ pub record OnlyReads {S : Type 0} (g : Ghosts S) (box box' : OutboxParts S) : Ty
   pub nothing : CommitsNothing (shows g box) (shows g box')
 
 -- the settled entry of an id and its request were found; or they were not
-pub record FindsQuestion {S : Type 0} (g : Ghosts S) (box box' : OutboxParts S) (id : ℕ) (result : Result Question TaskFault) : Type 0 where
-  pub found : ForEntries g box box' (λ entries. IfOk result (λ question. IsAbout box.filer entries id question.entry question.request.items))
+pub record FindsQuestion {S : Type 0} (g : Ghosts S) (box box' : OutboxParts S) (id : ℕ)
+    (result : Result Question TaskFault) : Type 0 where
+  pub found : ForEntries g box box' (λ entries. IfOk result
+      (λ question. IsAbout box.filer entries id question.entry question.request.items))
   pub settled : IfOk result (λ question. view_state question.entry.state ≢ Open)
   pub refused : IfErr result (IsNotAsked g box box' id)
   pub reads : OnlyReads g box box'
@@ -60,15 +64,18 @@ pub record FindsQuestion {S : Type 0} (g : Ghosts S) (box box' : OutboxParts S) 
 -- a request was written whole, or a first part of it was written
 abbrev pub WritesQuestion : {X : Type 0} → List ℕ → Option (List ℕ) → Option (List ℕ) → Result X ExchangeFault → Type 0
 WritesQuestion request written written' (Ok reply) = Appends written written' request
-WritesQuestion request written written' (Err (Write sent)) = (sent ≤ length request) × Appends written written' (take sent request)
+WritesQuestion request written written' (Err (Write sent)) =
+    (sent ≤ length request) × Appends written written' (take sent request)
 WritesQuestion request written written' (Err (Unread why)) = Appends written written' request
 WritesQuestion request written written' (Err (Take why)) = ⊥
 
--- On a connection of its own, which was made for the entry of this id in this state, the whole request was written and this reply was read.
--- Or no connection was made; or one failed, for the cause that the fault says, as far as the reader and the writer tell.
+-- On a connection of its own, which was made for the entry of this id in this state, the whole request was written and
+-- this reply was read. Or no connection was made; or one failed, for the cause that the fault says, as far as the
+-- reader and the writer tell.
 abbrev pub IsReplied : ℕ → State → List ℕ → Traffic → Traffic → Result Reply SendFault → Type 0
 IsReplied id state request old new (Ok reply) =
-    (left left' : Option (List ℕ)) × IsOneConnection old new left (record { id = id; came = Ok state; bytes = request }) × Hears left left' (λ heard. heard ≡ reply_parts reply)
+    (left left' : Option (List ℕ)) × IsOneConnection old new left (record { id = id; came = Ok state; bytes = request })
+    × Hears left left' (λ heard. heard ≡ reply_parts reply)
 IsReplied id state request old new (Err (Connect error)) = new ≡ old
 IsReplied id state request old new (Err (Exchange fault)) =
     (bytes : List ℕ) × (from to : Wire) × WritesQuestion {X = Reply} request (Some []) (Some bytes) (Err fault)
@@ -78,13 +85,16 @@ IsReplied id state request old new (Err (Exchange fault)) =
 -- ---- all of it
 
 -- the reply was printed, or could not be; or there was none, and nothing was printed
-abbrev pub IsAnswered : {X : Type 0} → Form → List ℕ → ℕ → ℕ × Entry → Result Reply SendFault → Option (List ℕ) → Option (List ℕ) → Result X TaskFault → Type 0
-IsAnswered form filer id entry (Ok reply) out out' (Ok done) = PrintsAnswer form filer entry (reply_parts reply) out out'
+abbrev pub IsAnswered : {X : Type 0} → Form → List ℕ → ℕ → ℕ × Entry → Result Reply SendFault → Option (List ℕ)
+    → Option (List ℕ) → Result X TaskFault → Type 0
+IsAnswered form filer id entry (Ok reply) out out' (Ok done) =
+    PrintsAnswer form filer entry (reply_parts reply) out out'
 IsAnswered form filer id entry (Ok reply) out out' (Err fault) = IsNotPrinted fault
 IsAnswered form filer id entry (Err why) out out' result = (result ≡ Err (Send id why)) × (out' ≡ out)
 
 -- The settled entry of an id was asked about.
-pub record Asks {S X : Type 0} (g : Ghosts S) (form : Form) (id : ℕ) (old new : Traffic) (box box' : OutboxParts S) (out out' : Option (List ℕ)) (result : Result X TaskFault) : Type 0 where
+pub record Asks {S X : Type 0} (g : Ghosts S) (form : Form) (id : ℕ) (old new : Traffic) (box box' : OutboxParts S)
+    (out out' : Option (List ℕ)) (result : Result X TaskFault) : Type 0 where
   pub entry : Read
   pub request : List ℕ
   pub about : ForEntries g box box' (λ entries. IsAbout box.filer entries id entry request)
@@ -94,7 +104,8 @@ pub record Asks {S X : Type 0} (g : Ghosts S) (form : Form) (id : ℕ) (old new 
   pub answered : IsAnswered form box.filer id (view_entry entry) came out out' result
 
 -- so it was, or it was not, and nothing was sent or printed; in any case the outbox was only read
-abbrev pub AsksEntry : {S X : Type 0} → Ghosts S → Form → ℕ → Traffic → Traffic → OutboxParts S → OutboxParts S → Option (List ℕ) → Option (List ℕ) → Result X TaskFault → Type 0
+abbrev pub AsksEntry : {S X : Type 0} → Ghosts S → Form → ℕ → Traffic → Traffic → OutboxParts S → OutboxParts S
+    → Option (List ℕ) → Option (List ℕ) → Result X TaskFault → Type 0
 AsksEntry g form id old new box box' out out' result =
     OnlyReads g box box'
     × (Asks g form id old new box box' out out' result

@@ -10,8 +10,8 @@ pub record Output : Type 0 where
   pub came : Result State ExchangeFault
   pub bytes : List ℕ
 
--- What contracts see of a network: the bytes of each connection that is made from here on, and what each came to that is over, where they
--- are known; and whether it gives up.
+-- What contracts see of a network: the bytes of each connection that is made from here on, and what each came to that
+-- is over, where they are known; and whether it gives up.
 pub record Traffic : Type 0 where
   pub coming : Option (List (List ℕ))
   pub over : Option (List Output)
@@ -28,10 +28,12 @@ abbrev pub IsUnwritten : Option (List Output) → Option (List ℕ) → Type 0
 IsUnwritten None written = Unit {0}
 IsUnwritten (Some outputs) written = written ≡ Some []
 
--- A connection was made, of which nothing is read or written; or none, and all is as it was. First comes what contracts see of the halves of
--- a connection.
+-- A connection was made, of which nothing is read or written; or none, and all is as it was. First comes what contracts
+-- see of the halves of a connection.
 abbrev pub Connects : {R W E : Type 0} → (R → W → Wire) → Traffic → Traffic → Result (R × W) E → Type 0
-Connects shows old new (Ok (reader, writer)) = (new.over ≡ old.over) × Takes old.coming new.coming (shows reader writer).left × IsUnwritten old.over (shows reader writer).written
+Connects shows old new (Ok (reader, writer)) =
+    (new.over ≡ old.over) × Takes old.coming new.coming (shows reader writer).left
+    × IsUnwritten old.over (shows reader writer).written
 Connects shows old new (Err error) = new ≡ old
 
 -- Where it is known now what the connections came to, it was known before, and behind those of before stand these.
@@ -40,7 +42,9 @@ Grows before None more = Unit {0}
 Grows before (Some outputs) more = (earlier : List Output) × (before ≡ Some earlier) × (outputs ≡ earlier ++ more)
 
 -- so it is with one that was made for the entry of this id, of whose exchange this came, and on which this was written
-abbrev pub Adds : Option (List Output) → Option (List Output) → ℕ → Result State ExchangeFault → Option (List ℕ) → Type 0
+abbrev pub Adds : Option (List Output) → Option (List Output) → ℕ → Result State ExchangeFault → Option (List ℕ)
+    → Type 0
 Adds before None id came written = Unit {0}
 Adds before (Some outputs) id came None = ⊥
-Adds before (Some outputs) id came (Some bytes) = Grows before (Some outputs) (record { id = id; came = came; bytes = bytes } ∷ [])
+Adds before (Some outputs) id came (Some bytes) =
+    Grows before (Some outputs) (record { id = id; came = came; bytes = bytes } ∷ [])

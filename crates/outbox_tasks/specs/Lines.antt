@@ -41,7 +41,9 @@ target_part (Some number) = codes ", replaces " ++ decimal number
 
 -- entry ID STATE, LENGTH bytes, replaces N, key KEY
 abbrev pub long_line : ℕ × Entry → List ℕ
-long_line (id, entry) = front_part id entry.state ++ size_part (length entry.body) ++ target_part entry.target ++ codes ", key " ++ entry.key ++ codes "\n"
+long_line (id, entry) =
+    front_part id entry.state ++ size_part (length entry.body) ++ target_part entry.target ++ codes ", key "
+    ++ entry.key ++ codes "\n"
 
 -- what is printed in the place of entries, if none is open
 abbrev pub nothing_open : List ℕ

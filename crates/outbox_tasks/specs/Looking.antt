@@ -2,7 +2,7 @@
 use Rattle.std.specs.Prelude.{◌≡◌, ◌⊎◌, ℕ, List, Option, None}
 use Rattle.sqlite.specs.Store.{Ghosts}
 use Rattle.filing_model.specs.Outbox.{Entry}
-use Rattle.outbox_opening.specs.Entries.{entry_at}
+use Rattle.outbox_tables.specs.Entries.{entry_at}
 use Rattle.outbox_core.specs.OutboxParts.{OutboxParts, HasEntries, ForEntries}
 use Rattle.outbox_tasks.specs.declared.fault.TaskFault.{TaskFault}
 use Rattle.outbox_tasks.specs.declared.fault.TaskFault.TheVariants.{NoEntry}
@@ -15,10 +15,12 @@ AreAny entries = Unit {0}
 
 -- none was read, or none has the id
 abbrev pub IsNotFound : {S : Type 0} → Ghosts S → OutboxParts S → OutboxParts S → ℕ → TaskFault → Type 0
-IsNotFound g box box' id fault = IsUnread fault ⊎ ((fault ≡ NoEntry id) × ForEntries g box box' (λ entries. entry_at entries id ≡ None))
+IsNotFound g box box' id fault =
+    IsUnread fault ⊎ ((fault ≡ NoEntry id) × ForEntries g box box' (λ entries. entry_at entries id ≡ None))
 
 -- the entries are those of before, of the same filer, no connection was made, and nothing was printed
-pub record DoesNothing {S : Type 0} (g : Ghosts S) (old new : Traffic) (box box' : OutboxParts S) (out out' : Option (List ℕ)) : Type 0 where
+pub record DoesNothing {S : Type 0} (g : Ghosts S) (old new : Traffic) (box box' : OutboxParts S)
+    (out out' : Option (List ℕ)) : Type 0 where
   pub entries : ForEntries g box box' (HasEntries g box')
   pub filer : box'.filer ≡ box.filer
   pub traffic : new ≡ old

@@ -1,5 +1,6 @@
 -- Entries that are sent one after another; own rules.
-use Rattle.std.specs.Prelude.{◌≡◌, ◌≢◌, ◌⊎◌, ℕ, Bool, true, false, List, [], ◌∷◌, ◌++◌, length, map, filter, count_by, flat_map, is_err, Option, Result, Ok, Err, if◌then◌else◌}
+use Rattle.std.specs.Prelude.{◌≡◌, ◌≢◌, ◌⊎◌, ℕ, Bool, true, false, List, [], ◌∷◌, ◌++◌, length, map, filter, count_by}
+use Rattle.std.specs.Prelude.{flat_map, is_err, Option, Result, Ok, Err, if◌then◌else◌}
 use Rattle.std.specs.List.{AllByRecursion}
 use Rattle.std.specs.Io.KnownBytes.{Appends}
 use Rattle.sqlite.specs.Store.{Ghosts}
@@ -7,7 +8,7 @@ use Rattle.sqlite.specs.State.{HasCleanDisk}
 use Rattle.filing_model.specs.Outbox.{Entry}
 use Rattle.filing_model.specs.Views.{view_state}
 use Rattle.filing_model.specs.declared.state.State.{State}
-use Rattle.outbox_opening.specs.Entries.{numbered}
+use Rattle.outbox_tables.specs.Entries.{numbered}
 use Rattle.outbox_core.specs.Entries.{is_open, is_open_state}
 use Rattle.outbox_core.specs.OutboxParts.{OutboxParts, shows, HasEntries, ForEntries}
 use Rattle.filer_client.specs.declared.fault.ExchangeFault.{ExchangeFault}
@@ -39,13 +40,15 @@ pub record Turn : Type 0 where
 -- it was sent; or its exchange was broken off by a fault of its own, after which the network doesn't give up
 abbrev pub IsTurn : List ℕ → List Entry → ℕ → Traffic → Traffic → Result State ExchangeFault → Type 0
 IsTurn filer entries id old new (Ok to) = IsSentOnce filer entries id old new to
-IsTurn filer entries id old new (Err fault) = IsBrokenOff filer entries id old new (Exchange fault) × (is_of_entry fault ≡ true) × (new.gives_up ≡ false)
+IsTurn filer entries id old new (Err fault) =
+    IsBrokenOff filer entries id old new (Exchange fault) × (is_of_entry fault ≡ true) × (new.gives_up ≡ false)
 
 -- each had its turn among the entries that the one before it left, and these are the last
 abbrev pub SentInTurn : List ℕ → List Entry → Traffic → List Turn → List Entry → Traffic → Type 0
 SentInTurn filer entries old [] after new = (after ≡ entries) × (new ≡ old)
 SentInTurn filer entries old (turn ∷ turns) after new =
-    (between : Traffic) × IsTurn filer entries turn.id old between turn.came × SentInTurn filer (entries_after entries turn.id turn.came) between turns after new
+    (between : Traffic) × IsTurn filer entries turn.id old between turn.came
+    × SentInTurn filer (entries_after entries turn.id turn.came) between turns after new
 
 abbrev pub ids_of : List Turn → List ℕ
 ids_of turns = map (λ turn. turn.id) turns
@@ -59,10 +62,12 @@ failures turns = count_by (λ turn. is_err turn.came) turns
 -- ---- a round
 
 -- The entries of these ids had their turns, where those of before are such, and what came of each was printed.
-pub record HaveTurns {S : Type 0} (g : Ghosts S) (Are : List Entry → Type 0) (ids : List ℕ) (old new : Traffic) (box box' : OutboxParts S) (out out' : Option (List ℕ)) : Type 0 where
+pub record HaveTurns {S : Type 0} (g : Ghosts S) (Are : List Entry
+    → Type 0) (ids : List ℕ) (old new : Traffic) (box box' : OutboxParts S) (out out' : Option (List ℕ)) : Type 0 where
   pub turns : List Turn
   pub they : ids_of turns ≡ ids
-  pub in_turn : ForEntries g box box' (λ entries. Are entries → (after : List Entry) × SentInTurn box.filer entries old turns after new × HasEntries g box' after)
+  pub in_turn : ForEntries g box box' (λ entries. Are entries
+      → (after : List Entry) × SentInTurn box.filer entries old turns after new × HasEntries g box' after)
   pub told : Appends out out' (lines_of turns)
   pub filer : box'.filer ≡ box.filer
   pub clean : HasCleanDisk (shows g box') → HasCleanDisk (shows g box)
@@ -71,15 +76,19 @@ pub record HaveTurns {S : Type 0} (g : Ghosts S) (Are : List Entry → Type 0) (
 abbrev pub EndsRound : Traffic → TaskFault → Type 0
 EndsRound new fault = (belongs_to_entry fault ≡ false) ⊎ (new.gives_up ≡ true)
 
--- The first of the entries of these ids had their turns, and the next of them ended the round: it was tried, and this fault came.
-pub record StopsAt {S : Type 0} (g : Ghosts S) (Are : List Entry → Type 0) (ids : List ℕ) (old new : Traffic) (box box' : OutboxParts S) (out out' : Option (List ℕ)) (fault : TaskFault) : Type 0 where
+-- The first of the entries of these ids had their turns, and the next of them ended the round: it was tried, and this
+-- fault came.
+pub record StopsAt {S : Type 0} (g : Ghosts S) (Are : List Entry
+    → Type 0) (ids : List ℕ) (old new : Traffic) (box box' : OutboxParts S) (out out' : Option (List ℕ))
+    (fault : TaskFault) : Type 0 where
   pub turns : List Turn
   pub next : ℕ
   pub rest : List ℕ
   pub splits : ids ≡ ids_of turns ++ next ∷ rest
   pub came : Result State SendFault
   pub tried :
-      ForEntries g box box' (λ entries. Are entries → (after : List Entry) × (between : Traffic) × SentInTurn box.filer entries old turns after between
+      ForEntries g box box' (λ entries. Are entries
+      → (after : List Entry) × (between : Traffic) × SentInTurn box.filer entries old turns after between
       × IsTried box.filer after next between new came × HasEntries g box' (entries_after after next came))
   -- what had been printed before it
   pub so_far : Option (List ℕ)
@@ -95,14 +104,19 @@ AreToSend [] entries = Unit {0}
 AreToSend (id ∷ ids) entries = IsOpenAt entries id × AllByRecursion (λ other. other ≢ id) ids × AreToSend ids entries
 
 -- one of them had its turn, and it is answered whether its exchange failed; or it ended the round
-abbrev pub TakesTurn : {S : Type 0} → Ghosts S → ℕ → Traffic → Traffic → OutboxParts S → OutboxParts S → Option (List ℕ) → Option (List ℕ) → Result Bool TaskFault → Type 0
+abbrev pub TakesTurn : {S : Type 0} → Ghosts S → ℕ → Traffic → Traffic → OutboxParts S → OutboxParts S → Option (List ℕ)
+    → Option (List ℕ) → Result Bool TaskFault → Type 0
 TakesTurn g id old new box box' out out' (Ok failed) =
-    (made : HaveTurns g (λ entries. IsOpenAt entries id) (id ∷ []) old new box box' out out') × (failures made.turns ≡ (if failed then 1 else 0))
-TakesTurn g id old new box box' out out' (Err fault) = Sends g (λ entries. IsOpenAt entries id) id old new box box' out out' (Err fault) × EndsRound new fault
+    (made : HaveTurns g (λ entries. IsOpenAt entries id) (id ∷ []) old new box box' out out')
+    × (failures made.turns ≡ (if failed then 1 else 0))
+TakesTurn g id old new box box' out out' (Err fault) =
+    Sends g (λ entries. IsOpenAt entries id) id old new box box' out out' (Err fault) × EndsRound new fault
 
 -- all of them had their turns, and it is answered how many exchanges failed; or one ended the round
-abbrev pub SendsEach : {S : Type 0} → Ghosts S → List ℕ → Traffic → Traffic → OutboxParts S → OutboxParts S → Option (List ℕ) → Option (List ℕ) → Result ℕ TaskFault → Type 0
-SendsEach g ids old new box box' out out' (Ok failed) = (made : HaveTurns g (AreToSend ids) ids old new box box' out out') × (failed ≡ failures made.turns)
+abbrev pub SendsEach : {S : Type 0} → Ghosts S → List ℕ → Traffic → Traffic → OutboxParts S → OutboxParts S
+    → Option (List ℕ) → Option (List ℕ) → Result ℕ TaskFault → Type 0
+SendsEach g ids old new box box' out out' (Ok failed) =
+    (made : HaveTurns g (AreToSend ids) ids old new box box' out out') × (failed ≡ failures made.turns)
 SendsEach g ids old new box box' out out' (Err fault) = StopsAt g (AreToSend ids) ids old new box box' out out' fault
 
 -- behind the lines of these comes another, if there are none
@@ -110,8 +124,10 @@ abbrev pub EndsIn : List ℕ → Option (List ℕ) → Option (List ℕ) → Typ
 EndsIn [] so_far out' = Appends so_far out' nothing_open
 EndsIn (id ∷ ids) so_far out' = out' ≡ so_far
 
--- Each entry that was open had one turn, in the order of the ids, and it is answered how many were sent and how many failed.
-pub record SendsWhole {S : Type 0} (g : Ghosts S) (old new : Traffic) (box box' : OutboxParts S) (out out' : Option (List ℕ)) (round : Round) : Type 0 where
+-- Each entry that was open had one turn, in the order of the ids, and it is answered how many were sent and how many
+-- failed.
+pub record SendsWhole {S : Type 0} (g : Ghosts S) (old new : Traffic) (box box' : OutboxParts S)
+    (out out' : Option (List ℕ)) (round : Round) : Type 0 where
   pub ids : List ℕ
   pub are : ForEntries g box box' (λ entries. ids ≡ open_ids entries)
   pub so_far : Option (List ℕ)
@@ -120,19 +136,23 @@ pub record SendsWhole {S : Type 0} (g : Ghosts S) (old new : Traffic) (box box' 
   pub counts : round ≡ record { sent = length ids; failed = failures made.turns }
 
 -- One of them ended the round.
-pub record SendsSome {S : Type 0} (g : Ghosts S) (old new : Traffic) (box box' : OutboxParts S) (out out' : Option (List ℕ)) (fault : TaskFault) : Type 0 where
+pub record SendsSome {S : Type 0} (g : Ghosts S) (old new : Traffic) (box box' : OutboxParts S)
+    (out out' : Option (List ℕ)) (fault : TaskFault) : Type 0 where
   pub ids : List ℕ
   pub are : ForEntries g box box' (λ entries. ids ≡ open_ids entries)
   pub stops : StopsAt g AreAny ids old new box box' out out' fault
 
 -- None was open, and that could not be printed.
-pub record FindsNone {S : Type 0} (g : Ghosts S) (old new : Traffic) (box box' : OutboxParts S) (fault : TaskFault) : Type 0 where
+pub record FindsNone {S : Type 0} (g : Ghosts S) (old new : Traffic) (box box' : OutboxParts S)
+    (fault : TaskFault) : Type 0 where
   pub none : ForEntries g box box' (λ entries. (open_ids entries ≡ []) × HasEntries g box' entries)
   pub filer : box'.filer ≡ box.filer
   pub traffic : new ≡ old
   pub told : IsNotPrinted fault
 
-abbrev pub SendsAll : {S : Type 0} → Ghosts S → Traffic → Traffic → OutboxParts S → OutboxParts S → Option (List ℕ) → Option (List ℕ) → Result Round TaskFault → Type 0
+abbrev pub SendsAll : {S : Type 0} → Ghosts S → Traffic → Traffic → OutboxParts S → OutboxParts S → Option (List ℕ)
+    → Option (List ℕ) → Result Round TaskFault → Type 0
 SendsAll g old new box box' out out' (Ok round) = SendsWhole g old new box box' out out' round
 SendsAll g old new box box' out out' (Err fault) =
-    SendsSome g old new box box' out out' fault ⊎ (FindsNone g old new box box' fault ⊎ (IsUnread fault × DoesNothing g old new box box' out out'))
+    SendsSome g old new box box' out out' fault ⊎ (FindsNone g old new box box' fault
+    ⊎ (IsUnread fault × DoesNothing g old new box box' out out'))

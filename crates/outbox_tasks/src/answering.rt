@@ -5,7 +5,8 @@ ghost use Rattle.http_messages.specs.Reply.{phrase};
 ghost use Rattle.http_messages.specs.Replies.{reply_parts};
 ghost use Rattle.finding_lines.specs.Objects.{json_text};
 ghost use Rattle.outbox_core.specs.Reading.{view_entry};
-ghost use Rattle.outbox_tasks.specs.Answering.{HasString, Refuses, MayReplace, HasFindings, phrase_part, sentence_head, object_head, head_text, entry_name, IsAnswerText, PrintsAnswer};
+ghost use Rattle.outbox_tasks.specs.Answering.{HasString, Refuses, MayReplace, HasFindings, phrase_part, sentence_head};
+ghost use Rattle.outbox_tasks.specs.Answering.{object_head, head_text, entry_name, IsAnswerText, PrintsAnswer};
 
 use crate::fault::LineFault;
 use crate::lines::print_bytes;
@@ -33,8 +34,8 @@ fn refuses(reply: &Reply) -> bool
     is_named && (reply.status == 422 || reply.status == 400)
 }
 
-/// Whether a report may replace the filing of this number, if it is to replace one, by the content of a reply that refuses
-/// the report.
+/// Whether a report may replace the filing of this number, if it is to replace one, by the content of a reply that
+/// refuses the report.
 fn may_replace(target: Option<u64>, content: &[u8]) -> bool
     ensures { MayReplace target content.now result }
 {

@@ -95,9 +95,9 @@ fn ask_once<N: Dial>(
     }
 }
 
-/// Sends the request of a settled entry again, on a connection of its own, and prints the reply: its status, its content,
-/// and a line for each finding for which it refuses the report. The outbox stays as it is, whatever the reply says. An
-/// open entry is refused, since asking about it would be sending it.
+/// Sends the request of a settled entry again, on a connection of its own, and prints the reply: its status, its
+/// content, and a line for each finding for which it refuses the report. The outbox stays as it is, whatever the reply
+/// says. An open entry is refused, since asking about it would be sending it.
 pub fn ask<S: Alter, N: Dial, O: Write>(
     alloc: Global,
     network: &mut N,

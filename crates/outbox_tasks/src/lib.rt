@@ -1,7 +1,7 @@
-//! What `outbox` does with an open outbox: it puts a report in, sends entries, asks about them, and shows them; each entry
-//! is sent or asked about on a connection of its own. What may live here: the calls of an outbox that a task makes, the
-//! connections that are made for them, and the lines that are printed. No file and no word of the command line is known
-//! here, and of the system's ports `TcpDial` alone.
+//! What `outbox` does with an open outbox: it puts a report in, sends entries, asks about them, and shows them; each
+//! entry is sent or asked about on a connection of its own. What may live here: the calls of an outbox that a task
+//! makes, the connections that are made for them, and the lines that are printed. No file and no word of the command
+//! line is known here, and of the system's ports `TcpDial` alone.
 #![tactic(auto)]
 
 mod answering;

@@ -4,7 +4,7 @@ ghost use Rattle.std.specs.Prelude.{◌≡◌, Some, IfOk, IfErr, map};
 ghost use Rattle.sqlite.specs.State.{HasCleanDisk};
 ghost use Rattle.table_rows.specs.Standing.{CommitsNothing};
 ghost use Rattle.filing_model.specs.Views.{view_state};
-ghost use Rattle.outbox_opening.specs.Entries.{numbered};
+ghost use Rattle.outbox_tables.specs.Entries.{numbered};
 ghost use Rattle.outbox_core.specs.Entries.{found_at, is_open_state};
 ghost use Rattle.outbox_core.specs.Reading.{view_entry, view_pair, id_and_state};
 ghost use Rattle.outbox_core.specs.OutboxParts.{shows, HasEntries, ForEntries};

@@ -1,5 +1,6 @@
 -- What is read of a connection that was turned away moves no entry.
-use Rattle.std.proofs.Common.{◌≡◌, ◌∙◌, ℕ, ◌⊎◌, Bool, true, false, List, [], ◌∷◌, length, take, Option, Some, None, refl, sym, ap, subst, ⊎_elim}
+use Rattle.std.proofs.Common.{◌≡◌, ◌∙◌, ℕ, ◌⊎◌, Bool, true, false, List, [], ◌∷◌, length, take, Option, Some, None}
+use Rattle.std.proofs.Common.{refl, sym, ap, subst, ⊎_elim}
 use Rattle.std.specs.Prelude.{Result, Ok, Err, if◌then◌else◌, codes, bytes_eq}
 use Rattle.std.specs.Io.KnownBytes.{Appends}
 use Rattle.std.proofs.lemmas.Bool.{cases_Bool}
@@ -41,7 +42,8 @@ away_is_open is_head' = open_still (tree (closing_reply is_head').content)
 -- ---- what files a report is no HEAD
 
 module _ (r : Request) (m : Message) where
-  by_resource : (found : Option (List ℕ × Option ℕ)) → is_head m ≡ true → bare (is_head m) (route_by_resource found m) ≡ FileReport r → ⊥
+  by_resource : (found : Option (List ℕ × Option ℕ)) → is_head m ≡ true
+      → bare (is_head m) (route_by_resource found m) ≡ FileReport r → ⊥
   by_resource None heads files = let e = rw heads at files in cc
   by_resource (Some (filer, target)) heads files =
       let method : m.head.method ≡ codes "HEAD" = (bytes_eq-Decides m.head.method (codes "HEAD")).0 heads in
@@ -63,27 +65,35 @@ module _ (heard : ReplyParts) where
   -- nothing is read where nothing was written
   silent_out : (out : List ℕ) (k : ℕ) → out ≡ [] → GivesReply (take k out) heard → ⊥
   silent_out out k none gives =
-      let part : take gives.0 (take k out) ≡ [] = ap (λ xs. take gives.0 (take k xs)) none ∙ ap (take gives.0) (take_nil k) ∙ take_nil gives.0 in
+      let part : take gives.0 (take k out) ≡ [] =
+      ap (λ xs. take gives.0 (take k xs)) none ∙ ap (take gives.0) (take_nil k) ∙ take_nil gives.0 in
       SpellsReply-nothing heard (subst (λ bytes. SpellsReply bytes heard) part gives.1)
 
   -- what is read of a rendered reply is that reply
-  heard_is : (reply : ReplyParts) (close : Bool) → IsReadable reply → (out : List ℕ) (k : ℕ) → IsPrefixOf out (render reply close) → GivesReply (take k out) heard → heard ≡ reply
+  heard_is : (reply : ReplyParts) (close : Bool) → IsReadable reply → (out : List ℕ) (k : ℕ)
+      → IsPrefixOf out (render reply close) → GivesReply (take k out) heard → heard ≡ reply
   heard_is reply close readable out k front gives =
       let part = take gives.0 (take k out) in
-      let within = prefix_trans part out (render reply close) (prefix_trans part (take k out) out (take_within gives.0 (take k out)) (take_within k out)) front in
+      let within =
+      prefix_trans part out (render reply close) (prefix_trans part (take k out) out
+      (take_within gives.0 (take k out)) (take_within k out)) front in
       let cut = take_prefix (length part) part (render reply close) within in
-      reply-alone reply heard close cut.0 readable (subst (λ bytes. SpellsReply bytes heard) (sym (take_all part) ∙ cut.1) gives.1)
+      reply-alone reply heard close cut.0 readable (subst (λ bytes. SpellsReply bytes heard) (sym (take_all part)
+      ∙ cut.1) gives.1)
 
 -- ---- of the first bytes of an entry's request
 
-module _ (r : Request) (sendable : IsSendable r) (given : ℕ) (heard : ReplyParts) (out : List ℕ) (k : ℕ) (gives : GivesReply (take k out) heard) where
+module _ (r : Request) (sendable : IsSendable r) (given : ℕ) (heard : ReplyParts) (out : List ℕ) (k : ℕ)
+    (gives : GivesReply (take k out) heard) where
   abbrev front : List ℕ
   front = take given (bytes_of r)
 
   never_asks : Asks front true → ⊥
   never_asks asks = ⊎_elim
-      (λ (e : ([] ≡ []) × ((Ending.Rest true ≡ Ending.Closed) ⊎ (Ending.Rest true ≡ Ending.Rest false))). ⊎_elim (λ (a : Ending.Rest true ≡ Ending.Closed). cc) (λ (b : Ending.Rest true ≡ Ending.Rest false). cc) e.1)
-      (λ (e : (m : Message) × ([] ≡ Arrival.Read m ∷ []) × (Ending.Rest true ≡ Ending.Closed) × FilesAlone m r). let none = e.1 in cc)
+      (λ (e : ([] ≡ []) × ((Ending.Rest true ≡ Ending.Closed) ⊎ (Ending.Rest true ≡ Ending.Rest false))). ⊎_elim
+      (λ (a : Ending.Rest true ≡ Ending.Closed). cc) (λ (b : Ending.Rest true ≡ Ending.Rest false). cc) e.1)
+      (λ (e : (m : Message) × ([] ≡ Arrival.Read m ∷ []) × (Ending.Rest true ≡ Ending.Closed) × FilesAlone m r).
+      let none = e.1 in cc)
       (own_front r (posted r sendable) given [] (Ending.Rest true) asks)
 
   no_interim : (text : List ℕ) (asks : Bool) → Asks front asks → text ≡ (if asks then interim else []) → text ≡ []
@@ -99,29 +109,40 @@ module _ (r : Request) (sendable : IsSendable r) (given : ℕ) (heard : ReplyPar
   unanswered (Fault ReadFault) is = unasked is
   unanswered (Fault (Write sent)) is = never_asks is.0
   unanswered (Fault ReadLimit) is = unasked is
-  unanswered (Fault Memory) is = ⊎_elim (λ (asked : WritesAsked (Some []) (Some out) front). unasked asked) (λ (none : Appends (Some []) (Some out) []). silent_out heard out k none gives) is
+  unanswered (Fault Memory) is =
+      ⊎_elim (λ (asked : WritesAsked (Some []) (Some out) front). unasked asked)
+      (λ (none : Appends (Some []) (Some out) []). silent_out heard out k none gives) is
 
-  part_of : (text : List ℕ) (sent : Result (Unit {0}) ConnFault) → WritesText (Some []) (Some out) text sent → IsPrefixOf out text
+  part_of : (text : List ℕ) (sent : Result (Unit {0}) ConnFault) → WritesText (Some []) (Some out) text sent
+      → IsPrefixOf out text
   part_of text (Ok done) wrote = subst (λ xs. IsPrefixOf xs text) (sym wrote) (prefix_refl text)
   part_of text (Err ReadFault) wrote = absurd wrote
   part_of text (Err (Write sent)) wrote = subst (λ xs. IsPrefixOf xs text) (sym wrote.1) (take_within sent text)
   part_of text (Err ReadLimit) wrote = absurd wrote
   part_of text (Err Memory) wrote = subst (λ xs. IsPrefixOf xs text) (sym wrote) (text, refl)
 
-  answered_one : (m : Message) (sent : Result (Unit {0}) ConnFault) → FilesAlone m r → WritesText (Some (interim_of (Arrival.Read m))) (Some out) (render (away_reply (Arrival.Read m)) true) sent → moved Open heard ≡ Open
+  answered_one : (m : Message) (sent : Result (Unit {0}) ConnFault) → FilesAlone m r
+      → WritesText (Some (interim_of (Arrival.Read m))) (Some out) (render (away_reply (Arrival.Read m)) true) sent
+      → moved Open heard ≡ Open
   answered_one m sent alone wrote =
       let silent : interim_of (Arrival.Read m) ≡ [] = rw alone.silent refl in
       let reply : away_reply (Arrival.Read m) ≡ closing_reply false = ap closing_reply (no_head r m alone.filed) in
       let wrote' : WritesText (Some []) (Some out) (render (closing_reply false) true) sent =
-      subst (λ x. WritesText (Some x) (Some out) (render (closing_reply false) true) sent) silent (subst (λ x. WritesText (Some (interim_of (Arrival.Read m))) (Some out) (render x true) sent) reply wrote) in
-      ap (moved Open) (heard_is heard (closing_reply false) true unavailable-readable out k (part_of (render (closing_reply false) true) sent wrote') gives) ∙ away_is_open false
+      subst (λ x. WritesText (Some x) (Some out) (render (closing_reply false) true) sent) silent
+      (subst (λ x. WritesText (Some (interim_of (Arrival.Read m))) (Some out) (render x true) sent) reply wrote) in
+      ap (moved Open) (heard_is heard (closing_reply false) true unavailable-readable out k
+      (part_of (render (closing_reply false) true) sent wrote') gives) ∙ away_is_open false
 
   answered : (mark : Mark) (ended : Ended) → AnswersAway front mark ended out → moved Open heard ≡ Open
   answered mark ended is = ⊎_elim
-      (λ (e : (is.arrival ∷ [] ≡ []) × ((Ending.Closed ≡ Ending.Closed) ⊎ (Ending.Closed ≡ Ending.Rest false))). absurd (let none = e.0 in cc))
-      (λ (e : (m : Message) × (is.arrival ∷ [] ≡ Arrival.Read m ∷ []) × (Ending.Closed ≡ Ending.Closed) × FilesAlone m r).
+      (λ (e : (is.arrival ∷ [] ≡ []) × ((Ending.Closed ≡ Ending.Closed) ⊎ (Ending.Closed ≡ Ending.Rest false))).
+      absurd (let none = e.0 in cc))
+      (λ (e : (m : Message) × (is.arrival ∷ [] ≡ Arrival.Read m ∷ []) × (Ending.Closed
+      ≡ Ending.Closed) × FilesAlone m r).
       let same : is.arrival ≡ Arrival.Read e.0 = (let one = e.1 in cc) in
-      answered_one e.0 is.sent e.3 (subst (λ a. WritesText (Some (interim_of a)) (Some out) (render (away_reply a) true) is.sent) same is.written))
+      answered_one e.0 is.sent e.3
+      (subst (λ a. WritesText (Some (interim_of a)) (Some out) (render (away_reply a) true) is.sent) same
+      is.written))
       (own_front r (posted r sendable) given (is.arrival ∷ []) Ending.Closed is.begins)
 
   -- an entry that is open stays so

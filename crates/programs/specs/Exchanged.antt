@@ -29,4 +29,7 @@ pub record ComesOf (world : World) (outbox id output given : ℕ) (bytes : List 
 pub record IsMoved (old : World) (outbox id output : ℕ) (box : Outbox) (to : State) (new : World) : Type 0 where
   pub given : ℕ
   pub step : Step old (Hand output given No) new
-  pub becomes : new ≡ record old { outboxes = renewed old.outboxes outbox (record box { entries = set_state box.entries id to; up = true }) }
+  pub becomes : new ≡ record old {
+    outboxes =
+        renewed old.outboxes outbox (record box { entries = set_state box.entries id to; up = true });
+  }

@@ -16,7 +16,8 @@ module _ (r : Request) (sendable : IsSendable r) where
 
   -- what is completed by it is this request
   pub read_back : (bytes : List ℕ) (list : List Request) → bytes ≡ bytes_of r
-      → ((arrivals : List Arrival) (ending : Ending) → HasArrivals bytes arrivals ending → list ≡ completed arrivals (Done ∷ [])) → list ≡ r ∷ []
+      → ((arrivals : List Arrival) (ending : Ending) → HasArrivals bytes arrivals ending
+      → list ≡ completed arrivals (Done ∷ [])) → list ≡ r ∷ []
   unfolding completed
   read_back bytes list same all =
       let is = posted r sendable in

@@ -7,4 +7,5 @@ use Rattle.jiff_core.specs.declared.timestamp.Timestamp.{Timestamp}
 
 -- YYYY-MM-DDThh:mm:ss, a fraction if there is one, and Z: what a clock in UTC shows then
 abbrev pub IsMomentText : Timestamp → List ℕ → Type 0
-IsMomentText moment text = (shown : DateTime) × (civil_nanos shown ≡ moment.nanosecond) × (text ≡ iso_datetime_text shown ++ codes "Z")
+IsMomentText moment text =
+    (shown : DateTime) × (civil_nanos shown ≡ moment.nanosecond) × (text ≡ iso_datetime_text shown ++ codes "Z")

@@ -1,5 +1,6 @@
 -- The receipt of an exchange.
-use Rattle.std.specs.Prelude.{◌≡◌, ◌≢◌, ◌⊎◌, ℕ, ◌==◌, Bool, true, false, ◌||◌, List, Option, Some, Result, Ok, Err, String, string_bytes}
+use Rattle.std.specs.Prelude.{◌≡◌, ◌≢◌, ◌⊎◌, ℕ, ◌==◌, Bool, true, false, ◌||◌, List, Option, Some, Result, Ok, Err}
+use Rattle.std.specs.Prelude.{String, string_bytes}
 use Rattle.std.specs.Global.{Global}
 use Rattle.jiff_core.specs.declared.timestamp.Timestamp.{Timestamp}
 use Rattle.http_messages.specs.Reply.{ReplyParts}
@@ -22,7 +23,8 @@ IsReplyIn bytes reply = (rest : Option (List ℕ)) × HasGiven (Some bytes) rest
 
 -- they have no whole reply, for this cause
 abbrev pub HasNoReply : List ℕ → ReceiptFault → Type 0
-HasNoReply bytes (NoReply why) = (rest : Option (List ℕ)) × (failures : ℕ) × IsReplyFailure (Some bytes) rest 0 failures why
+HasNoReply bytes (NoReply why) =
+    (rest : Option (List ℕ)) × (failures : ℕ) × IsReplyFailure (Some bytes) rest 0 failures why
 HasNoReply bytes _ = ⊥
 
 abbrev pub BeginsReply : List ℕ → Result Reply ReceiptFault → Type 0
@@ -33,22 +35,25 @@ BeginsReply bytes (Err fault) = HasNoReply bytes fault
 abbrev pub can_settle : ℕ → Bool
 can_settle status = (status == 201) || (status == 400) || (status == 422)
 
--- A text is the receipt of an exchange: the entry is settled, and the text has the request that was sent, and the reply that came, which can
--- settle an entry.
-pub record IsReceipt (id : ℕ) (state : State) (sent came : List ℕ) (moment : Timestamp) (port : ℕ) (text : List ℕ) : Type 0 where
+-- A text is the receipt of an exchange: the entry is settled, and the text has the request that was sent, and the reply
+-- that came, which can settle an entry.
+pub record IsReceipt (id : ℕ) (state : State) (sent came : List ℕ) (moment : Timestamp) (port : ℕ)
+    (text : List ℕ) : Type 0 where
   pub settled : state ≢ Open
   pub reply : ReplyParts
   pub answered : IsReplyIn came reply
   pub settles : can_settle reply.status ≡ true
   pub when : List ℕ
   pub moment_is : IsMomentText moment when
-  pub tells : (request : Request) → IsSendable request → sent ≡ bytes_of request → text ≡ receipt_text id request reply when port
+  pub tells : (request : Request) → IsSendable request → sent ≡ bytes_of request
+      → text ≡ receipt_text id request reply when port
 
 -- why there is none
 abbrev pub HasNoReceipt : State → List ℕ → List ℕ → ReceiptFault → Type 0
 HasNoReceipt state sent came NoRequest = (request : Request) → IsSendable request → sent ≢ bytes_of request
 HasNoReceipt state sent came (NoReply why) = HasNoReply came (NoReply why)
-HasNoReceipt state sent came Unsettled = (state ≡ Open) ⊎ ((reply : ReplyParts) × IsReplyIn came reply × (can_settle reply.status ≡ false))
+HasNoReceipt state sent came Unsettled =
+    (state ≡ Open) ⊎ ((reply : ReplyParts) × IsReplyIn came reply × (can_settle reply.status ≡ false))
 HasNoReceipt state sent came Memory = Unit {0}
 
 abbrev pub ReceiptOf : ℕ → State → List ℕ → List ℕ → Timestamp → ℕ → Result (String Global) ReceiptFault → Type 0

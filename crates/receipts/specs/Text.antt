@@ -30,7 +30,9 @@ front_part id sent content =
 
 -- those from the length of the report to the port
 abbrev pub middle_part : ℕ → List ℕ → ℕ → List ℕ
-middle_part len moment port = codes ",\"length\":" ++ decimal len ++ codes ",\"moment\":" ++ json_text moment ++ codes ",\"port\":" ++ decimal port
+middle_part len moment port =
+    codes ",\"length\":" ++ decimal len ++ codes ",\"moment\":" ++ json_text moment ++ codes ",\"port\":"
+    ++ decimal port
 
 -- and those from the digest on
 abbrev pub back_part : List ℕ → ℕ → Option ℕ → List ℕ
@@ -41,4 +43,5 @@ back_part body status target =
 -- one line
 abbrev pub receipt_text : ℕ → Request → ReplyParts → List ℕ → ℕ → List ℕ
 receipt_text id sent reply moment port =
-    (front_part id sent reply.content ++ middle_part (length sent.body) moment port) ++ back_part sent.body reply.status sent.target
+    (front_part id sent reply.content ++ middle_part (length sent.body) moment port)
+    ++ back_part sent.body reply.status sent.target

@@ -29,8 +29,8 @@ impl<'a, F: Files> Folder<'a, F> {
         format!(in self.alloc; "{path}/entry-{id}{end}", path = self.path)
     }
 
-    /// Keeps the text of the receipt for the entry of this id, in the place of an earlier one. It is written under another
-    /// name first, so that the file is never there in part.
+    /// Keeps the text of the receipt for the entry of this id, in the place of an earlier one. It is written under
+    /// another name first, so that the file is never there in part.
     pub fn keep(&self, id: u64, text: &str) -> io::Result<()> {
         let part = self.path_of(id, ".part")?;
         let whole = self.path_of(id, ".json")?;

@@ -12,8 +12,8 @@ use http_wire::{Device, Reply, read_reply};
 use jiff::Timestamp;
 use std::alloc::Global;
 
-/// An exchange for the entry of an id: the state that the entry is in since then, the bytes that were sent, and those that
-/// came.
+/// An exchange for the entry of an id: the state that the entry is in since then, the bytes that were sent, and those
+/// that came.
 #[derive(Clone, Copy)]
 pub struct Exchange<'a> {
     pub id: u64,
@@ -47,7 +47,8 @@ pub fn receipt_of(
     moment: Timestamp,
     port: u16,
 ) -> Result<String, ReceiptFault>
-    ensures { ReceiptOf exchange.now.id exchange.now.state exchange.now.sent.now exchange.now.came.now moment port result }
+    ensures { ReceiptOf exchange.now.id exchange.now.state exchange.now.sent.now exchange.now.came.now moment port
+        result }
 {
     if exchange.state == State::Open {
         return Err(ReceiptFault::Unsettled);

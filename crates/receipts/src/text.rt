@@ -3,7 +3,8 @@
 ghost use Rattle.std.specs.Prelude.{◌≡◌, string_bytes, IfOk};
 ghost use Rattle.std.specs.Str.Lossy.{utf8_lossy};
 ghost use Rattle.http_messages.specs.Replies.{reply_parts};
-ghost use Rattle.receipts.specs.Text.{digest_text, json_text, target_text, front_part, middle_part, back_part, receipt_text};
+ghost use Rattle.receipts.specs.Text.{digest_text, json_text, target_text, front_part, middle_part, back_part};
+ghost use Rattle.receipts.specs.Text.{receipt_text};
 
 use hex::encode;
 use http_wire::Reply;
@@ -92,8 +93,8 @@ fn back_text(
     Ok(text)
 }
 
-/// The text of a receipt for the entry of this id: what was sent, what was answered, when the reply came, and from which
-/// port.
+/// The text of a receipt for the entry of this id: what was sent, what was answered, when the reply came, and from
+/// which port.
 pub(crate) fn receipt_text(
     alloc: Global,
     id: u64,

@@ -9,8 +9,8 @@ use Rattle.table_rows.proofs.LeavingLemmas.{asked_before, clean_before}
 use Rattle.fact_records.specs.declared.record.Form.{Form}
 use Rattle.filing_model.specs.Register.{register}
 use Rattle.register_rows.specs.Catalogue.{catalogue_of, view_lines}
-use Rattle.register_opening.specs.declared.opening.Counts.{Counts}
-use Rattle.register_opening.specs.Opening.{ReadsRegister}
+use Rattle.register_tables.specs.declared.opening.Counts.{Counts}
+use Rattle.register_tables.specs.Opening.{ReadsRegister}
 use Rattle.register_store.specs.Store.{ForRegister}
 use Rattle.register_walk.proofs.Walks.{found_then, kept_then, nothing_then, opened}
 use Rattle.register_export.specs.declared.fault.ExportFault.TheVariants as fault
@@ -18,14 +18,17 @@ use Rattle.register_export.specs.declared.fault.RecordsFault.{RecordsFault}
 use Rattle.register_export.specs.Exports.{ExportsFacts}
 use Rattle.register_export.specs.Records.{export_text}
 
-module _ {S X : Type 0} (g : Ghosts S) (form : Form) (filer : Option (List ℕ)) (out out' : Option (List ℕ)) (old mid new : Held S) (counts : Counts) (read : ReadsRegister g old mid (Ok counts)) where
+module _ {S X : Type 0} (g : Ghosts S) (form : Form) (filer : Option (List ℕ)) (out out' : Option (List ℕ))
+    (old mid new : Held S) (counts : Counts) (read : ReadsRegister g old mid (Ok counts)) where
   -- all records are written
   pub done : Leaves Passed (state g mid) (state g new)
-      → ForRegister g mid new (λ _ F. view_lines counts.catalogue ≡ catalogue_of F → counts.filings ≡ length (register F) → Appends out out' (export_text form filer (register F)))
+      → ForRegister g mid new (λ _ F. view_lines counts.catalogue ≡ catalogue_of F
+      → counts.filings ≡ length (register F) → Appends out out' (export_text form filer (register F)))
       → (x : X) → ExportsFacts {S = S} {X = X} g form filer out out' old new (Ok x)
   done leaves exported x =
       let whole = asked_before (opened g old mid counts read) leaves in record {
-        exported = λ clean early F rows. let it = read.only (clean_before leaves clean) early F rows in exported clean early F it.1 it.4 it.3;
+        exported = λ clean old_style F rows. let it = read.only (clean_before leaves clean) old_style F rows in
+            exported clean old_style F it.1 it.4 it.3;
         found = found_then g old mid counts read new leaves;
         kept = kept_then g old mid counts read new leaves;
         refused = λ _. tt;
@@ -37,7 +40,8 @@ module _ {S X : Type 0} (g : Ghosts S) (form : Form) (filer : Option (List ℕ))
       }
 
   -- the database, memory or the output failed before that
-  pub broken_off : Leaves Ended (state g mid) (state g new) → (why : RecordsFault) → ExportsFacts {S = S} {X = X} g form filer out out' old new (Err (fault.Records why))
+  pub broken_off : Leaves Ended (state g mid) (state g new) → (why : RecordsFault)
+      → ExportsFacts {S = S} {X = X} g form filer out out' old new (Err (fault.Records why))
   broken_off leaves why = record {
     exported = λ _. tt;
     found = found_then g old mid counts read new leaves;

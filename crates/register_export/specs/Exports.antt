@@ -9,10 +9,10 @@ use Rattle.fact_records.specs.declared.record.Form.{Form}
 use Rattle.filing_model.specs.Request.{Request}
 use Rattle.filing_model.specs.Register.{register}
 use Rattle.register_rows.specs.Schema.{IsDeclared}
-use Rattle.register_opening.specs.declared.fault.OpenFault.{OpenFault}
-use Rattle.register_opening.specs.Faults.{IsFailure}
-use Rattle.register_opening.specs.Opening.{IsRefused}
-use Rattle.register_opening.specs.Registers.{ForRows, IsRegisterOf}
+use Rattle.register_tables.specs.declared.fault.OpenFault.{OpenFault}
+use Rattle.register_tables.specs.Faults.{IsFailure}
+use Rattle.register_tables.specs.Opening.{IsRefused}
+use Rattle.register_tables.specs.Registers.{ForRows, IsRegisterOf}
 use Rattle.register_export.specs.declared.fault.ExportFault.{ExportFault}
 use Rattle.register_export.specs.declared.fault.ExportFault.TheVariants as fault
 use Rattle.register_export.specs.Records.{export_text}
@@ -29,14 +29,20 @@ UnlessRefused (Err (fault.Records why)) Holds = Holds
 UnlessRefused (Err (fault.Open why)) Holds = Unit {0}
 
 -- What `export` writes out of the register that a database is: all facts, or those of one filer, byte for byte.
-pub record ExportsFacts {S X : Type 0} (g : Ghosts S) (form : Form) (filer : Option (List ℕ)) (out out' : Option (List ℕ)) (old new : Held S) (result : Result X ExportFault) : Type 0 where
+pub record ExportsFacts {S X : Type 0} (g : Ghosts S) (form : Form) (filer : Option (List ℕ))
+    (out out' : Option (List ℕ)) (old new : Held S) (result : Result X ExportFault) : Type 0 where
   -- The rows stand for requests, and there is one such list at most.
-  pub exported : HasCleanDisk (state g new) → OnOk result (ForRows g old (λ _ requests. Appends out out' (export_text form filer (register requests))))
+  pub exported : HasCleanDisk (state g new)
+      → OnOk result (ForRows g old (λ _ requests. Appends out out' (export_text form filer (register requests))))
   -- Unless it is refused, the tables of a register are a register, and what its rows stand for is committed still.
   pub found : HasCleanDisk (state g new) → IsDeclared (state g old).now.schema
-      → UnlessRefused result ((early : ℕ) × (requests : List Request) × IsRegisterOf early requests (state g old).now)
-  pub kept : HasCleanDisk (state g new) → UnlessRefused result (ForRows g old (λ early requests. HasCommitted (IsRegisterOf early requests) (state g new)))
-  -- A refusal of the opening says why, and nothing was written out. Where the rows stand for requests, it is by memory or disk.
+      → UnlessRefused result ((old_style : ℕ) × (requests : List Request)
+      × IsRegisterOf old_style requests (state g old).now)
+  pub kept : HasCleanDisk (state g new)
+      → UnlessRefused result (ForRows g old (λ old_style requests. HasCommitted (IsRegisterOf old_style requests)
+      (state g new)))
+  -- A refusal of the opening says why, and nothing was written out. Where the rows stand for requests, it is by memory
+  -- or disk.
   pub refused : HasCleanDisk (state g new) → IfErr result (IfOpen (λ why. IsRefused g why old new))
   pub failed : HasCleanDisk (state g new) → IfErr result (IfOpen (λ why. ForRows g old (λ _ _. IsFailure why)))
   pub quiet : IfErr result (IfOpen (λ _. out' ≡ out))

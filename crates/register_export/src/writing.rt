@@ -21,9 +21,9 @@ use sqlite::{Alter, Connection};
 use std::alloc::Global;
 use std::io::Write;
 
-/// Writes a record of each fact of the register that the database is, or of those of one filer, in the order of the filings
-/// and of their facts. The register is read and checked first, and nothing is written to the database. One filing is in
-/// memory at a time.
+/// Writes a record of each fact of the register that the database is, or of those of one filer, in the order of the
+/// filings and of their facts. The register is read and checked first, and nothing is written to the database. One
+/// filing is in memory at a time.
 pub fn export<S: Alter, O: Write>(
     alloc: Global,
     conn: &mut Connection<S>,

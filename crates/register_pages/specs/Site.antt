@@ -1,6 +1,6 @@
--- What the writing of a register's pages does. What is written is HTML, in which each text of a report was escaped: a folder takes
--- nothing else, and a text becomes HTML by `escape` alone. `pages` and `pages'` are the pages that were written into the folder before and
--- after it, where these are known.
+-- What the writing of a register's pages does. What is written is HTML, in which each text of a report was escaped: a
+-- folder takes nothing else, and a text becomes HTML by `escape` alone. `pages` and `pages'` are the pages that were
+-- written into the folder before and after it, where these are known.
 use Rattle.std.specs.Prelude.{◌≡◌, ℕ, false, List, Option, Result, Ok, Err, IfErr, OnOk}
 use Rattle.sqlite.specs.Store.{Ghosts}
 use Rattle.sqlite.specs.Held.{Held, state}
@@ -9,10 +9,10 @@ use Rattle.table_rows.specs.Standing.{HasCommitted, CommitsNothing, StaysOnOk}
 use Rattle.filing_model.specs.Request.{Request}
 use Rattle.filing_model.specs.Register.{register}
 use Rattle.register_rows.specs.Schema.{IsDeclared}
-use Rattle.register_opening.specs.declared.fault.OpenFault.{OpenFault}
-use Rattle.register_opening.specs.Faults.{IsFailure}
-use Rattle.register_opening.specs.Opening.{IsRefused}
-use Rattle.register_opening.specs.Registers.{ForRows, IsRegisterOf}
+use Rattle.register_tables.specs.declared.fault.OpenFault.{OpenFault}
+use Rattle.register_tables.specs.Faults.{IsFailure}
+use Rattle.register_tables.specs.Opening.{IsRefused}
+use Rattle.register_tables.specs.Registers.{ForRows, IsRegisterOf}
 use Rattle.register_pages.specs.declared.fault.PagesFault.{PagesFault}
 use Rattle.register_pages.specs.declared.fault.PagesFault.TheVariants as fault
 use Rattle.register_pages.specs.Pages.{WritesSite}
@@ -29,14 +29,20 @@ UnlessRefused (Err (fault.Pages why)) Holds = Holds
 UnlessRefused (Err (fault.Open why)) Holds = Unit {0}
 
 -- What `write_pages` writes of the register that a database is, and that it writes nothing to the database.
-pub record WritesPages {S X : Type 0} (g : Ghosts S) (pages pages' : Option (List (List ℕ))) (old new : Held S) (result : Result X PagesFault) : Type 0 where
+pub record WritesPages {S X : Type 0} (g : Ghosts S) (pages pages' : Option (List (List ℕ))) (old new : Held S)
+    (result : Result X PagesFault) : Type 0 where
   -- The rows stand for requests, and there is one such list at most.
-  pub written : HasCleanDisk (state g new) → OnOk result (ForRows g old (λ _ requests. WritesSite (register requests) pages pages'))
+  pub written : HasCleanDisk (state g new)
+      → OnOk result (ForRows g old (λ _ requests. WritesSite (register requests) pages pages'))
   -- Unless it is refused, the tables of a register are a register, and what its rows stand for is committed still.
   pub found : HasCleanDisk (state g new) → IsDeclared (state g old).now.schema
-      → UnlessRefused result ((early : ℕ) × (requests : List Request) × IsRegisterOf early requests (state g old).now)
-  pub kept : HasCleanDisk (state g new) → UnlessRefused result (ForRows g old (λ early requests. HasCommitted (IsRegisterOf early requests) (state g new)))
-  -- A refusal of the opening says why, and no page was written. Where the rows stand for requests, it is by memory or disk.
+      → UnlessRefused result ((old_style : ℕ) × (requests : List Request)
+      × IsRegisterOf old_style requests (state g old).now)
+  pub kept : HasCleanDisk (state g new)
+      → UnlessRefused result (ForRows g old (λ old_style requests. HasCommitted (IsRegisterOf old_style requests)
+      (state g new)))
+  -- A refusal of the opening says why, and no page was written. Where the rows stand for requests, it is by memory or
+  -- disk.
   pub refused : HasCleanDisk (state g new) → IfErr result (IfOpen (λ why. IsRefused g why old new))
   pub failed : HasCleanDisk (state g new) → IfErr result (IfOpen (λ why. ForRows g old (λ _ _. IsFailure why)))
   pub unwritten : IfErr result (IfOpen (λ _. pages' ≡ pages))

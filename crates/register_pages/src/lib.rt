@@ -1,5 +1,5 @@
-//! A register as pages of HTML. What may live here: which pages there are, and what each shows. How a text becomes HTML is
-//! known by `markup`; no file and no words of a command line are known here.
+//! A register as pages of HTML. What may live here: which pages there are, and what each shows. How a text becomes HTML
+//! is known by `markup`; no file and no words of a command line are known here.
 #![tactic(auto)]
 
 mod chart;

@@ -2,7 +2,7 @@
 
 ghost use Rattle.table_rows.specs.Leaving.{OnlyQueries, OnlyReads};
 
-use register_opening::amends_rows;
+use register_tables::amends_rows;
 use sqlite::{Alter, Connection, Error, Row, params};
 use std::alloc::Global;
 use table_rows::{StoreFault, select};

@@ -24,8 +24,8 @@ use sqlite::{Alter, Connection, Row};
 use std::alloc::Global;
 
 /// Writes the register that the database is as pages into a folder: `index.html` with all filers, `filer-CODE.html` of
-/// each, `filing-NUMBER.html` of each filing, `refused.html` and `findings.html`. The register is read and checked first,
-/// and nothing is written to the database.
+/// each, `filing-NUMBER.html` of each filing, `refused.html` and `findings.html`. The register is read and checked
+/// first, and nothing is written to the database.
 pub fn write_pages<S: Alter, F: Folder>(
     alloc: Global,
     conn: &mut Connection<S>,
@@ -122,7 +122,8 @@ fn is_filing(catalogue: &Catalogue, number: u64, place: u64) -> bool {
     }
 }
 
-/// The filing that the request at this place was sent to replace, if the first of the rows says one, and the rows behind.
+/// The filing that the request at this place was sent to replace, if the first of the rows says one, and the rows
+/// behind.
 fn target_at<'a>(rows: &'a [Row], place: u64) -> (Option<u64>, &'a [Row]) {
     if place < 1 << 62 {
         target_of(rows, place)

@@ -1,5 +1,6 @@
 -- An audit from row to row, and why rows that it finds damaged stand for no requests.
-use Rattle.std.proofs.Common.{◌≡◌, ◌<◌, ◌≤◌, ℕ, ◌+◌, zero, suc, false, List, [], ◌∷◌, ◌++◌, append-nil, append_assoc, length, length-append, take, get_or, Option, refl, sym, ap, subst, subst₂, ◌∙◌, arith}
+use Rattle.std.proofs.Common.{◌≡◌, ◌<◌, ◌≤◌, ℕ, ◌+◌, zero, suc, false, List, [], ◌∷◌, ◌++◌, append-nil, append_assoc}
+use Rattle.std.proofs.Common.{length, length-append, take, get_or, Option, refl, sym, ap, subst, subst₂, ◌∙◌, arith}
 use Rattle.std.specs.List.{AllByRecursion}
 use Rattle.std.proofs.Math.Seq.{take-length}
 use Rattle.std.proofs.lemmas.List.{take_more, append_cancel_left}
@@ -16,8 +17,10 @@ use Rattle.register_rows.specs.declared.verdict.Verdict.{Verdict}
 use Rattle.register_rows.specs.declared.verdict.Verdict.TheVariants.{Sound, Damaged}
 use Rattle.register_rows.specs.Catalogue.{catalogue_of, entries_among, view_lines}
 use Rattle.register_rows.specs.declared.catalogue.Catalogue.{Catalogue}
-use Rattle.register_rows.specs.Register.{IsCompleted, kept_row, finding_rows, filing_rows, fact_rows, amends_rows, joined_from}
-use Rattle.register_rows.proofs.AuditSteps.{AreFirst, first_more, register_more, joined_append, counted_append, all_at, apart_from, one_filing}
+use Rattle.register_rows.specs.Register.{IsCompleted, kept_row, finding_rows, filing_rows, fact_rows, amends_rows}
+use Rattle.register_rows.specs.Register.{joined_from}
+use Rattle.register_rows.proofs.AuditSteps.{AreFirst, first_more, register_more, joined_append, counted_append, all_at}
+use Rattle.register_rows.proofs.AuditSteps.{apart_from, one_filing}
 use Rattle.register_rows.proofs.CatalogueLemmas.{catalogue_many}
 use Rattle.register_rows.proofs.MoreRequests.{kept_length}
 use Rattle.register_rows.proofs.NextLemmas.{goes_on}
@@ -25,13 +28,15 @@ use Rattle.register_rows.proofs.SeenLemmas.{get_at}
 use Rattle.register_rows.proofs.SegmentLemmas.{length_counted}
 use Rattle.register_rows.proofs.StepsOfTargets.{only_target, no_more_targets, same_requests}
 
-pub row_at : (front : List Row) (row : Row) (back : List Row) (i : ℕ) (d : Row) → i ≡ length front → get_or (front ++ row ∷ back) i d ≡ row
+pub row_at : (front : List Row) (row : Row) (back : List Row) (i : ℕ) (d : Row) → i ≡ length front
+    → get_or (front ++ row ∷ back) i d ≡ row
 row_at [] row back i d at = ap (λ n. get_or (row ∷ back) n d) at
 row_at (x ∷ front) row back zero d at = absurd (omega arith)
 row_at (x ∷ front) row back (suc i) d at = row_at front row back i d (omega arith)
 
 -- rows say one target alone of a request that comes next
-pub one_target : (F : List Request) (seq : ℕ) (row : Row) (s t : Option ℕ) (all left tail : OtherRows) → IsNext F seq row s all left → IsNext F seq row t all tail
+pub one_target : (F : List Request) (seq : ℕ) (row : Row) (s t : Option ℕ) (all left tail : OtherRows)
+    → IsNext F seq row s all left → IsNext F seq row t all tail
     → s ≡ t
 one_target F seq row s t all left tail one two =
     (only_target seq s t left.amends tail.amends
@@ -50,7 +55,8 @@ pub record GoesOn (F G : List Request) (seq : ℕ) (row : Row) (rest : OtherRows
   pub next : IsNext F seq row target rest tail
   pub front : IsFront (F ++ request_in target row ∷ []) G
 
-module _ (rows : List Row) (all rest : OtherRows) (F G : List Request) (i : ℕ) (below : i < length rows) (many : length F ≡ i)
+module _ (rows : List Row) (all rest : OtherRows) (F G : List Request) (i : ℕ) (below : i < length rows)
+    (many : length F ≡ i)
     (first : AreFirst (take i rows) all rest F) (whole : AreRowsOf rows all G) where
   as_many : length rows ≡ length G
   as_many = ap length whole.kept_is ∙ length_counted kept_row 1 (kept G) ∙ kept_length G whole.distinct
@@ -67,24 +73,30 @@ module _ (rows : List Row) (all rest : OtherRows) (F G : List Request) (i : ℕ)
 
     kept_are : kept G ≡ kept F ++ k ∷ more
     kept_are =
-        ap kept (requests ∙ sym (append_assoc F (r ∷ []) later)) ∙ (kept_grows (F ++ r ∷ []) later).1 ∙ ap (λ ks. ks ++ more) (kept_new F r fresh) ∙ append_assoc (kept F) (k ∷ []) more
+        ap kept (requests ∙ sym (append_assoc F (r ∷ []) later)) ∙ (kept_grows (F ++ r ∷ []) later).1
+        ∙ ap (λ ks. ks ++ more) (kept_new F r fresh) ∙ append_assoc (kept F) (k ∷ []) more
 
     at_is : 1 + length (kept F) ≡ suc (length F)
     at_is = omega (arith, kept_length F first.distinct)
 
-    left_of : (made : ℕ → Kept → List Row) (whole_is left : List Row) → whole_is ≡ joined_from made 1 (kept G) → whole_is ≡ joined_from made 1 (kept F) ++ left
+    left_of : (made : ℕ → Kept → List Row) (whole_is left : List Row) → whole_is ≡ joined_from made 1 (kept G)
+        → whole_is ≡ joined_from made 1 (kept F) ++ left
         → left ≡ made (suc (length F)) k ++ joined_from made (suc (length F) + 1) more
     left_of made whole_is left p q =
         append_cancel_left (joined_from made 1 (kept F)) _ _
-        (sym q ∙ p ∙ ap (joined_from made 1) kept_are ∙ joined_append made 1 (kept F) (k ∷ more) ∙ ap (λ n. joined_from made 1 (kept F) ++ joined_from made n (k ∷ more)) at_is)
+        (sym q ∙ p ∙ ap (joined_from made 1) kept_are ∙ joined_append made 1 (kept F) (k ∷ more)
+        ∙ ap (λ n. joined_from made 1 (kept F) ++ joined_from made n (k ∷ more)) at_is)
 
     here : i ≡ length (counted_from kept_row 1 (kept F))
-    here = let long = length_counted kept_row 1 (kept F) in let same = kept_length F first.distinct in omega (arith, many, long, same)
+    here = let long = length_counted kept_row 1 (kept F) in let same = kept_length F first.distinct in
+        omega (arith, many, long, same)
 
     row_is : get_or rows i [] ≡ kept_row (suc (length F)) k
     row_is =
-        ap (λ l. get_or l i []) (whole.kept_is ∙ ap (counted_from kept_row 1) kept_are ∙ counted_append 1 (kept F) (k ∷ more))
-        ∙ row_at (counted_from kept_row 1 (kept F)) (kept_row (1 + length (kept F)) k) (counted_from kept_row (1 + length (kept F) + 1) more) i [] here
+        ap (λ l. get_or l i []) (whole.kept_is ∙ ap (counted_from kept_row 1) kept_are
+        ∙ counted_append 1 (kept F) (k ∷ more))
+        ∙ row_at (counted_from kept_row 1 (kept F)) (kept_row (1 + length (kept F)) k)
+        (counted_from kept_row (1 + length (kept F) + 1) more) i [] here
         ∙ ap (λ n. kept_row n k) at_is
 
     asked : r ≡ request_in r.target (get_or rows i [])
@@ -98,8 +110,11 @@ module _ (rows : List Row) (all rest : OtherRows) (F G : List Request) (i : ℕ)
       amends = joined_from amends_rows (suc (length F) + 1) more;
     }
 
-    next_as : (s : Request) → r ≡ s → IsCompleted s × (has_key F s ≡ false) × (get_or rows i [] ≡ kept_row (suc (length F)) (judged (kept F) s))
-    next_as s same = subst (λ s. IsCompleted s × (has_key F s ≡ false) × (get_or rows i [] ≡ kept_row (suc (length F)) (judged (kept F) s))) same
+    next_as : (s : Request) → r ≡ s → IsCompleted s × (has_key F s ≡ false)
+        × (get_or rows i [] ≡ kept_row (suc (length F)) (judged (kept F) s))
+    next_as s same =
+        subst (λ s. IsCompleted s × (has_key F s ≡ false)
+        × (get_or rows i [] ≡ kept_row (suc (length F)) (judged (kept F) s))) same
         (all_at IsCompleted F r later (subst (AllByRecursion IsCompleted) requests whole.completed), fresh, row_is)
 
     goes_on_so : GoesOn F G (suc (length F)) (get_or rows i []) rest
@@ -115,14 +130,24 @@ module _ (rows : List Row) (all rest : OtherRows) (F G : List Request) (i : ℕ)
             fresh = so.1;
             row_is = so.2;
             begins = record {
-              finding = left_of finding_rows all.finding rest.finding whole.finding_is first.finding_is ∙ ap (λ x. finding_rows (suc (length F)) x ++ tail.finding) is;
-              filing = left_of filing_rows all.filing rest.filing whole.filing_is first.filing_is ∙ ap (λ x. filing_rows (suc (length F)) x ++ tail.filing) is;
-              fact = left_of fact_rows all.fact rest.fact whole.fact_is first.fact_is ∙ ap (λ x. fact_rows (suc (length F)) x ++ tail.fact) is;
-              amends = left_of amends_rows all.amends rest.amends whole.amends_is first.amends_is ∙ ap (λ x. amends_rows (suc (length F)) x ++ tail.amends) is;
+              finding =
+                  left_of finding_rows all.finding rest.finding whole.finding_is first.finding_is
+                  ∙ ap (λ x. finding_rows (suc (length F)) x ++ tail.finding) is;
+              filing = left_of filing_rows all.filing rest.filing whole.filing_is first.filing_is
+                  ∙ ap (λ x. filing_rows (suc (length F)) x ++ tail.filing) is;
+              fact = left_of fact_rows all.fact rest.fact whole.fact_is first.fact_is
+                  ∙ ap (λ x. fact_rows (suc (length F)) x ++ tail.fact) is;
+              amends = left_of amends_rows all.amends rest.amends whole.amends_is first.amends_is
+                  ∙ ap (λ x. amends_rows (suc (length F)) x ++ tail.amends) is;
             };
-            ends = ap (λ (x : Kept). has_more (suc (length F)) x.outcome tail) (sym is) ∙ goes_on F G k more kept_are tail refl refl refl refl;
+            ends = ap (λ (x : Kept). has_more (suc (length F)) x.outcome tail) (sym is)
+                ∙ goes_on F G k more kept_are tail refl refl refl refl;
           };
-          front = (later, requests ∙ ap (λ (s : Request). F ++ s ∷ later) asked ∙ sym (append_assoc F (request_in r.target (get_or rows i []) ∷ []) later));
+          front = (
+            later,
+            requests ∙ ap (λ (s : Request). F ++ s ∷ later) asked
+                ∙ sym (append_assoc F (request_in r.target (get_or rows i []) ∷ []) later),
+          );
         }
 
   pub goes_on_there : IsFront F G → GoesOn F G (suc (length F)) (get_or rows i []) rest
@@ -132,7 +157,8 @@ module _ (rows : List Row) (all rest : OtherRows) (F G : List Request) (i : ℕ)
       go [] is = let long = ap length (is ∙ append-nil F) in absurd (omega (arith, as_many, long, below, many))
       go (r ∷ later) is = goes_on_so r later is
 
--- the first rows are those of some requests, so many of which are registered, and rows that stand for requests stand for these and more
+-- the first rows are those of some requests, so many of which are registered, and rows that stand for requests stand
+-- for these and more
 pub record Stood (rows : List Row) (all rest : OtherRows) (i number : ℕ) (filed : Filed) : Type 0 where
   pub requests : List Request
   pub many : length requests ≡ i
@@ -149,12 +175,22 @@ none_yet rows all filed are = record {
   many = refl;
   number_is = refl;
   fewer = omega arith;
-  first = record { distinct = refl; completed = tt; kept_is = refl; finding_is = refl; filing_is = refl; fact_is = refl; amends_is = refl };
+  first = record {
+    distinct = refl;
+    completed = tt;
+    kept_is = refl;
+    finding_is = refl;
+    filing_is = refl;
+    fact_is =
+        refl;
+    amends_is = refl;
+  };
   front = λ G _. (G, refl);
   filed_are = are;
 }
 
-module _ (rows : List Row) (all rest : OtherRows) (i number : ℕ) (filed : Filed) (row : Row) (below : i < length rows) (at : row ≡ get_or rows i row)
+module _ (rows : List Row) (all rest : OtherRows) (i number : ℕ) (filed : Filed) (row : Row) (below : i < length rows)
+    (at : row ≡ get_or rows i row)
     (stood : Stood rows all rest i number filed) where
   abbrev F : List Request
   F = stood.requests
@@ -163,7 +199,8 @@ module _ (rows : List Row) (all rest : OtherRows) (i number : ℕ) (filed : File
   goes_on_at G whole =
       let seq : suc (length F) ≡ i + 1 = omega (arith, stood.many) in
       let place : get_or rows i [] ≡ row = get_at rows i [] row below ∙ sym at in
-      subst₂ (λ s r. GoesOn F G s r rest) seq place (goes_on_there rows all rest F G i below stood.many stood.first whole (stood.front G whole))
+      subst₂ (λ s r. GoesOn F G s r rest) seq place
+      (goes_on_there rows all rest F G i below stood.many stood.first whole (stood.front G whole))
 
   pub one_more : (target : Option ℕ) (tail : OtherRows) (next : ℕ) (new : Filed) → IsNext F (i + 1) row target rest tail
       → AreFiled (kept (F ++ request_in target row ∷ [])) new
@@ -175,7 +212,8 @@ module _ (rows : List Row) (all rest : OtherRows) (i number : ℕ) (filed : File
       let count = register_more all rest tail F (take i rows) row target stood.first is in
       let few = one_filing (judged (kept F) (request_in target row)).outcome in
       let long = length-append F (request_in target row ∷ []) in
-      let front : take (i + 1) rows ≡ take i rows ++ row ∷ [] = take_more rows i row below ∙ ap (λ r. take i rows ++ r ∷ []) (sym at) in
+      let front : take (i + 1) rows ≡ take i rows ++ row ∷ [] =
+      take_more rows i row below ∙ ap (λ r. take i rows ++ r ∷ []) (sym at) in
       record {
         requests = F ++ request_in target row ∷ [];
         many = omega (arith, long, stood.many);
@@ -190,10 +228,12 @@ module _ (rows : List Row) (all rest : OtherRows) (i number : ℕ) (filed : File
       }
 
   -- rows of which one cannot come next
-  pub refuted_at : ((target : Option ℕ) (tail : OtherRows) → IsNext F (i + 1) row target rest tail → ⊥) → StandForNone rows all
+  pub refuted_at : ((target : Option ℕ) (tail : OtherRows) → IsNext F (i + 1) row target rest tail → ⊥)
+      → StandForNone rows all
   refuted_at none G whole = let there = goes_on_at G whole in none there.target there.tail there.next
 
-module _ (rows : List Row) (all rest : OtherRows) (i number : ℕ) (filed : Filed) (end : i ≡ length rows) (stood : Stood rows all rest i number filed) where
+module _ (rows : List Row) (all rest : OtherRows) (i number : ℕ) (filed : Filed) (end : i ≡ length rows)
+    (stood : Stood rows all rest i number filed) where
   first_are : AreFirst rows all rest stood.requests
   first_are = subst (λ l. AreFirst l all rest stood.requests) (ap (λ n. take n rows) end ∙ take-length rows) stood.first
 
@@ -201,20 +241,31 @@ module _ (rows : List Row) (all rest : OtherRows) (i number : ℕ) (filed : File
   none_left front left is = let long = ap length is ∙ length-append front left in omega (arith, long)
 
   -- rows of which some are left over
-  pub refuted_by_rest : 0 < length rest.finding + length rest.filing + length rest.fact + length rest.amends → StandForNone rows all
+  pub refuted_by_rest : 0 < length rest.finding + length rest.filing + length rest.fact + length rest.amends
+      → StandForNone rows all
   refuted_by_rest left G whole =
       let front = stood.front G whole in
-      let many : length rows ≡ length G = ap length whole.kept_is ∙ length_counted kept_row 1 (kept G) ∙ kept_length G whole.distinct in
+      let many : length rows ≡ length G =
+      ap length whole.kept_is ∙ length_counted kept_row 1 (kept G) ∙ kept_length G whole.distinct in
       let same : stood.requests ≡ G = all_of front.0 front.1 many in
-      let one = none_left _ rest.finding (ap (λ H. joined_from finding_rows 1 (kept H)) same ∙ sym whole.finding_is ∙ first_are.finding_is) in
-      let two = none_left _ rest.filing (ap (λ H. joined_from filing_rows 1 (kept H)) same ∙ sym whole.filing_is ∙ first_are.filing_is) in
-      let three = none_left _ rest.fact (ap (λ H. joined_from fact_rows 1 (kept H)) same ∙ sym whole.fact_is ∙ first_are.fact_is) in
-      let four = none_left _ rest.amends (ap (λ H. joined_from amends_rows 1 (kept H)) same ∙ sym whole.amends_is ∙ first_are.amends_is) in
+      let one =
+      none_left _ rest.finding (ap (λ H. joined_from finding_rows 1 (kept H)) same ∙ sym whole.finding_is
+      ∙ first_are.finding_is) in
+      let two =
+      none_left _ rest.filing (ap (λ H. joined_from filing_rows 1 (kept H)) same ∙ sym whole.filing_is
+      ∙ first_are.filing_is) in
+      let three =
+      none_left _ rest.fact (ap (λ H. joined_from fact_rows 1 (kept H)) same ∙ sym whole.fact_is
+      ∙ first_are.fact_is) in
+      let four =
+      none_left _ rest.amends (ap (λ H. joined_from amends_rows 1 (kept H)) same ∙ sym whole.amends_is
+      ∙ first_are.amends_is) in
       omega (arith, left, one, two, three, four)
     where
       all_of : (later : List Request) → G ≡ stood.requests ++ later → length rows ≡ length G → stood.requests ≡ G
       all_of [] is many = sym (is ∙ append-nil stood.requests)
-      all_of (r ∷ later) is many = let long = ap length is ∙ length-append stood.requests (r ∷ later) in absurd (omega (arith, long, many, end, stood.many))
+      all_of (r ∷ later) is many = let long = ap length is ∙ length-append stood.requests (r ∷ later) in
+          absurd (omega (arith, long, many, end, stood.many))
 
   no_row : (rows : List Row) → length rows ≡ 0 → rows ≡ []
   no_row [] none = refl
@@ -224,8 +275,10 @@ module _ (rows : List Row) (all rest : OtherRows) (i number : ℕ) (filed : File
   all_are whole front left is none = is ∙ ap (λ l. front ++ l) (no_row left none) ∙ append-nil front
 
   -- and rows of which none is left over stand for requests, whose filings are those that are held
-  pub sound_whole : length rest.finding ≡ 0 → length rest.filing ≡ 0 → length rest.fact ≡ 0 → length rest.amends ≡ 0 → (catalogue : Catalogue)
-      → ((ks : List Kept) → AreFiled ks filed → view_lines catalogue ≡ entries_among ks) → IsVerdict rows all (Sound catalogue) × (length (view_lines catalogue) ≤ length rows)
+  pub sound_whole : length rest.finding ≡ 0 → length rest.filing ≡ 0 → length rest.fact ≡ 0 → length rest.amends ≡ 0
+      → (catalogue : Catalogue)
+      → ((ks : List Kept) → AreFiled ks filed → view_lines catalogue ≡ entries_among ks)
+      → IsVerdict rows all (Sound catalogue) × (length (view_lines catalogue) ≤ length rows)
   sound_whole one two three four catalogue held =
       let F = stood.requests in
       let says : view_lines catalogue ≡ catalogue_of F = held (kept F) stood.filed_are in
@@ -247,8 +300,11 @@ module _ (rows : List Row) (all rest : OtherRows) (i number : ℕ) (filed : File
       )
 
 -- rows that stand for requests are found to do so
-pub complete : (rows : List Row) (all : OtherRows) (verdict : Verdict) → IsVerdict rows all verdict → (G : List Request) → AreRowsOf rows all G → IsSoundAs G verdict
+pub complete : (rows : List Row) (all : OtherRows) (verdict : Verdict) → IsVerdict rows all verdict → (G : List Request)
+    → AreRowsOf rows all G → IsSoundAs G verdict
 complete rows all (Sound catalogue) is G whole =
-    let same = same_requests is.0 G is.1.distinct whole.distinct (sym is.1.kept_is ∙ whole.kept_is) (sym is.1.amends_is ∙ whole.amends_is) in
+    let same =
+    same_requests is.0 G is.1.distinct whole.distinct (sym is.1.kept_is ∙ whole.kept_is) (sym is.1.amends_is
+    ∙ whole.amends_is) in
     is.2 ∙ ap (λ H. catalogue_of H) same
 complete rows all (Damaged _) damaged G whole = absurd (damaged.0 G whole)

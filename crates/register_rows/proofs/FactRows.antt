@@ -18,6 +18,8 @@ unfolding filings
 table_is at [] = refl
 table_is at (k ∷ ks) = go k.outcome (table_is (at + 1) ks)
   where
-    go : (o : Outcome) → joined_from fact_rows (at + 1) ks ≡ flat_map rows_of (filings ks) → joined_from fact_rows at (record { request = k.request; outcome = o } ∷ ks) ≡ flat_map rows_of (filings (record { request = k.request; outcome = o } ∷ ks))
+    go : (o : Outcome) → joined_from fact_rows (at + 1) ks ≡ flat_map rows_of (filings ks)
+        → joined_from fact_rows at (record { request = k.request; outcome = o } ∷ ks)
+        ≡ flat_map rows_of (filings (record { request = k.request; outcome = o } ∷ ks))
     go (Registered number) h = ap (λ l. counted_from (fact_row number) 1 (facts k.request.body) ++ l) h
     go (Refused findings) h = h

@@ -1,5 +1,6 @@
 -- The rows of a list of requests with one more.
-use Rattle.std.proofs.Common.{◌≡◌, ◌<◌, ◌+◌, suc, false, List, [], ◌∷◌, ◌++◌, length, length-append, refl, sym, ap, ◌∙◌, arith}
+use Rattle.std.proofs.Common.{◌≡◌, ◌<◌, ◌+◌, suc, false, List, [], ◌∷◌, ◌++◌, length, length-append, refl, sym, ap, ◌∙◌}
+use Rattle.std.proofs.Common.{arith}
 use Rattle.xbrl_report.specs.Pair.{Pair}
 use Rattle.xbrl_report.specs.Judgement.{IsAmendmentJudgement}
 use Rattle.xbrl_report.specs.declared.judging.Judged.{Judged}
@@ -15,17 +16,22 @@ pub kept_length : (F : List Request) → firsts F ≡ F → length (kept F) ≡ 
 kept_length F once = sym (length-map (λ (k : Kept). k.request) (kept F)) ∙ ap length (requests_of_kept F ∙ once)
 
 -- what becomes of a request that was judged
-pub judged_as : (before : List Kept) (r : Request) (j : Judged) → IsAmendmentJudgement r.filer r.body (is_free (filings before) r.filer r.target) j → (judged before r).outcome ≡ outcome_of (suc (length (filings before))) j
+pub judged_as : (before : List Kept) (r : Request) (j : Judged)
+    → IsAmendmentJudgement r.filer r.body (is_free (filings before) r.filer r.target) j
+    → (judged before r).outcome ≡ outcome_of (suc (length (filings before))) j
 unfolding verdict
 judged_as before r (Valid report) is = ap (λ found. outcome_by found (suc (length (filings before)))) is.0
-judged_as before r (Refused list) is = sym (ap (λ found. outcome_by found (suc (length (filings before)))) is.0) ∙ refused list is.1
+judged_as before r (Refused list) is =
+    sym (ap (λ found. outcome_by found (suc (length (filings before)))) is.0) ∙ refused list is.1
   where
-    refused : (found : List Pair) → 0 < length found → outcome_by found (suc (length (filings before))) ≡ Outcome.Refused found
+    refused : (found : List Pair) → 0 < length found
+        → outcome_by found (suc (length (filings before))) ≡ Outcome.Refused found
     refused [] some = absurd (omega arith)
     refused (f ∷ found) some = refl
 
 -- how many filings there are then
-pub registered_more : (F : List Request) (r : Request) → has_key F r ≡ false → length (register (F ++ r ∷ [])) ≡ length (register F) + filings_by (judged (kept F) r).outcome
+pub registered_more : (F : List Request) (r : Request) → has_key F r ≡ false
+    → length (register (F ++ r ∷ [])) ≡ length (register F) + filings_by (judged (kept F) r).outcome
 unfolding filings
 registered_more F r new =
     ap (λ ks. length (filings ks)) (kept_new F r new)

@@ -1,5 +1,7 @@
 -- The filers and keys that are seen among rows.
-use Rattle.std.proofs.Common.{◌≡◌, ◌<◌, ℕ, ◌+◌, zero, suc, Bool, true, false, not, nat_lt, List, [], ◌∷◌, ◌++◌, length, map, take, get_or, refl, sym, ap, ap₂, subst, ◌∙◌, arith, ⊎_elim, None, ◌≤◌, nat_eq, Ordering, Less, Equal, Greater, is_eq}
+use Rattle.std.proofs.Common.{◌≡◌, ◌<◌, ℕ, ◌+◌, zero, suc, Bool, true, false, not, nat_lt, List, [], ◌∷◌, ◌++◌, length}
+use Rattle.std.proofs.Common.{map, take, get_or, refl, sym, ap, ap₂, subst, ◌∙◌, arith, ⊎_elim, None, ◌≤◌, nat_eq}
+use Rattle.std.proofs.Common.{Ordering, Less, Equal, Greater, is_eq}
 use Rattle.std.specs.Prelude.{bytes_eq, ◌&&◌, ◌||◌}
 use Rattle.std.specs.Bool.{one_answer}
 use Rattle.std.specs.BTreeSet.{insert_key}
@@ -25,7 +27,9 @@ then_eq Equal q = refl
 then_eq Greater q = refl
 
 bytes_turned : (xs ys : List ℕ) → bytes_eq xs ys ≡ bytes_eq ys xs
-bytes_turned xs ys = one_answer _ _ (λ h. sym ((bytes_eq-Decides xs ys).0 h), λ e. (bytes_eq-Decides xs ys).1 (sym e)) (bytes_eq-Decides ys xs)
+bytes_turned xs ys =
+    one_answer _ _ (λ h. sym ((bytes_eq-Decides xs ys).0 h), λ e. (bytes_eq-Decides xs ys).1 (sym e))
+    (bytes_eq-Decides ys xs)
 
 or_again : (p q : Bool) → (p || q) ≡ (p || (p || q))
 or_again true q = refl
@@ -54,30 +58,42 @@ module _ {K : Type 0} (first second : K → List ℕ) where
       let two = (bytes_eq-Decides (second y) (second x)).0 same.1 in
       has_is f k x ∙ ap₂ (λ p q. bytes_eq f p && bytes_eq k q) (sym one) (sym two) ∙ sym (has_is f k y)
 
-  put : (f k : List ℕ) (xs : List K) (y : K) → list_any (has f k) (insert_key pair_cmp xs y) ≡ (has f k y || list_any (has f k) xs)
+  put : (f k : List ℕ) (xs : List K) (y : K) → list_any (has f k) (insert_key pair_cmp xs y)
+      ≡ (has f k y || list_any (has f k) xs)
   put f k [] y = refl
   put f k (x ∷ xs) y = go (pair_cmp y x) refl (put f k xs y)
     where
-      go : (o : Ordering) → pair_cmp y x ≡ o → list_any (has f k) (insert_key pair_cmp xs y) ≡ (has f k y || list_any (has f k) xs)
-          → list_any (has f k) (match_ordering o (y ∷ x ∷ xs) (x ∷ xs) (x ∷ insert_key pair_cmp xs y)) ≡ (has f k y || (has f k x || list_any (has f k) xs))
+      go : (o : Ordering) → pair_cmp y x ≡ o → list_any (has f k) (insert_key pair_cmp xs y)
+          ≡ (has f k y || list_any (has f k) xs)
+          → list_any (has f k) (match_ordering o (y ∷ x ∷ xs) (x ∷ xs) (x ∷ insert_key pair_cmp xs y))
+          ≡ (has f k y || (has f k x || list_any (has f k) xs))
       go Less is more = refl
-      go Equal is more = subst (λ b. (has f k x || list_any (has f k) xs) ≡ (b || (has f k x || list_any (has f k) xs))) (alike f k x y is) (or_again (has f k x) (list_any (has f k) xs))
+      go Equal is more =
+          subst (λ b. (has f k x || list_any (has f k) xs) ≡ (b || (has f k x || list_any (has f k) xs)))
+          (alike f k x y is) (or_again (has f k x) (list_any (has f k) xs))
       go Greater is more = ap (λ b. has f k x || b) more ∙ or_swap (has f k x) (has f k y) (list_any (has f k) xs)
 
 -- one row more
 one_more_seen : (rows : List Row) (at : ℕ) (row : Row) → at < length rows → row ≡ get_or rows at row → (f k : List ℕ)
-    → ((bytes_eq f (request_in None row).filer && bytes_eq k (request_in None row).key) || has_key (map (request_in None) (take at rows)) (the_request f k None [])) ≡ has_key (map (request_in None) (take (at + 1) rows)) (the_request f k None [])
+    → ((bytes_eq f (request_in None row).filer && bytes_eq k (request_in None row).key)
+    || has_key (map (request_in None) (take at rows)) (the_request f k None []))
+    ≡ has_key (map (request_in None) (take (at + 1) rows)) (the_request f k None [])
 one_more_seen rows at row low is f k =
     let before = has_key (map (request_in None) (take at rows)) (the_request f k None []) in
-    let turned : (bytes_eq f (request_in None row).filer && bytes_eq k (request_in None row).key) ≡ same_key (request_in None row) (the_request f k None []) =
+    let turned : (bytes_eq f (request_in None row).filer && bytes_eq k (request_in None row).key)
+    ≡ same_key (request_in None row) (the_request f k None []) =
     ap₂ ◌&&◌ (bytes_turned f (request_in None row).filer) (bytes_turned k (request_in None row).key) in
-    let last : list_any (λ s. same_key s (the_request f k None [])) (request_in None row ∷ []) ≡ same_key (request_in None row) (the_request f k None []) =
+    let last : list_any (λ s. same_key s (the_request f k None [])) (request_in None row ∷ [])
+    ≡ same_key (request_in None row) (the_request f k None []) =
     or_comm (same_key (request_in None row) (the_request f k None [])) false in
-    let rows_are : map (request_in None) (take (at + 1) rows) ≡ map (request_in None) (take at rows) ++ request_in None row ∷ [] =
-    ap (map (request_in None)) (take_more rows at row low ∙ ap (λ r. take at rows ++ r ∷ []) (sym is)) ∙ map-append (request_in None) (take at rows) (row ∷ []) in
+    let rows_are : map (request_in None) (take (at + 1) rows) ≡ map (request_in None) (take at rows)
+    ++ request_in None row ∷ [] =
+    ap (map (request_in None)) (take_more rows at row low ∙ ap (λ r. take at rows ++ r ∷ []) (sym is))
+    ∙ map-append (request_in None) (take at rows) (row ∷ []) in
     or_comm (bytes_eq f (request_in None row).filer && bytes_eq k (request_in None row).key) before
     ∙ ap (λ b. before || b) (turned ∙ sym last)
-    ∙ sym (list_any-append (λ s. same_key s (the_request f k None [])) (map (request_in None) (take at rows)) (request_in None row ∷ []))
+    ∙ sym (list_any-append (λ s. same_key s (the_request f k None [])) (map (request_in None) (take at rows))
+    (request_in None row ∷ []))
     ∙ ap (λ F. has_key F (the_request f k None [])) (sym rows_are)
 
 pub get_at : {X : Type 0} (rows : List X) (at : ℕ) (d e : X) → at < length rows → get_or rows at d ≡ get_or rows at e
@@ -96,27 +112,34 @@ once new false is h = refl
 pub up_to : (P : ℕ → Type 0) (at : ℕ) → ((i : ℕ) → i < at → P i) → P at → (i : ℕ) → i < at + 1 → P i
 up_to P at before here i low = ⊎_elim
     (λ (less : nat_lt i at ≡ true). before i (grind (arith, nat_tests, less)))
-    (λ (not_less : nat_lt i at ≡ false). let same : at ≡ i = grind (arith, nat_tests, low, not_less) in subst P same here)
+    (λ (not_less : nat_lt i at ≡ false). let same : at ≡ i = grind (arith, nat_tests, low, not_less) in
+    subst P same here)
     (cases_Bool (nat_lt i at))
 
-module _ {K : Type 0} (first second : K → List ℕ) (old : List K) (y : K) (rows : List Row) (at : ℕ) (row : Row) (low : at < length rows) (is : row ≡ get_or rows at row)
+module _ {K : Type 0} (first second : K → List ℕ) (old : List K) (y : K) (rows : List Row) (at : ℕ) (row : Row)
+    (low : at < length rows) (is : row ≡ get_or rows at row)
     (filer : first y ≡ text_in (column row 1)) (key : second y ≡ text_in (column row 2))
-    (seen : (f k : List ℕ) → list_any (has first second f k) old ≡ has_key (map (request_in None) (take at rows)) (the_request f k None [])) where
+    (seen : (f k : List ℕ) → list_any (has first second f k) old
+    ≡ has_key (map (request_in None) (take at rows)) (the_request f k None [])) where
   told : list_any (has first second (first y) (second y)) old ≡ is_repeated_at rows at
   told =
       let place : get_or rows at [] ≡ row = get_at rows at [] row low ∙ sym is in
-      seen (first y) (second y) ∙ ap₂ (λ f k. has_key (map (request_in None) (take at rows)) (the_request f k None [])) filer key
+      seen (first y) (second y)
+      ∙ ap₂ (λ f k. has_key (map (request_in None) (take at rows)) (the_request f k None [])) filer key
       ∙ ap (λ r. has_key (map (request_in None) (take at rows)) (request_in None r)) (sym place)
 
   -- a key that is not put stands twice
-  pub stands_twice : (new : Bool) → new ≡ not (list_any (has first second (first y) (second y)) old) → new ≡ false → is_repeated_at rows at ≡ true
+  pub stands_twice : (new : Bool) → new ≡ not (list_any (has first second (first y) (second y)) old) → new ≡ false
+      → is_repeated_at rows at ≡ true
   stands_twice new is h = sym told ∙ twice new _ is h
 
-  pub stands_once : (new : Bool) → new ≡ not (list_any (has first second (first y) (second y)) old) → new ≡ true → is_repeated_at rows at ≡ false
+  pub stands_once : (new : Bool) → new ≡ not (list_any (has first second (first y) (second y)) old) → new ≡ true
+      → is_repeated_at rows at ≡ false
   stands_once new is h = sym told ∙ once new _ is h
 
   pub noted : (new : List K) → new ≡ insert_key (pair_cmp first second) old y → (f k : List ℕ)
-      → list_any (has first second f k) new ≡ has_key (map (request_in None) (take (at + 1) rows)) (the_request f k None [])
+      → list_any (has first second f k) new ≡ has_key (map (request_in None) (take (at + 1) rows))
+      (the_request f k None [])
   noted new put_is f k =
       ap (list_any (has first second f k)) put_is ∙ put first second f k old y
       ∙ ap₂ ◌||◌ (has_is first second f k y ∙ ap₂ (λ a b. bytes_eq f a && bytes_eq k b) filer key) (seen f k)
@@ -130,16 +153,19 @@ pub has_key_untargeted : (F : List Request) (r : Request) → has_key (map untar
 has_key_untargeted [] r = refl
 has_key_untargeted (q ∷ F) r = ap (λ b. same_key q r || b) (has_key_untargeted F r)
 
-module _ (rows : List Row) (F : List Request) (at : ℕ) (row : Row) (low : at < length rows) (is : row ≡ get_or rows at row)
+module _ (rows : List Row) (F : List Request) (at : ℕ) (row : Row) (low : at < length rows)
+    (is : row ≡ get_or rows at row)
     (said : map (request_in None) (take at rows) ≡ map untargeted F) where
   -- whether a row is repeated, among rows that say these requests
   pub repeated_is : is_repeated_at rows at ≡ has_key F (request_in None row)
   repeated_is =
       let place : get_or rows at [] ≡ row = get_at rows at [] row low ∙ sym is in
-      ap₂ (λ (G : List Request) (r : Row). has_key G (request_in None r)) said place ∙ has_key_untargeted F (request_in None row)
+      ap₂ (λ (G : List Request) (r : Row). has_key G (request_in None r)) said place
+      ∙ has_key_untargeted F (request_in None row)
 
   -- it is where it is the first that is
-  pub first_is : (first : ℕ) → at ≤ first → ((i : ℕ) → i < first → is_repeated_at rows i ≡ false) → (first < length rows → is_repeated_at rows first ≡ true)
+  pub first_is : (first : ℕ) → at ≤ first → ((i : ℕ) → i < first → is_repeated_at rows i ≡ false)
+      → (first < length rows → is_repeated_at rows first ≡ true)
       → nat_eq at first ≡ has_key F (request_in None row)
   first_is first before none some = ⊎_elim
       (λ (same : nat_eq at first ≡ true).

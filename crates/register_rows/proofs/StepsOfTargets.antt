@@ -1,5 +1,6 @@
 -- The rows of `amends` beside those of kept requests, one request after another.
-use Rattle.std.proofs.Common.{◌≡◌, ◌<◌, ℕ, ◌+◌, zero, suc, pos, Bool, true, false, List, [], ◌∷◌, ◌++◌, ◌≤◌, map, take, drop, get_or, length, Option, None, Some, int_eq, refl, sym, ap, ap₂, ◌∙◌, arith}
+use Rattle.std.proofs.Common.{◌≡◌, ◌<◌, ℕ, ◌+◌, zero, suc, pos, Bool, true, false, List, [], ◌∷◌, ◌++◌, ◌≤◌, map, take}
+use Rattle.std.proofs.Common.{drop, get_or, length, Option, None, Some, int_eq, refl, sym, ap, ap₂, ◌∙◌, arith}
 use Rattle.std.specs.Prelude.{◌||◌}
 use Rattle.std.proofs.lemmas.Int.{ints}
 use Rattle.std.proofs.lemmas.List.{map-append}
@@ -33,8 +34,10 @@ own n = grind (arith, ints)
 pub only_target : (n : ℕ) (s t : Option ℕ) (l m : List Row) → begins_with 0 n l ≡ false → begins_with 0 n m ≡ false
     → amends_rows_by n s ++ l ≡ amends_rows_by n t ++ m → (s ≡ t) × (l ≡ m)
 only_target n None None l m p q is = (refl, is)
-only_target n None (Some b) l m p q is = absurd (let both : false ≡ true = sym p ∙ ap (begins_with 0 n) is ∙ own n in cc)
-only_target n (Some a) None l m p q is = absurd (let both : false ≡ true = sym q ∙ sym (ap (begins_with 0 n) is) ∙ own n in cc)
+only_target n None (Some b) l m p q is =
+    absurd (let both : false ≡ true = sym p ∙ ap (begins_with 0 n) is ∙ own n in cc)
+only_target n (Some a) None l m p q is =
+    absurd (let both : false ≡ true = sym q ∙ sym (ap (begins_with 0 n) is) ∙ own n in cc)
 only_target n (Some a) (Some b) l m p q is =
     let row : Int (pos n) ∷ Int (pos a) ∷ [] ≡ Int (pos n) ∷ Int (pos b) ∷ [] = cc in
     let same : a ≡ b = cc in
@@ -47,9 +50,11 @@ last_false false true c d h = absurd cc
 last_false true b c d h = absurd cc
 
 -- what is left behind a request says nothing more of what it is to replace
-pub no_more_targets : (seq : ℕ) (o : Outcome) (tail : OtherRows) → has_more seq o tail ≡ false → begins_with 0 seq tail.amends ≡ false
+pub no_more_targets : (seq : ℕ) (o : Outcome) (tail : OtherRows) → has_more seq o tail ≡ false
+    → begins_with 0 seq tail.amends ≡ false
 no_more_targets seq o tail ends =
-    last_false (begins_with 0 seq tail.finding) (begins_with 1 seq tail.filing) (has_more_facts o tail.fact) (begins_with 0 seq tail.amends) ends
+    last_false (begins_with 0 seq tail.finding) (begins_with 1 seq tail.filing) (has_more_facts o tail.fact)
+    (begins_with 0 seq tail.amends) ends
 
 -- kept rows with those of `amends` say one list of requests alone
 requests_alike : (m : ℕ) (ks ls : List Kept) → counted_from kept_row m ks ≡ counted_from kept_row m ls
@@ -61,13 +66,17 @@ requests_alike m (k ∷ ks) [] rows amends = absurd cc
 requests_alike m (k ∷ ks) (l ∷ ls) rows amends =
     let first : kept_row m k ≡ kept_row m l = cc in
     let later : counted_from kept_row (m + 1) ks ≡ counted_from kept_row (m + 1) ls = cc in
-    let target = only_target m k.request.target l.request.target (joined_from amends_rows (m + 1) ks) (joined_from amends_rows (m + 1) ls)
+    let target =
+    only_target m k.request.target l.request.target (joined_from amends_rows (m + 1) ks)
+    (joined_from amends_rows (m + 1) ls)
     (no_amends m (m + 1) ks (omega arith)) (no_amends m (m + 1) ls (omega arith)) amends in
     ap₂ (λ (r : Request) rs. r ∷ rs) (ap₂ request_in target.0 first) (requests_alike (m + 1) ks ls later target.1)
 
-pub same_requests : (F G : List Request) → firsts F ≡ F → firsts G ≡ G → counted_from kept_row 1 (kept F) ≡ counted_from kept_row 1 (kept G)
+pub same_requests : (F G : List Request) → firsts F ≡ F → firsts G ≡ G
+    → counted_from kept_row 1 (kept F) ≡ counted_from kept_row 1 (kept G)
     → joined_from amends_rows 1 (kept F) ≡ joined_from amends_rows 1 (kept G) → F ≡ G
-same_requests F G once_f once_g rows amends = sym (requests_of_kept F ∙ once_f) ∙ requests_alike 1 (kept F) (kept G) rows amends ∙ requests_of_kept G ∙ once_g
+same_requests F G once_f once_g rows amends =
+    sym (requests_of_kept F ∙ once_f) ∙ requests_alike 1 (kept F) (kept G) rows amends ∙ requests_of_kept G ∙ once_g
 
 -- what is read of the request at this place, whose row is this
 pub record IsStep (ks : List Kept) (at place : ℕ) (row : Row) (target : Option ℕ) (tail : List Row) : Type 0 where
@@ -79,28 +88,45 @@ pub record IsStep (ks : List Kept) (at place : ℕ) (row : Row) (target : Option
 
 -- the target and the rest are the only ones that the rows say
 abbrev pub IsOnlyTarget : ℕ → List Row → Option ℕ → List Row → Type 0
-IsOnlyTarget place rest target tail = (t : Option ℕ) (l : List Row) → rest ≡ amends_rows_by place t ++ l → begins_with 0 place l ≡ false → (t ≡ target) × (l ≡ tail)
+IsOnlyTarget place rest target tail = (t : Option ℕ) (l : List Row) → rest ≡ amends_rows_by place t ++ l
+    → begins_with 0 place l ≡ false → (t ≡ target) × (l ≡ tail)
 
-pub step : (m : ℕ) (ks : List Kept) (at place : ℕ) (row : Row) (rest tail : List Row) (target : Option ℕ) → place ≡ m + at
+pub step : (m : ℕ) (ks : List Kept) (at place : ℕ) (row : Row) (rest tail : List Row) (target : Option ℕ)
+    → place ≡ m + at
     → at < length (counted_from kept_row m ks) → row ≡ get_or (counted_from kept_row m ks) at row
-    → rest ≡ joined_from amends_rows place (drop at ks) → IsOnlyTarget place rest target tail → IsStep ks at place row target tail
+    → rest ≡ joined_from amends_rows place (drop at ks) → IsOnlyTarget place rest target tail
+    → IsStep ks at place row target tail
 step m [] at place row rest tail target here low is front only = absurd (omega arith)
 step m (k ∷ ks) zero place row rest tail target here low is front only =
-    let told = only k.request.target (joined_from amends_rows (place + 1) ks) front (no_amends place (place + 1) ks (omega arith)) in
+    let told =
+    only k.request.target (joined_from amends_rows (place + 1) ks) front
+    (no_amends place (place + 1) ks (omega arith)) in
     let same : m ≡ place = omega (arith, here) in
     record { k = k; taken = refl; row_is = is ∙ ap (λ n. kept_row n k) same; target_is = told.0; tail_is = sym told.1 }
 step m (x ∷ ks) (suc at) place row rest tail target here low is front only =
     let next = step (m + 1) ks at place row rest tail target (omega (arith, here)) (omega arith) is front only in
-    record { k = next.k; taken = ap (λ l. x ∷ l) next.taken; row_is = next.row_is; target_is = next.target_is; tail_is = next.tail_is }
+    record {
+      k = next.k;
+      taken = ap (λ l. x ∷ l) next.taken;
+      row_is = next.row_is;
+      target_is = next.target_is;
+      tail_is =
+          next.tail_is;
+    }
 
 -- one request more is read
-pub requests_step : (ks : List Kept) (at place : ℕ) (row : Row) (target : Option ℕ) (tail : List Row) (items more : List Request) (r : Request)
+pub requests_step : (ks : List Kept) (at place : ℕ) (row : Row) (target : Option ℕ) (tail : List Row)
+    (items more : List Request) (r : Request)
     → IsStep ks at place row target tail
-    → items ≡ map (λ (k : Kept). k.request) (take at ks) → r ≡ request_in target row → more ≡ items ++ r ∷ [] → more ≡ map (λ (k : Kept). k.request) (take (at + 1) ks)
+    → items ≡ map (λ (k : Kept). k.request) (take at ks) → r ≡ request_in target row → more ≡ items ++ r ∷ []
+    → more ≡ map (λ (k : Kept). k.request) (take (at + 1) ks)
 requests_step ks at place row target tail items more r s had is pushed =
-    let asked : request_in target row ≡ s.k.request = ap (request_in target) s.row_is ∙ ap (λ t. record s.k.request { target = t }) (sym s.target_is) in
+    let asked : request_in target row ≡ s.k.request =
+    ap (request_in target) s.row_is ∙ ap (λ t. record s.k.request { target = t }) (sym s.target_is) in
     let next : suc at ≡ at + 1 = omega arith in
-    pushed ∙ ap₂ (λ l x. l ++ x ∷ []) had (is ∙ asked) ∙ sym (map-append (λ (k : Kept). k.request) (take at ks) (s.k ∷ [])) ∙ ap (map (λ (k : Kept). k.request)) (sym s.taken ∙ ap (λ n. take n ks) next)
+    pushed ∙ ap₂ (λ l x. l ++ x ∷ []) had (is ∙ asked)
+    ∙ sym (map-append (λ (k : Kept). k.request) (take at ks) (s.k ∷ []))
+    ∙ ap (map (λ (k : Kept). k.request)) (sym s.taken ∙ ap (λ n. take n ks) next)
 
 -- all of them are read
 pub all_taken : (m : ℕ) (ks : List Kept) (n : ℕ) → length (counted_from kept_row m ks) ≤ n → take n ks ≡ ks

@@ -1,5 +1,6 @@
 -- What an audit asks of the rows of a register.
-use Rattle.std.specs.Prelude.{◌≡◌, ◌⊎◌, ◌<◌, ℕ, suc, Bool, false, ◌||◌, pos, List, [], ◌∷◌, ◌++◌, length, map, filter, take, get_or, Option, None, MatchOption, ◌+◌}
+use Rattle.std.specs.Prelude.{◌≡◌, ◌⊎◌, ◌<◌, ℕ, suc, Bool, false, ◌||◌, pos, List, [], ◌∷◌, ◌++◌, length, map, filter}
+use Rattle.std.specs.Prelude.{take, get_or, Option, None, MatchOption, ◌+◌}
 use Rattle.std.specs.List.{AllByRecursion}
 use Rattle.std.specs.Ordering.{int_eq}
 use Rattle.sqlite.specs.declared.types.Value.{Value}
@@ -15,7 +16,8 @@ use Rattle.register_rows.specs.declared.verdict.Verdict.TheVariants.{Sound, Dama
 use Rattle.register_rows.specs.Catalogue.{catalogue_of, view_lines}
 use Rattle.register_rows.specs.Columns.{request_in}
 use Rattle.register_rows.specs.Outcomes.{filings_by}
-use Rattle.register_rows.specs.Register.{IsCompleted, kept_row, finding_rows, filing_rows, fact_rows, amends_rows, amends_rows_by, joined_from}
+use Rattle.register_rows.specs.Register.{IsCompleted, kept_row, finding_rows, filing_rows, fact_rows, amends_rows}
+use Rattle.register_rows.specs.Register.{amends_rows_by, joined_from}
 
 -- the rows of the tables beside `kept`
 pub record OtherRows : Type 0 where
@@ -37,15 +39,24 @@ pub record Begins (seq : ℕ) (k : Kept) (all rest : OtherRows) : Type 0 where
 
 -- as code holds them
 abbrev pub view_other_tables : OtherTables → OtherRows
-view_other_tables b = record { finding = b.findings.now; filing = b.filings.now; fact = b.facts.now; amends = b.amends.now }
+view_other_tables b =
+    record { finding = b.findings.now; filing = b.filings.now; fact = b.facts.now; amends = b.amends.now }
 
 -- what is left of them, as code holds it
 abbrev pub view_rows_left : RowsLeft → OtherRows
-view_rows_left r = record { finding = r.findings.now; filing = r.filings.now; fact = r.facts.now; amends = r.amends.now }
+view_rows_left r =
+    record { finding = r.findings.now; filing = r.filings.now; fact = r.facts.now; amends = r.amends.now }
 
 -- with a row of `amends` before them where the request at this place is to replace a filing
 abbrev pub with_target : ℕ → Option ℕ → OtherRows → OtherRows
-with_target seq target rest = record { finding = rest.finding; filing = rest.filing; fact = rest.fact; amends = amends_rows_by seq target ++ rest.amends }
+with_target seq target rest =
+    record {
+      finding = rest.finding;
+      filing = rest.filing;
+      fact = rest.fact;
+      amends =
+          amends_rows_by seq target ++ rest.amends;
+    }
 
 -- the request with this outcome
 abbrev pub request_outcome : Request → Outcome → Kept
@@ -69,20 +80,30 @@ abbrev pub has_more_facts : Outcome → List Row → Bool
 has_more_facts (Outcome.Registered number) rows = begins_with 0 number rows
 has_more_facts (Outcome.Refused findings) rows = false
 
--- what is left, of rows in the order of the keys, begins with another row of the request at this place with this outcome
+-- what is left, of rows in the order of the keys, begins with another row of the request at this place with this
+-- outcome
 abbrev pub has_more : ℕ → Outcome → OtherRows → Bool
-has_more seq outcome rest = begins_with 0 seq rest.finding || (begins_with 1 seq rest.filing || (has_more_facts outcome rest.fact || begins_with 0 seq rest.amends))
+has_more seq outcome rest =
+    begins_with 0 seq rest.finding || (begins_with 1 seq rest.filing
+    || (has_more_facts outcome rest.fact || begins_with 0 seq rest.amends))
 
--- what is left behind the rows of a request with this outcome that is to replace this filing, if any, where its row of `amends` was read
+-- what is left behind the rows of a request with this outcome that is to replace this filing, if any, where its row of
+-- `amends` was read
 abbrev pub IsAfter : ℕ → Row → Option ℕ → Outcome → RowsLeft → Option RowsLeft → Type 0
 IsAfter seq row target o rest next = MatchOption next
-    ((tail : OtherRows) → row ≡ kept_row seq (request_outcome (request_in target row) o) → Begins seq (request_outcome (request_in target row) o) (with_target seq target (view_rows_left rest)) tail → ⊥)
-    (λ tail. (row ≡ kept_row seq (request_outcome (request_in target row) o)) × Begins seq (request_outcome (request_in target row) o) (with_target seq target (view_rows_left rest)) (view_rows_left tail)
+    ((tail : OtherRows) → row ≡ kept_row seq (request_outcome (request_in target row) o)
+    → Begins seq (request_outcome (request_in target row) o) (with_target seq target (view_rows_left rest)) tail
+    → ⊥)
+    (λ tail. (row ≡ kept_row seq (request_outcome (request_in target row) o))
+    × Begins seq (request_outcome (request_in target row) o) (with_target seq target (view_rows_left rest))
+    (view_rows_left tail)
     × (tail.number ≡ rest.number + filings_by o))
 
--- the row is the next after those of these requests, of rows in the order of the keys: its request is one that may be completed, its filer
--- and key are new, and its place, its outcome and its rows in the other tables are what judging it gives, and no others
-pub record IsNext (before : List Request) (seq : ℕ) (row : Row) (target : Option ℕ) (all rest : OtherRows) : Type 0 where
+-- the row is the next after those of these requests, of rows in the order of the keys: its request is one that may be
+-- completed, its filer and key are new, and its place, its outcome and its rows in the other tables are what judging it
+-- gives, and no others
+pub record IsNext (before : List Request) (seq : ℕ) (row : Row) (target : Option ℕ) (all rest
+    : OtherRows) : Type 0 where
   pub completed : IsCompleted (request_in target row)
   pub fresh : has_key before (request_in target row) ≡ false
   pub row_is : row ≡ kept_row seq (judged (kept before) (request_in target row))
@@ -118,8 +139,8 @@ pub record IsKeptAs (seq : ℕ) (k : Kept) (row : Row) (others : OtherRows) : Ty
   pub fact_is : facts_under k.outcome others.fact ≡ fact_rows seq k
   pub amends_is : with_number 0 seq others.amends ≡ amends_rows seq k
 
--- the kept row behind those of these requests is sound as this one's: it may be completed, no earlier one has its filer and key, and its
--- place, its outcome and its rows in the other tables are what judging it after them gives
+-- the kept row behind those of these requests is sound as this one's: it may be completed, no earlier one has its filer
+-- and key, and its place, its outcome and its rows in the other tables are what judging it after them gives
 pub record IsSound (kept_are : List Row) (others : OtherRows) (before : List Request) (r : Request) : Type 0 where
   pub completed : IsCompleted r
   pub fresh : has_key before r ≡ false
@@ -128,7 +149,8 @@ pub record IsSound (kept_are : List Row) (others : OtherRows) (before : List Req
 -- so is each of the rows of these, behind those before them
 abbrev pub AreSound : List Row → OtherRows → List Request → List Request → Type 0
 AreSound kept_are others before [] = Unit {0}
-AreSound kept_are others before (r ∷ requests) = IsSound kept_are others before r × AreSound kept_are others (before ++ r ∷ []) requests
+AreSound kept_are others before (r ∷ requests) =
+    IsSound kept_are others before r × AreSound kept_are others (before ++ r ∷ []) requests
 
 -- the kept row at this place, counted from 1, is the first that is not sound
 pub record IsFirstUnsound (kept_are : List Row) (others : OtherRows) (row : ℕ) : Type 0 where
@@ -140,7 +162,9 @@ pub record IsFirstUnsound (kept_are : List Row) (others : OtherRows) (row : ℕ)
 
 -- this row is told: the first that is not sound, or 0 where each one is
 abbrev pub IsTold : List Row → OtherRows → ℕ → Type 0
-IsTold kept_are others row = IsFirstUnsound kept_are others row ⊎ ((row ≡ 0) × ((F : List Request) × (length F ≡ length kept_are) × AreSound kept_are others [] F))
+IsTold kept_are others row =
+    IsFirstUnsound kept_are others row ⊎ ((row ≡ 0)
+    × ((F : List Request) × (length F ≡ length kept_are) × AreSound kept_are others [] F))
 
 -- the rows stand for no requests
 abbrev pub StandForNone : List Row → OtherRows → Type 0
@@ -148,7 +172,8 @@ StandForNone kept_are others = (F : List Request) → AreRowsOf kept_are others 
 
 -- the rows stand for requests, and these are the filings; or for none, and this row is told
 abbrev pub IsVerdict : List Row → OtherRows → Verdict → Type 0
-IsVerdict kept_are others (Sound catalogue) = (F : List Request) × AreRowsOf kept_are others F × (view_lines catalogue ≡ catalogue_of F)
+IsVerdict kept_are others (Sound catalogue) =
+    (F : List Request) × AreRowsOf kept_are others F × (view_lines catalogue ≡ catalogue_of F)
 IsVerdict kept_are others (Damaged row) = StandForNone kept_are others × IsTold kept_are others row
 
 -- the rows are told to be those of these requests

@@ -1,5 +1,6 @@
 -- Where the filings of a register are kept, and what a list shows of each.
-use Rattle.std.specs.Prelude.{◌≡◌, ◌<◌, ◌+◌, ℕ, zero, suc, List, [], ◌∷◌, ◌++◌, length, map, Option, Some, None, slice_get, vec_len}
+use Rattle.std.specs.Prelude.{◌≡◌, ◌<◌, ◌+◌, ℕ, zero, suc, List, [], ◌∷◌, ◌++◌, length, map, Option, Some, None}
+use Rattle.std.specs.Prelude.{slice_get, vec_len}
 use Rattle.std.specs.Vec.{vec_capacity}
 use Rattle.xbrl_report.specs.ReportParts.{fact_count}
 use Rattle.filing_model.specs.Listing.{replacing}
@@ -35,7 +36,14 @@ placed_from seq (k ∷ ks) = placed_by seq k.request k.outcome ++ placed_from (s
 
 -- a filing as it stands among these
 abbrev pub entry_of : List Filing → Placed → Entry
-entry_of filings p = record { seq = p.seq; facts = fact_count p.filing.request.body; replaces = p.filing.request.target; replaced_by = replacing filings p.filing.number }
+entry_of filings p =
+    record {
+      seq = p.seq;
+      facts = fact_count p.filing.request.body;
+      replaces = p.filing.request.target;
+      replaced_by =
+          replacing filings p.filing.number;
+    }
 
 -- the filings among kept requests, by number
 abbrev pub entries_among : List Kept → List Entry
@@ -66,7 +74,14 @@ number_or_none zero = None
 number_or_none (suc n) = Some (suc n)
 
 abbrev pub view_line : Line → Entry
-view_line line = record { seq = line.seq; facts = line.facts; replaces = number_or_none line.replaces; replaced_by = number_or_none line.replaced_by }
+view_line line =
+    record {
+      seq = line.seq;
+      facts = line.facts;
+      replaces = number_or_none line.replaces;
+      replaced_by =
+          number_or_none line.replaced_by;
+    }
 
 abbrev pub view_lines : Catalogue → List Entry
 view_lines catalogue = map view_line catalogue.lines.items

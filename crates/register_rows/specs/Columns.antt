@@ -23,7 +23,14 @@ number_in _ = None
 
 -- of the columns `seq`, `filer`, `idem`, `body`, `number`, where the request is to replace this filing, if any
 abbrev pub request_in : Option ℕ → Row → Request
-request_in target row = record { filer = text_in (column row 1); key = text_in (column row 2); target = target; body = bytes_in (column row 3) }
+request_in target row =
+    record {
+      filer = text_in (column row 1);
+      key = text_in (column row 2);
+      target = target;
+      body =
+          bytes_in (column row 3);
+    }
 
 -- the bytes of a blob, where the value is one
 abbrev pub maybe_bytes_in : Value → Option (List ℕ)

@@ -17,7 +17,8 @@ use Rattle.filing_model.specs.Request.{Request, firsts}
 use Rattle.filing_model.specs.Register.{Outcome, Kept, kept}
 use Rattle.filing_model.specs.Register.Outcome.{Registered, Refused}
 use Rattle.table_rows.specs.Rows.{TableHas, counted_from}
-use Rattle.register_rows.specs.Schema.{IsDeclared, meta_table, kept_table, finding_table, filing_table, fact_table, migrated_table, amends_table}
+use Rattle.register_rows.specs.Schema.{IsDeclared, meta_table, kept_table, finding_table, filing_table, fact_table}
+use Rattle.register_rows.specs.Schema.{migrated_table, amends_table}
 
 -- ---- what a kept request puts into each table, as SELECT * shows it; `seq` is its place among the kept ones, from 1
 
@@ -29,9 +30,9 @@ form_row form = Int (pos 1) ∷ Text (codes "register") ∷ Int (pos form) ∷ [
 abbrev pub meta_row : Row
 meta_row = form_row 4
 
--- the one row of `migrated`, where the first `early` kept requests are told what they were told before
+-- the one row of `migrated`, where the first `old_style` kept requests are told what they were told before
 abbrev pub migrated_row : ℕ → Row
-migrated_row early = Int (pos 1) ∷ Int (pos early) ∷ []
+migrated_row old_style = Int (pos 1) ∷ Int (pos old_style) ∷ []
 
 -- the number of a registered request
 abbrev pub number_of : Outcome → Option ℕ
@@ -39,7 +40,9 @@ number_of (Registered number) = Some number
 number_of (Refused findings) = None
 
 abbrev pub kept_row : ℕ → Kept → Row
-kept_row seq k = Int (pos seq) ∷ Text k.request.filer ∷ Text k.request.key ∷ Blob k.request.body ∷ or_null (λ n. Int (pos n)) (number_of k.outcome) ∷ []
+kept_row seq k =
+    Int (pos seq) ∷ Text k.request.filer ∷ Text k.request.key ∷ Blob k.request.body
+    ∷ or_null (λ n. Int (pos n)) (number_of k.outcome) ∷ []
 
 abbrev pub finding_row : ℕ → ℕ → Pair → Row
 finding_row seq at f = Int (pos seq) ∷ Int (pos at) ∷ Int (pos (code_number f.code)) ∷ Blob f.place ∷ []
@@ -62,7 +65,8 @@ filing_rows seq k = filing_rows_by seq k.outcome
 
 abbrev pub fact_row : ℕ → ℕ → FactRecord → Row
 fact_row number at f =
-    Int (pos number) ∷ Int (pos at) ∷ Blob f.id ∷ Blob f.concept ∷ Blob f.dimensions ∷ or_null Blob f.value ∷ or_null Int f.decimals ∷ []
+    Int (pos number) ∷ Int (pos at) ∷ Blob f.id ∷ Blob f.concept ∷ Blob f.dimensions ∷ or_null Blob f.value
+    ∷ or_null Int f.decimals ∷ []
 
 abbrev pub fact_rows_by : List FactRecord → Outcome → List Row
 fact_rows_by all (Registered number) = counted_from (fact_row number) 1 all
@@ -88,14 +92,15 @@ joined_from rows seq (k ∷ ks) = rows seq k ++ joined_from rows (seq + 1) ks
 -- ---- the tables
 
 -- the tables of a register have these rows, each once and in any order, and no others
-pub record HasRows (db : Database) (early : ℕ) (kept_are finding_are filing_are fact_are amends_are : List Row) : Type 0 where
+pub record HasRows (db : Database) (old_style : ℕ)
+    (kept_are finding_are filing_are fact_are amends_are : List Row) : Type 0 where
   pub declared : IsDeclared db.schema
   pub meta_is : TableHas db meta_table (meta_row ∷ [])
   pub kept_is : TableHas db kept_table kept_are
   pub finding_is : TableHas db finding_table finding_are
   pub filing_is : TableHas db filing_table filing_are
   pub fact_is : TableHas db fact_table fact_are
-  pub migrated_is : TableHas db migrated_table (migrated_row early ∷ [])
+  pub migrated_is : TableHas db migrated_table (migrated_row old_style ∷ [])
   pub amends_is : TableHas db amends_table amends_are
 
 -- a request as filers may complete one
@@ -105,11 +110,12 @@ pub record IsCompleted (r : Request) : Type 0 where
   pub target : IsTarget r.target
   pub body : length r.body ≤ max_body_len
 
--- The rows stand for these requests, each the first of its filer and key, in order and with its outcome. The first `early` of
--- them were kept before there were problem details.
-pub record StandsFor (db : Database) (early : ℕ) (F : List Request) : Type 0 where
+-- The rows stand for these requests, each the first of its filer and key, in order and with its outcome. The first
+-- `old_style` of them were kept before there were problem details.
+pub record StandsFor (db : Database) (old_style : ℕ) (F : List Request) : Type 0 where
   pub distinct : firsts F ≡ F
   pub completed : AllByRecursion IsCompleted F
-  pub within : early ≤ length F
-  pub rows : HasRows db early (counted_from kept_row 1 (kept F)) (joined_from finding_rows 1 (kept F)) (joined_from filing_rows 1 (kept F)) (joined_from fact_rows 1 (kept F))
+  pub within : old_style ≤ length F
+  pub rows : HasRows db old_style (counted_from kept_row 1 (kept F)) (joined_from finding_rows 1 (kept F))
+      (joined_from filing_rows 1 (kept F)) (joined_from fact_rows 1 (kept F))
       (joined_from amends_rows 1 (kept F))

@@ -10,28 +10,38 @@ use Rattle.table_rows.specs.Tables.{needed, optional, keyed, paired, BeginsWith}
 
 -- what the database is, and in which form
 abbrev pub meta_table : Table
-meta_table = keyed (codes "intake_meta") 0 (optional (codes "id") Integer ∷ needed (codes "kind") Text ∷ needed (codes "form") Integer ∷ []) [] []
+meta_table =
+    keyed (codes "intake_meta") 0 (optional (codes "id") Integer ∷ needed (codes "kind") Text
+    ∷ needed (codes "form") Integer ∷ []) [] []
 
 -- the first request of each filer and key, with its number where it was registered
 abbrev pub kept_table : Table
 kept_table = keyed (codes "kept") 1
-    (optional (codes "seq") Integer ∷ needed (codes "filer") Text ∷ needed (codes "idem") Text ∷ needed (codes "body") Blob ∷ optional (codes "number") Integer ∷ [])
+    (optional (codes "seq") Integer ∷ needed (codes "filer") Text ∷ needed (codes "idem") Text
+    ∷ needed (codes "body") Blob ∷ optional (codes "number") Integer ∷ [])
     ((2 ∷ 3 ∷ []) ∷ []) (plain ∷ [])
 
 -- the findings of those that were refused
 abbrev pub finding_table : Table
-finding_table = paired (codes "finding") 3 (needed (codes "seq") Integer ∷ needed (codes "pos") Integer ∷ needed (codes "code") Integer ∷ needed (codes "place") Blob ∷ [])
+finding_table =
+    paired (codes "finding") 3 (needed (codes "seq") Integer ∷ needed (codes "pos") Integer
+    ∷ needed (codes "code") Integer ∷ needed (codes "place") Blob ∷ [])
 
 -- the registered ones
 abbrev pub filing_table : Table
-filing_table = keyed (codes "filing") 5 (optional (codes "number") Integer ∷ needed (codes "seq") Integer ∷ []) ((2 ∷ []) ∷ []) (plain ∷ [])
+filing_table =
+    keyed (codes "filing") 5 (optional (codes "number") Integer ∷ needed (codes "seq") Integer ∷ []) ((2 ∷ []) ∷ [])
+    (plain ∷ [])
 
 -- their facts
 abbrev pub fact_table : Table
 fact_table = paired (codes "fact") 7
-    (needed (codes "number") Integer ∷ needed (codes "pos") Integer ∷ needed (codes "id") Blob ∷ needed (codes "concept") Blob ∷ needed (codes "dimensions") Blob ∷ optional (codes "value") Blob ∷ optional (codes "decimals") Integer ∷ [])
+    (needed (codes "number") Integer ∷ needed (codes "pos") Integer ∷ needed (codes "id") Blob
+    ∷ needed (codes "concept") Blob ∷ needed (codes "dimensions") Blob ∷ optional (codes "value") Blob
+    ∷ optional (codes "decimals") Integer ∷ [])
 
--- which of the kept requests are told what they were told before there were problem details: the first so many, in one row
+-- which of the kept requests are told what they were told before there were problem details: the first so many, in one
+-- row
 abbrev pub migrated_table : Table
 migrated_table = keyed (codes "migrated") 9 (optional (codes "id") Integer ∷ needed (codes "last") Integer ∷ []) [] []
 
@@ -39,7 +49,8 @@ migrated_table = keyed (codes "migrated") 9 (optional (codes "id") Integer ∷ n
 abbrev pub amends_table : Table
 amends_table = keyed (codes "amends") 10 (optional (codes "seq") Integer ∷ needed (codes "target") Integer ∷ []) [] []
 
--- the tables of a register in every form; the trees between them are those of the indexes that SQLite makes for their keys
+-- the tables of a register in every form; the trees between them are those of the indexes that SQLite makes for their
+-- keys
 abbrev pub common_tables : List Table
 common_tables = meta_table ∷ kept_table ∷ finding_table ∷ filing_table ∷ fact_table ∷ []
 

@@ -9,13 +9,15 @@ use Rattle.register_rows.specs.Audit.{OtherRows, is_number, with_number}
 pub record Covers (at n : ℕ) (rows : List Row) (count : ℕ) (span : Span) : Type 0 where
   pub ordered : span.from ≤ span.to
   pub within : span.to ≤ count
-  pub all : (place : ℕ) → place < count → is_number n (column (get_or rows place []) at) ≡ true → (span.from ≤ place) × (place < span.to)
+  pub all : (place : ℕ) → place < count → is_number n (column (get_or rows place []) at) ≡ true
+      → (span.from ≤ place) × (place < span.to)
 
 -- so does each of the spans, for its place among them as the number
 abbrev pub AreSpans : ℕ → List Row → ℕ → List Span → Type 0
 AreSpans at rows count spans = (n : ℕ) (d : Span) → n < length spans → Covers at n rows count (get_or spans n d)
 
--- these are the spans of the kept requests' rows in the tables beside `kept`: by place, by place, by number and by place
+-- these are the spans of the kept requests' rows in the tables beside `kept`: by place, by place, by number and by
+-- place
 pub record AreSpansOf (others : OtherRows) (spans : Spans) : Type 0 where
   pub finding : AreSpans 0 others.finding (length others.finding) spans.findings.items
   pub filing : AreSpans 1 others.filing (length others.filing) spans.filings.items

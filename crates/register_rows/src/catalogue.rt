@@ -3,7 +3,8 @@
 ghost use Rattle.std.specs.Prelude.{◌≡◌, ◌++◌, ◌∷◌, [], List, length, option_map, OnOk};
 ghost use Rattle.filing_model.specs.Request.{Request};
 ghost use Rattle.filing_model.specs.Register.{judged, kept};
-ghost use Rattle.register_rows.specs.Catalogue.{HasRoom, IsRegisteredNext, catalogue_of, entries_among, entry_numbered, number_or_none, view_line, view_lines};
+ghost use Rattle.register_rows.specs.Catalogue.{HasRoom, IsRegisteredNext, catalogue_of, entries_among, entry_numbered};
+ghost use Rattle.register_rows.specs.Catalogue.{number_or_none, view_line, view_lines};
 
 use std::alloc::{AllocError, Global};
 

@@ -1,7 +1,9 @@
-//! Which kept row is told of a register whose rows stand for no requests. Each kept row is held against all rows of the other
-//! tables that have its place or its number, in any order of these tables; where they lie is looked up once for all.
+//! Which kept row is told of a register whose rows stand for no requests. Each kept row is held against all rows of the
+//! other tables that have its place or its number, in any order of these tables; where they lie is looked up once for
+//! all.
 
-ghost use Rattle.std.specs.Prelude.{◌≡◌, ◌↔◌, ◌<◌, ◌≤◌, ◌^◌, ◌+◌, ℕ, suc, List, [], ◌∷◌, ◌++◌, length, IsTrue, IfOk, IfSome, MatchOption, Option, None, vec_len};
+ghost use Rattle.std.specs.Prelude.{◌≡◌, ◌↔◌, ◌<◌, ◌≤◌, ◌^◌, ◌+◌, ℕ, suc, List, [], ◌∷◌, ◌++◌, length, IsTrue, IfOk};
+ghost use Rattle.std.specs.Prelude.{IfSome, MatchOption, Option, None, vec_len};
 ghost use Rattle.sqlite.specs.Order.{column};
 ghost use Rattle.sqlite.specs.declared.types.Value.TheVariants.{Int};
 ghost use Rattle.xbrl_report.specs.ReportParts.{facts as facts_of};
@@ -10,7 +12,8 @@ ghost use Rattle.filing_model.specs.Register.{Outcome, judged, kept, register};
 ghost use Rattle.filing_model.specs.Request.{Request};
 ghost use Rattle.http_messages.specs.Posting.{IsTarget};
 ghost use Rattle.table_rows.specs.Rows.{counted_from};
-ghost use Rattle.register_rows.specs.Audit.{IsKeptAs, IsTold, is_number, with_number, view_other_tables, request_outcome};
+ghost use Rattle.register_rows.specs.Audit.{IsKeptAs, IsTold, is_number, with_number, view_other_tables};
+ghost use Rattle.register_rows.specs.Audit.{request_outcome};
 ghost use Rattle.register_rows.specs.Filed.{AreFiled};
 ghost use Rattle.register_rows.specs.Columns.{request_in};
 ghost use Rattle.register_rows.specs.Outcomes.{outcome_of, filings_by};
@@ -163,7 +166,8 @@ fn is_registered(row: &Row, seq: u64, number: u64, facts: &[Fact], beside: Other
         && has_items(beside.facts, 0, number, facts)
 }
 
-/// Whether the row and those of the other tables are those of a request that was judged so, where those of `amends` are.
+/// Whether the row and those of the other tables are those of a request that was judged so, where those of `amends`
+/// are.
 fn is_kept_as(row: &Row, seq: u64, number: u64, judged: &Judged, beside: OtherTables<'_>) -> bool
     requires seq { seq < 2 ^ 63 }
     requires number { number < 2 ^ 63 }
@@ -189,8 +193,8 @@ fn filings_as_judged(judged: &Judged) -> u64
     }
 }
 
-/// How many filings the request of the kept row is, which is to replace this filing, if any, or `None` where the row, whatever its
-/// filer and key are, is not sound. It fails where memory runs out.
+/// How many filings the request of the kept row is, which is to replace this filing, if any, or `None` where the row,
+/// whatever its filer and key are, is not sound. It fails where memory runs out.
 fn filings_if_sound(
     alloc: Global,
     filed: &mut Filed,

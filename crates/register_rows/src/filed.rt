@@ -55,8 +55,8 @@ impl Filed {
         }
     }
 
-    /// The filer has a filing more, which has this place and so many facts, and replaces the one with this number, if it
-    /// replaces one.
+    /// The filer has a filing more, which has this place and so many facts, and replaces the one with this number, if
+    /// it replaces one.
     fn add(
         &mut self,
         alloc: Global,

@@ -1,5 +1,5 @@
-//! What a table has several rows of for one request or filing: the findings of a request, the facts of a filing, and the
-//! numbers of a request's filings.
+//! What a table has several rows of for one request or filing: the findings of a request, the facts of a filing, and
+//! the numbers of a request's filings.
 
 ghost use Rattle.std.specs.Prelude.{◌≡◌, ◌↔◌, ◌<◌, ◌^◌, ℕ, pos, [], ◌∷◌, IsTrue, Option, option_map, string_bytes};
 ghost use Rattle.sqlite.specs.Order.{Row};

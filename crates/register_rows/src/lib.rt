@@ -1,5 +1,6 @@
-//! What the rows of a register's tables stand for. What may live here: how the tables are declared, the rows that a kept
-//! request puts into each, and whether rows that were read are those of a list of requests. No statement is known here.
+//! What the rows of a register's tables stand for. What may live here: how the tables are declared, the rows that a
+//! kept request puts into each, and whether rows that were read are those of a list of requests. No statement is known
+//! here.
 #![tactic(auto)]
 
 mod catalogue;

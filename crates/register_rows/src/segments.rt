@@ -1,6 +1,7 @@
 //! Whether rows begin with those that a kept request puts into a table.
 
-ghost use Rattle.std.specs.Prelude.{◌≡◌, ◌<◌, ◌^◌, ℕ, pos, false, List, [], ◌∷◌, ◌++◌, IfSome, MatchOption, Option, None};
+ghost use Rattle.std.specs.Prelude.{◌≡◌, ◌<◌, ◌^◌, ℕ, pos, false, List, [], ◌∷◌, ◌++◌, IfSome, MatchOption, Option};
+ghost use Rattle.std.specs.Prelude.{None};
 ghost use Rattle.sqlite.specs.Order.{Row};
 ghost use Rattle.sqlite.specs.declared.types.Value.TheVariants.{Int};
 ghost use Rattle.table_rows.specs.Rows.{counted_from};
@@ -64,7 +65,8 @@ fn target_in(row: &Row, seq: u64) -> Option<u64>
     }
 }
 
-/// The number of the filing that the request at this place is to replace, if the first of the rows says one, and the rows behind.
+/// The number of the filing that the request at this place is to replace, if the first of the rows says one, and the
+/// rows behind.
 pub fn target_of<'a>(rows: &'a [Row], seq: u64) -> (Option<u64>, &'a [Row])
     requires { seq < 2 ^ 63 }
     ensures begins { rows.now ≡ amends_rows_by seq result.0 ++ result.1.now }

@@ -1,6 +1,7 @@
 //! Whether the rows of a register's tables stand for a list of requests. No SQL is known here.
 
-ghost use Rattle.std.specs.Prelude.{◌≡◌, ◌↔◌, ◌<◌, ◌≤◌, ◌^◌, ◌+◌, ◌&&◌, ℕ, suc, pos, List, [], ◌∷◌, ◌++◌, length, Option, Some, None, true, false, IsTrue, IfOk, IfSome, MatchOption};
+ghost use Rattle.std.specs.Prelude.{◌≡◌, ◌↔◌, ◌<◌, ◌≤◌, ◌^◌, ◌+◌, ◌&&◌, ℕ, suc, pos, List, [], ◌∷◌, ◌++◌, length};
+ghost use Rattle.std.specs.Prelude.{Option, Some, None, true, false, IsTrue, IfOk, IfSome, MatchOption};
 ghost use Rattle.sqlite.specs.declared.types.Value.TheVariants.{Int, Text, Blob};
 ghost use Rattle.sqlite.specs.Values.{or_null};
 ghost use Rattle.xbrl_report.specs.ReportParts.{facts as facts_of};
@@ -8,7 +9,9 @@ ghost use Rattle.http_messages.specs.Posting.{IsTarget};
 ghost use Rattle.xbrl_report.specs.Judgement.{HasFacts};
 ghost use Rattle.filing_model.specs.Register.{Outcome, kept, register};
 ghost use Rattle.filing_model.specs.Request.{Request, has_key};
-ghost use Rattle.register_rows.specs.Audit.{OtherRows, AreRowsOf, IsAfter, IsSoundAs, IsNext, IsVerdict, StandForNone, rows_beside, is_repeated_at, begins_with, has_more, view_rows_left, with_target};
+ghost use Rattle.register_rows.specs.Audit.{OtherRows, AreRowsOf, IsAfter, IsSoundAs, IsNext, IsVerdict, StandForNone};
+ghost use Rattle.register_rows.specs.Audit.{rows_beside, is_repeated_at, begins_with, has_more, view_rows_left};
+ghost use Rattle.register_rows.specs.Audit.{with_target};
 ghost use Rattle.register_rows.specs.Catalogue.{view_lines};
 ghost use Rattle.register_rows.specs.declared.catalogue.Catalogue.{Catalogue};
 ghost use Rattle.register_rows.specs.Filed.{AreFiled};
@@ -50,8 +53,8 @@ pub(crate) struct RowsLeft<'a> {
 pub enum Verdict {
     /// The rows stand for a list of requests, and these are its filings.
     Sound { catalogue: Catalogue },
-    /// They stand for none: the kept row at this place, counted from 1, is the first that is not sound, or at 0 each one is,
-    /// and rows of the other tables are left over.
+    /// They stand for none: the kept row at this place, counted from 1, is the first that is not sound, or at 0 each
+    /// one is, and rows of the other tables are left over.
     Damaged { row: u64 },
 }
 
@@ -209,7 +212,8 @@ pub fn filer_of<'a>(row: &'a Row) -> Option<&'a str>
     Some(filer)
 }
 
-/// What is left behind the rows of a kept row of this filer, with the target read, or `None`. It fails where memory runs out.
+/// What is left behind the rows of a kept row of this filer, with the target read, or `None`. It fails where memory
+/// runs out.
 fn check_filed<'a>(
     alloc: Global,
     filed: &mut Filed,
@@ -247,8 +251,8 @@ fn check_filed<'a>(
     }
 }
 
-/// Whether the kept row may come next after those before it: what is left behind its rows in the other tables, or `None`.
-/// It fails where memory runs out.
+/// Whether the kept row may come next after those before it: what is left behind its rows in the other tables, or
+/// `None`. It fails where memory runs out.
 fn check_next<'a>(
     alloc: Global,
     filed: &mut Filed,

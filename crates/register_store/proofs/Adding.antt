@@ -11,18 +11,25 @@ use Rattle.filing_model.specs.Register.{Outcome, Kept}
 use Rattle.filing_model.specs.Views.{the_request}
 use Rattle.table_rows.specs.Rows.{counted_from}
 use Rattle.table_rows.proofs.GainLemmas.{still_declared}
-use Rattle.register_rows.specs.Schema.{register_tables, kept_table, finding_table, filing_table, fact_table, amends_table}
-use Rattle.register_rows.specs.Register.{HasRows, kept_row, finding_row, finding_rows, filing_rows, fact_row, fact_rows, amends_rows, amends_rows_by}
-use Rattle.register_opening.specs.Gains.{GainsRows}
+use Rattle.register_rows.specs.Schema.{register_tables, kept_table, finding_table, filing_table, fact_table}
+use Rattle.register_rows.specs.Schema.{amends_table}
+use Rattle.register_rows.specs.Register.{HasRows, kept_row, finding_row, finding_rows, filing_rows, fact_row, fact_rows}
+use Rattle.register_rows.specs.Register.{amends_rows, amends_rows_by}
+use Rattle.register_tables.specs.Gains.{GainsRows}
 use Rattle.register_store.specs.Changes.{AddsInside}
 use Rattle.register_store.proofs.Growing.{kept_grows, finding_grows, filing_grows, fact_grows, amends_grows}
 
 -- no row more
-same_rows : (early : ℕ) (db : Database) (ks fs gs gs' hs hs' ts ts' : List Row) → gs ≡ gs' → hs ≡ hs' → ts ≡ ts' → HasRows db early ks fs gs hs ts → HasRows db early ks fs gs' hs' ts'
-same_rows early db ks fs gs gs' hs hs' ts ts' p q e h = subst (λ x. HasRows db early ks fs gs' hs' x) e (subst (λ x. HasRows db early ks fs gs' x ts) q (subst (λ x. HasRows db early ks fs x hs ts) p h))
+same_rows : (old_style : ℕ) (db : Database) (ks fs gs gs' hs hs' ts ts' : List Row) → gs ≡ gs' → hs ≡ hs' → ts ≡ ts'
+    → HasRows db old_style ks fs gs hs ts → HasRows db old_style ks fs gs' hs' ts'
+same_rows old_style db ks fs gs gs' hs hs' ts ts' p q e h =
+    subst (λ x. HasRows db old_style ks fs gs' hs' x) e
+    (subst (λ x. HasRows db old_style ks fs gs' x ts) q (subst (λ x. HasRows db old_style ks fs x hs ts) p h))
 
-same_findings : (early : ℕ) (db : Database) (ks fs fs' gs hs ts ts' : List Row) → fs ≡ fs' → ts ≡ ts' → HasRows db early ks fs gs hs ts → HasRows db early ks fs' gs hs ts'
-same_findings early db ks fs fs' gs hs ts ts' p e h = subst (λ x. HasRows db early ks fs' gs hs x) e (subst (λ x. HasRows db early ks x gs hs ts) p h)
+same_findings : (old_style : ℕ) (db : Database) (ks fs fs' gs hs ts ts' : List Row) → fs ≡ fs' → ts ≡ ts'
+    → HasRows db old_style ks fs gs hs ts → HasRows db old_style ks fs' gs hs ts'
+same_findings old_style db ks fs fs' gs hs ts ts' p e h =
+    subst (λ x. HasRows db old_style ks fs' gs hs x) e (subst (λ x. HasRows db old_style ks x gs hs ts) p h)
 
 module _ (seq : ℕ) (r : Request) (none : r.target ≡ None) where
   no_amends : (k : Kept) → k.request ≡ r → amends_rows seq k ≡ []
@@ -33,14 +40,16 @@ module _ (seq : ℕ) (r : Request) (none : r.target ≡ None) where
 
   -- the findings of a refused one
   pub adds_refused : (found : List Pair) (first mid last : State)
-      → GainsRows kept_table (kept_row seq (record { request = r; outcome = Outcome.Refused found }) ∷ []) first mid → GainsRows finding_table (counted_from (finding_row seq) 1 found) mid last
+      → GainsRows kept_table (kept_row seq (record { request = r; outcome = Outcome.Refused found }) ∷ []) first mid
+      → GainsRows finding_table (counted_from (finding_row seq) 1 found) mid last
       → AddsInside seq (record { request = r; outcome = Outcome.Refused found }) first last
   adds_refused found first mid last one two = record {
     adds = record {
-      rows = λ early ks fs gs hs ts has.
-          let more = kept_grows first.now mid.now early ks fs gs hs ts _ has (one.gains has.declared) in
-          same_rows early last.now _ _ _ _ _ _ _ _ (sym (append-nil gs)) (sym (append-nil hs)) (no_more (record { request = r; outcome = Outcome.Refused found }) ts refl)
-          (finding_grows mid.now last.now early _ fs gs hs ts _ more (two.gains more.declared));
+      rows = λ old_style ks fs gs hs ts has.
+          let more = kept_grows first.now mid.now old_style ks fs gs hs ts _ has (one.gains has.declared) in
+          same_rows old_style last.now _ _ _ _ _ _ _ _ (sym (append-nil gs)) (sym (append-nil hs))
+          (no_more (record { request = r; outcome = Outcome.Refused found }) ts refl)
+          (finding_grows mid.now last.now old_style _ fs gs hs ts _ more (two.gains more.declared));
       sound = λ d sound.
           let g = one.gains d in
           (two.gains (still_declared register_tables first.now mid.now g.schema_is d)).sound (g.sound sound);
@@ -57,11 +66,12 @@ module _ (seq : ℕ) (r : Request) (none : r.target ≡ None) where
       → AddsInside seq (record { request = r; outcome = Outcome.Registered number }) first last
   adds_accepted number first mid next last one two three = record {
     adds = record {
-      rows = λ early ks fs gs hs ts has.
-          let more = kept_grows first.now mid.now early ks fs gs hs ts _ has (one.gains has.declared) in
-          let still = filing_grows mid.now next.now early _ fs gs hs ts _ more (two.gains more.declared) in
-          same_findings early last.now _ _ _ _ _ _ _ (sym (append-nil fs)) (no_more (record { request = r; outcome = Outcome.Registered number }) ts refl)
-          (fact_grows next.now last.now early _ fs _ hs ts _ still (three.gains still.declared));
+      rows = λ old_style ks fs gs hs ts has.
+          let more = kept_grows first.now mid.now old_style ks fs gs hs ts _ has (one.gains has.declared) in
+          let still = filing_grows mid.now next.now old_style _ fs gs hs ts _ more (two.gains more.declared) in
+          same_findings old_style last.now _ _ _ _ _ _ _ (sym (append-nil fs))
+          (no_more (record { request = r; outcome = Outcome.Registered number }) ts refl)
+          (fact_grows next.now last.now old_style _ fs _ hs ts _ still (three.gains still.declared));
       sound = λ d sound.
           let g = one.gains d in
           let e = still_declared register_tables first.now mid.now g.schema_is d in
@@ -74,15 +84,18 @@ module _ (seq : ℕ) (r : Request) (none : r.target ≡ None) where
 
 -- the filing that it is to replace, and then the request as if it were to replace none
 pub adds_amends : (seq target : ℕ) (filer key body : List ℕ) (o : Outcome) (first mid last : State)
-    → GainsRows amends_table ((Int (pos seq) ∷ Int (pos target) ∷ []) ∷ []) first mid → AddsInside seq (record { request = the_request filer key None body; outcome = o }) mid last
+    → GainsRows amends_table ((Int (pos seq) ∷ Int (pos target) ∷ []) ∷ []) first mid
+    → AddsInside seq (record { request = the_request filer key None body; outcome = o }) mid last
     → AddsInside seq (record { request = the_request filer key (Some target) body; outcome = o }) first last
 adds_amends seq target filer key body o first mid last one two = record {
   adds = record {
-    rows = λ early ks fs gs hs ts has.
-        let more = amends_grows first.now mid.now early ks fs gs hs ts _ has (one.gains has.declared) in
+    rows = λ old_style ks fs gs hs ts has.
+        let more = amends_grows first.now mid.now old_style ks fs gs hs ts _ has (one.gains has.declared) in
         let row : List Row = (Int (pos seq) ∷ Int (pos target) ∷ []) ∷ [] in
         let k : Kept = record { request = the_request filer key (Some target) body; outcome = o } in
-        subst (λ l. HasRows last.now early (ks ++ kept_row seq k ∷ []) (fs ++ finding_rows seq k) (gs ++ filing_rows seq k) (hs ++ fact_rows seq k) l) (append-nil (ts ++ row)) (two.adds.rows early ks fs gs hs (ts ++ row) more);
+        subst (λ l. HasRows last.now old_style (ks ++ kept_row seq k ∷ []) (fs ++ finding_rows seq k)
+        (gs ++ filing_rows seq k) (hs ++ fact_rows seq k) l) (append-nil (ts ++ row))
+        (two.adds.rows old_style ks fs gs hs (ts ++ row) more);
     sound = λ d sound.
         let g = one.gains d in
         two.adds.sound (still_declared register_tables first.now mid.now g.schema_is d) (g.sound sound);

@@ -8,6 +8,7 @@ use Rattle.filing_model.specs.Answer.{Answer}
 use Rattle.filing_model.specs.Reply.{answer_data}
 
 -- what says that a report is registered, around its number
-pub registered_pieces : (number : ℕ) → codes "{\"number\":" ++ decimal number ++ codes ",\"status\":\"registered\"}" ≡ compact_text (answer_data Problem (Answer.Registered number false))
+pub registered_pieces : (number : ℕ) → codes "{\"number\":" ++ decimal number ++ codes ",\"status\":\"registered\"}"
+    ≡ compact_text (answer_data Problem (Answer.Registered number false))
 unfolding escape_byte
 registered_pieces number = refl

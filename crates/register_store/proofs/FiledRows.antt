@@ -12,12 +12,15 @@ use Rattle.register_store.specs.Store.{StoreParts, HasRequests}
 use Rattle.register_store.specs.Files.{HoldRegister}
 
 module _ {D : Type 0} {g : Ghosts D} where
-  pub closed_register : (store : StoreParts (FileStore D g)) (F : List Request) (files : Files D) → HasRequests over_files store F → IsCopied store.conn files → AreUsable g files → HoldRegister g files store.early F
+  pub closed_register : (store : StoreParts (FileStore D g)) (F : List Request) (files : Files D)
+      → HasRequests over_files store F → IsCopied store.conn files → AreUsable g files
+      → HoldRegister g files store.old_style F
   closed_register store F files has copied usable =
       let is = has.stands.now copied.was_open in
       record {
         db = (file_state store.conn).now;
         register = is;
-        held = leaves store.conn files copied (file_state store.conn).now is.sound (has.stands.committed copied.was_open);
+        held = leaves store.conn files copied (file_state store.conn).now is.sound
+            (has.stands.committed copied.was_open);
         usable = usable;
       }

@@ -13,8 +13,8 @@ use Rattle.table_rows.proofs.ReadingLemmas.{by_each}
 use Rattle.table_rows.proofs.QueryLemmas.{Asks}
 use Rattle.table_rows.proofs.TextLemmas.{IsQueryText}
 use Rattle.register_rows.specs.Schema.{common_tables, HasCommon}
-use Rattle.register_opening.proofs.ReadTexts.{columns, equals}
-use Rattle.register_opening.proofs.PickTexts.{same_filer_and_key}
+use Rattle.register_tables.proofs.ReadTexts.{columns, equals}
+use Rattle.register_tables.proofs.PickTexts.{same_filer_and_key}
 
 abbrev pub find_text : List ℕ
 find_text = codes "SELECT seq, body, number FROM kept WHERE filer = ?1 AND idem = ?2"
@@ -36,15 +36,28 @@ module _ (tables : List Table) (indexes : List Index) (views : List View) where
 
   key_text : Asks schema find_text (one_table 1 same_filer_and_key (columns (0 ∷ 4 ∷ 5 ∷ [])) (by_each []))
   unfolding understood everything
-  key_text = record { names = codes "seq" ∷ codes "body" ∷ codes "number" ∷ []; is = refl; plain = (refl, refl); listing = refl }
+  key_text =
+      record {
+        names = codes "seq" ∷ codes "body" ∷ codes "number" ∷ [];
+        is = refl;
+        plain = (refl, refl);
+        listing =
+            refl;
+      }
 
   seq_text : Asks schema found_text (one_table 3 (equals 1) (columns (3 ∷ 4 ∷ [])) (by_each (col 1 2 ∷ [])))
   unfolding understood everything
   seq_text = record { names = codes "code" ∷ codes "place" ∷ []; is = refl; plain = (refl, refl); listing = refl }
 
 -- the same of any schema that begins with our tables
-pub asks_key : (s : Schema) → HasCommon s → Asks s find_text (one_table 1 same_filer_and_key (columns (0 ∷ 4 ∷ 5 ∷ [])) (by_each []))
-asks_key s d = subst (λ t. Asks t find_text (one_table 1 same_filer_and_key (columns (0 ∷ 4 ∷ 5 ∷ [])) (by_each []))) (sym d.is) (key_text d.tables d.indexes d.views)
+pub asks_key : (s : Schema) → HasCommon s
+    → Asks s find_text (one_table 1 same_filer_and_key (columns (0 ∷ 4 ∷ 5 ∷ [])) (by_each []))
+asks_key s d =
+    subst (λ t. Asks t find_text (one_table 1 same_filer_and_key (columns (0 ∷ 4 ∷ 5 ∷ [])) (by_each []))) (sym d.is)
+    (key_text d.tables d.indexes d.views)
 
-pub asks_seq : (s : Schema) → HasCommon s → Asks s found_text (one_table 3 (equals 1) (columns (3 ∷ 4 ∷ [])) (by_each (col 1 2 ∷ [])))
-asks_seq s d = subst (λ t. Asks t found_text (one_table 3 (equals 1) (columns (3 ∷ 4 ∷ [])) (by_each (col 1 2 ∷ [])))) (sym d.is) (seq_text d.tables d.indexes d.views)
+pub asks_seq : (s : Schema) → HasCommon s
+    → Asks s found_text (one_table 3 (equals 1) (columns (3 ∷ 4 ∷ [])) (by_each (col 1 2 ∷ [])))
+asks_seq s d =
+    subst (λ t. Asks t found_text (one_table 3 (equals 1) (columns (3 ∷ 4 ∷ [])) (by_each (col 1 2 ∷ [])))) (sym d.is)
+    (seq_text d.tables d.indexes d.views)

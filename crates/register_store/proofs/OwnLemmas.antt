@@ -27,9 +27,11 @@ module _ (filer : List ℕ) where
   own_listed (k ∷ ks) = by_outcome k.outcome (own_listed ks)
     where
       by_outcome : (o : Outcome) → filings (filter (is_filers filer) ks) ≡ filter mine (filings ks)
-          → filings (filter (is_filers filer) (record { request = k.request; outcome = o } ∷ ks)) ≡ filter mine (filings (record { request = k.request; outcome = o } ∷ ks))
+          → filings (filter (is_filers filer) (record { request = k.request; outcome = o } ∷ ks))
+          ≡ filter mine (filings (record { request = k.request; outcome = o } ∷ ks))
       by_outcome (Registered n) rest = ⊎_elim
-          (λ (t : bytes_eq k.request.filer filer ≡ true). rw t (ap (λ l. record { number = n; request = k.request } ∷ l) rest))
+          (λ (t : bytes_eq k.request.filer filer ≡ true). rw t
+          (ap (λ l. record { number = n; request = k.request } ∷ l) rest))
           (λ (t : bytes_eq k.request.filer filer ≡ false). rw t rest)
           (cases_Bool (bytes_eq k.request.filer filer))
       by_outcome (Refused found) rest = ⊎_elim

@@ -13,7 +13,7 @@ use Rattle.table_rows.proofs.ReadingLemmas.{by_each}
 use Rattle.table_rows.proofs.QueryLemmas.{Asks}
 use Rattle.table_rows.proofs.TextLemmas.{IsQueryText}
 use Rattle.register_rows.specs.Schema.{common_tables, register_tables, HasCommon, IsDeclared}
-use Rattle.register_opening.proofs.ReadTexts.{columns, equals, on_ours}
+use Rattle.register_tables.proofs.ReadTexts.{columns, equals, on_ours}
 
 abbrev pub places_of : List ℕ
 places_of = codes "SELECT seq FROM kept WHERE filer = ?1 ORDER BY seq"
@@ -55,9 +55,17 @@ module _ (tables : List Table) (indexes : List Index) (views : List View) where
   unfolding understood everything
   filer_text = record { names = codes "filer" ∷ []; is = refl; plain = (refl, refl); listing = refl }
 
-  said_text : Asks schema facts_said (one_table 7 (equals 1) (columns (3 ∷ 4 ∷ 5 ∷ 6 ∷ 7 ∷ [])) (by_each (col 1 2 ∷ [])))
+  said_text : Asks schema facts_said (one_table 7 (equals 1) (columns (3 ∷ 4 ∷ 5 ∷ 6 ∷ 7 ∷ []))
+      (by_each (col 1 2 ∷ [])))
   unfolding understood everything
-  said_text = record { names = codes "id" ∷ codes "concept" ∷ codes "dimensions" ∷ codes "value" ∷ codes "decimals" ∷ []; is = refl; plain = (refl, refl); listing = refl }
+  said_text =
+      record {
+        names = codes "id" ∷ codes "concept" ∷ codes "dimensions" ∷ codes "value" ∷ codes "decimals" ∷ [];
+        is =
+            refl;
+        plain = (refl, refl);
+        listing = refl;
+      }
 
 module _ (tables : List Table) (indexes : List Index) (views : List View) where
   abbrev whole_schema : Schema
@@ -67,14 +75,20 @@ module _ (tables : List Table) (indexes : List Index) (views : List View) where
   unfolding understood everything
   target_text = record { names = codes "target" ∷ []; is = refl; plain = (refl, refl); listing = refl }
 
-pub asks_target : (s : Schema) → IsDeclared s → Asks s target_at (one_table 10 (equals 0) (columns (2 ∷ [])) (by_each []))
-asks_target s d = subst (λ t. Asks t target_at (one_table 10 (equals 0) (columns (2 ∷ [])) (by_each []))) (sym d.is) (target_text d.tables d.indexes d.views)
+pub asks_target : (s : Schema) → IsDeclared s
+    → Asks s target_at (one_table 10 (equals 0) (columns (2 ∷ [])) (by_each []))
+asks_target s d =
+    subst (λ t. Asks t target_at (one_table 10 (equals 0) (columns (2 ∷ [])) (by_each []))) (sym d.is)
+    (target_text d.tables d.indexes d.views)
 
-pub asks_places_of : (s : Schema) → HasCommon s → Asks s places_of (one_table 1 (equals 2) (columns (0 ∷ [])) (by_each (col 1 0 ∷ [])))
+pub asks_places_of : (s : Schema) → HasCommon s
+    → Asks s places_of (one_table 1 (equals 2) (columns (0 ∷ [])) (by_each (col 1 0 ∷ [])))
 asks_places_of = on_ours _ _ places_of_text
 
-pub asks_filer : (s : Schema) → HasCommon s → Asks s filer_at (one_table 1 (equals 0) (columns (2 ∷ [])) (by_each (col 1 0 ∷ [])))
+pub asks_filer : (s : Schema) → HasCommon s
+    → Asks s filer_at (one_table 1 (equals 0) (columns (2 ∷ [])) (by_each (col 1 0 ∷ [])))
 asks_filer = on_ours _ _ filer_text
 
-pub asks_said : (s : Schema) → HasCommon s → Asks s facts_said (one_table 7 (equals 1) (columns (3 ∷ 4 ∷ 5 ∷ 6 ∷ 7 ∷ [])) (by_each (col 1 2 ∷ [])))
+pub asks_said : (s : Schema) → HasCommon s
+    → Asks s facts_said (one_table 7 (equals 1) (columns (3 ∷ 4 ∷ 5 ∷ 6 ∷ 7 ∷ [])) (by_each (col 1 2 ∷ [])))
 asks_said = on_ours _ _ said_text

@@ -33,26 +33,32 @@ module _ (tables : List Table) (indexes : List Index) (views : List View) where
   abbrev schema : Schema
   schema = schema_with register_tables tables indexes views
 
-  pub inserts_kept : command_of (understood schema insert_kept) ≡ Insert 1 (Values (col 0 0 ∷ lit Null ∷ col 0 1 ∷ col 0 2 ∷ col 0 3 ∷ col 0 4 ∷ []) 6)
+  pub inserts_kept : command_of (understood schema insert_kept)
+      ≡ Insert 1 (Values (col 0 0 ∷ lit Null ∷ col 0 1 ∷ col 0 2 ∷ col 0 3 ∷ col 0 4 ∷ []) 6)
   unfolding understood everything
   inserts_kept = refl
 
-  pub inserts_finding : command_of (understood schema insert_finding) ≡ Insert 2 (Values (lit Null ∷ col 0 0 ∷ col 0 1 ∷ col 0 2 ∷ col 0 3 ∷ []) 5)
+  pub inserts_finding : command_of (understood schema insert_finding)
+      ≡ Insert 2 (Values (lit Null ∷ col 0 0 ∷ col 0 1 ∷ col 0 2 ∷ col 0 3 ∷ []) 5)
   unfolding understood everything
   inserts_finding = refl
 
-  pub inserts_filing : command_of (understood schema insert_filing) ≡ Insert 3 (Values (col 0 0 ∷ lit Null ∷ col 0 1 ∷ []) 3)
+  pub inserts_filing : command_of (understood schema insert_filing)
+      ≡ Insert 3 (Values (col 0 0 ∷ lit Null ∷ col 0 1 ∷ []) 3)
   unfolding understood everything
   inserts_filing = refl
 
-  pub inserts_fact : command_of (understood schema insert_fact) ≡ Insert 4 (Values (lit Null ∷ col 0 0 ∷ col 0 1 ∷ col 0 2 ∷ col 0 3 ∷ col 0 4 ∷ col 0 5 ∷ col 0 6 ∷ []) 8)
+  pub inserts_fact : command_of (understood schema insert_fact)
+      ≡ Insert 4 (Values (lit Null ∷ col 0 0 ∷ col 0 1 ∷ col 0 2 ∷ col 0 3 ∷ col 0 4 ∷ col 0 5 ∷ col 0 6 ∷ []) 8)
   unfolding understood everything
   inserts_fact = refl
 
-  pub plain_inserts : IsPlain (understood schema insert_kept) × IsPlain (understood schema insert_finding) × IsPlain (understood schema insert_filing) × IsPlain (understood schema insert_fact)
+  pub plain_inserts : IsPlain (understood schema insert_kept) × IsPlain (understood schema insert_finding)
+      × IsPlain (understood schema insert_filing) × IsPlain (understood schema insert_fact)
   unfolding understood everything
   plain_inserts = ((refl, refl), (refl, refl), (refl, refl), (refl, refl))
 
-  pub inserts_amends : (command_of (understood schema insert_amends) ≡ Insert 6 (Values (col 0 0 ∷ lit Null ∷ col 0 1 ∷ []) 3)) × IsPlain (understood schema insert_amends)
+  pub inserts_amends : (command_of (understood schema insert_amends)
+      ≡ Insert 6 (Values (col 0 0 ∷ lit Null ∷ col 0 1 ∷ []) 3)) × IsPlain (understood schema insert_amends)
   unfolding understood everything
   inserts_amends = (refl, (refl, refl))

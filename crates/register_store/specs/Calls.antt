@@ -1,5 +1,6 @@
 -- What the calls of a store do.
-use Rattle.std.specs.Prelude.{◌≡◌, ◌↔◌, ◌+◌, ◌++◌, ◌∷◌, [], ℕ, List, take, option_map, Option, Result, Err, IsTrue, IfOk, IfErr, IfSome, OnOk, OnErr}
+use Rattle.std.specs.Prelude.{◌≡◌, ◌↔◌, ◌+◌, ◌++◌, ◌∷◌, [], ℕ, List, take, option_map, Option, Result, Err, IsTrue}
+use Rattle.std.specs.Prelude.{IfOk, IfErr, IfSome, OnOk, OnErr}
 use Rattle.std.specs.Result.{result_map_both}
 use Rattle.sqlite.specs.Store.{Ghosts}
 use Rattle.sqlite.specs.Held.{Held, state}
@@ -11,42 +12,48 @@ use Rattle.filing_model.specs.Style.{style_of}
 use Rattle.filing_model.specs.Views.{the_request}
 use Rattle.table_rows.specs.Tables.{no_schema}
 use Rattle.table_rows.specs.Standing.{CommitsNothing}
-use Rattle.register_opening.specs.declared.fault.CreateFault.{CreateFault}
-use Rattle.register_opening.specs.declared.fault.CreateFault.TheVariants.{Taken}
-use Rattle.register_opening.specs.declared.fault.OpenFault.{OpenFault}
+use Rattle.register_tables.specs.declared.fault.CreateFault.{CreateFault}
+use Rattle.register_tables.specs.declared.fault.CreateFault.TheVariants.{Taken}
+use Rattle.register_tables.specs.declared.fault.OpenFault.{OpenFault}
 use Rattle.table_rows.specs.declared.fault.StoreFault.{StoreFault}
-use Rattle.register_opening.specs.declared.migrate.earlier.Earlier.{Earlier}
+use Rattle.register_tables.specs.declared.migrate.earlier.Earlier.{Earlier}
 use Rattle.register_store.specs.declared.outcome.KeptRow.{KeptRow}
 use Rattle.register_store.specs.declared.outcome.NewRow.{NewRow}
 use Rattle.register_store.specs.declared.outcome.Outcome.{Outcome}
-use Rattle.register_opening.specs.Earlier.{IsAlone, IsEarlierOf, ForEarlier}
+use Rattle.register_tables.specs.Earlier.{IsAlone, IsEarlierOf, ForEarlier}
 use Rattle.register_store.specs.Outcomes.{view_outcome, kept_as}
-use Rattle.register_opening.specs.Refusals.{GivesBackMaking, GivesBackMigrating, GivesBackOpening, GivesUpMaking, GivesUpMigrating, GivesUpOpening}
+use Rattle.register_tables.specs.Refusals.{GivesBackMaking, GivesBackMigrating, GivesBackOpening, GivesUpMaking}
+use Rattle.register_tables.specs.Refusals.{GivesUpMigrating, GivesUpOpening}
 use Rattle.register_rows.specs.Schema.{is_taken, IsDeclared}
-use Rattle.register_store.specs.Store.{StoreParts, shows, ForNew, ForRequests, HandsOut, HasRequests, IsDurableAs, SurvivesAs}
-use Rattle.register_opening.specs.Registers.{ForRows, IsRegisterOf, LeavesRegister}
+use Rattle.register_store.specs.Store.{StoreParts, shows, ForNew, ForRequests, HandsOut, HasRequests, IsDurableAs}
+use Rattle.register_store.specs.Store.{SurvivesAs}
+use Rattle.register_tables.specs.Registers.{ForRows, IsRegisterOf, LeavesRegister}
 
 -- ---- a store is handed out
 
--- What `create` does with a connection: it makes the tables of a register that has no request. What is said of rows holds where the
--- database had no table before.
-pub record CreatesStore {S : Type 0} (g : Ghosts S) (conn : Held S) (result : Result (StoreParts S) CreateFault) : Type 0 where
+-- What `create` does with a connection: it makes the tables of a register that has no request. What is said of rows
+-- holds where the database had no table before.
+pub record CreatesStore {S : Type 0} (g : Ghosts S) (conn : Held S) (result : Result (StoreParts S) CreateFault)
+    : Type 0 where
   pub made : HandsOut g result (λ store. (state g conn).now.schema ≡ no_schema → HasRequests g store [])
-  pub counts : IfOk result (λ store. (store.kept ≡ 0) × (store.filings ≡ 0) × (store.early ≡ 0))
+  pub counts : IfOk result (λ store. (store.kept ≡ 0) × (store.filings ≡ 0) × (store.old_style ≡ 0))
   -- Taken comes where one of the names is in use, and always there.
   pub taken : (result ≡ Err Taken) ↔ IsTrue (is_taken (state g conn).now.schema)
   -- Of some last state of the connection, which is given up: `create_or_back` says it of the one that comes back.
   pub refused : IfErr result (GivesUpMaking g conn)
   -- A crash leaves what one before the call could leave, or the empty register, and after the call that alone.
-  pub crash : IfOk result (λ store. Survives (state g conn) (shows g store) (λ trees. (state g conn).now.schema ≡ no_schema → LeavesRegister 0 [] trees))
+  pub crash : IfOk result (λ store. Survives (state g conn) (shows g store)
+      (λ trees. (state g conn).now.schema ≡ no_schema → LeavesRegister 0 [] trees))
   pub durable : HandsOut g result (λ store. (state g conn).now.schema ≡ no_schema → IsDurableAs g store 0 [])
 
 -- What `open` does with a connection: it reads the register that the database holds, and writes nothing.
-pub record OpensStore {S : Type 0} (g : Ghosts S) (conn : Held S) (result : Result (StoreParts S) OpenFault) : Type 0 where
+pub record OpensStore {S : Type 0} (g : Ghosts S) (conn : Held S) (result : Result (StoreParts S) OpenFault)
+    : Type 0 where
   -- The store has the requests that the rows stand for, and there is one such list at most.
   pub opened : HandsOut g result (λ store. IsDeclared (state g conn).now.schema
-      → (F : List Request) × IsRegisterOf store.early F (state g conn).now × HasRequests g store F)
-  pub only : HandsOut g result (λ store. ForRows g conn (λ early F. (store.early ≡ early) × HasRequests g store F))
+      → (F : List Request) × IsRegisterOf store.old_style F (state g conn).now × HasRequests g store F)
+  pub only : HandsOut g result (λ store. ForRows g conn (λ old_style F. (store.old_style ≡ old_style)
+      × HasRequests g store F))
   pub same : HandsOut g result (λ store. IsUnchanged (state g conn) (shows g store))
   -- Of some last state of the connection, which is given up: `open_or_back` says it of the one that comes back.
   pub refused : IfErr result (GivesUpOpening g conn)
@@ -54,17 +61,20 @@ pub record OpensStore {S : Type 0} (g : Ghosts S) (conn : Held S) (result : Resu
   pub crash : IfOk result (λ store. CommitsNothing (state g conn) (shows g store))
   pub durable : HandsOut g result (λ store. ForRows g conn (IsDurableAs g store))
 
--- What `migrate` does with a connection: it brings the register that the database holds from an earlier form into the present one.
--- What is said of the new rows holds where the database has no other tables.
-pub record MigratesStore {S : Type 0} (g : Ghosts S) (conn : Held S) (result : Result (StoreParts S) OpenFault) : Type 0 where
+-- What `migrate` does with a connection: it brings the register that the database holds from an earlier form into the
+-- present one. What is said of the new rows holds where the database has no other tables.
+pub record MigratesStore {S : Type 0} (g : Ghosts S) (conn : Held S) (result : Result (StoreParts S) OpenFault)
+    : Type 0 where
   -- The store has the requests that the rows stood for, and there is one such list at most.
   pub migrated : HandsOut g result (λ store. (form : Earlier) → IsAlone form (state g conn).now.schema
-      → (F : List Request) × IsEarlierOf form store.early F (state g conn).now × HasRequests g store F)
-  pub only : HandsOut g result (λ store. ForEarlier g conn (λ _ early F. (store.early ≡ early) × HasRequests g store F))
+      → (F : List Request) × IsEarlierOf form store.old_style F (state g conn).now × HasRequests g store F)
+  pub only : HandsOut g result (λ store. ForEarlier g conn (λ _ old_style F. (store.old_style ≡ old_style)
+      × HasRequests g store F))
   -- Of some last state of the connection, which is given up: `migrate_or_back` says it of the one that comes back.
   pub refused : IfErr result (GivesUpMigrating g conn)
   -- A crash leaves what it could leave before, or the migrated rows, and after the call these alone.
-  pub crash : IfOk result (λ store. Survives (state g conn) (shows g store) (λ trees. ForEarlier g conn (λ _ early F. LeavesRegister early F trees)))
+  pub crash : IfOk result (λ store. Survives (state g conn) (shows g store)
+      (λ trees. ForEarlier g conn (λ _ old_style F. LeavesRegister old_style F trees)))
   pub durable : HandsOut g result (λ store. ForEarlier g conn (λ _. IsDurableAs g store))
 
 -- ---- a store is handed out, or the connection comes back
@@ -73,59 +83,69 @@ pub record MigratesStore {S : Type 0} (g : Ghosts S) (conn : Held S) (result : R
 abbrev pub without_conn : {T E C : Type 0} → Result T (E × C) → Result T E
 without_conn = result_map_both (λ store. store) (λ refusal. refusal.0)
 
--- What `create_or_back` does: what `create` does, and of the connection that comes back it says what was left of the database.
-pub record CreatesOrGivesBack {S : Type 0} (g : Ghosts S) (conn : Held S) (result : Result (StoreParts S) (CreateFault × Held S)) : Type 0 where
+-- What `create_or_back` does: what `create` does, and of the connection that comes back it says what was left of the
+-- database.
+pub record CreatesOrGivesBack {S : Type 0} (g : Ghosts S) (conn : Held S)
+    (result : Result (StoreParts S) (CreateFault × Held S)) : Type 0 where
   pub outcome : CreatesStore g conn (without_conn result)
   pub back : IfErr result (λ refusal. GivesBackMaking g conn refusal.0 refusal.1)
 
 -- What `open_or_back` does, in the same way.
-pub record OpensOrGivesBack {S : Type 0} (g : Ghosts S) (conn : Held S) (result : Result (StoreParts S) (OpenFault × Held S)) : Type 0 where
+pub record OpensOrGivesBack {S : Type 0} (g : Ghosts S) (conn : Held S)
+    (result : Result (StoreParts S) (OpenFault × Held S)) : Type 0 where
   pub outcome : OpensStore g conn (without_conn result)
   pub back : IfErr result (λ refusal. GivesBackOpening g conn refusal.0 refusal.1)
 
 -- What `migrate_or_back` does, in the same way.
-pub record MigratesOrGivesBack {S : Type 0} (g : Ghosts S) (conn : Held S) (result : Result (StoreParts S) (OpenFault × Held S)) : Type 0 where
+pub record MigratesOrGivesBack {S : Type 0} (g : Ghosts S) (conn : Held S)
+    (result : Result (StoreParts S) (OpenFault × Held S)) : Type 0 where
   pub outcome : MigratesStore g conn (without_conn result)
   pub back : IfErr result (λ refusal. GivesBackMigrating g conn refusal.0 refusal.1)
 
 -- ---- a store is asked
 
--- What a call that only reads leaves of a store, whatever it answers: the rows are those of before, and a crash leaves what it could
--- leave before.
+-- What a call that only reads leaves of a store, whatever it answers: the rows are those of before, and a crash leaves
+-- what it could leave before.
 pub record KeepsStore {S : Type 0} (g : Ghosts S) (old new : StoreParts S) : Type 0 where
   pub same : ForRequests g old new (HasRequests g new)
   pub counts : (new.kept ≡ old.kept) × (new.filings ≡ old.filings) × (new.catalogue ≡ old.catalogue)
-  pub early : new.early ≡ old.early
+  pub old_style : new.old_style ≡ old.old_style
   pub crash : CommitsNothing (shows g old) (shows g new)
 
 -- an answer leaves it open, and durable as it is
 abbrev pub AnswersDurably : {S X E : Type 0} → Ghosts S → StoreParts S → StoreParts S → Result X E → Type 0
-AnswersDurably g old new result = ForRequests g old new (λ F. OnOk result (IsDurableAs g new old.early F))
+AnswersDurably g old new result = ForRequests g old new (λ F. OnOk result (IsDurableAs g new old.old_style F))
 
 -- What `find` tells of a filer and key, and that it writes nothing.
-pub record FindsRow {S : Type 0} (g : Ghosts S) (filer key : List ℕ) (old new : StoreParts S) (result : Result (Option KeptRow) StoreFault) : Type 0 where
+pub record FindsRow {S : Type 0} (g : Ghosts S) (filer key : List ℕ) (old new : StoreParts S)
+    (result : Result (Option KeptRow) StoreFault) : Type 0 where
   pub found : ForRequests g old new (λ F. (target : Option ℕ) (body : List ℕ)
       → IfOk result (λ row. option_map (kept_as filer key) row ≡ kept_for (kept F) (the_request filer key target body)))
   -- It is answered in the style of before where it is among the first that were kept then.
   pub style : ForRequests g old new (λ F. (target : Option ℕ) (body : List ℕ)
-      → IfOk result (λ row. IfSome row (λ r. r.style ≡ style_of (take old.early F) (the_request filer key target body))))
+      → IfOk result (λ row. IfSome row (λ r. r.style
+      ≡ style_of (take old.old_style F) (the_request filer key target body))))
   pub keeps : KeepsStore g old new
   pub durable : AnswersDurably g old new result
 
 -- ---- a store is written to
 
--- What `add` does with a request, in one transaction. What is said of rows holds where its filer and key are not kept yet, and where it
--- was judged by whether the filing that it is to replace, if any, is free after the kept requests.
-pub record AddsRequest {S : Type 0} (g : Ghosts S) (row : NewRow) (old new : StoreParts S) (result : Result Outcome StoreFault) : Type 0 where
-  pub added : ForRequests g old new (λ F. ForNew F (the_request row.filer.now row.key.now row.target row.body.now) row.judged.now (λ r.
+-- What `add` does with a request, in one transaction. What is said of rows holds where its filer and key are not kept
+-- yet, and where it was judged by whether the filing that it is to replace, if any, is free after the kept requests.
+pub record AddsRequest {S : Type 0} (g : Ghosts S) (row : NewRow) (old new : StoreParts S)
+    (result : Result Outcome StoreFault) : Type 0 where
+  pub added : ForRequests g old new (λ F. ForNew F (the_request row.filer.now row.key.now row.target row.body.now)
+      row.judged.now (λ r.
       IfOk result (λ outcome. (view_outcome outcome ≡ (judged (kept F) r).outcome) × HasRequests g new (F ++ r ∷ []))))
   -- A refusal changes nothing.
   pub same : ForRequests g old new (λ F. OnErr result (HasRequests g new F))
   pub count : OnOk result (new.kept ≡ old.kept + 1)
   pub counts : OnErr result ((new.kept ≡ old.kept) × (new.filings ≡ old.filings))
-  pub early : new.early ≡ old.early
+  pub old_style : new.old_style ≡ old.old_style
   -- A crash leaves what one before the call could leave, or the rows with this request, and after Ok these alone.
-  pub crash : SurvivesAs g old new (λ F trees. ForNew F (the_request row.filer.now row.key.now row.target row.body.now) row.judged.now (λ r.
-      LeavesRegister old.early (F ++ r ∷ []) trees))
-  pub durable : ForRequests g old new (λ F. ForNew F (the_request row.filer.now row.key.now row.target row.body.now) row.judged.now (λ r.
-      OnOk result (IsDurableAs g new old.early (F ++ r ∷ []))))
+  pub crash : SurvivesAs g old new (λ F trees. ForNew F (the_request row.filer.now row.key.now row.target row.body.now)
+      row.judged.now (λ r.
+      LeavesRegister old.old_style (F ++ r ∷ []) trees))
+  pub durable : ForRequests g old new (λ F. ForNew F (the_request row.filer.now row.key.now row.target row.body.now)
+      row.judged.now (λ r.
+      OnOk result (IsDurableAs g new old.old_style (F ++ r ∷ []))))

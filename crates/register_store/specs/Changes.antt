@@ -18,12 +18,13 @@ use Rattle.register_store.specs.declared.outcome.NewRow.{NewRow}
 use Rattle.register_store.specs.Outcomes.{kept_new}
 use Rattle.register_rows.specs.Schema.{IsDeclared}
 use Rattle.register_rows.specs.Register.{HasRows, kept_row, finding_rows, filing_rows, fact_rows, amends_rows}
-use Rattle.register_opening.specs.Gains.{GainsRows, AddsNothing}
+use Rattle.register_tables.specs.Gains.{GainsRows, AddsNothing}
 
 -- the tables gain the rows of the kept request at this place, whatever their rows were
 pub record AddsRows (seq : ℕ) (k : Kept) (old new : Database) : Type 0 where
-  pub rows : (early : ℕ) (ks fs gs hs ts : List Row) → HasRows old early ks fs gs hs ts
-      → HasRows new early (ks ++ kept_row seq k ∷ []) (fs ++ finding_rows seq k) (gs ++ filing_rows seq k) (hs ++ fact_rows seq k) (ts ++ amends_rows seq k)
+  pub rows : (old_style : ℕ) (ks fs gs hs ts : List Row) → HasRows old old_style ks fs gs hs ts
+      → HasRows new old_style (ks ++ kept_row seq k ∷ []) (fs ++ finding_rows seq k) (gs ++ filing_rows seq k)
+      (hs ++ fact_rows seq k) (ts ++ amends_rows seq k)
   pub sound : IsDeclared old.schema → IsDatabase old → IsDatabase new
 
 -- so they do inside a transaction, which goes on
@@ -32,10 +33,16 @@ pub record AddsInside (seq : ℕ) (k : Kept) (old new : State) : Type 0 where
   pub inside : IsTrue new.in_transaction
   pub committed : new.committed ≡ old.committed
 
--- where the disk is clean at the end, that is what an answer says of a request that is to be kept, with this target and this outcome
+-- where the disk is clean at the end, that is what an answer says of a request that is to be kept, with this target and
+-- this outcome
 abbrev pub AddsAs : {X E : Type 0} → ℕ → Option ℕ → NewRow → Outcome → State → State → Result X E → Type 0
 AddsAs seq target row outcome old new result =
-    HasCleanDisk new → OnOk result (AddsInside seq (record { request = the_request row.filer.now row.key.now target row.body.now; outcome = outcome }) old new)
+    HasCleanDisk new
+    → OnOk result (AddsInside seq (record {
+      request =
+          the_request row.filer.now row.key.now target row.body.now;
+      outcome = outcome;
+    }) old new)
 
 -- so they did, and it is committed
 pub record Adds (seq : ℕ) (k : Kept) (old new : State) : Type 0 where
@@ -51,14 +58,17 @@ pub record AddsTo (seq : ℕ) (k : Kept) (old : Database) (trees : Trees) : Type
   pub is : trees ≡ db.trees
 
 -- What the writing of one row inside a transaction does.
-pub record InsertsRow {S : Type 0} (g : Ghosts S) (table : Table) (row : Row) (old new : MutBor (Held S)) (result : Result (Unit {0}) Error) : Type 0 where
+pub record InsertsRow {S : Type 0} (g : Ghosts S) (table : Table) (row : Row) (old new : MutBor (Held S))
+    (result : Result (Unit {0}) Error) : Type 0 where
   pub leaves : OnlyWrites g old new
   -- an answer says that a transaction was under way, and that the table has the row
   pub was_inside : OnOk result (IsTrue (state g old.now).in_transaction)
-  pub gains : HasCleanDisk (state g new.now) → OnOk result (GainsRows table (row ∷ []) (state g old.now) (state g new.now))
+  pub gains : HasCleanDisk (state g new.now)
+      → OnOk result (GainsRows table (row ∷ []) (state g old.now) (state g new.now))
 
 -- What the keeping of a request at its place does, in one transaction, where the next filing has this number.
-pub record KeepsRequest {S : Type 0} (g : Ghosts S) (seq number : ℕ) (row : NewRow) (old new : Held S) (result : Result (Unit {0}) Error) : Type 0 where
+pub record KeepsRequest {S : Type 0} (g : Ghosts S) (seq number : ℕ) (row : NewRow) (old new : Held S)
+    (result : Result (Unit {0}) Error) : Type 0 where
   pub key : IsKey row.key.now
   pub autocommit : new.in_transaction ≡ false
   -- after an answer the rows are there, and a crash leaves them

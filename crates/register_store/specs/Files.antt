@@ -16,18 +16,18 @@ use Rattle.filing_model.specs.Request.{Request}
 use Rattle.table_rows.specs.Files.{HoldsDatabase, AreUsable}
 use Rattle.table_rows.specs.Causes.{store_fault}
 use Rattle.table_rows.specs.declared.fault.StoreFault.{StoreFault}
-use Rattle.register_opening.specs.Registers.{IsRegisterOf}
+use Rattle.register_tables.specs.Registers.{IsRegisterOf}
 
 -- the files hold the register of these requests, in the database file alone as well, and can be opened
-pub record HoldRegister {D : Type 0} (g : Ghosts D) (files : Files D) (early : ℕ) (F : List Request) : Type 0 where
+pub record HoldRegister {D : Type 0} (g : Ghosts D) (files : Files D) (old_style : ℕ) (F : List Request) : Type 0 where
   pub db : Database
-  pub register : IsRegisterOf early F db
+  pub register : IsRegisterOf old_style F db
   pub held : HoldsDatabase g files db
   pub usable : AreUsable g files
 
 module _ {D : Type 0} {g : Ghosts D} where
-  -- The last commit could not be copied into the database file, and this is the fault by its cause. Nothing else failed, and a
-  -- crash leaves no more than one before could.
+  -- The last commit could not be copied into the database file, and this is the fault by its cause. Nothing else
+  -- failed, and a crash leaves no more than one before could.
   pub record IsNotCopied (conn : Held (FileStore D g)) (last : FileStore D g) (fault : StoreFault) : Type 0 where
     pub error : Error
     pub named : fault ≡ store_fault error

@@ -1,5 +1,6 @@
 -- What the look-ups of a request's rows find.
-use Rattle.std.specs.Prelude.{◌≡◌, ◌⊎◌, ◌&&◌, ◌+◌, ℕ, ℤ, pos, Bool, true, false, nat_eq, find, take, unwrap_or, option_map, ◌≢◌, List, [], ◌∷◌, Option, None, Some, Result, IfOk, IfSome}
+use Rattle.std.specs.Prelude.{◌≡◌, ◌⊎◌, ◌&&◌, ◌+◌, ℕ, ℤ, pos, Bool, true, false, nat_eq, find, take, unwrap_or}
+use Rattle.std.specs.Prelude.{option_map, ◌≢◌, List, [], ◌∷◌, Option, None, Some, Result, IfOk, IfSome}
 use Rattle.sqlite.specs.declared.types.Value.{Value}
 use Rattle.sqlite.specs.declared.types.Value.TheVariants.{Int, Blob}
 use Rattle.sqlite.specs.Order.{Row, column}
@@ -13,7 +14,12 @@ use Rattle.sqlite_sql.specs.declared.ops.CompareOp.TheVariants.{Eq}
 use Rattle.sqlite.specs.Collation.TheVariants.{Binary}
 use Rattle.xbrl_report.specs.Pair.{Pair}
 use Rattle.xbrl_report.specs.declared.code.Code.{Code}
-use Rattle.xbrl_report.specs.declared.code.Code.TheVariants.{NotJson, NotObject, DocumentInfo, DocumentType, Namespaces, NamespaceUri, Taxonomy, Facts, Fact, Value as ValueCode, Decimals, Dimensions, ConceptMissing, EntityMissing, DimensionValue, Name, UnboundPrefix, NotTheFiler, Period, PeriodOrder, UnitForm, Number, Language, UnknownDimension, TooMany, NotReplaceable}
+use Rattle.xbrl_report.specs.declared.code.Code.TheVariants.{NotJson, NotObject, DocumentInfo, DocumentType, Namespaces}
+use Rattle.xbrl_report.specs.declared.code.Code.TheVariants.{NamespaceUri, Taxonomy, Facts, Fact, Value as ValueCode}
+use Rattle.xbrl_report.specs.declared.code.Code.TheVariants.{Decimals, Dimensions, ConceptMissing, EntityMissing}
+use Rattle.xbrl_report.specs.declared.code.Code.TheVariants.{DimensionValue, Name, UnboundPrefix, NotTheFiler, Period}
+use Rattle.xbrl_report.specs.declared.code.Code.TheVariants.{PeriodOrder, UnitForm, Number, Language, UnknownDimension}
+use Rattle.xbrl_report.specs.declared.code.Code.TheVariants.{TooMany, NotReplaceable}
 use Rattle.xbrl_report.specs.CodeNumber.{number_of as code_number}
 use Rattle.filing_model.specs.Request.{Request}
 use Rattle.filing_model.specs.Register.{Kept, kept}
@@ -28,7 +34,7 @@ use Rattle.register_store.specs.declared.select.found.FoundRow.{FoundRow}
 use Rattle.register_rows.specs.Columns.{bytes_in}
 use Rattle.register_store.specs.Outcomes.{kept_as}
 use Rattle.register_rows.specs.Register.{number_of}
-use Rattle.register_opening.specs.Registers.{IsRegisterOf}
+use Rattle.register_tables.specs.Registers.{IsRegisterOf}
 use Rattle.register_store.specs.Store.{ForRegister}
 
 -- the column `seq` of `finding` or of `amends` equals this number, as SQL compares
@@ -57,7 +63,10 @@ found_row seq k = Int (pos seq) ∷ Blob k.request.body ∷ or_null (λ n. Int (
 
 -- the codes, by number
 abbrev pub all_codes : List Code
-all_codes = NotJson ∷ NotObject ∷ DocumentInfo ∷ DocumentType ∷ Namespaces ∷ NamespaceUri ∷ Taxonomy ∷ Facts ∷ Fact ∷ ValueCode ∷ Decimals ∷ Dimensions ∷ ConceptMissing ∷ EntityMissing ∷ DimensionValue ∷ Name ∷ UnboundPrefix ∷ NotTheFiler ∷ Period ∷ PeriodOrder ∷ UnitForm ∷ Number ∷ Language ∷ UnknownDimension ∷ TooMany ∷ NotReplaceable ∷ []
+all_codes =
+    NotJson ∷ NotObject ∷ DocumentInfo ∷ DocumentType ∷ Namespaces ∷ NamespaceUri ∷ Taxonomy ∷ Facts ∷ Fact ∷ ValueCode
+    ∷ Decimals ∷ Dimensions ∷ ConceptMissing ∷ EntityMissing ∷ DimensionValue ∷ Name ∷ UnboundPrefix ∷ NotTheFiler
+    ∷ Period ∷ PeriodOrder ∷ UnitForm ∷ Number ∷ Language ∷ UnknownDimension ∷ TooMany ∷ NotReplaceable ∷ []
 
 -- whether the value is this whole number
 abbrev pub is_whole : Value → ℕ → Bool
@@ -89,7 +98,8 @@ pub record IsFound (filer key : List ℕ) (F : List Request) (found : FoundRow) 
 
 -- so is an answer, also where nothing is kept of them
 abbrev pub IsLookUp : List ℕ → List ℕ → List Request → Option FoundRow → Type 0
-IsLookUp filer key F None = (target : Option ℕ) (body : List ℕ) → kept_for (kept F) (the_request filer key target body) ≡ None
+IsLookUp filer key F None = (target : Option ℕ) (body : List ℕ)
+    → kept_for (kept F) (the_request filer key target body) ≡ None
 IsLookUp filer key F (Some found) = IsFound filer key F found
 
 -- what was read of rows, of which there is one at most
@@ -103,10 +113,13 @@ abbrev pub IsPlaceOf : ℕ → List Request → Option ℕ → Type 0
 IsPlaceOf number F None = (k : Kept) (seq : ℕ) → IsPlaced 1 seq (kept F) k → number_of k.outcome ≡ Some number → ⊥
 IsPlaceOf number F (Some seq) = (k : Kept) × IsPlaced 1 seq (kept F) k × (number_of k.outcome ≡ Some number)
 
--- What the looking up of a filer and key tells, where the first `early` requests are answered as before, and that it writes nothing.
-pub record FindsKept {S : Type 0} (g : Ghosts S) (early : ℕ) (filer key : List ℕ) (old new : Held S) (result : Result (Option KeptRow) StoreFault) : Type 0 where
+-- What the looking up of a filer and key tells, where the first `old_style` requests are answered as before, and that
+-- it writes nothing.
+pub record FindsKept {S : Type 0} (g : Ghosts S) (old_style : ℕ) (filer key : List ℕ) (old new : Held S)
+    (result : Result (Option KeptRow) StoreFault) : Type 0 where
   pub found : ForRegister g old new (λ _ F. (target : Option ℕ) (body : List ℕ)
       → IfOk result (λ row. option_map (kept_as filer key) row ≡ kept_for (kept F) (the_request filer key target body)))
-  pub style : HasCleanDisk (state g new) → (F : List Request) → HasCommitted (IsRegisterOf early F) (state g old) → (target : Option ℕ) (body : List ℕ)
-      → IfOk result (λ row. IfSome row (λ r. r.style ≡ style_of (take early F) (the_request filer key target body)))
+  pub style : HasCleanDisk (state g new) → (F : List Request) → HasCommitted (IsRegisterOf old_style F) (state g old)
+      → (target : Option ℕ) (body : List ℕ)
+      → IfOk result (λ row. IfSome row (λ r. r.style ≡ style_of (take old_style F) (the_request filer key target body)))
   pub leaves : OnlyReads g old new result

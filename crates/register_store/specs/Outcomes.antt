@@ -16,12 +16,19 @@ view_outcome (Stored.Refused findings) = Outcome.Refused findings
 
 -- what is kept of this filer and key
 abbrev pub kept_as : List ℕ → List ℕ → KeptRow → Kept
-kept_as filer key row = record { request = the_request filer key row.target row.body; outcome = view_outcome row.outcome }
+kept_as filer key row =
+    record { request = the_request filer key row.target row.body; outcome = view_outcome row.outcome }
 
 -- what is kept of a request that was judged so, where the next filing has this number
 abbrev pub kept_new : ℕ → NewRow → Kept
-kept_new number row = record { request = the_request row.filer.now row.key.now row.target row.body.now; outcome = outcome_of number row.judged.now }
+kept_new number row =
+    record {
+      request = the_request row.filer.now row.key.now row.target row.body.now;
+      outcome =
+          outcome_of number row.judged.now;
+    }
 
--- the style in which the kept request at this place is answered, where the first so many were kept before there were problem details
+-- the style in which the kept request at this place is answered, where the first so many were kept before there were
+-- problem details
 abbrev pub style_at : ℕ → ℕ → Style
-style_at early place = if nat_le place early then Old else Problem
+style_at old_style place = if nat_le place old_style then Old else Problem

@@ -4,6 +4,7 @@ use Rattle.json.specs.Token.{Token}
 use Rattle.json.specs.Written.{Written}
 
 -- these tokens were appended, and what stood before them stays
-pub record AppendsTokens {E : Type 0} (old new : Written) (tokens : List Token) (result : Result (Unit {0}) E) : Type 0 where
+pub record AppendsTokens {E : Type 0} (old new : Written) (tokens : List Token) (result : Result (Unit {0}) E)
+    : Type 0 where
   pub more : OnOk result (new.tokens ≡ old.tokens ++ tokens)
   pub before : new.before ≡ old.before

@@ -1,5 +1,5 @@
-//! The contents of the replies to those who file, as compact JSON texts. Their forms are own rules; those of refusals are
-//! problem details (RFC 9457, section 3), or what stood there before them.
+//! The contents of the replies to those who file, as compact JSON texts. Their forms are own rules; those of refusals
+//! are problem details (RFC 9457, section 3), or what stood there before them.
 
 ghost use Rattle.std.specs.Prelude.{◌≡◌, [], ◌∷◌, Bool, false, decimal, unwrap_or, IfOk};
 ghost use Rattle.json.specs.Token.{key, number, string};
@@ -9,7 +9,8 @@ ghost use Rattle.serde_json.specs.Data.{object};
 ghost use Rattle.serde_json.specs.Written.{compact_text, members_outline, outline};
 ghost use Rattle.filing_model.specs.declared.served.Style.TheVariants.{Problem};
 ghost use Rattle.filing_model.specs.Answer.{Answer, answer_by};
-ghost use Rattle.filing_model.specs.Reply.{reply_as, answer_data, refused_status, problem_members, refusal_members, finding_data, findings_data};
+ghost use Rattle.filing_model.specs.Reply.{reply_as, answer_data, refused_status, problem_members, refusal_members};
+ghost use Rattle.filing_model.specs.Reply.{finding_data, findings_data};
 ghost use Rattle.register_store.specs.Outcomes.{view_outcome};
 ghost use Rattle.register_store.specs.Writing.{AppendsTokens};
 
@@ -25,7 +26,8 @@ use xbrl_report::{Code, Finding, Findings};
 const REGISTERED_ROOM: usize = 53;
 
 impl Outcome {
-    /// The content of the reply to the request in this style, as compact JSON: the number, or the findings. A repeat gets the same.
+    /// The content of the reply to the request in this style, as compact JSON: the number, or the findings. A repeat
+    /// gets the same.
     #[tactic(auto, unfolding(filing_model::specs::Reply::reply_as))]
     pub fn content(&self, alloc: Global, style: Style) -> Result<Vec<u8>, AllocError>
         ensures { (repeat : Bool)
@@ -38,8 +40,8 @@ impl Outcome {
     }
 }
 
-/// The compact JSON that says that a report is registered under this number: the same in every style, and to a repeat. As it is
-/// what most requests get, it is written at once, and no value is made of it.
+/// The compact JSON that says that a report is registered under this number: the same in every style, and to a repeat.
+/// As it is what most requests get, it is written at once, and no value is made of it.
 #[tactic(auto, using(crate::proofs::ContentTexts::registered_pieces))]
 pub fn registered_text(alloc: Global, number: u64) -> Result<Vec<u8>, AllocError>
     ensures { IfOk result (λ text. text.items ≡ compact_text (answer_data Problem (Answer.Registered number false))) }
@@ -63,7 +65,8 @@ pub fn refused_text(alloc: Global, style: Style, findings: &Findings) -> Result<
     Ok(writer.into_inner())
 }
 
-/// The status of a refused report: 400 where the body is no JSON text, and else 422 (RFC 9110, sections 15.5.1 and 15.5.21).
+/// The status of a refused report: 400 where the body is no JSON text, and else 422 (RFC 9110, sections 15.5.1 and
+/// 15.5.21).
 pub fn refused_status(findings: &Findings) -> u16
     ensures { result ≡ refused_status findings.now }
 {
@@ -88,7 +91,8 @@ pub fn refusal_text(
     Ok(writer.into_inner())
 }
 
-/// Problem details (RFC 9457, section 3) of this status and reason as compact JSON, the members in the order of their names.
+/// Problem details (RFC 9457, section 3) of this status and reason as compact JSON, the members in the order of their
+/// names.
 pub fn problem_text(alloc: Global, status: u16, reason: &str) -> Result<Vec<u8>, AllocError>
     ensures { IfOk result (λ text. text.items ≡ compact_text (object (problem_members status reason.now))) }
 {

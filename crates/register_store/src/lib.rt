@@ -1,6 +1,6 @@
-//! A register that is open: requests are kept in its tables, found and listed. What may live here: what is read and written
-//! of an open register. How its tables are made and opened is known by `register_opening`; requests, outcomes and numbers
-//! are those of `filing_model`; who is answered what is not known here.
+//! A register that is open: requests are kept in its tables, found and listed. What may live here: what is read and
+//! written of an open register. How its tables are made and opened is known by `register_tables`; requests, outcomes
+//! and numbers are those of `filing_model`; who is answered what is not known here.
 #![tactic(auto)]
 
 mod catalogue;
@@ -19,7 +19,7 @@ pub use content::{
 pub use decode::completed::{Completed, Registered};
 pub use kept_body::KeptBody;
 pub use outcome::{KeptRow, NewRow, Outcome};
-pub use register_opening::{
+pub use register_tables::{
     Counts, CreateFault, Earlier, OpenFault, Unwatched, Watch, make_register, migrate_register,
     read_register,
 };

@@ -19,7 +19,8 @@ pub enum Outcome {
     Refused(Findings),
 }
 
-/// What is kept of a filer and key: which filing the request is to replace, if any, the body's bytes, what became of them, and the style in which these requests are answered.
+/// What is kept of a filer and key: which filing the request is to replace, if any, the body's bytes, what became of
+/// them, and the style in which these requests are answered.
 #[derive(Drop)]
 pub struct KeptRow {
     pub target: Option<u64>,
@@ -28,8 +29,8 @@ pub struct KeptRow {
     pub style: Style,
 }
 
-/// A request that is to be kept: a filer code, a key that the filer has not used, the number of the filing that it is to replace,
-/// if any, and a body of at most 1,048,576 bytes, with what `judge_amendment` answers of them.
+/// A request that is to be kept: a filer code, a key that the filer has not used, the number of the filing that it is
+/// to replace, if any, and a body of at most 1,048,576 bytes, with what `judge_amendment` answers of them.
 #[derive(Clone, Copy)]
 pub struct NewRow<'a> {
     pub filer: &'a str,

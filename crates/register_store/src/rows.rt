@@ -1,6 +1,7 @@
 //! The statements on the tables, one in each function. What may live here: texts of SQL, and their parameters.
 
-ghost use Rattle.std.specs.Prelude.{◌≡◌, ◌<◌, ◌^◌, pos, length, [], ◌∷◌, option_map, string_bytes, IsTrue, IfOk, IfSome, OnOk};
+ghost use Rattle.std.specs.Prelude.{◌≡◌, ◌<◌, ◌^◌, pos, length, [], ◌∷◌, option_map, string_bytes, IsTrue, IfOk};
+ghost use Rattle.std.specs.Prelude.{IfSome, OnOk};
 ghost use Rattle.sqlite.specs.declared.types.Value.TheVariants.{Int, Text, Blob};
 ghost use Rattle.sqlite.specs.Values.{or_null};
 ghost use Rattle.sqlite.specs.Held.{state};
@@ -9,11 +10,11 @@ ghost use Rattle.sqlite.specs.Table.{Table};
 ghost use Rattle.table_rows.specs.Leaving.{OnlyQueries, OnlyWrites};
 ghost use Rattle.table_rows.specs.Rows.{counted_from};
 ghost use Rattle.table_rows.specs.Reading.{ReadsRows};
-ghost use Rattle.register_opening.specs.Reads.{Knows, KnowsAll, by_second, has_texts};
+ghost use Rattle.register_tables.specs.Reads.{Knows, KnowsAll, by_second, has_texts};
 ghost use Rattle.register_store.specs.Found.{has_seq, unsorted, found_in, pair_in, target_alone};
 ghost use Rattle.register_rows.specs.Schema.{kept_table, finding_table, filing_table, fact_table, amends_table};
 ghost use Rattle.key_string.specs.Key.{IsKey};
-ghost use Rattle.register_opening.specs.Gains.{GainsRows};
+ghost use Rattle.register_tables.specs.Gains.{GainsRows};
 ghost use Rattle.register_store.specs.Changes.{InsertsRow};
 
 use crate::outcome::NewRow;

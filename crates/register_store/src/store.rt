@@ -16,10 +16,10 @@ use crate::outcome::{KeptRow, NewRow, Outcome};
 use crate::select::found::find_kept;
 use crate::write::keep;
 use key_string::KeyText;
-use register_opening::{
+use register_rows::Catalogue;
+use register_tables::{
     Counts, CreateFault, OpenFault, Unwatched, make_register, migrate_register, read_register,
 };
-use register_rows::Catalogue;
 use sqlite::{Alter, Connection};
 use std::alloc::Global;
 use std::marker::Model;
@@ -37,7 +37,7 @@ pub struct Store<S: Alter> {
     pub(crate) conn: Connection<S>,
     pub(crate) kept: u64,
     pub(crate) filings: u64,
-    pub(crate) early: u64,
+    pub(crate) old_style: u64,
     pub(crate) catalogue: Catalogue,
 }
 
@@ -49,9 +49,16 @@ impl<S: Alter> Model for Store<S> {
 
     ghost coded = { parts_code S.code };
 
-    ghost view = { λ s. record { conn = s.conn; kept = s.kept; filings = s.filings; early = s.early; catalogue = view_lines s.catalogue } };
+    ghost view = { λ s. record {
+      conn = s.conn;
+      kept = s.kept;
+      filings = s.filings;
+      old_style = s.old_style;
+      catalogue =
+          view_lines s.catalogue;
+    } };
 
-    ghost invariant = { λ s. IsIdle s.conn s.kept s.filings s.early };
+    ghost invariant = { λ s. IsIdle s.conn s.kept s.filings s.old_style };
 }
 
 impl<S: Alter + Drop> Drop for Store<S> {
@@ -61,7 +68,7 @@ impl<S: Alter + Drop> Drop for Store<S> {
             conn: _,
             kept: _,
             filings: _,
-            early: _,
+            old_style: _,
             catalogue: _,
         } = self;
     }
@@ -85,7 +92,7 @@ impl<S: Alter> Store<S> {
                 conn,
                 kept: 0,
                 filings: 0,
-                early: 0,
+                old_style: 0,
                 catalogue: Catalogue::new(alloc),
             }),
             Err(fault) => Err((fault, conn)),
@@ -107,7 +114,7 @@ impl<S: Alter> Store<S> {
                 Counts {
                     kept,
                     filings,
-                    early,
+                    old_style,
                     catalogue,
                 },
             ) => Ok(Store {
@@ -115,7 +122,7 @@ impl<S: Alter> Store<S> {
                 conn,
                 kept,
                 filings,
-                early,
+                old_style,
                 catalogue,
             }),
             Err(fault) => {
@@ -141,7 +148,7 @@ impl<S: Alter> Store<S> {
                 Counts {
                     kept,
                     filings,
-                    early,
+                    old_style,
                     catalogue,
                 },
             ) => Ok(Store {
@@ -149,7 +156,7 @@ impl<S: Alter> Store<S> {
                 conn,
                 kept,
                 filings,
-                early,
+                old_style,
                 catalogue,
             }),
             Err(refusal) => Err((refusal, conn)),
@@ -198,12 +205,18 @@ impl<S: Alter> Store<S> {
     pub fn find(&mut self, filer: &str, key: &KeyText) -> Result<Option<KeptRow>, StoreFault>
         ensures { FindsRow S.Store filer.now key.now self.old self.new result }
     {
-        find_kept(&mut self.conn, self.alloc, self.early, filer, key.as_str())
+        find_kept(
+            &mut self.conn,
+            self.alloc,
+            self.old_style,
+            filer,
+            key.as_str(),
+        )
     }
 
     /// Keeps a request, in one transaction, and answers its outcome: a valid report takes the next number, and another
-    /// is refused with all its findings. The filer and key are not kept yet, and it was judged by whether the filing that it is to
-    /// replace, if any, is free after the kept requests.
+    /// is refused with all its findings. The filer and key are not kept yet, and it was judged by whether the filing
+    /// that it is to replace, if any, is free after the kept requests.
     pub fn add(&mut self, row: &NewRow<'_>) -> Result<Outcome, StoreFault>
         requires filer { is_filer row.now.filer.now ≡ true }
         requires body { length row.now.body.now ≤ max_body_len }
@@ -237,10 +250,10 @@ impl<S: Alter> Store<S> {
     }
 
     /// How many of the first kept requests are told what they were told before there were problem details.
-    pub fn early_count(&self) -> Result<u64, StoreFault>
-        ensures { result ≡ Ok self.now.early }
+    pub fn old_style_count(&self) -> Result<u64, StoreFault>
+        ensures { result ≡ Ok self.now.old_style }
     {
-        Ok(self.early)
+        Ok(self.old_style)
     }
 
     /// The connection.
@@ -252,7 +265,7 @@ impl<S: Alter> Store<S> {
             conn,
             kept: _,
             filings: _,
-            early: _,
+            old_style: _,
             catalogue: _,
         } = self;
         conn

@@ -33,8 +33,8 @@ fn write_refused<S: Alter>(
     insert_items(tx, seq, findings)
 }
 
-/// Writes a registered request at its place, with its filing of this number and the facts of its report, beside the filing that it is
-/// to replace.
+/// Writes a registered request at its place, with its filing of this number and the facts of its report, beside the
+/// filing that it is to replace.
 fn write_accepted<S: Alter>(
     tx: &mut Transaction<'_, S>,
     seq: u64,
@@ -76,7 +76,8 @@ fn write_judged<S: Alter>(
     }
 }
 
-/// Writes a request that is to replace the filing of this number, as it was judged; `number` is that of the next filing.
+/// Writes a request that is to replace the filing of this number, as it was judged; `number` is that of the next
+/// filing.
 fn write_amendment<S: Alter>(
     tx: &mut Transaction<'_, S>,
     seq: u64,

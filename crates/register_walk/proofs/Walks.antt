@@ -10,22 +10,27 @@ use Rattle.table_rows.proofs.LeavingLemmas.{clean_before, stands}
 use Rattle.table_rows.proofs.StepLemmas.{nothing_left}
 use Rattle.filing_model.specs.Request.{Request}
 use Rattle.register_rows.specs.Schema.{IsDeclared}
-use Rattle.register_opening.specs.declared.opening.Counts.{Counts}
-use Rattle.register_opening.specs.Opening.{ReadsRegister}
-use Rattle.register_opening.specs.Registers.{ForRows, IsRegisterOf}
+use Rattle.register_tables.specs.declared.opening.Counts.{Counts}
+use Rattle.register_tables.specs.Opening.{ReadsRegister}
+use Rattle.register_tables.specs.Registers.{ForRows, IsRegisterOf}
 
-module _ {S : Type 0} (g : Ghosts S) (old mid : Held S) (counts : Counts) (read : ReadsRegister g old mid (Ok counts)) where
+module _ {S : Type 0} (g : Ghosts S) (old mid : Held S) (counts : Counts)
+    (read : ReadsRegister g old mid (Ok counts)) where
   -- the connection is as it was
   pub opened : Leaves Asked (state g old) (state g mid)
   opened = record { left = read.same; mode = λ _. read.mode; survives = read.survives }
 
   module _ {ending : Ending} (new : Held S) (leaves : Leaves ending (state g mid) (state g new)) where
     -- what was counted is a register, and is committed still
-    pub found_then : HasCleanDisk (state g new) → IsDeclared (state g old).now.schema → (early : ℕ) × (requests : List Request) × IsRegisterOf early requests (state g old).now
-    found_then clean declared = let it = read.found (clean_before leaves clean) declared in (counts.early, it.0, it.1)
+    pub found_then : HasCleanDisk (state g new) → IsDeclared (state g old).now.schema
+        → (old_style : ℕ) × (requests : List Request) × IsRegisterOf old_style requests (state g old).now
+    found_then clean declared = let it = read.found (clean_before leaves clean) declared in
+        (counts.old_style, it.0, it.1)
 
-    pub kept_then : HasCleanDisk (state g new) → ForRows g old (λ early requests. HasCommitted (IsRegisterOf early requests) (state g new))
-    kept_then clean early requests rows = stands leaves clean (read.only (clean_before leaves clean) early requests rows).1
+    pub kept_then : HasCleanDisk (state g new)
+        → ForRows g old (λ old_style requests. HasCommitted (IsRegisterOf old_style requests) (state g new))
+    kept_then clean old_style requests rows =
+        stands leaves clean (read.only (clean_before leaves clean) old_style requests rows).1
 
     pub nothing_then : CommitsNothing (state g old) (state g new)
     nothing_then = nothing_left (state g old) (state g mid) (state g new) read.survives leaves.survives

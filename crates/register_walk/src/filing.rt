@@ -34,7 +34,15 @@ impl Model for WholeFiling {
 
     ghost Value = { FilingParts };
 
-    ghost view = { λ f. record { number = f.number; filer = string_bytes f.filer; key = string_bytes f.key; replaces = f.replaces; replaced_by = f.replaced_by; facts = f.report.facts } };
+    ghost view = { λ f. record {
+      number = f.number;
+      filer = string_bytes f.filer;
+      key = string_bytes f.key;
+      replaces =
+          f.replaces;
+      replaced_by = f.replaced_by;
+      facts = f.report.facts;
+    } };
 }
 
 impl WholeFiling {
@@ -46,8 +54,8 @@ impl WholeFiling {
     }
 }
 
-/// The filing of this number with its facts, or `None` if there is no such filing. Its facts are read of the report that
-/// was kept. Nothing is written.
+/// The filing of this number with its facts, or `None` if there is no such filing. Its facts are read of the report
+/// that was kept. Nothing is written.
 pub fn filing_at<S: Alter>(
     alloc: Global,
     conn: &mut Connection<S>,

@@ -6,7 +6,7 @@ ghost use Rattle.sqlite.specs.State.{HasCleanDisk};
 ghost use Rattle.table_rows.specs.Leaving.{OnlyQueries};
 ghost use Rattle.table_rows.specs.Reading.{ReadsRows};
 ghost use Rattle.register_rows.specs.Schema.{kept_table};
-ghost use Rattle.register_opening.specs.Reads.{Knows, by_first};
+ghost use Rattle.register_tables.specs.Reads.{Knows, by_first};
 ghost use Rattle.register_store.specs.Found.{has_seq};
 ghost use Rattle.register_walk.specs.Sent.{sent_columns};
 

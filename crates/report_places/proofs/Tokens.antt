@@ -1,9 +1,12 @@
 -- Each token of a JSON text is a lexeme of its own.
-use Rattle.std.proofs.Common.{◌≡◌, ℕ, suc, ◌+◌, List, [], ◌∷◌, ◌++◌, length, drop, Bool, true, false, count_by, refl, sym, ap, ◌∙◌, subst, arith}
+use Rattle.std.proofs.Common.{◌≡◌, ℕ, suc, ◌+◌, List, [], ◌∷◌, ◌++◌, length, drop, Bool, true, false, count_by, refl}
+use Rattle.std.proofs.Common.{sym, ap, ◌∙◌, subst, arith}
 use Rattle.std.proofs.lemmas.Bool.{false≢true}
 use Rattle.std.specs.Prelude.{⊤}
-use Rattle.json.specs.Token.{Token, begin_object, end_object, begin_array, end_array, key, string, number, boolean, null, bad}
-use Rattle.json.specs.Lex.{Lexeme, token, comma, colon, lex, between, Place, fresh, after_value, after_comma, after_key, begins_colon, may_begin, may_close, if_allowed, place_token, punctuate, tokens}
+use Rattle.json.specs.Token.{Token, begin_object, end_object, begin_array, end_array, key, string, number, boolean}
+use Rattle.json.specs.Token.{null, bad}
+use Rattle.json.specs.Lex.{Lexeme, token, comma, colon, lex, between, Place, fresh, after_value, after_comma, after_key}
+use Rattle.json.specs.Lex.{begins_colon, may_begin, may_close, if_allowed, place_token, punctuate, tokens}
 use Rattle.json.specs.Align.{is_good}
 use Rattle.json.specs.Find.{BeginsWith}
 use Rattle.json.specs.Json as json
@@ -37,13 +40,18 @@ mutual
 
   AreGood-members_tokens : (ms : Members) → AreGood (members_tokens ms)
   AreGood-members_tokens no_members = (refl, tt)
-  AreGood-members_tokens (member k v ms) = (refl, AreGood-append _ _ (AreGood-json_tokens v) (AreGood-members_tokens ms))
+  AreGood-members_tokens (member k v ms) =
+      (refl, AreGood-append _ _ (AreGood-json_tokens v) (AreGood-members_tokens ms))
 
-one_token : (b : Bool) (t : Token) (more : Place → List Token) (next : Place) (n : ℕ) → (AreGood (more next) → length (more next) ≡ n) → AreGood (if_allowed b t more next) → length (if_allowed b t more next) ≡ 1 + n
+one_token : (b : Bool) (t : Token) (more : Place → List Token) (next : Place) (n : ℕ)
+    → (AreGood (more next) → length (more next) ≡ n) → AreGood (if_allowed b t more next)
+    → length (if_allowed b t more next) ≡ 1 + n
 one_token true t more next n counts good = omega (arith, counts good.1)
 one_token false t more next n counts good = absurd (false≢true good.0)
 
-one_string : (p : Place) (s : List ℕ) (b : Bool) (more : Place → List Token) (n : ℕ) → (AreGood (more after_key) → length (more after_key) ≡ n) → (AreGood (more after_value) → length (more after_value) ≡ n)
+one_string : (p : Place) (s : List ℕ) (b : Bool) (more : Place → List Token) (n : ℕ)
+    → (AreGood (more after_key) → length (more after_key) ≡ n)
+    → (AreGood (more after_value) → length (more after_value) ≡ n)
     → AreGood (place_token p (string s) b more) → length (place_token p (string s) b more) ≡ 1 + n
 one_string p s true more n as_key as_value good = one_token (may_begin p) (key s) more after_key n as_key good
 one_string p s false more n as_key as_value good = one_token (may_begin p) (string s) more after_value n as_value good
@@ -57,21 +65,38 @@ counts_comma ls = sym (one_more comma ls ∙ zero-add (count_by is_token ls))
 counts_colon : (ls : List Lexeme) → count_by is_token ls ≡ count_by is_token (colon ∷ ls)
 counts_colon ls = sym (one_more colon ls ∙ zero-add (count_by is_token ls))
 
-length-punctuate : (p : Place) (ls : List Lexeme) → AreGood (punctuate p ls) → length (punctuate p ls) ≡ count_by is_token ls
+length-punctuate : (p : Place) (ls : List Lexeme) → AreGood (punctuate p ls)
+    → length (punctuate p ls) ≡ count_by is_token ls
 unfolding punctuate
 length-punctuate fresh [] good = refl
 length-punctuate after_value [] good = refl
 length-punctuate after_comma [] good = absurd (false≢true good.0)
 length-punctuate after_key [] good = absurd (false≢true good.0)
-length-punctuate p (token begin_object ∷ ls) good = one_token (may_begin p) begin_object (λ n. punctuate n ls) fresh _ (length-punctuate fresh ls) good ∙ counts_token begin_object ls
-length-punctuate p (token end_object ∷ ls) good = one_token (may_close p) end_object (λ n. punctuate n ls) after_value _ (length-punctuate after_value ls) good ∙ counts_token end_object ls
-length-punctuate p (token begin_array ∷ ls) good = one_token (may_begin p) begin_array (λ n. punctuate n ls) fresh _ (length-punctuate fresh ls) good ∙ counts_token begin_array ls
-length-punctuate p (token end_array ∷ ls) good = one_token (may_close p) end_array (λ n. punctuate n ls) after_value _ (length-punctuate after_value ls) good ∙ counts_token end_array ls
+length-punctuate p (token begin_object ∷ ls) good =
+    one_token (may_begin p) begin_object (λ n. punctuate n ls) fresh _ (length-punctuate fresh ls) good
+    ∙ counts_token begin_object ls
+length-punctuate p (token end_object ∷ ls) good =
+    one_token (may_close p) end_object (λ n. punctuate n ls) after_value _ (length-punctuate after_value ls) good
+    ∙ counts_token end_object ls
+length-punctuate p (token begin_array ∷ ls) good =
+    one_token (may_begin p) begin_array (λ n. punctuate n ls) fresh _ (length-punctuate fresh ls) good
+    ∙ counts_token begin_array ls
+length-punctuate p (token end_array ∷ ls) good =
+    one_token (may_close p) end_array (λ n. punctuate n ls) after_value _ (length-punctuate after_value ls) good
+    ∙ counts_token end_array ls
 length-punctuate p (token (key s) ∷ ls) good = absurd (false≢true good.0)
-length-punctuate p (token (string s) ∷ ls) good = one_string p s (begins_colon ls) (λ n. punctuate n ls) _ (length-punctuate after_key ls) (length-punctuate after_value ls) good ∙ counts_token (string s) ls
-length-punctuate p (token (number s) ∷ ls) good = one_token (may_begin p) (number s) (λ n. punctuate n ls) after_value _ (length-punctuate after_value ls) good ∙ counts_token (number s) ls
-length-punctuate p (token (boolean b) ∷ ls) good = one_token (may_begin p) (boolean b) (λ n. punctuate n ls) after_value _ (length-punctuate after_value ls) good ∙ counts_token (boolean b) ls
-length-punctuate p (token null ∷ ls) good = one_token (may_begin p) null (λ n. punctuate n ls) after_value _ (length-punctuate after_value ls) good ∙ counts_token null ls
+length-punctuate p (token (string s) ∷ ls) good =
+    one_string p s (begins_colon ls) (λ n. punctuate n ls) _ (length-punctuate after_key ls)
+    (length-punctuate after_value ls) good ∙ counts_token (string s) ls
+length-punctuate p (token (number s) ∷ ls) good =
+    one_token (may_begin p) (number s) (λ n. punctuate n ls) after_value _ (length-punctuate after_value ls) good
+    ∙ counts_token (number s) ls
+length-punctuate p (token (boolean b) ∷ ls) good =
+    one_token (may_begin p) (boolean b) (λ n. punctuate n ls) after_value _ (length-punctuate after_value ls) good
+    ∙ counts_token (boolean b) ls
+length-punctuate p (token null ∷ ls) good =
+    one_token (may_begin p) null (λ n. punctuate n ls) after_value _ (length-punctuate after_value ls) good
+    ∙ counts_token null ls
 length-punctuate p (token bad ∷ ls) good = absurd (false≢true good.0)
 length-punctuate fresh (comma ∷ ls) good = absurd (false≢true good.0)
 length-punctuate after_value (comma ∷ ls) good = length-punctuate after_comma ls good ∙ counts_comma ls
@@ -83,22 +108,30 @@ length-punctuate after_comma (colon ∷ ls) good = absurd (false≢true good.0)
 length-punctuate after_key (colon ∷ ls) good = length-punctuate fresh ls good ∙ counts_colon ls
 
 pub length-tokens : (text : List ℕ) (v : Json) → tokens text ≡ json_tokens v → length (tokens text) ≡ token_count text
-length-tokens text v e = length-punctuate fresh (lex between text) (let P : List Token → Type 0 = AreGood in subst P (sym e) (AreGood-json_tokens v))
+length-tokens text v e =
+    length-punctuate fresh (lex between text) (let P : List Token → Type 0 = AreGood in
+    subst P (sym e) (AreGood-json_tokens v))
 
 -- ---- from a token on
 
 abbrev Resumes : ℕ → List Token → List Lexeme → Type 0
 Resumes n ts back = (p : Place) × (drop n ts ≡ punctuate p back)
 
-past_token : (b : Bool) (t : Token) (more : Place → List Token) (next : Place) (n m : ℕ) (back : List Lexeme) → (AreGood (more next) → Resumes n (more next) back) → AreGood (if_allowed b t more next)
+past_token : (b : Bool) (t : Token) (more : Place → List Token) (next : Place) (n m : ℕ) (back : List Lexeme)
+    → (AreGood (more next) → Resumes n (more next) back) → AreGood (if_allowed b t more next)
     → m ≡ suc n → Resumes m (if_allowed b t more next) back
-past_token true t more next n m back resumes good e = let r = resumes good.1 in (r.0, ap (λ k. drop k (t ∷ more next)) e ∙ r.1)
+past_token true t more next n m back resumes good e = let r = resumes good.1 in
+    (r.0, ap (λ k. drop k (t ∷ more next)) e ∙ r.1)
 past_token false t more next n m back resumes good e = absurd (false≢true good.0)
 
-past_string : (p : Place) (s : List ℕ) (b : Bool) (more : Place → List Token) (n m : ℕ) (back : List Lexeme) → (AreGood (more after_key) → Resumes n (more after_key) back)
-    → (AreGood (more after_value) → Resumes n (more after_value) back) → AreGood (place_token p (string s) b more) → m ≡ suc n → Resumes m (place_token p (string s) b more) back
-past_string p s true more n m back as_key as_value good e = past_token (may_begin p) (key s) more after_key n m back as_key good e
-past_string p s false more n m back as_key as_value good e = past_token (may_begin p) (string s) more after_value n m back as_value good e
+past_string : (p : Place) (s : List ℕ) (b : Bool) (more : Place → List Token) (n m : ℕ) (back : List Lexeme)
+    → (AreGood (more after_key) → Resumes n (more after_key) back)
+    → (AreGood (more after_value) → Resumes n (more after_value) back) → AreGood (place_token p (string s) b more)
+    → m ≡ suc n → Resumes m (place_token p (string s) b more) back
+past_string p s true more n m back as_key as_value good e =
+    past_token (may_begin p) (key s) more after_key n m back as_key good e
+past_string p s false more n m back as_key as_value good e =
+    past_token (may_begin p) (string s) more after_value n m back as_value good e
 
 next_count : (t : Token) (ls : List Lexeme) → count_by is_token (token t ∷ ls) ≡ suc (count_by is_token ls)
 next_count t ls = omega (arith, counts_token t ls)
@@ -106,19 +139,35 @@ next_count t ls = omega (arith, counts_token t ls)
 skip_mark : (n m : ℕ) (ts : List Token) (back : List Lexeme) → n ≡ m → Resumes n ts back → Resumes m ts back
 skip_mark n m ts back e r = (r.0, ap (λ k. drop k ts) (sym e) ∙ r.1)
 
-resumes : (p : Place) (front back : List Lexeme) → AreGood (punctuate p (front ++ back)) → Resumes (count_by is_token front) (punctuate p (front ++ back)) back
+resumes : (p : Place) (front back : List Lexeme) → AreGood (punctuate p (front ++ back))
+    → Resumes (count_by is_token front) (punctuate p (front ++ back)) back
 unfolding punctuate
 resumes p [] back good = (p, refl)
-resumes p (token begin_object ∷ ls) back good = past_token (may_begin p) begin_object (λ n. punctuate n (ls ++ back)) fresh _ _ back (resumes fresh ls back) good (next_count begin_object ls)
-resumes p (token end_object ∷ ls) back good = past_token (may_close p) end_object (λ n. punctuate n (ls ++ back)) after_value _ _ back (resumes after_value ls back) good (next_count end_object ls)
-resumes p (token begin_array ∷ ls) back good = past_token (may_begin p) begin_array (λ n. punctuate n (ls ++ back)) fresh _ _ back (resumes fresh ls back) good (next_count begin_array ls)
-resumes p (token end_array ∷ ls) back good = past_token (may_close p) end_array (λ n. punctuate n (ls ++ back)) after_value _ _ back (resumes after_value ls back) good (next_count end_array ls)
+resumes p (token begin_object ∷ ls) back good =
+    past_token (may_begin p) begin_object (λ n. punctuate n (ls ++ back)) fresh _ _ back (resumes fresh ls back) good
+    (next_count begin_object ls)
+resumes p (token end_object ∷ ls) back good =
+    past_token (may_close p) end_object (λ n. punctuate n (ls ++ back)) after_value _ _ back
+    (resumes after_value ls back) good (next_count end_object ls)
+resumes p (token begin_array ∷ ls) back good =
+    past_token (may_begin p) begin_array (λ n. punctuate n (ls ++ back)) fresh _ _ back (resumes fresh ls back) good
+    (next_count begin_array ls)
+resumes p (token end_array ∷ ls) back good =
+    past_token (may_close p) end_array (λ n. punctuate n (ls ++ back)) after_value _ _ back
+    (resumes after_value ls back) good (next_count end_array ls)
 resumes p (token (key s) ∷ ls) back good = absurd (false≢true good.0)
 resumes p (token (string s) ∷ ls) back good =
-    past_string p s (begins_colon (ls ++ back)) (λ n. punctuate n (ls ++ back)) _ _ back (resumes after_key ls back) (resumes after_value ls back) good (next_count (string s) ls)
-resumes p (token (number s) ∷ ls) back good = past_token (may_begin p) (number s) (λ n. punctuate n (ls ++ back)) after_value _ _ back (resumes after_value ls back) good (next_count (number s) ls)
-resumes p (token (boolean b) ∷ ls) back good = past_token (may_begin p) (boolean b) (λ n. punctuate n (ls ++ back)) after_value _ _ back (resumes after_value ls back) good (next_count (boolean b) ls)
-resumes p (token null ∷ ls) back good = past_token (may_begin p) null (λ n. punctuate n (ls ++ back)) after_value _ _ back (resumes after_value ls back) good (next_count null ls)
+    past_string p s (begins_colon (ls ++ back)) (λ n. punctuate n (ls ++ back)) _ _ back (resumes after_key ls back)
+    (resumes after_value ls back) good (next_count (string s) ls)
+resumes p (token (number s) ∷ ls) back good =
+    past_token (may_begin p) (number s) (λ n. punctuate n (ls ++ back)) after_value _ _ back
+    (resumes after_value ls back) good (next_count (number s) ls)
+resumes p (token (boolean b) ∷ ls) back good =
+    past_token (may_begin p) (boolean b) (λ n. punctuate n (ls ++ back)) after_value _ _ back
+    (resumes after_value ls back) good (next_count (boolean b) ls)
+resumes p (token null ∷ ls) back good =
+    past_token (may_begin p) null (λ n. punctuate n (ls ++ back)) after_value _ _ back (resumes after_value ls back)
+    good (next_count null ls)
 resumes p (token bad ∷ ls) back good = absurd (false≢true good.0)
 resumes fresh (comma ∷ ls) back good = absurd (false≢true good.0)
 resumes after_value (comma ∷ ls) back good = skip_mark _ _ _ back (counts_comma ls) (resumes after_comma ls back good)
@@ -157,20 +206,24 @@ module _ (v : Json) (rest : List Token) where
   never : {P : Type 0} (ts : List Token) → begins_value ts ≡ false → AreThose ts → P
   never ts none e = absurd (false≢true (sym none ∙ ap begins_value e ∙ begins_value-json_tokens v rest))
 
-  allowed : (b : Bool) (t : Token) (more : Place → List Token) (next : Place) → AreThose (if_allowed b t more next) → AreThose (t ∷ more next)
+  allowed : (b : Bool) (t : Token) (more : Place → List Token) (next : Place) → AreThose (if_allowed b t more next)
+      → AreThose (t ∷ more next)
   allowed true t more next e = e
   allowed false t more next e = never (bad ∷ []) refl e
 
-  closing : (b : Bool) (t : Token) (more : Place → List Token) (next : Place) {P : Type 0} → begins_value (t ∷ more next) ≡ false → AreThose (if_allowed b t more next) → P
+  closing : (b : Bool) (t : Token) (more : Place → List Token) (next : Place) {P : Type 0}
+      → begins_value (t ∷ more next) ≡ false → AreThose (if_allowed b t more next) → P
   closing true t more next none e = never (t ∷ more next) none e
   closing false t more next none e = never (bad ∷ []) refl e
 
-  string_anywhere : (p : Place) (s : List ℕ) (b : Bool) (more : Place → List Token) → AreThose (place_token p (string s) b more) → AreThose (place_token fresh (string s) b more)
+  string_anywhere : (p : Place) (s : List ℕ) (b : Bool) (more : Place → List Token)
+      → AreThose (place_token p (string s) b more) → AreThose (place_token fresh (string s) b more)
   string_anywhere p s true more e = closing (may_begin p) (key s) more after_key refl e
   string_anywhere p s false more e = allowed (may_begin p) (string s) more after_value e
 
   -- a value that begins anywhere begins a text as well
-  anywhere : (p : Place) (t : Token) (ls : List Lexeme) → AreThose (punctuate p (token t ∷ ls)) → AreThose (punctuate fresh (token t ∷ ls))
+  anywhere : (p : Place) (t : Token) (ls : List Lexeme) → AreThose (punctuate p (token t ∷ ls))
+      → AreThose (punctuate fresh (token t ∷ ls))
   unfolding punctuate
   anywhere p begin_object ls e = allowed (may_begin p) begin_object (λ n. punctuate n ls) fresh e
   anywhere p end_object ls e = closing (may_close p) end_object (λ n. punctuate n ls) after_value refl e
@@ -183,13 +236,22 @@ module _ (v : Json) (rest : List Token) where
   anywhere p null ls e = allowed (may_begin p) null (λ n. punctuate n ls) after_value e
   anywhere p bad ls e = never (bad ∷ []) refl e
 
--- The lexemes of the text are those of `front` and then those of `back`, which begins with a token: there the text begins with the value that the
--- tokens from there on begin with.
-pub goes_on : (text : List ℕ) (value : Json) (front back more : List Lexeme) (t : Token) (v : Json) (rest : List Token) → tokens text ≡ json_tokens value → lex between text ≡ front ++ back
-    → back ≡ token t ∷ more → drop (count_by is_token front) (tokens text) ≡ json_tokens v ++ rest → BeginsWith (punctuate fresh back) v
+-- The lexemes of the text are those of `front` and then those of `back`, which begins with a token: there the text
+-- begins with the value that the tokens from there on begin with.
+pub goes_on : (text : List ℕ) (value : Json) (front back more : List Lexeme) (t : Token) (v : Json) (rest : List Token)
+    → tokens text ≡ json_tokens value → lex between text ≡ front ++ back
+    → back ≡ token t ∷ more → drop (count_by is_token front) (tokens text) ≡ json_tokens v ++ rest
+    → BeginsWith (punctuate fresh back) v
 goes_on text value front back more t v rest spelled split first stands =
     let whole : punctuate fresh (front ++ back) ≡ json_tokens value = ap (punctuate fresh) (sym split) ∙ spelled in
     let P : List Token → Type 0 = AreGood in
     let r = resumes fresh front back (subst P (sym whole) (AreGood-json_tokens value)) in
-    let here : punctuate r.0 (token t ∷ more) ≡ json_tokens v ++ rest = ap (punctuate r.0) (sym first) ∙ sym r.1 ∙ ap (λ ls. drop (count_by is_token front) (punctuate fresh ls)) (sym split) ∙ stands in
-    (depth v, rest, ap (λ ls. value_of (depth v) (punctuate fresh ls)) first ∙ ap (value_of (depth v)) (anywhere v rest r.0 t more here) ∙ value-json_tokens v (depth v) rest (omega arith))
+    let here : punctuate r.0 (token t ∷ more) ≡ json_tokens v ++ rest =
+    ap (punctuate r.0) (sym first) ∙ sym r.1
+    ∙ ap (λ ls. drop (count_by is_token front) (punctuate fresh ls)) (sym split) ∙ stands in (
+      depth v,
+      rest,
+      ap (λ ls. value_of (depth v) (punctuate fresh ls)) first
+          ∙ ap (value_of (depth v)) (anywhere v rest r.0 t more here)
+          ∙ value-json_tokens v (depth v) rest (omega arith),
+    )

@@ -1,8 +1,10 @@
--- Where a JSON Pointer leads in a value (RFC 6901, section 4). A place is told by how many tokens of the value's text stand before it: the tokens
--- of a text are those of its value, one after another (`json_tokens`).
-use Rattle.std.specs.Prelude.{ℕ, zero, suc, ◌+◌, ◌==◌, List, [], ◌∷◌, ◌++◌, length, Bool, true, false, if◌then◌else◌, Option, Some, None, option_map, option_and_then}
+-- Where a JSON Pointer leads in a value (RFC 6901, section 4). A place is told by how many tokens of the value's text
+-- stand before it: the tokens of a text are those of its value, one after another (`json_tokens`).
+use Rattle.std.specs.Prelude.{ℕ, zero, suc, ◌+◌, ◌==◌, List, [], ◌∷◌, ◌++◌, length, Bool, true, false, if◌then◌else◌}
+use Rattle.std.specs.Prelude.{Option, Some, None, option_map, option_and_then}
 use Rattle.std.specs.Str.{bytes_eq}
-use Rattle.json.specs.Json.{Json, null, boolean, number, string, array, object, Items, no_items, item, Members, no_members, member}
+use Rattle.json.specs.Json.{Json, null, boolean, number, string, array, object, Items, no_items, item, Members}
+use Rattle.json.specs.Json.{no_members, member}
 use Rattle.json.specs.Tree.{json_tokens}
 use Rattle.serde_json.specs.Find.{unescape, index_of}
 
@@ -24,7 +26,8 @@ value_of = option_map (λ v. v.1)
 -- the value of the last member of that name; the name of a member is a token of its own
 abbrev pub member_of : List ℕ → Members → Option Found
 member_of name no_members = None
-member_of name (member k v ms) = later_or (behind (1 + length (json_tokens v)) (member_of name ms)) (if bytes_eq k name then Some (1, v) else None)
+member_of name (member k v ms) =
+    later_or (behind (1 + length (json_tokens v)) (member_of name ms)) (if bytes_eq k name then Some (1, v) else None)
 
 -- the element of that index
 abbrev pub element_of : ℕ → Items → Option Found

@@ -12,7 +12,8 @@ is_token colon = false
 abbrev pub token_count : List ℕ → ℕ
 token_count bytes = count_by is_token (lex between bytes)
 
--- Token number k of the text, counted from 0, begins at that offset: k tokens begin before it, and one more with the byte there.
+-- Token number k of the text, counted from 0, begins at that offset: k tokens begin before it, and one more with the
+-- byte there.
 pub record BeginsAt (text : List ℕ) (k offset : ℕ) : Type 0 where
   pub before : token_count (take offset text) ≡ k
   pub with_it : token_count (take (offset + 1) text) ≡ k + 1

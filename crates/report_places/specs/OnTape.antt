@@ -1,5 +1,6 @@
 -- What a look-up on a tape answers. No public clause cites this file.
-use Rattle.std.specs.Prelude.{◌≡◌, ℕ, ◌+◌, List, ◌++◌, ◌∷◌, ◌<◌, ◌≤◌, length, map, drop, Option, Some, None, MatchOption}
+use Rattle.std.specs.Prelude.{◌≡◌, ℕ, ◌+◌, List, ◌++◌, ◌∷◌, ◌<◌, ◌≤◌, length, map, drop, Option, Some, None}
+use Rattle.std.specs.Prelude.{MatchOption}
 use Rattle.std.specs.Borrow.{Bor}
 use Rattle.json.specs.Token.{Token, key}
 use Rattle.json.specs.Json.{Json, Members, no_members, after_end_array}
@@ -16,7 +17,8 @@ pub record StandsAt (ts : List Token) (from : ℕ) (v : Found) (at : ℕ) : Type
   pub begins : drop at ts ≡ json_tokens v.1 ++ rest
 
 abbrev pub IsFound : List Token → ℕ → Option Found → Option ℕ → Type 0
-IsFound ts from found result = MatchOption result (found ≡ None) (λ at. (v : Found) × (found ≡ Some v) × StandsAt ts from v at)
+IsFound ts from found result =
+    MatchOption result (found ≡ None) (λ at. (v : Found) × (found ≡ Some v) × StandsAt ts from v at)
 
 -- the tokens that the nodes stand for, from node i on
 abbrev pub left_at : List Node → ℕ → List Token
@@ -33,7 +35,8 @@ IsNodeAt nodes i result = MatchOption result (length nodes ≤ i) (IsNode nodes 
 -- the name is the key at node i; without one no member begins there
 abbrev pub IsNameAt : List Node → ℕ → Option (Bor (List ℕ)) → Type 0
 IsNameAt nodes i result =
-    MatchOption result ((ms : Members) (rest : List Token) → left_at nodes i ≡ members_tokens ms ++ rest → ms ≡ no_members)
+    MatchOption result ((ms : Members) (rest : List Token) → left_at nodes i ≡ members_tokens ms ++ rest
+    → ms ≡ no_members)
     (λ name. (i < length nodes) × (left_at nodes i ≡ key name.now ∷ left_at nodes (i + 1)))
 
 -- neither the end nor a closing bracket

@@ -9,8 +9,8 @@ use Rattle.report_places.specs.Lead.{lead}
 use Rattle.report_places.specs.Offset.{BeginsAt}
 use Rattle.report_places.specs.Position.{position_after}
 
--- In the text of that value, before the offset stand all tokens that come before the value that is reached, and from there on the text
--- begins with it.
+-- In the text of that value, before the offset stand all tokens that come before the value that is reached, and from
+-- there on the text begins with it.
 pub record IsPlaceOf (text : List ℕ) (value : Json) (pointer : List ℕ) (place : Place) : Type 0 where
   pub begins : BeginsAt text (lead pointer value).token place.offset
   pub goes_on : BeginsWith (tokens (drop place.offset text)) (lead pointer value).value
@@ -22,12 +22,14 @@ abbrev pub ArePlacesOf : List ℕ → Json → List (List ℕ) → List Place �
 ArePlacesOf text value [] [] = ⊤
 ArePlacesOf text value [] (place ∷ places) = ⊥
 ArePlacesOf text value (pointer ∷ pointers) [] = ⊥
-ArePlacesOf text value (pointer ∷ pointers) (place ∷ places) = IsPlaceOf text value pointer place × ArePlacesOf text value pointers places
+ArePlacesOf text value (pointer ∷ pointers) (place ∷ places) =
+    IsPlaceOf text value pointer place × ArePlacesOf text value pointers places
 
 -- of a text that is UTF-8
 abbrev pub AnswersText : List ℕ → List (List ℕ) → Option (Vec Place Global) → Type 0
 AnswersText text pointers None = document text ≡ None
-AnswersText text pointers (Some places) = (value : Json) × (document text ≡ Some value) × ArePlacesOf text value pointers places.items
+AnswersText text pointers (Some places) =
+    (value : Json) × (document text ≡ Some value) × ArePlacesOf text value pointers places.items
 
 -- of any bytes
 abbrev pub Answers : List ℕ → List (List ℕ) → Option (Vec Place Global) → Type 0

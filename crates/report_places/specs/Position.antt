@@ -1,5 +1,6 @@
 -- Lines and columns, counted from 1.
-use Rattle.std.specs.Prelude.{ℕ, ◌+◌, ◌==◌, ◌&&◌, List, [], ◌∷◌, ◌++◌, Bool, not, nat_le, nat_lt, count_by, if◌then◌else◌}
+use Rattle.std.specs.Prelude.{ℕ, ◌+◌, ◌==◌, ◌&&◌, List, [], ◌∷◌, ◌++◌, Bool, not, nat_le, nat_lt, count_by}
+use Rattle.std.specs.Prelude.{if◌then◌else◌}
 use Rattle.report_places.specs.declared.position.Position.{Position}
 
 -- in UTF-8 every byte but 10xxxxxx begins a character (RFC 3629, section 3)
@@ -19,11 +20,14 @@ last_line = last_line_from []
 
 -- of what follows these bytes
 unfoldable pub position_after : List ℕ → Position
-position_after bytes = record { line = 1 + count_by is_line_feed bytes; column = 1 + count_by begins_character (last_line bytes) }
+position_after bytes =
+    record { line = 1 + count_by is_line_feed bytes; column = 1 + count_by begins_character (last_line bytes) }
 
 -- a byte at a time; no public clause cites these two
 abbrev pub start : Position
 start = record { line = 1; column = 1 }
 
 abbrev pub step : Position → ℕ → Position
-step p b = if is_line_feed b then record { line = p.line + 1; column = 1 } else (if begins_character b then record { line = p.line; column = p.column + 1 } else p)
+step p b =
+    if is_line_feed b then record { line = p.line + 1; column = 1 }
+    else (if begins_character b then record { line = p.line; column = p.column + 1 } else p)

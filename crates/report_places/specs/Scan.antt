@@ -1,7 +1,8 @@
 -- Where tokens begin, a byte at a time. No public clause cites this file.
 use Rattle.std.specs.Prelude.{ℕ, ◌+◌, ◌==◌, ◌||◌, List, [], ◌∷◌, Bool, false, not, cond}
 use Rattle.json.specs.Word.{is_operator, is_space}
-use Rattle.json.specs.Lex.{Class, quote, backslash, operator, space, other, class, Mode, between, in_word, in_string, in_escape}
+use Rattle.json.specs.Lex.{Class, quote, backslash, operator, space, other, class, Mode, between, in_word, in_string}
+use Rattle.json.specs.Lex.{in_escape}
 use Rattle.report_places.specs.declared.mode.Mode as code
 use Rattle.report_places.specs.declared.mode.Mode.TheVariants.{Between, InWord, InString, InEscape}
 use Rattle.report_places.specs.declared.position.Position.{Position}
@@ -49,4 +50,5 @@ spot_if test offset position more = cond test (record { offset = offset; positio
 -- of the bytes from an offset on, which has that position
 unfoldable pub spots_from : Mode → Position → ℕ → List ℕ → List Spot
 spots_from m p offset [] = []
-spots_from m p offset (x ∷ xs) = spot_if (begins m x) offset p (spots_from (next_mode m (class x)) (step p x) (offset + 1) xs)
+spots_from m p offset (x ∷ xs) =
+    spot_if (begins m x) offset p (spots_from (next_mode m (class x)) (step p x) (offset + 1) xs)

@@ -3,7 +3,8 @@ ghost use Rattle.std.specs.Prelude.{◌≡◌, ◌≤◌, drop, take, length, op
 ghost use Rattle.std.specs.List.{prefix_len};
 ghost use Rattle.json.specs.Lex.{in_string};
 ghost use Rattle.json.specs.Align.{span};
-ghost use Rattle.report_places.specs.Shown.{goes_on as goes_on_lem, scalar as scalar_lem, first_characters, value_text as value_text_lem};
+ghost use Rattle.report_places.specs.Shown.{goes_on as goes_on_lem, scalar as scalar_lem, first_characters};
+ghost use Rattle.report_places.specs.Shown.{value_text as value_text_lem};
 
 use crate::mode::ends_word;
 use crate::position::begins_character;
@@ -11,8 +12,8 @@ use crate::position::begins_character;
 /// How many characters of a value are shown at most.
 const SHOWN: usize = 60;
 
-/// The bytes of the string, number or literal at an offset, up to 60 characters of them. None begins at any other byte, as
-/// at the bracket of an array.
+/// The bytes of the string, number or literal at an offset, up to 60 characters of them. None begins at any other byte,
+/// as at the bracket of an array.
 pub fn value_text(text: &[u8], offset: usize) -> Option<&[u8]>
     ensures { option_map (λ shown. shown.now) result ≡ value_text_lem (drop offset text.now) }
 {

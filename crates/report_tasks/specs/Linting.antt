@@ -1,5 +1,7 @@
--- What is printed of reports; own rules. `out` and `out'` are what the output has before and after, where that is known.
-use Rattle.std.specs.Prelude.{◌≡◌, ◌⊎◌, ◌||◌, ℕ, Bool, true, false, List, [], ◌∷◌, ◌++◌, map, Option, Result, Ok, Err, IfOk, IfErr, OnOk, if◌then◌else◌}
+-- What is printed of reports; own rules. `out` and `out'` are what the output has before and after, where that is
+-- known.
+use Rattle.std.specs.Prelude.{◌≡◌, ◌⊎◌, ◌||◌, ℕ, Bool, true, false, List, [], ◌∷◌, ◌++◌, map, Option, Result, Ok, Err}
+use Rattle.std.specs.Prelude.{IfOk, IfErr, OnOk, if◌then◌else◌}
 use Rattle.std.specs.Io.KnownBytes.{Appends}
 use Rattle.key_string.specs.Filer.{is_filer}
 use Rattle.command_line.specs.declared.fault.CommandFault.{CommandFault}
@@ -20,10 +22,12 @@ has_any (first ∷ more) = true
 -- the lines of these findings in a body are printed, and nothing if there are none
 abbrev pub PrintsFindings : Form → List ℕ → List ℕ → List Pair → Option (List ℕ) → Option (List ℕ) → Type 0
 PrintsFindings form file body [] out out' = out' ≡ out
-PrintsFindings form file body (first ∷ more) out out' = (text : List ℕ) × TellsOf form file body (first ∷ more) text × Appends out out' text
+PrintsFindings form file body (first ∷ more) out out' =
+    (text : List ℕ) × TellsOf form file body (first ∷ more) text × Appends out out' text
 
 -- What `lint` prints of a report: a line for each of its findings. It answers whether there is one.
-pub record FindsIn (form : Form) (filer file body : List ℕ) (out out' : Option (List ℕ)) (result : Result Bool CommandFault) : Type 0 where
+pub record FindsIn (form : Form) (filer file body : List ℕ) (out out' : Option (List ℕ))
+    (result : Result Bool CommandFault) : Type 0 where
   pub printed : OnOk result (PrintsFindings form file body (findings filer body) out out')
   pub found : IfOk result (λ is_found. is_found ≡ has_any (findings filer body))
   -- where it isn't the output that failed, nothing was printed
@@ -53,14 +57,17 @@ have_any filer (report ∷ reports) = has_any (findings filer report.1) || have_
 -- a body was read, and it is so; or it was not the output that failed, and nothing was printed
 abbrev pub LintsFile : Form → List ℕ → List ℕ → Option (List ℕ) → Option (List ℕ) → Result Bool LintFault → Type 0
 LintsFile form filer name out out' (Ok found) =
-    (body : List ℕ) × PrintsFindings form name body (findings filer body) out out' × (found ≡ has_any (findings filer body))
+    (body : List ℕ) × PrintsFindings form name body (findings filer body) out out'
+    × (found ≡ has_any (findings filer body))
 LintsFile form filer name out out' (Err fault) = (fault ≡ Command Output) ⊎ (out' ≡ out)
 
--- The findings of each file were printed, and it is answered whether there is one; or those of the first were, and of the next one nothing,
--- unless it was the output that failed.
-abbrev pub LintsFiles : Form → List ℕ → List (List ℕ) → Option (List ℕ) → Option (List ℕ) → Result Bool LintFault → Type 0
+-- The findings of each file were printed, and it is answered whether there is one; or those of the first were, and of
+-- the next one nothing, unless it was the output that failed.
+abbrev pub LintsFiles : Form → List ℕ → List (List ℕ) → Option (List ℕ) → Option (List ℕ) → Result Bool LintFault
+    → Type 0
 LintsFiles form filer names out out' (Ok found) =
-    (reports : List Read) × (names_of reports ≡ names) × PrintsEach form filer reports out out' × (found ≡ have_any filer reports)
+    (reports : List Read) × (names_of reports ≡ names) × PrintsEach form filer reports out out'
+    × (found ≡ have_any filer reports)
 LintsFiles form filer names out out' (Err fault) =
     (fault ≡ Command Output)
     ⊎ ((reports : List Read) × (next : List ℕ) × (rest : List (List ℕ)) × (names ≡ names_of reports ++ next ∷ rest)
@@ -68,10 +75,13 @@ LintsFiles form filer names out out' (Err fault) =
 
 -- ---- the status
 
--- The code is no filer's, and nothing is done; or the files are looked at, and the status is 1 exactly if one has a finding.
-abbrev pub LintsReports : Form → List ℕ → List (List ℕ) → Option (List ℕ) → Option (List ℕ) → Result ℕ LintFault → Type 0
+-- The code is no filer's, and nothing is done; or the files are looked at, and the status is 1 exactly if one has a
+-- finding.
+abbrev pub LintsReports : Form → List ℕ → List (List ℕ) → Option (List ℕ) → Option (List ℕ) → Result ℕ LintFault
+    → Type 0
 LintsReports form filer names out out' (Ok status) =
-    (is_filer filer ≡ true) × (found : Bool) × LintsFiles form filer names out out' (Ok found) × (status ≡ (if found then 1 else 0))
+    (is_filer filer ≡ true) × (found : Bool) × LintsFiles form filer names out out' (Ok found)
+    × (status ≡ (if found then 1 else 0))
 LintsReports form filer names out out' (Err fault) =
     ((is_filer filer ≡ false) × (fault ≡ Command Filer) × (out' ≡ out))
     ⊎ ((is_filer filer ≡ true) × LintsFiles form filer names out out' (Err fault))

@@ -11,10 +11,15 @@ pub record Comes (first : World) (events : List Event) (number : ℕ) (world : W
   pub there : numbered events number ≡ Some event
   pub run : Run first (take (number - 1) events) world
 
--- Why a run of these events ended. An event that a fault tells was come to; with NoSuch it can't be played, with Store it asks an outbox,
--- and with Reopen it can be played, and stops an end or restarts it. The making of the world counts as 0.
+-- Why a run of these events ended. An event that a fault tells was come to; with NoSuch it can't be played, with Store
+-- it asks an outbox, and with Reopen it can be played, and stops an end or restarts it. The making of the world counts
+-- as 0.
 abbrev pub EndsBy : World → List Event → Fault → Type 0
-EndsBy first events (NoSuch n) = (world : World) × (event : Event) × Comes first events n world event × CannotPlay world event
+EndsBy first events (NoSuch n) =
+    (world : World) × (event : Event) × Comes first events n world event × CannotPlay world event
 EndsBy first events Memory = Unit {0}
-EndsBy first events (Store n) = (n ≡ 0) ⊎ ((world : World) × (event : Event) × Comes first events n world event × AsksOutbox world event)
-EndsBy first events (Reopen n) = (n ≡ 0) ⊎ ((world : World) × (event : Event) × Comes first events n world event × Closes event × (¬ CannotPlay world event))
+EndsBy first events (Store n) =
+    (n ≡ 0) ⊎ ((world : World) × (event : Event) × Comes first events n world event × AsksOutbox world event)
+EndsBy first events (Reopen n) =
+    (n ≡ 0) ⊎ ((world : World) × (event : Event) × Comes first events n world event × Closes event
+    × (¬ CannotPlay world event))

@@ -6,8 +6,8 @@ ghost use Rattle.filing_world.specs.Step.{Run};
 ghost use Rattle.filing_world.specs.Headline.{AreFilers, Holds, start};
 ghost use Rattle.schedule.specs.Ending.{EndsBy};
 
+use end_processes::Honest;
 use event_script::Event;
-use filing_ends::Honest;
 use std::alloc::Global;
 use world_events::{Fault, World};
 

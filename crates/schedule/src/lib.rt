@@ -1,10 +1,10 @@
-//! The headline: a list of events, played on a new world. What may live here: the run of a list, and why one ended. What one
-//! event does to the world is known by `world_events`.
+//! The headline: a list of events, played on a new world. What may live here: the run of a list, and why one ended.
+//! What one event does to the world is known by `world_events`.
 #![tactic(auto)]
 
 mod events;
 
+pub use end_processes::{Durable, Honest};
 pub use event_script::{Crash, Event, Script, ScriptFault, read_script};
 pub use events::run;
-pub use filing_ends::{Durable, Honest};
 pub use world_events::{Fault, Output, Sent, World};

@@ -12,6 +12,8 @@ use Rattle.sqlite.specs.Files.{file_state}
 pub are_clean : {D : Type 0} (g : Ghosts D) → ((d : D) → g.is_clean d ≡ true) → (log db : D) → AreClean g log db
 are_clean g honest log db = rw (honest log, honest db) refl
 
-pub always_clean : {D : Type 0} {g : Ghosts D} → ((d : D) → g.is_clean d ≡ true) → (c : Held (FileStore D g)) → HasCleanDisk (file_state c)
+pub always_clean : {D : Type 0} {g : Ghosts D} → ((d : D) → g.is_clean d ≡ true) → (c : Held (FileStore D g))
+    → HasCleanDisk (file_state c)
 unfolding state doubt
-always_clean {D} {g} honest c = rw (honest c.store.pool.backing.pager.log.log, honest c.store.pool.backing.pager.log.db) refl
+always_clean {D} {g} honest c =
+    rw (honest c.store.pool.backing.pager.log.log, honest c.store.pool.backing.pager.log.db) refl

@@ -1,12 +1,14 @@
 -- Why a query that is understood may fail.
-use Rattle.std.proofs.Common.{◌≡◌, ◌≢◌, ◌≤◌, ℕ, inl, inr, List, [], length, Any, None, Ok, Err, Result, refl, sym, ap, subst, subst₂, ◌∙◌, true, true≢false}
+use Rattle.std.proofs.Common.{◌≡◌, ◌≢◌, ◌≤◌, ℕ, inl, inr, List, [], length, Any, None, Ok, Err, Result, refl, sym, ap}
+use Rattle.std.proofs.Common.{subst, subst₂, ◌∙◌, true, true≢false}
 use Rattle.sqlite.specs.Schema.{Schema}
 use Rattle.sqlite.specs.Term.{Term}
 use Rattle.sqlite.specs.Query.{Query}
 use Rattle.sqlite.specs.Clock.{timed}
 use Rattle.sqlite.specs.Listing.{understood, IsSourceOf}
 use Rattle.sqlite.specs.Effect.{RefusesToRead, RefusesQuery}
-use Rattle.sqlite.specs.State.{State, IsStatement, IsNoStatement, IsNotRun, HasCause, Fails, FailsToShow, FailsToQuery, store_error}
+use Rattle.sqlite.specs.State.{State, IsStatement, IsNoStatement, IsNotRun, HasCause, Fails, FailsToShow, FailsToQuery}
+use Rattle.sqlite.specs.State.{store_error}
 use Rattle.sqlite.specs.declared.error.Error.{Error}
 use Rattle.sqlite.proofs.Callers.{IsPlain, command_of}
 use Rattle.sqlite_value.specs.declared.keys.Key.{Key}
@@ -38,10 +40,12 @@ pub record IsWhole (schema : Schema) (sql : List ℕ) (q : Query) : Type 0 where
 none_of : {X : Type 0} (xs : List X) → ¬ Any (λ (x : X). ⊥) xs
 none_of xs h = h.4
 
-failed_text : (s : State) (sql : List ℕ) (q : Query) (e : Error) → Asks s.now.schema sql q → IsWhole s.now.schema sql q → ¬ IsNoStatement s sql [] e
+failed_text : (s : State) (sql : List ℕ) (q : Query) (e : Error) → Asks s.now.schema sql q → IsWhole s.now.schema sql q
+    → ¬ IsNoStatement s sql [] e
 failed_text s sql q e asks whole (inl bad) = let is = rw bad.1 at asks.is in cc
 failed_text s sql q e asks whole (inr (c, is, inl many)) = many.0 (rw is at whole.tail)
-failed_text s sql q e asks whole (inr (c, is, inr (inl count))) = let none : c.names ≡ [] = rw is at whole.unnamed in count.0 (rw none refl)
+failed_text s sql q e asks whole (inr (c, is, inr (inl count))) = let none : c.names ≡ [] = rw is at whole.unnamed in
+    count.0 (rw none refl)
 failed_text s sql q e asks whole (inr (c, is, inr (inr clock))) = let plain = rw is at asks.plain in clock.0 plain.1
 
 failed_store : (old new : State) (e : Error) → Fails old new ⊥ e → cause_of e ≢ Other
@@ -60,14 +64,16 @@ module _ (sql : List ℕ) (tree : ℕ) (test columns : List Term) (order : List 
   abbrev q : Query
   q = one_table tree test columns order
 
-  module _ (asks : Asks old.now.schema sql q) (whole : IsWhole old.now.schema sql q) (unlimited : old.step_limit ≡ None) where
+  module _ (asks : Asks old.now.schema sql q) (whole : IsWhole old.now.schema sql q)
+      (unlimited : old.step_limit ≡ None) where
     failed_read : (e : Error) → ¬ RefusesQuery old.step_limit old.now (record { lets = []; body = q }) [] e
     failed_read e (inl kind) = absurd (true≢false (sym whole.typed ∙ kind.1))
     failed_read e (inr (inl (big, inl group))) = group
     failed_read e (inr (inl (big, inr fold))) = none_of _ fold
     failed_read e (inr (inr limit)) = let some = rw unlimited at limit.1 in cc
 
-    failed_show : (c : Compiled) (it : IsStatement old sql [] c) (e : Error) → ¬ FailsToShow old new sql c (timed [] c.formats it.now) e c.returning
+    failed_show : (c : Compiled) (it : IsStatement old sql [] c) (e : Error)
+        → ¬ FailsToShow old new sql c (timed [] c.formats it.now) e c.returning
     failed_show c it e h =
         let bare = subst IsPlain it.is asks.plain in
         let known : command_of (understood old.now.schema sql) ≡ c.command = ap command_of it.is in

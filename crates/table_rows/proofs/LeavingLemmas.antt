@@ -1,11 +1,13 @@
 -- Calls that only read, one after another.
-use Rattle.std.proofs.Common.{◌≡◌, ◌∙◌, inl, inr, ℕ, ◌≤◌, false, List, Result, Ok, Err, IsTrue, IfOk, IfErr, OnOk, refl, arith}
+use Rattle.std.proofs.Common.{◌≡◌, ◌∙◌, inl, inr, ℕ, ◌≤◌, false, List, Result, Ok, Err, IsTrue, IfOk, IfErr, OnOk, refl}
+use Rattle.std.proofs.Common.{arith}
 use Rattle.std.proofs.lemmas.Bool.{cases_Bool}
 use Rattle.sqlite.specs.Order.{Row}
 use Rattle.sqlite.specs.Effect.{Database}
 use Rattle.sqlite.specs.Store.{Ghosts}
 use Rattle.sqlite.specs.Held.{Held, state}
-use Rattle.sqlite.specs.State.{State, HasCleanDisk, IsUnchanged, IsRolledBack, KeepsCounts, KeepsCommit, HasCause, Shown, FailsToQuery, CommitsShowing, Survives}
+use Rattle.sqlite.specs.State.{State, HasCleanDisk, IsUnchanged, IsRolledBack, KeepsCounts, KeepsCommit, HasCause}
+use Rattle.sqlite.specs.State.{Shown, FailsToQuery, CommitsShowing, Survives}
 use Rattle.sqlite.specs.declared.error.Error.{Error}
 use Rattle.sqlite.proofs.Callers.{unchanged_then}
 use Rattle.sqlite.proofs.StateLemmas.{unchanged}
@@ -43,7 +45,8 @@ module _ (a b c : State) (p : IsUntouched a b) where
   back_then : IsRolledBack b c → IsRolledBack a c
   back_then back = record {
     was_open = λ alive. p.was_open (back.was_open alive);
-    undone = λ alive. let u = p.same (p.was_open (back.was_open alive)) in ((back.undone alive).0 ∙ u.0.committed_is, (back.undone alive).1 ∙ u.0.committed_is);
+    undone = λ alive. let u = p.same (p.was_open (back.was_open alive)) in
+        ((back.undone alive).0 ∙ u.0.committed_is, (back.undone alive).1 ∙ u.0.committed_is);
     autocommit = back.autocommit;
     unmarked = back.unmarked;
     counts = counts_then back.counts;
@@ -118,43 +121,56 @@ ended {l} {a} {b} p = record { left = λ clean. ended_as l a b (p.left clean); m
 -- no call was made
 pub none_yet : (s : State) → Leaves Passed s s
 none_yet s = record {
-  left = λ clean. record { was_open = λ alive. alive; same = unchanged s; counts = record { changes = refl; last_rowid = refl } };
+  left = λ clean. record {
+    was_open = λ alive. alive;
+    same = unchanged s;
+    counts =
+        record { changes = refl; last_rowid = refl };
+  };
   mode = λ idle. idle;
   survives = nothing_yet s;
 }
 
-untouched_stands : (Is : Database → Type 0) (a b : State) → b.in_transaction ≡ false → IsUntouched a b → HasCommitted Is a → HasCommitted Is b
+untouched_stands : (Is : Database → Type 0) (a b : State) → b.in_transaction ≡ false → IsUntouched a b
+    → HasCommitted Is a → HasCommitted Is b
 untouched_stands Is a b idle u was = record {
   autocommit = idle;
   now = λ alive. (stands_on Is a b (inl (u.same (u.was_open alive))) was).now alive;
   committed = λ alive. (stands_on Is a b (inl (u.same (u.was_open alive))) was).committed alive;
 }
 
-ended_stands : (Is : Database → Type 0) (a b : State) → b.in_transaction ≡ false → IsLeft Ended a b → HasCommitted Is a → HasCommitted Is b
+ended_stands : (Is : Database → Type 0) (a b : State) → b.in_transaction ≡ false → IsLeft Ended a b → HasCommitted Is a
+    → HasCommitted Is b
 ended_stands Is a b idle (inl u) was = untouched_stands Is a b idle u was
 ended_stands Is a b idle (inr back) was = stands_on Is a b (inr back) was
 
 -- what was committed is committed still
-pub stands : {l : Ending} {a b : State} {Is : Database → Type 0} → Leaves l a b → HasCleanDisk b → HasCommitted Is a → HasCommitted Is b
+pub stands : {l : Ending} {a b : State} {Is : Database → Type 0} → Leaves l a b → HasCleanDisk b → HasCommitted Is a
+    → HasCommitted Is b
 stands {l} {a} {b} {Is} p clean was = ended_stands Is a b (p.mode was.autocommit) (ended_as l a b (p.left clean)) was
 
 ended_commits : (a b : State) → IsLeft Ended a b → KeepsCommit a b
-ended_commits a b (inl u) = record { was_open = u.was_open; committed = λ alive. (u.same (u.was_open alive)).0.committed_is }
+ended_commits a b (inl u) =
+    record { was_open = u.was_open; committed = λ alive. (u.same (u.was_open alive)).0.committed_is }
 ended_commits a b (inr back) = record { was_open = back.was_open; committed = λ alive. (back.undone alive).1 }
 
 pub keeps_commit : {l : Ending} {a b : State} → Leaves l a b → HasCleanDisk b → KeepsCommit a b
 keeps_commit {l} {a} {b} p clean = ended_commits a b (ended_as l a b (p.left clean))
 
 -- and an answer leaves the store open
-pub opens : {X E : Type 0} {a b : State} (result : Result X E) → Leaves (ending_of Asked (λ _. Ended) result) a b → HasCleanDisk b → OnOk result (IsTrue b.is_open)
+pub opens : {X E : Type 0} {a b : State} (result : Result X E) → Leaves (ending_of Asked (λ _. Ended) result) a b
+    → HasCleanDisk b → OnOk result (IsTrue b.is_open)
 opens (Ok x) p clean = (p.left clean).0.is_open
 opens (Err e) p clean = tt
 
 -- ---- a query
 
-module _ {S V : Type 0} (g : Ghosts S) (sql : List ℕ) (query : IsQueryText sql) (params : Row) (items : V → List Row) where
-  pub query_reads : (a b : Held S) (r : Result V Error) → (HasCleanDisk (state g b) → IfOk r (λ rows. Shown sql params (state g a) (state g b) (items rows)))
-      → (HasCleanDisk (state g b) → IfErr r (FailsToQuery sql params (state g a) (state g b))) → (a.in_transaction ≡ false → b.in_transaction ≡ false)
+module _ {S V : Type 0} (g : Ghosts S) (sql : List ℕ) (query : IsQueryText sql) (params : Row) (items : V
+    → List Row) where
+  pub query_reads : (a b : Held S) (r : Result V Error)
+      → (HasCleanDisk (state g b) → IfOk r (λ rows. Shown sql params (state g a) (state g b) (items rows)))
+      → (HasCleanDisk (state g b) → IfErr r (FailsToQuery sql params (state g a) (state g b)))
+      → (a.in_transaction ≡ false → b.in_transaction ≡ false)
       → Survives (state g a) (state g b) (CommitsShowing sql params (state g a)) → OnlyQueries g a b r
   query_reads a b (Ok rows) shown failed mode survives = record {
     left = λ clean. query_same sql query params (state g a) (state g b) (items rows) (shown clean);

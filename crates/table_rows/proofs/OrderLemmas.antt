@@ -1,5 +1,6 @@
 -- Rows that rise by whole numbers.
-use Rattle.std.proofs.Common.{◌≡◌, ℕ, ◌+◌, ◌<◌, pos, Bool, true, false, List, [], ◌∷◌, map, length, get_or, Some, Less, refl, sym, ap, ◌∙◌, arith, int_cmp, nat_eq}
+use Rattle.std.proofs.Common.{◌≡◌, ℕ, ◌+◌, ◌<◌, pos, Bool, true, false, List, [], ◌∷◌, map, length, get_or, Some, Less}
+use Rattle.std.proofs.Common.{refl, sym, ap, ◌∙◌, arith, int_cmp, nat_eq}
 use Rattle.std.specs.Prelude.{bytes_eq}
 use Rattle.std.specs.Ordering.{is_eq}
 use Rattle.std.proofs.lemmas.Map.Text.{is_eq-slice_cmp}
@@ -23,13 +24,16 @@ use Rattle.table_rows.specs.Reading.{ascending, RisesBy}
 pub int_less : (m n : ℕ) → m < n → key_cmp 0 (ascending ∷ []) (Int (pos m) ∷ []) (Int (pos n) ∷ []) ≡ Less
 int_less m n h = last_key (value_cmp-Int (pos m) (pos n)) ∙ Less-from_lt (pos m) (pos n) (grind (arith, ints))
 
-module _ {X : Type 0} (row : ℕ → X → Row) (sort : Row → Row) (sorts : (at : ℕ) (x : X) → sort (row at x) ≡ Int (pos at) ∷ []) where
+module _ {X : Type 0} (row : ℕ → X → Row) (sort : Row → Row) (sorts : (at : ℕ) (x : X)
+    → sort (row at x) ≡ Int (pos at) ∷ []) where
   abbrev Before : Row → Row → Type 0
   Before a b = key_cmp 0 (map (λ _. ascending) (sort a)) (sort a) (sort b) ≡ Less
 
-  counted_after : (m : ℕ) (y : X) (at : ℕ) (xs : List X) → m < at → AllByRecursion (Before (row m y)) (counted_from row at xs)
+  counted_after : (m : ℕ) (y : X) (at : ℕ) (xs : List X)
+      → m < at → AllByRecursion (Before (row m y)) (counted_from row at xs)
   counted_after m y at [] h = tt
-  counted_after m y at (x ∷ xs) h = (rw (sorts m y, sorts at x) (int_less m at h), counted_after m y (at + 1) xs (omega arith))
+  counted_after m y at (x ∷ xs) h =
+      (rw (sorts m y, sorts at x) (int_less m at h), counted_after m y (at + 1) xs (omega arith))
 
   -- rows that are counted rise by their count
   pub counted_rise : (at : ℕ) (xs : List X) → RisesBy sort (counted_from row at xs)

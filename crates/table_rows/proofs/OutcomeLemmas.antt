@@ -18,12 +18,14 @@ use Rattle.table_rows.proofs.StopLemmas.{query_stopped}
 use Rattle.table_rows.proofs.TextLemmas.{query_same, query_survives}
 
 -- after an answer, a call that may not have asked
-pub asked_first : {X E : Type 0} {a b c : State} (refused : E → Ending) (result : Result X E) → Leaves Asked a b → Leaves (ending_of Passed refused result) b c → Leaves (ending_of Asked refused result) a c
+pub asked_first : {X E : Type 0} {a b c : State} (refused : E → Ending) (result : Result X E) → Leaves Asked a b
+    → Leaves (ending_of Passed refused result) b c → Leaves (ending_of Asked refused result) a c
 asked_first refused (Ok x) p q = asked_before p q
 asked_first refused (Err e) p q = asked_then p q
 
 -- after calls a result of our own: an answer, or a refusal in other words
-pub concluded : {X E : Type 0} {l : Ending} {a b : State} (result : Result X E) → Leaves l a b → Leaves (ending_of l (λ _. Ended) result) a b
+pub concluded : {X E : Type 0} {l : Ending} {a b : State} (result : Result X E) → Leaves l a b
+    → Leaves (ending_of l (λ _. Ended) result) a b
 concluded (Ok x) p = p
 concluded (Err e) p = ended p
 
@@ -45,7 +47,9 @@ module _ (sql : List ℕ) (query : IsQueryText sql) (params : Row) (a b : State)
   none_same (inr failed) = absurd (store_errors failed.0 failed.1)
 
 module _ {S : Type 0} (g : Ghosts S) (sql : List ℕ) (query : IsQueryText sql) (params : Row) (a b : Held S) where
-  pub first_reads : (r : Result (Option Row) Error) → (HasCleanDisk (state g b) → QueriesRow sql params (state g a) (state g b) (row_or_none r)) → (a.in_transaction ≡ false → b.in_transaction ≡ false)
+  pub first_reads : (r : Result (Option Row) Error)
+      → (HasCleanDisk (state g b) → QueriesRow sql params (state g a) (state g b) (row_or_none r))
+      → (a.in_transaction ≡ false → b.in_transaction ≡ false)
       → Survives (state g a) (state g b) (CommitsShowing sql params (state g a)) → OnlyQueries g a b r
   first_reads (Ok (Some row)) h mode survives = record {
     left = λ clean. row_same sql query params (state g a) (state g b) row (h clean);
@@ -53,7 +57,8 @@ module _ {S : Type 0} (g : Ghosts S) (sql : List ℕ) (query : IsQueryText sql) 
     survives = query_survives sql query params (state g a) (state g b) survives;
   }
   first_reads (Ok None) h mode survives = record {
-    left = λ clean. none_same sql query params (state g a) (state g b) (row_stopped sql query params (state g a) (state g b) QueryReturnedNoRows (h clean));
+    left = λ clean. none_same sql query params (state g a) (state g b)
+        (row_stopped sql query params (state g a) (state g b) QueryReturnedNoRows (h clean));
     mode = mode;
     survives = query_survives sql query params (state g a) (state g b) survives;
   }

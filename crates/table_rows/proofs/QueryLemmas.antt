@@ -1,5 +1,6 @@
 -- What a query reads of a database that stands.
-use Rattle.std.proofs.Common.{◌≡◌, ℕ, inl, inr, false, List, [], ◌∷◌, slice_get, Option, Some, None, Ok, Err, Result, IsTrue, IfOk, refl}
+use Rattle.std.proofs.Common.{◌≡◌, ℕ, inl, inr, false, List, [], ◌∷◌, slice_get, Option, Some, None, Ok, Err, Result}
+use Rattle.std.proofs.Common.{IsTrue, IfOk, refl}
 use Rattle.sqlite.specs.Order.{Row}
 use Rattle.sqlite.specs.Program.{overlay}
 use Rattle.sqlite.specs.Query.{Query}
@@ -27,7 +28,8 @@ pub record Tells (Is : Database → Type 0) (q : Query) (params : Row) (db : Dat
   pub stood : Is db
   pub answer : IsSureAnswer q (overlay db.trees []) params rows
 
-module _ (Is : Database → Type 0) (sql : List ℕ) (q : Query) (asks : (db : Database) → Is db → Asks db.schema sql q) (params : Row) (old new : State) (was : HasCommitted Is old) where
+module _ (Is : Database → Type 0) (sql : List ℕ) (q : Query) (asks : (db : Database) → Is db
+    → Asks db.schema sql q) (params : Row) (old new : State) (was : HasCommitted Is old) where
   known : IsTrue old.is_open → IsPlain (understood old.now.schema sql)
   known alive = (asks old.now (was.now alive)).plain
 
@@ -38,10 +40,15 @@ module _ (Is : Database → Type 0) (sql : List ℕ) (q : Query) (asks : (db : D
   all_told rows h =
       let stood = was.now (shown_same rows h).0.was_open in
       let it = asks old.now stood in
-      record { stood = stood; answer = (reads_as sql params old new old.now.schema refl _ it.is it.plain it.listing rows h).answer }
+      record {
+        stood = stood;
+        answer =
+            (reads_as sql params old new old.now.schema refl _ it.is it.plain it.listing rows h).answer;
+      }
 
   -- the first row is that of an answer, and where there is none an answer has no row
-  pub first_told : (r : Result (Option Row) Error) → QueriesRow sql params old new (row_or_none r) → IfOk r (λ row. (rows : List Row) × Tells Is q params old.now rows × (slice_get rows 0 ≡ row))
+  pub first_told : (r : Result (Option Row) Error) → QueriesRow sql params old new (row_or_none r)
+      → IfOk r (λ row. (rows : List Row) × Tells Is q params old.now rows × (slice_get rows 0 ≡ row))
   unfolding QueriesRow
   first_told (Ok (Some row)) h =
       let stood = was.now (row_found sql params old new known row h).0.was_open in

@@ -1,5 +1,6 @@
 -- What a SELECT over one table shows.
-use Rattle.std.proofs.Common.{◌≡◌, ℕ, ◌^◌, ◌-◌, pos, negsuc, Bool, true, false, cond, List, [], ◌∷◌, ◌++◌, map, filter, slice_get, nat_le, None, refl, sym, ap, subst, ◌∙◌, IsPermutation, Less}
+use Rattle.std.proofs.Common.{◌≡◌, ℕ, ◌^◌, ◌-◌, pos, negsuc, Bool, true, false, cond, List, [], ◌∷◌, ◌++◌, map, filter}
+use Rattle.std.proofs.Common.{slice_get, nat_le, None, refl, sym, ap, subst, ◌∙◌, IsPermutation, Less}
 use Rattle.std.specs.Prelude.{flat_map, if◌then◌else◌, unwrap_or}
 use Rattle.std.specs.List.{list_all}
 use Rattle.std.proofs.lemmas.List.Sorted.{IsPermutation-map, IsPermutation-trans}
@@ -30,9 +31,12 @@ one_table tree test project order = record {
   offset = lit (Int (pos 0));
 }
 
-flat_if : {A B : Type 0} (p : A → Bool) (f : A → B) (xs : List A) → flat_map (λ x. if p x then f x ∷ [] else []) xs ≡ map f (filter p xs)
+flat_if : {A B : Type 0} (p : A → Bool) (f : A → B) (xs : List A)
+    → flat_map (λ x. if p x then f x ∷ [] else []) xs ≡ map f (filter p xs)
 flat_if p f [] = refl
-flat_if p f (x ∷ xs) = elim (p x) as (λ b. (if b then f x ∷ [] else []) ++ flat_map (λ x. if p x then f x ∷ [] else []) xs ≡ map f (cond b (x ∷ filter p xs) (filter p xs)))
+flat_if p f (x ∷ xs) =
+    elim (p x) as (λ b. (if b then f x ∷ [] else []) ++ flat_map (λ x. if p x then f x ∷ [] else []) xs
+    ≡ map f (cond b (x ∷ filter p xs) (filter p xs)))
     [ true ↦ ap (λ l. f x ∷ l) (flat_if p f xs) | false ↦ flat_if p f xs ]
 
 none_given : {X : Type 0} (b : Bool) (n : ℕ) → (if b then slice_get {X = X} [] n else None) ≡ None
@@ -51,9 +55,12 @@ map-same f g same [] = refl
 map-same f g same (x ∷ xs) = rw (same x) (ap (λ l. g x ∷ l) (map-same f g same xs))
 
 -- a filter before a map is one after it
-filter-map : {A B : Type 0} (f : A → B) (p : A → Bool) (q : B → Bool) → ((x : A) → p x ≡ q (f x)) → (xs : List A) → map f (filter p xs) ≡ filter q (map f xs)
+filter-map : {A B : Type 0} (f : A → B) (p : A → Bool) (q : B → Bool) → ((x : A) → p x ≡ q (f x)) → (xs : List A)
+    → map f (filter p xs) ≡ filter q (map f xs)
 filter-map f p q same [] = refl
-filter-map f p q same (x ∷ xs) = rw (same x) (elim (q (f x)) as (λ b. map f (cond b (x ∷ filter p xs) (filter p xs)) ≡ cond b (f x ∷ filter q (map f xs)) (filter q (map f xs)))
+filter-map f p q same (x ∷ xs) =
+    rw (same x) (elim (q (f x)) as (λ b. map f (cond b (x ∷ filter p xs) (filter p xs))
+    ≡ cond b (f x ∷ filter q (map f xs)) (filter q (map f xs)))
     [ true ↦ ap (λ l. f x ∷ l) (filter-map f p q same xs) | false ↦ filter-map f p q same xs ])
 
 module _ (tree : ℕ) (test project : List Term) (order : List (Term × Key)) (db : Trees) (params : Row) (rows : List Row)
@@ -71,7 +78,8 @@ module _ (tree : ℕ) (test project : List Term) (order : List (Term × Key)) (d
   a = answer (Int (pos 0))
 
   staged_is : a.staged ≡ map env (filter keeps (db tree))
-  staged_is = a.grouped ∙ flat_if keeps env (overlay db [] tree) ∙ ap (λ rs. map env (filter keeps rs)) (plain_overlay db tree)
+  staged_is =
+      a.grouped ∙ flat_if keeps env (overlay db [] tree) ∙ ap (λ rs. map env (filter keeps rs)) (plain_overlay db tree)
 
   kept_is : a.kept ≡ map (λ r. output q (env r)) (filter keeps (db tree))
   kept_is = a.distinct ∙ ap (map (output q)) staged_is ∙ map-map env (output q) (filter keeps (db tree))
@@ -87,17 +95,21 @@ module _ (tree : ℕ) (test project : List Term) (order : List (Term × Key)) (d
     told =
         let same : map (λ r. output q (env r)) (filter keeps (db tree)) ≡ map show (filter keep (map shown (db tree))) =
         map-same (λ r. output q (env r)) (λ r. show (shown r)) show_is (filter keeps (db tree))
-        ∙ sym (map-map shown show (filter keeps (db tree))) ∙ ap (map show) (filter-map shown keeps keep keep_is (db tree)) in
-        IsPermutation-trans _ _ _ (IsPermutation-map show _ _ (IsPermutation-filter keep _ _ holds_rows)) (subst (λ l. IsPermutation l a.ordered) same outputs)
+        ∙ sym (map-map shown show (filter keeps (db tree)))
+        ∙ ap (map show) (filter-map shown keeps keep keep_is (db tree)) in
+        IsPermutation-trans _ _ _ (IsPermutation-map show _ _ (IsPermutation-filter keep _ _ holds_rows))
+        (subst (λ l. IsPermutation l a.ordered) same outputs)
 
     -- with no order the rows are those that pass the test, in some order
     pub selects : IsPermutation (map (λ w. (show w).1) (filter keep wanted)) rows
     selects =
         let moved = IsPermutation-map (λ (o : Output). o.1) _ _ told in
-        subst (λ l. IsPermutation l rows) (map-map show (λ (o : Output). o.1) (filter keep wanted)) (subst (IsPermutation (map (λ (o : Output). o.1) (map show (filter keep wanted)))) (sym a.shown) moved)
+        subst (λ l. IsPermutation l rows) (map-map show (λ (o : Output). o.1) (filter keep wanted))
+        (subst (IsPermutation (map (λ (o : Output). o.1) (map show (filter keep wanted)))) (sym a.shown) moved)
 
     -- where the order has no ties, they are those in that order
-    pub selects_in_order : IsAscending (λ x y. output_cmp q x y ≡ Less) (map show (filter keep wanted)) → rows ≡ map (λ w. (show w).1) (filter keep wanted)
+    pub selects_in_order : IsAscending (λ x y. output_cmp q x y ≡ Less) (map show (filter keep wanted))
+        → rows ≡ map (λ w. (show w).1) (filter keep wanted)
     selects_in_order rises =
         let ordered = sorted_unique (output_cmp q) (output_cmp_total q) _ a.ordered rises told a.sorted in
         a.shown ∙ ap (map (λ (o : Output). o.1)) ordered ∙ map-map show (λ (o : Output). o.1) (filter keep wanted)

@@ -13,7 +13,8 @@ use Rattle.sqlite.specs.Clock.{timed}
 use Rattle.sqlite.specs.Command.{Command}
 use Rattle.sqlite.specs.Command.TheVariants.{Select, Rows}
 use Rattle.sqlite.specs.Listing.{understood}
-use Rattle.sqlite.specs.State.{State, IsStatement, IsNoStatement, IsUnchanged, RunsCommand, ShowsRows, FailsToShow, FailsToQuery, IsNotRun, Shown, QueriesRow, store_error}
+use Rattle.sqlite.specs.State.{State, IsStatement, IsNoStatement, IsUnchanged, RunsCommand, ShowsRows, FailsToShow}
+use Rattle.sqlite.specs.State.{FailsToQuery, IsNotRun, Shown, QueriesRow, store_error}
 use Rattle.sqlite.proofs.Callers.{IsPlain}
 use Rattle.table_rows.specs.Standing.{HasCommitted, Keeps}
 
@@ -25,11 +26,13 @@ stands_on Is old new (inl same) was = record {
 }
 stands_on Is old new (inr back) was = record {
   autocommit = back.autocommit;
-  now = λ alive. subst Is (sym ((back.undone alive).0 ∙ was.committed (back.was_open alive))) (was.now (back.was_open alive));
+  now = λ alive. subst Is (sym ((back.undone alive).0 ∙ was.committed (back.was_open alive)))
+      (was.now (back.was_open alive));
   committed = λ alive. (back.undone alive).1 ∙ sym (back.undone alive).0;
 }
 
-pub run_keeps : (sql : List ℕ) (old new : State) (c : Compiled) (full : Row) (e : Error) → RunsCommand old new sql c full (Err e) → Keeps old new
+pub run_keeps : (sql : List ℕ) (old new : State) (c : Compiled) (full : Row) (e : Error)
+    → RunsCommand old new sql c full (Err e) → Keeps old new
 run_keeps sql old new c full e (inl refused) = inl refused.1
 run_keeps sql old new c full e (inr failed) = inr failed.3
 
@@ -41,7 +44,8 @@ store_errors Full e = cc
 store_errors Broken e = cc
 store_errors Unstorable e = cc
 
-reading_errors : (limit : Option ℕ) (k : Command) (db : Database) (params : Row) → RefusesToRead limit k db params QueryReturnedNoRows → ⊥
+reading_errors : (limit : Option ℕ) (k : Command) (db : Database) (params : Row)
+    → RefusesToRead limit k db params QueryReturnedNoRows → ⊥
 reading_errors limit (Select q shows) db params (inl h) = let e = h.0 in cc
 reading_errors limit (Select q shows) db params (inr (inl h)) = let e = h.0 in cc
 reading_errors limit (Select q shows) db params (inr (inr h)) = let e = h.0 in cc
@@ -50,14 +54,21 @@ reading_errors limit _ db params h = cc
 
 text_errors : (s : State) (sql : List ℕ) (params : Row) → IsNoStatement s sql params QueryReturnedNoRows → ⊥
 text_errors s sql params (inl h) = let e = h.2 in cc
-text_errors s sql params (inr h) = elim h.2 [ inl many ↦ (let e = many.1 in cc) | inr other ↦ elim other [ inl count ↦ (let e = count.1 in cc) | inr clock ↦ (let e = clock.1 in cc) ] ]
+text_errors s sql params (inr h) =
+    elim h.2 [
+      | inl many ↦ (let e = many.1 in cc)
+      | inr other ↦ elim other
+          [ inl count ↦ (let e = count.1 in cc) | inr clock ↦ (let e = clock.1 in cc) ]
+    ]
 
 -- a query that writes nothing
-module _ (sql : List ℕ) (params : Row) (old new : State) (plain : IsTrue old.is_open → IsPlain (understood old.now.schema sql)) where
+module _ (sql : List ℕ) (params : Row) (old new : State) (plain : IsTrue old.is_open
+    → IsPlain (understood old.now.schema sql)) where
   no_returning : (c : Compiled) → IsStatement old sql params c → IsTrue old.is_open → c.returning ≡ None
   no_returning c it alive = (subst IsPlain it.is (plain alive)).0
 
-  shows_keep : (c : Compiled) (it : IsStatement old sql params c) (full : Row) (rows : List Row) (o : Option Returning) → c.returning ≡ o → ShowsRows old new sql c full rows o → IsUnchanged old new
+  shows_keep : (c : Compiled) (it : IsStatement old sql params c) (full : Row) (rows : List Row) (o : Option Returning)
+      → c.returning ≡ o → ShowsRows old new sql c full rows o → IsUnchanged old new
   shows_keep c it full rows None is h = h.3
   shows_keep c it full rows (Some what) is h = absurd (let none = no_returning c it h.1.shown.was_open in cc)
 
@@ -70,7 +81,8 @@ module _ (sql : List ℕ) (params : Row) (old new : State) (plain : IsTrue old.i
   row_found row (inl h) = h.1
   row_found row (inr h) = shown_keeps h.0 h.1
 
-  shows_errors : (c : Compiled) (it : IsStatement old sql params c) (full : Row) (o : Option Returning) → c.returning ≡ o → FailsToShow old new sql c full QueryReturnedNoRows o → ⊥
+  shows_errors : (c : Compiled) (it : IsStatement old sql params c) (full : Row) (o : Option Returning)
+      → c.returning ≡ o → FailsToShow old new sql c full QueryReturnedNoRows o → ⊥
   shows_errors c it full None is h = reading_errors old.step_limit c.command h.0 full h.2
   shows_errors c it full (Some what) is (inl refused) = let none = no_returning c it refused.1.0.was_open in cc
   shows_errors c it full (Some what) is (inr failed) = store_errors failed.0 failed.1
@@ -83,5 +95,6 @@ module _ (sql : List ℕ) (params : Row) (old new : State) (plain : IsTrue old.i
   failed_with_rows (inr h) = shows_errors h.0 h.1 (timed params h.0.formats h.1.now) h.0.returning refl h.2
 
 -- what a crash leaves of an open store are the rows that it shows
-pub lasting : (Is : Database → Type 0) (s : State) → HasCommitted Is s → IsTrue s.is_open → (trees : Trees) → trees ≡ s.committed.trees → trees ≡ s.now.trees
+pub lasting : (Is : Database → Type 0) (s : State) → HasCommitted Is s → IsTrue s.is_open → (trees : Trees)
+    → trees ≡ s.committed.trees → trees ≡ s.now.trees
 lasting Is s h alive trees last = last ∙ ap (λ (d : Database). d.trees) (h.committed alive)

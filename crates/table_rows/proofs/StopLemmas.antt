@@ -1,5 +1,7 @@
 -- Why a statement stops, and how many rows a table has by COUNT(*).
-use Rattle.std.proofs.Common.{◌≡◌, ◌<◌, ◌≤◌, inl, inr, ℕ, min, ◌^◌, ◌-◌, suc, pos, true, false, List, [], ◌∷◌, map, filter, length, Option, Some, None, IfSome, refl, sym, ap, subst, ◌∙◌, arith, IsPermutation}
+use Rattle.std.proofs.Common.{◌≡◌, ◌<◌, ◌≤◌, inl, inr, ℕ, min, ◌^◌, ◌-◌, suc, pos, true, false, List, [], ◌∷◌, map}
+use Rattle.std.proofs.Common.{filter, length, Option, Some, None, IfSome, refl, sym, ap, subst, ◌∙◌, arith}
+use Rattle.std.proofs.Common.{IsPermutation}
 use Rattle.std.specs.Prelude.{flat_map}
 use Rattle.std.specs.List.{AllZip}
 use Rattle.std.proofs.lemmas.List.Sorted.{length_permutation}
@@ -17,7 +19,8 @@ use Rattle.sqlite.specs.Command.TheVariants as command
 use Rattle.sqlite.specs.Effect.{Database, RefusesToRead}
 use Rattle.sqlite.specs.Program.{overlay}
 use Rattle.sqlite.specs.Query.{Query, IsAnswerAs, Output, output}
-use Rattle.sqlite.specs.State.{State, Shown, Fails, FailsToQuery, FailsToShow, IsNoStatement, IsNotRun, IsUnchanged, HasCause, IsRolledBack}
+use Rattle.sqlite.specs.State.{State, Shown, Fails, FailsToQuery, FailsToShow, IsNoStatement, IsNotRun, IsUnchanged}
+use Rattle.sqlite.specs.State.{HasCause, IsRolledBack}
 use Rattle.sqlite.specs.declared.error.Error.{Error}
 use Rattle.sqlite.proofs.Callers.{reads_as, one_permutation}
 use Rattle.sqlite_disk.specs.Disk.{MoreFaults}
@@ -40,7 +43,8 @@ use Rattle.table_rows.proofs.TextLemmas.{IsQueryText, no_returning}
 
 -- ---- why a statement stops
 
-refused_other : (limit : Option ℕ) (c : Command) (db : Database) (params : Row) (e : Error) → RefusesToRead limit c db params e → cause_of e ≡ Other
+refused_other : (limit : Option ℕ) (c : Command) (db : Database) (params : Row) (e : Error)
+    → RefusesToRead limit c db params e → cause_of e ≡ Other
 refused_other limit (command.Select q names) db params e (inl kind) = ap cause_of kind.0
 refused_other limit (command.Select q names) db params e (inr (inl big)) = ap cause_of big.0
 refused_other limit (command.Select q names) db params e (inr (inr stop)) = ap cause_of stop.0
@@ -54,7 +58,8 @@ no_statement s sql params e (inr (c, is, inr (inl count))) = ap cause_of count.1
 no_statement s sql params e (inr (c, is, inr (inr clock))) = ap cause_of clock.1
 
 module _ (sql : List ℕ) (query : IsQueryText sql) (params : Row) (old new : State) (e : Error) where
-  not_shown : (c : Compiled) (full : Row) (o : Option Returning) → o ≡ None → FailsToShow old new sql c full e o → IsStopped old new e
+  not_shown : (c : Compiled) (full : Row) (o : Option Returning) → o ≡ None → FailsToShow old new sql c full e o
+      → IsStopped old new e
   not_shown c full None none h = inl (h.3, refused_other old.step_limit c.command h.0 full e h.2)
   not_shown c full (Some what) none h = absurd cc
 
@@ -62,7 +67,8 @@ module _ (sql : List ℕ) (query : IsQueryText sql) (params : Row) (old new : St
   unfolding FailsToQuery IsNotRun
   query_stopped (inl (inl none)) = inl (none.1, no_statement old sql params e none.0)
   query_stopped (inl (inr failed)) = inr failed
-  query_stopped (inr h) = not_shown h.0 (timed params h.0.formats h.1.now) h.0.returning (no_returning sql query params old new h.0 h.1) h.2
+  query_stopped (inr h) =
+      not_shown h.0 (timed params h.0.formats h.1.now) h.0.returning (no_returning sql query params old new h.0 h.1) h.2
 
 more_faults : (a b c : ℕ) → a ≤ b → MoreFaults b c → MoreFaults a c
 more_faults a b c low more = omega (arith, low, more)
@@ -82,10 +88,18 @@ failed_after a b c e same low failed = (failed.0, failed.1, caused failed.0 fail
     rolled_back : IsRolledBack a c
     rolled_back = record {
       was_open = λ alive. same.0.was_open;
-      undone = λ alive. ((failed.3.undone alive).0 ∙ same.0.committed_is, (failed.3.undone alive).1 ∙ same.0.committed_is);
+      undone = λ alive. (
+        (failed.3.undone alive).0 ∙ same.0.committed_is,
+        (failed.3.undone alive).1
+            ∙ same.0.committed_is,
+      );
       autocommit = failed.3.autocommit;
       unmarked = failed.3.unmarked;
-      counts = record { changes = failed.3.counts.changes ∙ same.1.changes; last_rowid = failed.3.counts.last_rowid ∙ same.1.last_rowid };
+      counts = record {
+        changes = failed.3.counts.changes ∙ same.1.changes;
+        last_rowid =
+            failed.3.counts.last_rowid ∙ same.1.last_rowid;
+      };
     }
 
 pub length_mapped : {X Y : Type 0} (f : X → Y) (xs : List X) → length (map f xs) ≡ length xs
@@ -103,12 +117,20 @@ abbrev as_counted : ℕ → Value
 as_counted n = Int (pos (min n 9223372036854775807))
 
 abbrev all_rows : Grouping
-all_rows = record { keys = []; collations = []; aggregates = record { op = CountRows; distinct = false; collation = Binary; argument = lit Null } ∷ []; having = [] }
+all_rows =
+    record {
+      keys = [];
+      collations = [];
+      aggregates =
+          record { op = CountRows; distinct = false; collation = Binary; argument = lit Null } ∷ [];
+      having = [];
+    }
 
 summary_row : (order : List Env) (r : Row) → IsSummary all_rows order r → r ≡ as_counted (length order) ∷ []
 summary_row order r h = go h.0 h.1 h.2
   where
-    go : (values : Row) → AllZip (λ a v. value_over order a ≡ Some v) all_rows.aggregates values → r ≡ values → r ≡ as_counted (length order) ∷ []
+    go : (values : Row) → AllZip (λ a v. value_over order a ≡ Some v) all_rows.aggregates values → r ≡ values
+        → r ≡ as_counted (length order) ∷ []
     go [] z e = absurd z
     go (v ∷ []) z e =
         let told : Some (as_counted (length (map (eval (lit Null)) order))) ≡ Some v = z.0 in
@@ -116,12 +138,14 @@ summary_row order r h = go h.0 h.1 h.2
         e ∙ ap (λ x. x ∷ []) (sym same ∙ ap as_counted (length_mapped (eval (lit Null)) order))
     go (v ∷ w ∷ vs) z e = absurd z.1
 
-one_summary : (order : List Env) (rs : List Row) → AllZip (IsSummary all_rows) (order ∷ []) rs → rs ≡ (as_counted (length order) ∷ []) ∷ []
+one_summary : (order : List Env) (rs : List Row) → AllZip (IsSummary all_rows) (order ∷ []) rs
+    → rs ≡ (as_counted (length order) ∷ []) ∷ []
 one_summary order [] h = absurd h
 one_summary order (r ∷ []) h = ap (λ x. x ∷ []) (summary_row order r h.0)
 one_summary order (r ∷ s ∷ rs) h = absurd h.1
 
-module _ (tree : ℕ) (db : Trees) (rows : List Row) (answer : IsSureAnswer (counting (one_table tree [] [] [])) (overlay db []) [] rows) where
+module _ (tree : ℕ) (db : Trees) (rows : List Row)
+    (answer : IsSureAnswer (counting (one_table tree [] [] [])) (overlay db []) [] rows) where
   abbrev q : Query
   q = counting (one_table tree [] [] [])
 
@@ -143,7 +167,8 @@ module _ (tree : ℕ) (db : Trees) (rows : List Row) (answer : IsSureAnswer (cou
   rows_are : parts.rows ≡ (as_counted (length (db tree)) ∷ []) ∷ []
   rows_are =
       let order = parts.grouping.0 in
-      one_summary order parts.rows (subst (λ g. AllZip (IsSummary all_rows) g parts.rows) parts.grouping.2 parts.summaries)
+      one_summary order parts.rows (subst (λ g. AllZip (IsSummary all_rows) g parts.rows) parts.grouping.2
+      parts.summaries)
       ∙ ap (λ n. (as_counted n ∷ []) ∷ []) (length_permutation matched order parts.grouping.1 ∙ size)
 
   staged_is : a.staged ≡ env (as_counted (length (db tree)) ∷ []) ∷ []
@@ -153,21 +178,30 @@ module _ (tree : ℕ) (db : Trees) (rows : List Row) (answer : IsSureAnswer (cou
   kept_is = a.distinct ∙ ap (map (output q)) staged_is
 
   pub counted : rows ≡ (as_counted (length (db tree)) ∷ []) ∷ []
-  counted = a.shown ∙ ap (map (λ (o : Output). o.1)) (one_permutation ([], as_counted (length (db tree)) ∷ []) a.ordered (subst (λ k. IsPermutation k a.ordered) kept_is a.same))
+  counted =
+      a.shown ∙ ap (map (λ (o : Output). o.1)) (one_permutation (
+        [],
+        as_counted (length (db tree)) ∷ [],
+      ) a.ordered (subst (λ k. IsPermutation k a.ordered) kept_is a.same))
 
 as_many : (n m : ℕ) → min n 9223372036854775807 ≡ m → m < 2 ^ 63 - 1 → m ≡ n
 as_many n m is low = omega (arith, is, low)
 
-module _ (ours : List Table) (table : Table) (sql : List ℕ) (asks : (s : Schema) → BeginsWith ours s → Asks s sql (counting (one_table table.tree [] [] []))) (old new : State) (d : BeginsWith ours old.now.schema) (rows : List Row) (h : Shown sql [] old new rows) where
-  pub counts_to : (count : ℕ) → count < 2 ^ 63 - 1 → rows ≡ (Int (pos count) ∷ []) ∷ [] → count ≡ length (rows_in old.now table)
+module _ (ours : List Table) (table : Table) (sql : List ℕ) (asks : (s : Schema) → BeginsWith ours s
+    → Asks s sql (counting (one_table table.tree [] [] []))) (old new : State) (d : BeginsWith ours old.now.schema)
+    (rows : List Row) (h : Shown sql [] old new rows) where
+  pub counts_to : (count : ℕ) → count < 2 ^ 63 - 1 → rows ≡ (Int (pos count) ∷ []) ∷ []
+      → count ≡ length (rows_in old.now table)
   counts_to count low is =
       let it = asks old.now.schema d in
       let answer = (reads_as sql [] old new old.now.schema refl _ it.is it.plain it.listing rows h).answer in
       let all = old.now.trees table.tree in
-      let told : (Int (pos count) ∷ []) ∷ [] ≡ (as_counted (length all) ∷ []) ∷ [] = sym is ∙ counted table.tree old.now.trees rows answer in
+      let told : (Int (pos count) ∷ []) ∷ [] ≡ (as_counted (length all) ∷ []) ∷ [] =
+      sym is ∙ counted table.tree old.now.trees rows answer in
       let same : count ≡ min (length all) 9223372036854775807 = cc in
       as_many (length all) count (sym same) low ∙ sym (length_mapped (shown table) all)
 
-  pub told_count : (found : Option ℕ) → IfSome found (λ n. (n < 2 ^ 63 - 1) × (rows ≡ (Int (pos n) ∷ []) ∷ [])) → IfSome found (λ n. n ≡ length (rows_in old.now table))
+  pub told_count : (found : Option ℕ) → IfSome found (λ n. (n < 2 ^ 63 - 1) × (rows ≡ (Int (pos n) ∷ []) ∷ []))
+      → IfSome found (λ n. n ≡ length (rows_in old.now table))
   told_count None says = tt
   told_count (Some n) says = counts_to n says.0 says.1

@@ -1,7 +1,8 @@
 -- The causes of the refusals of `sqlite`, and how a call on the rows of a store tells them.
 use Rattle.sqlite.specs.declared.error.Error.{Error}
 use Rattle.sqlite.specs.declared.error.Error.TheVariants.{SqliteFailure}
-use Rattle.sqlite.specs.declared.error.ErrorCode.TheVariants.{OutOfMemory, SystemIoFailure, DatabaseCorrupt, DiskFull, Closed}
+use Rattle.sqlite.specs.declared.error.ErrorCode.TheVariants.{OutOfMemory, SystemIoFailure, DatabaseCorrupt, DiskFull}
+use Rattle.sqlite.specs.declared.error.ErrorCode.TheVariants.{Closed}
 use Rattle.table_rows.specs.declared.cause.Cause.{Cause}
 use Rattle.table_rows.specs.declared.cause.Cause.TheVariants.{Memory, Disk, Other}
 use Rattle.table_rows.specs.declared.fault.StoreFault.{StoreFault}

@@ -32,8 +32,8 @@ IsLeft Passed old new = IsUntouched old new
 IsLeft Ended old new = IsUntouched old new ⊎ IsRolledBack old new
 IsLeft (Stopped error) old new = IsStopped old new error
 
--- Where the disk is clean at the end, the call left the connection so. It begins no transaction and commits nothing: a crash inside it
--- leaves what one before it could leave.
+-- Where the disk is clean at the end, the call left the connection so. It begins no transaction and commits nothing: a
+-- crash inside it leaves what one before it could leave.
 pub record Leaves (ending : Ending) (old new : State) : Type 0 where
   pub left : HasCleanDisk new → IsLeft ending old new
   pub mode : old.in_transaction ≡ false → new.in_transaction ≡ false
@@ -65,8 +65,11 @@ pub record OnlyWrites {S : Type 0} (g : Ghosts S) (old new : MutBor (Held S)) : 
   pub survives : CommitsNothing (state g old.now) (state g new.now)
 
 -- What a statement inside a transaction does. It is refused if none is under way.
-pub record RunsInside {S : Type 0} (g : Ghosts S) (sql : List ℕ) (params : Row) (old new : MutBor (Held S)) (result : Result (Unit {0}) Error) : Type 0 where
+pub record RunsInside {S : Type 0} (g : Ghosts S) (sql : List ℕ) (params : Row) (old new : MutBor (Held S))
+    (result : Result (Unit {0}) Error) : Type 0 where
   pub inside : OnOk result (IsTrue (state g old.now).in_transaction)
-  pub ran : HasCleanDisk (state g new.now) → OnOk result ((count : ℕ) × ExecutesInside 0 sql params (state g old.now) (state g new.now) (Ok count))
-  pub failed : HasCleanDisk (state g new.now) → IsTrue (state g old.now).in_transaction → IfErr result (λ error. ExecutesInside 0 sql params (state g old.now) (state g new.now) (Err error))
+  pub ran : HasCleanDisk (state g new.now)
+      → OnOk result ((count : ℕ) × ExecutesInside 0 sql params (state g old.now) (state g new.now) (Ok count))
+  pub failed : HasCleanDisk (state g new.now) → IsTrue (state g old.now).in_transaction
+      → IfErr result (λ error. ExecutesInside 0 sql params (state g old.now) (state g new.now) (Err error))
   pub leaves : OnlyWrites g old new

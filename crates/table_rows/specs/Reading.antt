@@ -18,9 +18,11 @@ ascending = record { collation = Binary; descending = false }
 abbrev pub RisesBy : (Row → Row) → List Row → Type 0
 RisesBy sort = IsAscending (λ a b. key_cmp 0 (map (λ _. ascending) (sort a)) (sort a) (sort b) ≡ Less)
 
--- of the table's rows those that pass `keep` were read, as `show` has them: in some order, and in the order of `sort` where
--- that has no ties; nothing was written
-pub record ReadsRows (table : Table) (keep : Row → Bool) (sort show : Row → Row) (rows : List Row) (old new : State) : Type 0 where
+-- of the table's rows those that pass `keep` were read, as `show` has them: in some order, and in the order of `sort`
+-- where that has no ties; nothing was written
+pub record ReadsRows (table : Table) (keep : Row → Bool) (sort show : Row
+    → Row) (rows : List Row) (old new : State) : Type 0 where
   pub same : IsUnchanged old new
   pub any : (wanted : List Row) → TableHas old.now table wanted → IsPermutation (map show (filter keep wanted)) rows
-  pub ordered : (wanted : List Row) → TableHas old.now table wanted → RisesBy sort (filter keep wanted) → rows ≡ map show (filter keep wanted)
+  pub ordered : (wanted : List Row) → TableHas old.now table wanted → RisesBy sort (filter keep wanted)
+      → rows ≡ map show (filter keep wanted)

@@ -1,5 +1,6 @@
 -- The rows of a table, and what a statement makes of them.
-use Rattle.std.specs.Prelude.{◌≡◌, ◌≢◌, ℕ, ◌+◌, List, [], ◌∷◌, ◌++◌, map, length, Option, Some, None, Result, Ok, Err, IsTrue, IsPermutation}
+use Rattle.std.specs.Prelude.{◌≡◌, ◌≢◌, ℕ, ◌+◌, List, [], ◌∷◌, ◌++◌, map, length, Option, Some, None, Result, Ok, Err}
+use Rattle.std.specs.Prelude.{IsTrue, IsPermutation}
 use Rattle.std.specs.List.{range_with_len, AllByRecursion}
 use Rattle.sqlite.specs.Order.{Row, column}
 use Rattle.sqlite.specs.Table.{Table}
@@ -26,7 +27,8 @@ KeepsOthers ours table old new = AllByRecursion (λ t. t.tree ≢ table.tree →
 pub record Gains (ours : List Table) (table : Table) (rows : List Row) (old new : Database) : Type 0 where
   pub schema_is : new.schema ≡ old.schema
   pub sound : IsDatabase old → IsDatabase new
-  pub gained : IsPermutation (rows ++ map (shown table) (old.trees table.tree)) (map (shown table) (new.trees table.tree))
+  pub gained : IsPermutation (rows ++ map (shown table) (old.trees table.tree))
+      (map (shown table) (new.trees table.tree))
   pub others : KeepsOthers ours table old new
 
 -- so it is inside a transaction, which goes on

@@ -16,11 +16,13 @@ no_schema = record { tables = []; indexes = []; views = [] }
 
 -- a NOT NULL column of a STRICT table
 abbrev pub needed : List ℕ → Kind → Column
-needed name kind = record { name = name; kind = kind; is_strict = true; not_null = true; default = Null; collation = Binary }
+needed name kind =
+    record { name = name; kind = kind; is_strict = true; not_null = true; default = Null; collation = Binary }
 
 -- a column of a STRICT table that may be NULL
 abbrev pub optional : List ℕ → Kind → Column
-optional name kind = record { name = name; kind = kind; is_strict = true; not_null = false; default = Null; collation = Binary }
+optional name kind =
+    record { name = name; kind = kind; is_strict = true; not_null = false; default = Null; collation = Binary }
 
 -- a STRICT table with no check, reference or default
 abbrev pub table : List ℕ → ℕ → List Column → Option ℕ → List ℕ → List (List ℕ) → List Order → Table

@@ -3,7 +3,8 @@ use Rattle.std.proofs.Common.{◌≡◌, ℕ, Bool, true, false, inl, inr, List,
 use Rattle.std.proofs.lemmas.Bool.{cases_Bool}
 use Rattle.vectors.specs.Report.{AreSomeOf}
 
-pub some_of : {X : Type 0} (name : X → ℕ) (p : X → Bool) (xs : List X) → AreSomeOf (map name xs) (map name (filter p xs))
+pub some_of : {X : Type 0} (name : X → ℕ) (p : X → Bool) (xs : List X)
+    → AreSomeOf (map name xs) (map name (filter p xs))
 unfolding AreSomeOf
 some_of name p [] = refl
 some_of name p (x ∷ xs) = ⊎_elim

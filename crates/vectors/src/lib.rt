@@ -1,5 +1,5 @@
 //! The worked examples of the protocol as vectors: which of them pass. What may live here: the numbers of the examples
-//! and the report on a run of them all. The examples are in `vector_rows` and `schedule_rows`.
+//! and the report on a run of them all. The examples are in `vector_examples` and `schedule_examples`.
 #![tactic(auto)]
 
 mod run;

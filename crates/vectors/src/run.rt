@@ -69,10 +69,10 @@ fn run(alloc: Global, number: u32) -> Result<Outcome, AllocError>
 {
     let calls = match number {
         15 | 16 => None,
-        _ => Some(vector_rows::run(alloc, number)?),
+        _ => Some(vector_examples::run(alloc, number)?),
     };
     let script = match number {
-        15 | 16 | 24 | 27 => Some(schedule_rows::run(alloc, number)?),
+        15 | 16 | 24 | 27 => Some(schedule_examples::run(alloc, number)?),
         _ => None,
     };
     Ok(Outcome {

@@ -11,5 +11,6 @@ use Rattle.world_ends.specs.declared.server.Delivered.{Delivered}
 pub record IsDelivered (old new : Served) (bytes : List ℕ) (crash : Crash) (delivered : Delivered) : Type 0 where
   pub before : delivered.before ≡ length old.done
   pub arrivals : List Arrival
-  pub serves : ServesUntil old.limit old.done bytes crash arrivals delivered.marks.items delivered.ended delivered.text.items
+  pub serves : ServesUntil old.limit old.done bytes crash arrivals delivered.marks.items delivered.ended
+      delivered.text.items
   pub becomes : new ≡ record old { done = old.done ++ completed arrivals delivered.marks.items; up = is_no crash }

@@ -17,8 +17,8 @@ use Rattle.intake_core.specs.Held.{store_of, has_stopped}
 use Rattle.intake_process.specs.Process.{KeepsBy, IsNotOpened}
 use Rattle.intake_process.specs.declared.fault.OpeningFault.{OpeningFault}
 use Rattle.intake_process.specs.declared.process.IntakeProcess.{IntakeProcess}
-use Rattle.filing_ends.specs.Causes.{opening_cause, close_cause}
-use Rattle.filing_ends.specs.declared.cause.Cause.{Cause}
+use Rattle.end_processes.specs.Causes.{opening_cause, close_cause}
+use Rattle.end_processes.specs.declared.cause.Cause.{Cause}
 
 -- the files that lie in it
 abbrev pub lying_in : {D : Type 0} → Drawer D → Option (Option (Files D))
@@ -47,20 +47,25 @@ is_asleep None = true
 -- ---- why it is not opened or closed
 
 -- its register was not opened, or not made, for a fault of this cause
-abbrev pub IsNotStarted : {D : Type 0} → Ghosts D → Bool → Option (Option (Files D)) → Option (Option (Files D)) → Cause → Type 0
+abbrev pub IsNotStarted : {D : Type 0} → Ghosts D → Bool → Option (Option (Files D)) → Option (Option (Files D)) → Cause
+    → Type 0
 IsNotStarted g has_to_be_there old new why =
     (fault : OpeningFault) × IsNotOpened g has_to_be_there old new fault × (why ≡ opening_cause fault)
 
 -- its register was open, and was not closed for an error of this cause; the files that were left lie in its place
-abbrev pub IsNotStopped : {D : Type 0} {g : Ghosts D} → Option (Intake (FileStore D g)) → Option (Option (Files D)) → Cause → Type 0
+abbrev pub IsNotStopped : {D : Type 0} {g : Ghosts D} → Option (Intake (FileStore D g)) → Option (Option (Files D))
+    → Cause → Type 0
 IsNotStopped (Some intake) lying why =
-    (files : Files _) × (error : Error) × (lying ≡ Some (Some files)) × IsNotClosed (store_of intake).conn files error × (why ≡ close_cause error)
+    (files : Files _) × (error : Error) × (lying ≡ Some (Some files)) × IsNotClosed (store_of intake).conn files error
+    × (why ≡ close_cause error)
 IsNotStopped None lying why = ⊥
 
 -- ---- what it serves
 
--- A connection was served after these requests, to its end or up to a stop, and the process keeps those that are kept after it.
-pub record ServesPart {D : Type 0} {g : Ghosts D} (limit : ℕ) (before : List Request) (from to : Wire) (crash : Crash) (process : IntakeProcess D (Drawer D) g) (part : Partly) : Type 0 where
+-- A connection was served after these requests, to its end or up to a stop, and the process keeps those that are kept
+-- after it.
+pub record ServesPart {D : Type 0} {g : Ghosts D} (limit : ℕ) (before : List Request) (from to : Wire) (crash : Crash)
+    (process : IntakeProcess D (Drawer D) g) (part : Partly) : Type 0 where
   pub after : List Request
   pub keeps : KeepsSurely process limit after
   pub serves : ServesConnectionUntil (keeping limit [] before after) from to crash part.marks.items part.ended

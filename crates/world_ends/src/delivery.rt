@@ -12,7 +12,7 @@ ghost use Rattle.gateway_server.specs.Stopping.{view_stop};
 ghost use Rattle.world_ends.specs.Processes.{KeepsSurely, ServesPart};
 
 use database_places::Drawer;
-use filing_ends::{Given, Honest, Kept};
+use end_processes::{Given, Honest, Kept};
 use filing_model::{Ended, Mark};
 use gateway_server::{Partly, Served, Stop, serve_until};
 use http_wire::{ConnFault, Sink, Source};

@@ -1,6 +1,7 @@
 //! The filer's end: the process that its outbox runs in, with a copy of its entries.
 
-ghost use Rattle.std.specs.Prelude.{◌≡◌, ◌≢◌, ◌↔◌, ℕ, map, true, false, Option, Some, option_map, IsSome, IfOk, IfSome, OnOk, Err};
+ghost use Rattle.std.specs.Prelude.{◌≡◌, ◌≢◌, ◌↔◌, ℕ, map, true, false, Option, Some, option_map, IsSome, IfOk, IfSome};
+ghost use Rattle.std.specs.Prelude.{OnOk, Err};
 ghost use Rattle.key_string.specs.Key.{IsKey};
 ghost use Rattle.key_string.specs.Filer.{is_filer};
 ghost use Rattle.http_messages.specs.Reply.{ReplyParts};
@@ -15,11 +16,11 @@ ghost use Rattle.outbox_core.specs.OutboxParts.{HasEntries};
 ghost use Rattle.outbox_core.specs.Entries.{opened};
 ghost use Rattle.event_script.specs.Events.{view_crash};
 ghost use Rattle.filer_client.specs.Exchange.{request_at};
-ghost use Rattle.filing_ends.specs.Listed.{listed};
+ghost use Rattle.end_processes.specs.Listed.{listed};
 
 use crate::report::{Report, set_state};
+use end_processes::{Cause, Honest, OutboxProcess};
 use event_script::Crash;
-use filing_ends::{Cause, Honest, OutboxProcess};
 use key_string::KeyText;
 use outbox_core::{Outbox, State, StoreFault};
 use sqlite::FileStore;
@@ -37,7 +38,7 @@ pub struct Filer<D: Honest> {
 
 impl<D: Honest> Model for Filer<D> {
     ghost use Rattle.std.specs.Prelude.{string_bytes};
-    ghost use Rattle.filing_ends.specs.OutboxProcess.{Keeps, is_up, is_asleep};
+    ghost use Rattle.end_processes.specs.OutboxProcess.{Keeps, is_up, is_asleep};
     ghost use Rattle.world_ends.specs.Filers.{FilerParts};
 
     ghost Value = { FilerParts };
@@ -167,8 +168,8 @@ impl<D: Honest> Filer<D> {
         Ok(())
     }
 
-    /// The number and the state of each entry, in the order of the numbers. `Store` comes if the outbox is down, and else
-    /// only if its database refused.
+    /// The number and the state of each entry, in the order of the numbers. `Store` comes if the outbox is down, and
+    /// else only if its database refused.
     pub fn states(&mut self) -> Result<Vec<(u64, State)>, StoreFault>
         ensures same { self.new.box ≡ self.old.box }
         ensures list { IfOk result (λ s.

@@ -6,7 +6,7 @@ ghost use Rattle.filing_model.specs.Register.{register};
 ghost use Rattle.world_ends.specs.Processes.{KeepsSurely, IsNotStarted, IsNotStopped, is_asleep, lying_in};
 
 use database_places::{Cache, Drawer, Opening};
-use filing_ends::{Cause, Honest};
+use end_processes::{Cause, Honest};
 use intake_core::Unavailable;
 use intake_process::{Closed, IntakeProcess};
 use register_store::Registered;

@@ -1,6 +1,7 @@
 //! The intake's end: the process that it runs in, with the requests that it completed.
 
-ghost use Rattle.std.specs.Prelude.{◌≡◌, ◌≢◌, ◌≤◌, ◌^◌, ◌++◌, ◌↔◌, [], ℕ, List, true, false, Some, IsSome, is_some, IfOk, IfSome, OnOk, Err, length};
+ghost use Rattle.std.specs.Prelude.{◌≡◌, ◌≢◌, ◌≤◌, ◌^◌, ◌++◌, ◌↔◌, [], ℕ, List, true, false, Some, IsSome, is_some};
+ghost use Rattle.std.specs.Prelude.{IfOk, IfSome, OnOk, Err, length};
 ghost use Rattle.http_messages.specs.Message.{Arrival, Ending};
 ghost use Rattle.event_script.specs.Events.{view_crash};
 ghost use Rattle.filing_model.specs.Request.{Request, firsts};
@@ -16,8 +17,8 @@ ghost use Rattle.world_ends.specs.Processes.{KeepsSurely};
 use crate::delivery::{Exchange, serve_bytes};
 use crate::opening::{close, make, open, registered};
 use database_places::Drawer;
+use end_processes::{Cause, Honest};
 use event_script::Crash;
-use filing_ends::{Cause, Honest};
 use filing_model::{Ended, Mark};
 use gateway_server::{Stop, completed};
 use intake_core::{Intake, Unavailable};
@@ -200,8 +201,8 @@ impl<D: Honest> Server<D> {
         Ok(())
     }
 
-    /// The registered requests under their numbers, ascending. `Down` comes if it is down, and after `Store`; `Full` never
-    /// comes.
+    /// The registered requests under their numbers, ascending. `Down` comes if it is down, and after `Store`; `Full`
+    /// never comes.
     pub fn register(&mut self) -> Result<Vec<Registered>, Unavailable>
         ensures list { IfOk result (λ rows. rows.items ≡ register self.old.done) }
         ensures down { self.old.up ≡ false → result ≡ Err Unavailable.Down }

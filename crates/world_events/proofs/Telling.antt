@@ -2,9 +2,9 @@
 use Rattle.std.proofs.Common.{◌≡◌, ◌≢◌, ℕ, refl}
 use Rattle.table_rows.specs.declared.fault.StoreFault.{StoreFault}
 use Rattle.table_rows.specs.declared.fault.StoreFault.TheVariants as store
-use Rattle.filing_ends.specs.Causes.{store_cause}
-use Rattle.filing_ends.specs.declared.cause.Cause.{Cause}
-use Rattle.filing_ends.specs.declared.cause.Cause.TheVariants as cause
+use Rattle.end_processes.specs.Causes.{store_cause}
+use Rattle.end_processes.specs.declared.cause.Cause.{Cause}
+use Rattle.end_processes.specs.declared.cause.Cause.TheVariants as cause
 use Rattle.world_events.specs.declared.fault.Fault.TheVariants.{NoSuch, Store, Reopen}
 use Rattle.world_events.specs.declared.fault.Unplayed.{Unplayed}
 use Rattle.world_events.specs.declared.fault.Unplayed.TheVariants as why

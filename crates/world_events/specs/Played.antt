@@ -12,10 +12,19 @@ use Rattle.world_events.specs.declared.fault.Fault.TheVariants.{NoSuch, Memory, 
 
 -- the world of these parts
 abbrev pub world_of : Served → List Sent → List Output → List FilerParts → World
-world_of server sent outputs filers = record { limit = server.limit; done = server.done; sent = sent; outputs = outputs; outboxes = boxes filers; up = server.up }
+world_of server sent outputs filers =
+    record {
+      limit = server.limit;
+      done = server.done;
+      sent = sent;
+      outputs = outputs;
+      outboxes = boxes filers;
+      up =
+          server.up;
+    }
 
--- the world, how many events came to it, the fault that ended it at the last of them, and which outboxes are asleep: down, or with a
--- database that refused a call
+-- the world, how many events came to it, the fault that ended it at the last of them, and which outboxes are asleep:
+-- down, or with a database that refused a call
 pub record Played : Type 0 where
   pub world : World
   pub events : ℕ
@@ -48,7 +57,8 @@ Tells number (Reopen event) = event ≡ number
 -- ---- what is lent
 
 -- the outbox of this number is up, and this one, with the entries and the filer that it has in the world
-pub record IsLent {D : Type 0} {g : Ghosts D} (boxes : List Outbox) (number : ℕ) (it : OutboxParts (FileStore D g)) : Type 0 where
+pub record IsLent {D : Type 0} {g : Ghosts D} (boxes : List Outbox) (number : ℕ)
+    (it : OutboxParts (FileStore D g)) : Type 0 where
   pub box : Outbox
   pub here : numbered boxes number ≡ Some box
   pub up : box.up ≡ true

@@ -1,7 +1,8 @@
 -- What playing one event does.
 use Rattle.std.specs.Prelude.{◌≡◌, ◌≢◌, ℕ, true, false, List, None, Some, Result, Err, IfErr, OnOk}
 use Rattle.filing_model.specs.Stopping.{Before}
-use Rattle.filing_world.specs.World.{World, Outbox, Sent, Output, numbered, Event, Put, Send, Stranger, Deliver, Hand, RestartServer, RestartOutbox}
+use Rattle.filing_world.specs.World.{World, Outbox, Sent, Output, numbered, Event, Put, Send, Stranger, Deliver, Hand}
+use Rattle.filing_world.specs.World.{RestartServer, RestartOutbox}
 use Rattle.filing_world.specs.Step.{is_no, Step, CannotPlay}
 use Rattle.filing_world.specs.Headline.{Holds}
 use Rattle.world_events.specs.declared.fault.Fault.{Fault}
@@ -25,15 +26,18 @@ IsUp outboxes outbox = (box : Outbox) × (numbered outboxes outbox ≡ Some box)
 -- the output answers an entry of this outbox
 abbrev pub Answers : World → ℕ → ℕ → Type 0
 Answers world output outbox =
-    (from : Output) × (item : Sent) × (entry : ℕ) × (numbered world.outputs output ≡ Some from) × (numbered world.sent from.item ≡ Some item) × (item.from ≡ Some (outbox, entry))
+    (from : Output) × (item : Sent) × (entry : ℕ) × (numbered world.outputs output ≡ Some from)
+    × (numbered world.sent from.item ≡ Some item) × (item.from ≡ Some (outbox, entry))
 
--- An event in which the database of an outbox is asked, which is up: it takes a report, sends a request, or hears a reply.
+-- An event in which the database of an outbox is asked, which is up: it takes a report, sends a request, or hears a
+-- reply.
 abbrev pub AsksOutbox : World → Event → Type 0
 AsksOutbox world (Put outbox key target body) = IsUp world.outboxes outbox
 AsksOutbox world (Send outbox entry) = IsUp world.outboxes outbox
 AsksOutbox world (Stranger bytes) = ⊥
 AsksOutbox world (Deliver item given crash) = ⊥
-AsksOutbox world (Hand output given crash) = ((j : ℕ) → crash ≢ Before j) × ((outbox : ℕ) × Answers world output outbox × IsUp world.outboxes outbox)
+AsksOutbox world (Hand output given crash) =
+    ((j : ℕ) → crash ≢ Before j) × ((outbox : ℕ) × Answers world output outbox × IsUp world.outboxes outbox)
 AsksOutbox world RestartServer = ⊥
 AsksOutbox world (RestartOutbox outbox) = ⊥
 

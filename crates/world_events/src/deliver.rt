@@ -10,8 +10,8 @@ ghost use Rattle.world_events.specs.Played.{world_of};
 use crate::element::{first, index_of};
 use crate::fault::Unplayed;
 use crate::lists::{Output, Sent};
+use end_processes::{Cause, Honest};
 use event_script::Crash;
-use filing_ends::{Cause, Honest};
 use world_ends::{Delivered, Server};
 
 pub(crate) fn deliver<D: Honest>(
@@ -28,7 +28,8 @@ pub(crate) fn deliver<D: Honest>(
     ensures no_such { result ≡ Err Unplayed.NoSuch → (filers : List FilerParts)
         → CannotPlay (world_of server.old sent.now outputs.old.items filers) (Deliver item bytes (view_crash crash)) }
     ensures store { result ≢ Err (Unplayed.Refused Cause.Store) }
-    ensures reopen { result ≡ Err (Unplayed.Refused Cause.Reopen) → (is_no (view_crash crash) ≡ false) × ((filers : List FilerParts)
+    ensures reopen { result ≡ Err (Unplayed.Refused Cause.Reopen)
+        → (is_no (view_crash crash) ≡ false) × ((filers : List FilerParts)
         → ¬ CannotPlay (world_of server.old sent.now outputs.old.items filers)
         (Deliver item bytes (view_crash crash))) }
 {

@@ -1,6 +1,7 @@
 //! What has a number in a list, counted from 1.
 
-ghost use Rattle.std.specs.Prelude.{◌≡◌, ◌≢◌, ◌<◌, ◌⊎◌, suc, Some, None, IfSome, IfOk, Err, length, slice_get, take, true};
+ghost use Rattle.std.specs.Prelude.{◌≡◌, ◌≢◌, ◌<◌, ◌⊎◌, suc, Some, None, IfSome, IfOk, Err, length, slice_get, take};
+ghost use Rattle.std.specs.Prelude.{true};
 ghost use Rattle.filing_world.specs.World.{Sent as Item, numbered};
 ghost use Rattle.filing_world.specs.Step.{IsAway};
 ghost use Rattle.world_ends.specs.Filers.{FilerParts, boxes};
@@ -8,7 +9,7 @@ ghost use Rattle.world_events.specs.Played.{IsLent};
 
 use crate::fault::Unplayed;
 use crate::lists::Sent;
-use filing_ends::{Cause, Honest};
+use end_processes::{Cause, Honest};
 use outbox_core::Outbox;
 use sqlite::FileStore;
 use world_ends::Filer;
@@ -48,11 +49,12 @@ pub(crate) fn outbox_at<D: Honest>(
     filer.outbox()
 }
 
-/// The numbers of the outbox and the entry that this item was sent for. `NoSuch` comes if a stranger sent it, and `Store`
-/// if there is no such item.
+/// The numbers of the outbox and the entry that this item was sent for. `NoSuch` comes if a stranger sent it, and
+/// `Store` if there is no such item.
 pub(crate) fn sender_of(sent: &[Sent], item: u64) -> Result<(u64, u64), Unplayed>
     ensures some { IfOk result (λ from. (it : Item) × (numbered sent.now item ≡ Some it) × (it.from ≡ Some from)) }
-    ensures stranger { result ≡ Err Unplayed.NoSuch → (it : Item) × (numbered sent.now item ≡ Some it) × (it.from ≡ None) }
+    ensures stranger { result ≡ Err Unplayed.NoSuch
+        → (it : Item) × (numbered sent.now item ≡ Some it) × (it.from ≡ None) }
     ensures gone { result ≡ Err (Unplayed.Refused Cause.Store) → numbered sent.now item ≡ None }
     ensures reopen { result ≢ Err (Unplayed.Refused Cause.Reopen) }
 {

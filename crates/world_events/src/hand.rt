@@ -13,8 +13,8 @@ ghost use Rattle.world_events.specs.Playing.{AsksOutbox};
 use crate::element::{first, index_of, sender_of, up_at};
 use crate::fault::Unplayed;
 use crate::lists::{Output, Sent};
+use end_processes::{Cause, Honest};
 use event_script::Crash;
-use filing_ends::{Cause, Honest};
 use world_ends::Filer;
 
 /// Where the items that were sent for entries carry these, it is a step of the world.
@@ -34,7 +34,8 @@ pub(crate) fn hand<D: Honest>(
     ensures store { result ≡ Err (Unplayed.Refused Cause.Store) → (server : Served)
         → Keeps (world_of server sent.now outputs.now filers.old.items)
         → AsksOutbox (world_of server sent.now outputs.now filers.old.items) (Hand output bytes (view_crash crash)) }
-    ensures reopen { result ≡ Err (Unplayed.Refused Cause.Reopen) → (is_no (view_crash crash) ≡ false) × ((server : Served)
+    ensures reopen { result ≡ Err (Unplayed.Refused Cause.Reopen)
+        → (is_no (view_crash crash) ≡ false) × ((server : Served)
         → ¬ CannotPlay (world_of server sent.now outputs.now filers.old.items)
         (Hand output bytes (view_crash crash))) }
 {

@@ -1,6 +1,6 @@
 //! The intake, the outboxes of its filers and the network between them, on which events are played. What may live
 //! here: the world, and what one event does to it. How its databases are made, stopped and opened again is known by
-//! `filing_ends`. What an event may do is said by `filing_world`; that the world does no other is the contract of
+//! `end_processes`. What an event may do is said by `filing_world`; that the world does no other is the contract of
 //! `World::play`.
 #![tactic(auto)]
 

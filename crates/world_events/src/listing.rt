@@ -1,13 +1,14 @@
 //! The entries of all outboxes in one list.
 
-ghost use Rattle.std.specs.Prelude.{◌≡◌, ◌≢◌, ◌<◌, ◌⊎◌, ◌++◌, ◌∷◌, [], suc, length, map, filter_map, slice_get, false, Some, IfOk, OnOk, Err};
+ghost use Rattle.std.specs.Prelude.{◌≡◌, ◌≢◌, ◌<◌, ◌⊎◌, ◌++◌, ◌∷◌, [], suc, length, map, filter_map, slice_get, false};
+ghost use Rattle.std.specs.Prelude.{Some, IfOk, OnOk, Err};
 ghost use Rattle.filing_world.specs.Headline.{states_of, states_from, number_in};
-ghost use Rattle.filing_ends.specs.Listed.{listed};
+ghost use Rattle.end_processes.specs.Listed.{listed};
 ghost use Rattle.world_ends.specs.Filers.{FilerParts, boxes, sleepers};
 ghost use Rattle.world_events.specs.Listed.{view_listed, are_up};
 ghost use Rattle.world_events.specs.Played.{HasSleeper};
 
-use filing_ends::Honest;
+use end_processes::Honest;
 use outbox_core::{State, StoreFault};
 use std::alloc::{AllocError, Global};
 use world_ends::Filer;

@@ -12,7 +12,7 @@ ghost use Rattle.world_events.specs.Playing.{IsUp};
 
 use crate::element::up_at;
 use crate::fault::Unplayed;
-use filing_ends::{Cause, Honest};
+use end_processes::{Cause, Honest};
 use key_string::KeyText;
 use world_ends::Filer;
 

@@ -8,7 +8,7 @@ ghost use Rattle.world_events.specs.Played.{world_of};
 
 use crate::element::index_of;
 use crate::fault::Unplayed;
-use filing_ends::{Cause, Honest};
+use end_processes::{Cause, Honest};
 use world_ends::Filer;
 
 pub(crate) fn restart_outbox<D: Honest>(
@@ -21,7 +21,8 @@ pub(crate) fn restart_outbox<D: Honest>(
     ensures no_such { result ≡ Err Unplayed.NoSuch → (server : Served) (sent : List Item) (outputs : List Left)
         → CannotPlay (world_of server sent outputs filers.old.items) (RestartOutbox outbox) }
     ensures store { result ≢ Err (Unplayed.Refused Cause.Store) }
-    ensures reopen { result ≡ Err (Unplayed.Refused Cause.Reopen) → (server : Served) (sent : List Item) (outputs : List Left)
+    ensures reopen { result ≡ Err (Unplayed.Refused Cause.Reopen)
+        → (server : Served) (sent : List Item) (outputs : List Left)
         → ¬ CannotPlay (world_of server sent outputs filers.old.items) (RestartOutbox outbox) }
 {
     let Some(at) = index_of(outbox, filers.len()) else {

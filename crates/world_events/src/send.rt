@@ -11,7 +11,7 @@ ghost use Rattle.world_events.specs.Playing.{IsUp};
 use crate::element::up_at;
 use crate::fault::Unplayed;
 use crate::lists::Sent;
-use filing_ends::{Cause, Honest};
+use end_processes::{Cause, Honest};
 use std::alloc::{AllocError, Global};
 use world_ends::Filer;
 

@@ -1,6 +1,7 @@
 //! The world: the intake, the outboxes, and what was sent and written so far.
 
-ghost use Rattle.std.specs.Prelude.{◌≡◌, ◌≢◌, ◌≤◌, ◌^◌, ◌++◌, ◌∷◌, ◌⊎◌, [], ℕ, map, true, false, Some, None, Err, IsSome, IfOk, IfErr, IfSome, OnOk, ◌↔◌};
+ghost use Rattle.std.specs.Prelude.{◌≡◌, ◌≢◌, ◌≤◌, ◌^◌, ◌++◌, ◌∷◌, ◌⊎◌, [], ℕ, map, true, false, Some, None, Err};
+ghost use Rattle.std.specs.Prelude.{IsSome, IfOk, IfErr, IfSome, OnOk, ◌↔◌};
 ghost use Rattle.key_string.specs.Filer.{is_filer};
 ghost use Rattle.event_script.specs.Events.{view_event, HasTarget};
 ghost use Rattle.filing_model.specs.Request.{firsts};
@@ -25,8 +26,8 @@ use crate::lists::{Output, Sent};
 use crate::put::put;
 use crate::restart::restart_outbox;
 use crate::send::{send, send_bytes};
+use end_processes::{Cause, Honest};
 use event_script::Event;
-use filing_ends::{Cause, Honest};
 use intake_core::{Intake, Unavailable};
 use outbox_core::{Outbox, State, StoreFault};
 use register_store::{Completed, Registered};
@@ -222,8 +223,8 @@ impl<D: Honest> World<D> {
         }
     }
 
-    /// The registered requests under their numbers, ascending. `Down` comes if the intake is down, and after `Store`; `Full`
-    /// never comes.
+    /// The registered requests under their numbers, ascending. `Down` comes if the intake is down, and after `Store`;
+    /// `Full` never comes.
     pub fn register(&mut self) -> Result<Vec<Registered>, Unavailable>
         ensures list { IfOk result (λ rows. rows.items ≡ register self.old.world.done) }
         ensures down { self.old.world.up ≡ false → result ≡ Err Unavailable.Down }
@@ -233,8 +234,8 @@ impl<D: Honest> World<D> {
         self.server.register()
     }
 
-    /// Every entry of every outbox, by the number of the outbox and its own, with its state, ascending. `Store` comes if an
-    /// outbox is down, and else only if the database of one refused.
+    /// Every entry of every outbox, by the number of the outbox and its own, with its state, ascending. `Store` comes
+    /// if an outbox is down, and else only if the database of one refused.
     pub fn states(&mut self) -> Result<Vec<(u64, u64, State)>, StoreFault>
         ensures list { IfOk result (λ list. map view_listed list.items ≡ states self.old.world) }
         ensures down { are_up self.old.world.outboxes ≡ false → result ≡ Err StoreFault.Store }
@@ -245,8 +246,8 @@ impl<D: Honest> World<D> {
         all_states(self.alloc, &mut self.filers)
     }
 
-    /// The confirmed ones among them, with their numbers in the register. `Store` comes if an outbox is down, and else only
-    /// if the database of one refused.
+    /// The confirmed ones among them, with their numbers in the register. `Store` comes if an outbox is down, and else
+    /// only if the database of one refused.
     pub fn confirmed(&mut self) -> Result<Vec<(u64, u64, u64)>, StoreFault>
         ensures list { IfOk result (λ list. list.items ≡ confirmed self.old.world) }
         ensures down { are_up self.old.world.outboxes ≡ false → result ≡ Err StoreFault.Store }

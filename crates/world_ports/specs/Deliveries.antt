@@ -10,7 +10,7 @@ use Rattle.filing_world.specs.World.{Sent, Output, World, Event, Deliver, number
 use Rattle.filing_world.specs.Step.{Run}
 use Rattle.sqlite.specs.Store.{Ghosts}
 use Rattle.intake_core.specs.declared.intake.Intake.{Intake}
-use Rattle.intake_core.specs.Held.{early_of, limit_of, HoldsRequests}
+use Rattle.intake_core.specs.Held.{old_style_of, limit_of, HoldsRequests}
 use Rattle.gateway_ports.specs.Ports.{Traffic}
 use Rattle.gateway_ports.specs.InTurn.{Connection, AreServed}
 
@@ -30,13 +30,15 @@ abbrev pub AreOf : List Sent → List Connection → List Delivery → Type 0
 AreOf sent [] [] = Unit {0}
 AreOf sent [] (delivery ∷ deliveries) = ⊥
 AreOf sent (connection ∷ connections) [] = ⊥
-AreOf sent (connection ∷ connections) (delivery ∷ deliveries) = IsOf sent connection delivery × AreOf sent connections deliveries
+AreOf sent (connection ∷ connections) (delivery ∷ deliveries) =
+    IsOf sent connection delivery × AreOf sent connections deliveries
 
 -- each of them is delivered to its end
 abbrev pub events_of : List Delivery → List Event
 events_of deliveries = map (λ delivery. Deliver delivery.item delivery.given No) deliveries
 
--- A connection that a fault ended is told in the world as one for which memory ran out: what was marked and written is a first part in either.
+-- A connection that a fault ended is told in the world as one for which memory ran out: what was marked and written is
+-- a first part in either.
 abbrev pub end_in_world : Ended → Ended
 end_in_world Closed = Closed
 end_in_world InputEnded = InputEnded
@@ -52,11 +54,13 @@ pub record IsOutputOf (connection : Connection) (delivery : Delivery) (output : 
 -- the same of each connection and its delivery
 abbrev pub AreOutputsOf : List Connection → List Delivery → List Output → Type 0
 AreOutputsOf [] [] [] = Unit {0}
-AreOutputsOf (connection ∷ connections) (delivery ∷ deliveries) (output ∷ outputs) = IsOutputOf connection delivery output × AreOutputsOf connections deliveries outputs
+AreOutputsOf (connection ∷ connections) (delivery ∷ deliveries) (output ∷ outputs) =
+    IsOutputOf connection delivery output × AreOutputsOf connections deliveries outputs
 AreOutputsOf _ _ _ = ⊥
 
 -- The world went on by the deliveries of these connections, and these requests are kept now.
-pub record GoesOnTo (old : World) (connections : List Connection) (deliveries : List Delivery) (after : List Request) (new : World) : Type 0 where
+pub record GoesOnTo (old : World) (connections : List Connection) (deliveries : List Delivery) (after : List Request)
+    (new : World) : Type 0 where
   pub run : Run old (events_of deliveries) new
   -- they are the first ones of all that were completed
   pub kept : after ≡ firsts new.done
@@ -67,17 +71,19 @@ pub record GoesOnTo (old : World) (connections : List Connection) (deliveries : 
   -- nothing else changed
   pub others : new ≡ record old { done = new.done; outputs = new.outputs }
 
--- An intake stands for a world: it holds the first ones of the requests that the world has completed, told as problem details, and as many keys
--- may be kept.
+-- An intake stands for a world: it holds the first ones of the requests that the world has completed, told as problem
+-- details, and as many keys may be kept.
 pub record StandsFor {S : Type 0} (g : Ghosts S) (intake : Intake S) (world : World) : Type 0 where
   pub holds : HoldsRequests g intake (firsts world.done)
-  pub early : early_of intake ≡ 0
+  pub old_style : old_style_of intake ≡ 0
   pub limit : limit_of intake ≡ world.limit
 
--- Connections of a port were served after what a world has completed. Whatever items were read on them, the world goes on by their deliveries
--- to one that the intake stands for.
-pub record IsServedIn {S : Type 0} (g : Ghosts S) (world : World) (port port' : Traffic) (intake : Intake S) (taken : Option ℕ) : Type 0 where
+-- Connections of a port were served after what a world has completed. Whatever items were read on them, the world goes
+-- on by their deliveries to one that the intake stands for.
+pub record IsServedIn {S : Type 0} (g : Ghosts S) (world : World) (port port' : Traffic) (intake : Intake S)
+    (taken : Option ℕ) : Type 0 where
   pub connections : List Connection
   pub after : List Request
   pub served : AreServed (keeping world.limit [] (firsts world.done) after) port port' connections taken
-  pub goes_on : (deliveries : List Delivery) → AreOf world.sent connections deliveries → (new : World) × GoesOnTo world connections deliveries after new × StandsFor g intake new
+  pub goes_on : (deliveries : List Delivery) → AreOf world.sent connections deliveries
+      → (new : World) × GoesOnTo world connections deliveries after new × StandsFor g intake new

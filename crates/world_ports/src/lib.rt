@@ -16,9 +16,9 @@ ghost use Rattle.world_ports.specs.Deliveries.{Delivery, AreOf, GoesOnTo, Stands
 
 use sqlite::Alter;
 
-/// Connections that were served in turn after the requests which a world has completed are deliveries: each is a step of
-/// the world, and what is kept then are the first of the requests that the new world has completed. So more connections
-/// go on from there, and where events led to the old world, the headline holds of the new one.
+/// Connections that were served in turn after the requests which a world has completed are deliveries: each is a step
+/// of the world, and what is kept then are the first of the requests that the new world has completed. So more
+/// connections go on from there, and where events led to the old world, the headline holds of the new one.
 pub fn connections_are_deliveries()
     ensures steps { (old : World) (connections : List Connection) (deliveries : List Delivery) (after : List Request)
         → old.up ≡ true → ServeInTurn (keeping old.limit [] (firsts old.done) after) connections
@@ -30,9 +30,9 @@ pub fn connections_are_deliveries()
         → Holds new }
 {}
 
-/// What serving the connections of a port did with an intake that stood for a world. Where the disk is clean at the end,
-/// the connections that came were served in turn, and whatever sent items were read on them, the world goes on by their
-/// deliveries to one that the intake stands for.
+/// What serving the connections of a port did with an intake that stood for a world. Where the disk is clean at the
+/// end, the connections that came were served in turn, and whatever sent items were read on them, the world goes on by
+/// their deliveries to one that the intake stands for.
 pub fn a_served_port_is_in_the_world<S: Alter>()
     ensures { (port port' : Traffic) (old new : Intake S) (taken : Option ℕ) (world : World)
         → ServesSome S.Store port port' old new taken → IsClean S.Store new → StandsFor S.Store old world

@@ -7,9 +7,16 @@ use Rattle.xbrl_values.proofs.Measures.{measure-is_qname, measure-is_unit, measu
 use Rattle.xbrl_report.specs.Dimension.{is_bound, is_unbound_unit}
 
 module _ (s : List ℕ) (measure : is_measure s ≡ true) where
-  pub unbound_measure : (namespaces : Option Data) → is_unbound_unit namespaces s ≡ not (is_bound namespaces (prefix_of s))
+  pub unbound_measure : (namespaces : Option Data)
+      → is_unbound_unit namespaces s ≡ not (is_bound namespaces (prefix_of s))
   unfolding is_unbound_unit
-  unbound_measure namespaces = rw (measure-is_unit s measure, measure-over s measure, measure-under s measure, measure-is_qname s measure) (alone (not (is_bound namespaces (prefix_of s))))
+  unbound_measure namespaces =
+      rw (
+        measure-is_unit s measure,
+        measure-over s measure,
+        measure-under s measure,
+        measure-is_qname s measure,
+      ) (alone (not (is_bound namespaces (prefix_of s))))
     where
       alone : (b : Bool) → (b || false) ≡ b
       alone true = refl

@@ -1,5 +1,6 @@
 -- A body has one list of findings.
-use Rattle.std.proofs.Common.{◌≡◌, ℕ, ◌↔◌, List, [], ◌∷◌, length, true, cond, refl, sym, ap, ◌∙◌, subst, arith, eqb, nat_le, inl, inr, Decides, Ordering, Less, Equal, Greater, is_eq, true≢false}
+use Rattle.std.proofs.Common.{◌≡◌, ℕ, ◌↔◌, List, [], ◌∷◌, length, true, cond, refl, sym, ap, ◌∙◌, subst, arith, eqb}
+use Rattle.std.proofs.Common.{nat_le, inl, inr, Decides, Ordering, Less, Equal, Greater, is_eq, true≢false}
 use Rattle.std.proofs.lemmas.Bool.{and_from}
 use Rattle.std.specs.List.{AllByRecursion, IsDistinct}
 use Rattle.std.specs.List.Sorted.{IsStrictlySortedBy}
@@ -14,7 +15,12 @@ use Rattle.std.proofs.lemmas.List.Elements.{All-from_recursion, recursion_from_A
 use Rattle.std.proofs.lemmas.Map.Made.{is_member-Decides, length-le_from_is_member}
 use Rattle.xbrl_values.proofs.Bools.{left_of, right_of}
 use Rattle.xbrl_report.specs.declared.code.Code.{Code}
-use Rattle.xbrl_report.specs.declared.code.Code.TheVariants.{NotJson, NotObject, DocumentInfo, DocumentType, Namespaces, NamespaceUri, Taxonomy, Facts, Fact, Value, Decimals, Dimensions, ConceptMissing, EntityMissing, DimensionValue, Name, UnboundPrefix, NotTheFiler, Period, PeriodOrder, UnitForm, Number, Language, UnknownDimension, TooMany, NotReplaceable}
+use Rattle.xbrl_report.specs.declared.code.Code.TheVariants.{NotJson, NotObject, DocumentInfo, DocumentType, Namespaces}
+use Rattle.xbrl_report.specs.declared.code.Code.TheVariants.{NamespaceUri, Taxonomy, Facts, Fact, Value, Decimals}
+use Rattle.xbrl_report.specs.declared.code.Code.TheVariants.{Dimensions, ConceptMissing, EntityMissing, DimensionValue}
+use Rattle.xbrl_report.specs.declared.code.Code.TheVariants.{Name, UnboundPrefix, NotTheFiler, Period, PeriodOrder}
+use Rattle.xbrl_report.specs.declared.code.Code.TheVariants.{UnitForm, Number, Language, UnknownDimension, TooMany}
+use Rattle.xbrl_report.specs.declared.code.Code.TheVariants.{NotReplaceable}
 use Rattle.xbrl_report.specs.CodeNumber.{number_of}
 use Rattle.xbrl_report.specs.Findings.{AreFindings, IsAllFindings, HasTooMany}
 use Rattle.xbrl_report.specs.InOrder.{put_pair, in_order}
@@ -27,11 +33,17 @@ use Rattle.xbrl_report.proofs.Pairs.{pair_cmp-total}
 
 code_at : ℕ → Code
 code_at n =
-    cond (eqb n 1) NotJson (cond (eqb n 2) NotObject (cond (eqb n 3) DocumentInfo (cond (eqb n 4) DocumentType (cond (eqb n 5) Namespaces (
-    cond (eqb n 6) NamespaceUri (cond (eqb n 7) Taxonomy (cond (eqb n 8) Facts (cond (eqb n 9) Fact (cond (eqb n 10) Value (
-    cond (eqb n 11) Decimals (cond (eqb n 12) Dimensions (cond (eqb n 13) ConceptMissing (cond (eqb n 14) EntityMissing (cond (eqb n 15) DimensionValue (
-    cond (eqb n 16) Name (cond (eqb n 17) UnboundPrefix (cond (eqb n 18) NotTheFiler (cond (eqb n 19) Period (cond (eqb n 20) PeriodOrder (
-    cond (eqb n 21) UnitForm (cond (eqb n 22) Number (cond (eqb n 23) Language (cond (eqb n 24) UnknownDimension (cond (eqb n 25) TooMany NotReplaceable))))))))))))))))))))))))
+    cond (eqb n 1) NotJson (cond (eqb n 2) NotObject
+    (cond (eqb n 3) DocumentInfo (cond (eqb n 4) DocumentType (cond (eqb n 5) Namespaces (
+    cond (eqb n 6) NamespaceUri (cond (eqb n 7) Taxonomy
+    (cond (eqb n 8) Facts (cond (eqb n 9) Fact (cond (eqb n 10) Value (
+    cond (eqb n 11) Decimals (cond (eqb n 12) Dimensions
+    (cond (eqb n 13) ConceptMissing (cond (eqb n 14) EntityMissing (cond (eqb n 15) DimensionValue (
+    cond (eqb n 16) Name (cond (eqb n 17) UnboundPrefix
+    (cond (eqb n 18) NotTheFiler (cond (eqb n 19) Period (cond (eqb n 20) PeriodOrder (
+    cond (eqb n 21) UnitForm (cond (eqb n 22) Number
+    (cond (eqb n 23) Language (cond (eqb n 24) UnknownDimension
+    (cond (eqb n 25) TooMany NotReplaceable))))))))))))))))))))))))
 
 code_at-number_of : (c : Code) → code_at (number_of c) ≡ c
 unfolding code_at
@@ -75,14 +87,16 @@ pub pair_cmp-antisymmetric : IsAntisymmetric pair_cmp
 pair_cmp-antisymmetric x y e = same_pair x y (ap is_eq e)
 
 pair_cmp-Decides : (x y : Pair) → Decides (eq_by_cmp pair_cmp x y) (x ≡ y)
-pair_cmp-Decides x y = (same_pair x y, λ e. subst (λ z. eq_by_cmp pair_cmp x z ≡ true) e (ap is_eq (tied_itself pair_cmp-total x)))
+pair_cmp-Decides x y =
+    (same_pair x y, λ e. subst (λ z. eq_by_cmp pair_cmp x z ≡ true) e (ap is_eq (tied_itself pair_cmp-total x)))
 
 -- ---- a list in order
 
 abbrev Above : Pair → List Pair → Type 0
 Above x ys = AllByRecursion (λ y. pair_cmp x y ≡ Less) ys
 
-above_put_at : (o : Ordering) (l x y : Pair) (ys : List Pair) → pair_cmp l x ≡ Less → Above l (y ∷ ys) → Above l (put_pair x ys) → Above l (match_ordering o (x ∷ y ∷ ys) (y ∷ ys) (y ∷ put_pair x ys))
+above_put_at : (o : Ordering) (l x y : Pair) (ys : List Pair) → pair_cmp l x ≡ Less → Above l (y ∷ ys)
+    → Above l (put_pair x ys) → Above l (match_ordering o (x ∷ y ∷ ys) (y ∷ ys) (y ∷ put_pair x ys))
 above_put_at Less l x y ys below h more = (below, h)
 above_put_at Equal l x y ys below h more = h
 above_put_at Greater l x y ys below h more = (h.0, more)
@@ -95,11 +109,13 @@ all_above : (x y : Pair) (ys : List Pair) → pair_cmp x y ≡ Less → Above y 
 all_above x y [] below h = tt
 all_above x y (z ∷ ys) below h = (pair_cmp-total.trans x y z below h.0, all_above x y ys below h.1)
 
-ascending_put_at : (o : Ordering) (x y : Pair) (ys : List Pair) → pair_cmp x y ≡ o → IsAscending (y ∷ ys) → IsAscending (put_pair x ys) → IsAscending (match_ordering o (x ∷ y ∷ ys) (y ∷ ys) (y ∷ put_pair x ys))
+ascending_put_at : (o : Ordering) (x y : Pair) (ys : List Pair) → pair_cmp x y ≡ o → IsAscending (y ∷ ys)
+    → IsAscending (put_pair x ys) → IsAscending (match_ordering o (x ∷ y ∷ ys) (y ∷ ys) (y ∷ put_pair x ys))
 unfolding IsStrictlySortedBy
 ascending_put_at Less x y ys is h more = ((is, all_above x y ys is h.0), h)
 ascending_put_at Equal x y ys is h more = h
-ascending_put_at Greater x y ys is h more = (above_put y x ys (pair_cmp-total.antisymm y x ∙ ap ordering_reverse is) h.0, more)
+ascending_put_at Greater x y ys is h more =
+    (above_put y x ys (pair_cmp-total.antisymm y x ∙ ap ordering_reverse is) h.0, more)
 
 ascending_put : (x : Pair) (ys : List Pair) → IsAscending ys → IsAscending (put_pair x ys)
 unfolding IsStrictlySortedBy
@@ -111,7 +127,8 @@ unfolding IsStrictlySortedBy
 ascending_in_order [] = tt
 ascending_in_order (x ∷ xs) = ascending_put x (in_order xs) (ascending_in_order xs)
 
-in_put_at : (o : Ordering) (z x y : Pair) (ys : List Pair) → pair_cmp x y ≡ o → (In z (put_pair x ys) ↔ In z (x ∷ ys)) → In z (match_ordering o (x ∷ y ∷ ys) (y ∷ ys) (y ∷ put_pair x ys)) ↔ In z (x ∷ y ∷ ys)
+in_put_at : (o : Ordering) (z x y : Pair) (ys : List Pair) → pair_cmp x y ≡ o → (In z (put_pair x ys) ↔ In z (x ∷ ys))
+    → In z (match_ordering o (x ∷ y ∷ ys) (y ∷ ys) (y ∷ put_pair x ys)) ↔ In z (x ∷ y ∷ ys)
 in_put_at Less z x y ys is h = (λ i. i, λ i. i)
 in_put_at Equal z x y ys is h =
     let same = pair_cmp-antisymmetric x y is in
@@ -129,8 +146,10 @@ pub in_in_order : (z : Pair) (xs : List Pair) → In z (in_order xs) ↔ In z xs
 in_in_order z [] = (λ i. i, λ i. i)
 in_in_order z (x ∷ xs) =
     let put = in_put z x (in_order xs) in
-    let rest = in_in_order z xs in
-    (λ i. elim (put.0 i) [ inl e ↦ inl e | inr i ↦ inr (rest.0 i) ], λ i. elim i [ inl e ↦ put.1 (inl e) | inr i ↦ put.1 (inr (rest.1 i)) ])
+    let rest = in_in_order z xs in (
+      λ i. elim (put.0 i) [ inl e ↦ inl e | inr i ↦ inr (rest.0 i) ],
+      λ i. elim i [ inl e ↦ put.1 (inl e) | inr i ↦ put.1 (inr (rest.1 i)) ],
+    )
 
 -- ---- of two ascending lists with the same members
 
@@ -183,13 +202,18 @@ all_in P (x ∷ xs) h z (inl e) = subst P e h.0
 all_in P (x ∷ xs) h z (inr i) = all_in P xs h.1 z i
 
 -- what fits, fits with fewer
-pub fits_fewer : (some xs : List Pair) → IsDistinct (eq_by_cmp pair_cmp) some → ((z : Pair) → In z some → In z xs) → fits xs ≡ true → fits some ≡ true
+pub fits_fewer : (some xs : List Pair) → IsDistinct (eq_by_cmp pair_cmp) some → ((z : Pair) → In z some → In z xs)
+    → fits xs ≡ true → fits some ≡ true
 unfolding fits
 fits_fewer some xs distinct among fit =
     let short = λ (p : Pair). nat_le (length p.place) 1024 in
     let small = recursion_from_All (λ p. short p ≡ true) xs (AllPass-from_list_all short xs (right_of _ _ fit)) in
-    let all = list_all-from_AllPass short some (All-from_recursion (λ p. short p ≡ true) some (all_by (λ p. short p ≡ true) some (λ z i. all_in (λ p. short p ≡ true) xs small z (among z i)))) in
-    let len = length-le_from_is_member (eq_by_cmp_equiv pair_cmp-total) some xs distinct (λ z m. in_member z xs (among z (member_in z some m))) in
+    let all =
+    list_all-from_AllPass short some (All-from_recursion (λ p. short p ≡ true) some
+    (all_by (λ p. short p ≡ true) some (λ z i. all_in (λ p. short p ≡ true) xs small z (among z i)))) in
+    let len =
+    length-le_from_is_member (eq_by_cmp_equiv pair_cmp-total) some xs distinct
+    (λ z m. in_member z xs (among z (member_in z some m))) in
     let many = left_of (nat_le (length xs) 1000) _ fit in
     let few : nat_le (length some) 1000 ≡ true = grind (arith, nat_tests) in
     and_from _ _ few all
@@ -197,16 +221,21 @@ fits_fewer some xs distinct among fit =
 distinct_ascending : (xs : List Pair) → IsAscending xs → IsDistinct (eq_by_cmp pair_cmp) xs
 unfolding IsStrictlySortedBy IsDistinct
 distinct_ascending [] up = tt
-distinct_ascending (x ∷ xs) up = (all_by _ xs (λ z i. let less = above_in x z xs up.0 i in rw less refl), distinct_ascending xs up.1)
+distinct_ascending (x ∷ xs) up =
+    (all_by _ xs (λ z i. let less = above_in x z xs up.0 i in rw less refl), distinct_ascending xs up.1)
 
 pub in_order_fits : (xs : List Pair) → fits xs ≡ true → fits (in_order xs) ≡ true
-in_order_fits xs fit = fits_fewer (in_order xs) xs (distinct_ascending (in_order xs) (ascending_in_order xs)) (λ z i. (in_in_order z xs).0 i) fit
+in_order_fits xs fit =
+    fits_fewer (in_order xs) xs (distinct_ascending (in_order xs) (ascending_in_order xs))
+    (λ z i. (in_in_order z xs).0 i) fit
 
 module _ {IsSo : Pair → Type 0} where
   pub excluded : (xs : List Pair) → IsAllFindings IsSo xs → fits xs ≡ true → HasTooMany IsSo → ⊥
   excluded xs all fit many =
       let so = recursion_from_All IsSo many.some many.so in
-      let few = fits_fewer many.some xs many.distinct (λ z i. in_from_contains z xs ((all.exact z).1 (all_in IsSo many.some so z i))) fit in
+      let few =
+      fits_fewer many.some xs many.distinct (λ z i. in_from_contains z xs
+      ((all.exact z).1 (all_in IsSo many.some so z i))) fit in
       true≢false (sym few ∙ many.over)
 
   -- the statements leave one list

@@ -10,7 +10,8 @@ use Rattle.xbrl_report.specs.Tree.{is_object}
 
 -- own rule: where the filing is not free to be replaced, a report that is an object has one finding more
 abbrev pub IsAmendmentFinding : List ℕ → Bool → Option Data → Pair → Type 0
-IsAmendmentFinding filer free d x = IsFinding filer d x ⊎ ((x ≡ pair_at [] NotReplaceable) × (free ≡ false) × IsTrue (is_object d))
+IsAmendmentFinding filer free d x =
+    IsFinding filer d x ⊎ ((x ≡ pair_at [] NotReplaceable) × (free ≡ false) × IsTrue (is_object d))
 
 abbrev pub IsAmendmentFindings : List ℕ → Bool → Option Data → List Pair → Type 0
 IsAmendmentFindings filer free d = AreFindings (IsAmendmentFinding filer free d)

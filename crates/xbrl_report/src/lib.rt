@@ -2,8 +2,8 @@
 //!
 //! `judge` reads a body and answers that it is a valid report, with its facts, or lists everything that is
 //! wrong with it: each place, as a JSON Pointer, with a code. `specs/Finding.antt` says what each code means.
-//! What may live here: what can be told of one report alone, with no taxonomy and no other report. What a text of it says by
-//! itself is known by `xbrl_values`.
+//! What may live here: what can be told of one report alone, with no taxonomy and no other report. What a text of it
+//! says by itself is known by `xbrl_values`.
 #![tactic(auto)]
 
 mod code;

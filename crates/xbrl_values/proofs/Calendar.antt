@@ -1,5 +1,6 @@
 -- The calendar and the clock of the definitions are those of jiff.
-use Rattle.std.proofs.Common.{◌≡◌, ◌<◌, ◌≤◌, ◌==◌, ◌+◌, ℕ, List, length, drop, drop-cons, add-one, subst, slice_index, pos, Bool, true, false, nat_le, ◌&&◌, ◌↔◌, refl, sym, arith, true≢false}
+use Rattle.std.proofs.Common.{◌≡◌, ◌<◌, ◌≤◌, ◌==◌, ◌+◌, ℕ, List, length, drop, drop-cons, add-one, subst, slice_index}
+use Rattle.std.proofs.Common.{pos, Bool, true, false, nat_le, ◌&&◌, ◌↔◌, refl, sym, arith, true≢false}
 use Rattle.std.specs.List.{list_any}
 use Rattle.std.specs.Char.{is_ascii_digit}
 use Rattle.std.proofs.Math.ListN.{drop_of_length-le}
@@ -8,7 +9,8 @@ use Rattle.std.proofs.lemmas.Int.{ints}
 use Rattle.std.proofs.lemmas.Bool.Decides.{nat_tests}
 use Rattle.jiff_core.specs.Calendar.{IsDate, days_in_month}
 use Rattle.jiff_core.specs.Time.{IsTime}
-use Rattle.xbrl_values.specs.Period.{has_date_time_form, are_two_digits, is_on_calendar, is_on_clock, days_of_month, is_date_time, is_slash}
+use Rattle.xbrl_values.specs.Period.{has_date_time_form, are_two_digits, is_on_calendar, is_on_clock, days_of_month}
+use Rattle.xbrl_values.specs.Period.{is_date_time, is_slash}
 use Rattle.xbrl_values.proofs.Bools.{left_of, right_of}
 
 below : (a b : ℕ) → nat_le a b ≡ true → a ≤ b
@@ -30,41 +32,56 @@ all_four true true false d h = absurd (true≢false (sym h))
 all_four true false c d h = absurd (true≢false (sym h))
 all_four false b c d h = absurd (true≢false (sym h))
 
-pub date-from_test : (year month day : ℕ) → year < 10000 → is_on_calendar year month day ≡ true → IsDate (pos year) (pos month) (pos day)
+pub date-from_test : (year month day : ℕ) → year < 10000 → is_on_calendar year month day ≡ true
+    → IsDate (pos year) (pos month) (pos day)
 unfolding is_on_calendar
 date-from_test year month day bound h =
     let p = all_four (nat_le 1 month) (nat_le month 12) (nat_le 1 day) (nat_le day (days_of_month year month)) h in
     let m1 = below 1 month p.0 in
     let m2 = below month 12 p.1 in
     let d1 = below 1 day p.2 in
-    let d2 : day ≤ days_in_month (pos year) month = below day (days_of_month year month) p.3 in
-    ((omega (arith, ints), omega (arith, ints)), (omega (arith, ints), omega (arith, ints)), (omega (arith, ints), omega (arith, ints)))
+    let d2 : day ≤ days_in_month (pos year) month = below day (days_of_month year month) p.3 in (
+      (omega (arith, ints), omega (arith, ints)),
+      (omega (arith, ints), omega (arith, ints)),
+      (omega (arith, ints), omega (arith, ints)),
+    )
 
-pub test-from_date : (year month day : ℕ) → IsDate (pos year) (pos month) (pos day) → is_on_calendar year month day ≡ true
+pub test-from_date : (year month day : ℕ) → IsDate (pos year) (pos month) (pos day)
+    → is_on_calendar year month day ≡ true
 unfolding is_on_calendar
 test-from_date year month day h =
     let m1 : 1 ≤ month = omega (arith, ints, h.1.0) in
     let m2 : month ≤ 12 = omega (arith, ints, h.1.1) in
     let d1 : 1 ≤ day = omega (arith, ints, h.2.0) in
     let d2 : day ≤ days_in_month (pos year) month = omega (arith, ints, h.2.1) in
-    and_from (nat_le 1 month && nat_le month 12 && nat_le 1 day) _ (and_from (nat_le 1 month && nat_le month 12) _ (and_from (nat_le 1 month) _ (below_test 1 month m1) (below_test month 12 m2)) (below_test 1 day d1)) (below_test day (days_of_month year month) d2)
+    and_from (nat_le 1 month && nat_le month 12 && nat_le 1 day) _
+    (and_from (nat_le 1 month && nat_le month 12) _
+    (and_from (nat_le 1 month) _ (below_test 1 month m1) (below_test month 12 m2)) (below_test 1 day d1))
+    (below_test day (days_of_month year month) d2)
 
-pub time-from_test : (hour minute second : ℕ) → is_on_clock hour minute second ≡ true → IsTime (pos hour) (pos minute) (pos second) (pos 0)
+pub time-from_test : (hour minute second : ℕ) → is_on_clock hour minute second ≡ true
+    → IsTime (pos hour) (pos minute) (pos second) (pos 0)
 unfolding is_on_clock
 time-from_test hour minute second h =
     let p = all_three (nat_le hour 23) (nat_le minute 59) (nat_le second 59) h in
     let a = below hour 23 p.0 in
     let b = below minute 59 p.1 in
-    let c = below second 59 p.2 in
-    ((omega (arith, ints), omega (arith, ints)), (omega (arith, ints), omega (arith, ints)), (omega (arith, ints), omega (arith, ints)), (omega (arith, ints), omega (arith, ints)))
+    let c = below second 59 p.2 in (
+      (omega (arith, ints), omega (arith, ints)),
+      (omega (arith, ints), omega (arith, ints)),
+      (omega (arith, ints), omega (arith, ints)),
+      (omega (arith, ints), omega (arith, ints)),
+    )
 
-pub test-from_time : (hour minute second : ℕ) → IsTime (pos hour) (pos minute) (pos second) (pos 0) → is_on_clock hour minute second ≡ true
+pub test-from_time : (hour minute second : ℕ) → IsTime (pos hour) (pos minute) (pos second) (pos 0)
+    → is_on_clock hour minute second ≡ true
 unfolding is_on_clock
 test-from_time hour minute second h =
     let a : hour ≤ 23 = omega (arith, ints, h.0.1) in
     let b : minute ≤ 59 = omega (arith, ints, h.1.1) in
     let c : second ≤ 59 = omega (arith, ints, h.2.1) in
-    and_from (nat_le hour 23 && nat_le minute 59) _ (and_from (nat_le hour 23) _ (below_test hour 23 a) (below_test minute 59 b)) (below_test second 59 c)
+    and_from (nat_le hour 23 && nat_le minute 59) _
+    (and_from (nat_le hour 23) _ (below_test hour 23 a) (below_test minute 59 b)) (below_test second 59 c)
 
 same_tests : (a b : Bool) → (a ≡ true → b ≡ true) → (b ≡ true → a ≡ true) → a ≡ b
 same_tests true b f g = sym (f refl)
@@ -77,8 +94,13 @@ pub exists : (answer : Bool) (year month day hour minute second : ℕ) → year 
     → answer ≡ (is_on_calendar year month day && is_on_clock hour minute second)
 exists answer year month day hour minute second bound s =
     same_tests answer _
-    (λ yes. let h = s.0 yes in and_from (is_on_calendar year month day) _ (test-from_date year month day h.0) (test-from_time hour minute second h.1))
-    (λ h. s.1 (date-from_test year month day bound (left_of _ (is_on_clock hour minute second) h), time-from_test hour minute second (right_of (is_on_calendar year month day) _ h)))
+    (λ yes. let h = s.0 yes in
+    and_from (is_on_calendar year month day) _ (test-from_date year month day h.0)
+    (test-from_time hour minute second h.1))
+    (λ h. s.1 (
+      date-from_test year month day bound (left_of _ (is_on_clock hour minute second) h),
+      time-from_test hour minute second (right_of (is_on_calendar year month day) _ h),
+    ))
 
 -- what the form of a date-time says
 pub record Form (s : List ℕ) : Type 0 where
@@ -135,9 +157,11 @@ form s h =
 no_slash_from : List ℕ → ℕ → Type 0
 no_slash_from s i = list_any is_slash (drop i s) ≡ false
 
-another_byte : (s : List ℕ) (i : ℕ) → i < length s → is_slash (slice_index s i) ≡ false → no_slash_from s (i + 1) → no_slash_from s i
+another_byte : (s : List ℕ) (i : ℕ) → i < length s → is_slash (slice_index s i) ≡ false → no_slash_from s (i + 1)
+    → no_slash_from s i
 unfolding no_slash_from
-another_byte s i within other rest = rw (drop-cons s i 0 within, other) (subst (λ n. list_any is_slash (drop n s) ≡ false) (add-one i) rest)
+another_byte s i within other rest =
+    rw (drop-cons s i 0 within, other) (subst (λ n. list_any is_slash (drop n s) ≡ false) (add-one i) rest)
 
 digit_is_other : (b : ℕ) → is_ascii_digit b ≡ true → is_slash b ≡ false
 digit_is_other b h = grind (arith, nat_tests)
@@ -145,12 +169,14 @@ digit_is_other b h = grind (arith, nat_tests)
 mark_is_other : (b mark : ℕ) → (b == mark) ≡ true → is_slash mark ≡ false → is_slash b ≡ false
 mark_is_other b mark h other = grind (arith, nat_tests)
 
-two_digits_more : (s : List ℕ) (i : ℕ) → i + 1 < length s → are_two_digits s i ≡ true → no_slash_from s ((i + 1) + 1) → no_slash_from s i
+two_digits_more : (s : List ℕ) (i : ℕ) → i + 1 < length s → are_two_digits s i ≡ true → no_slash_from s ((i + 1) + 1)
+    → no_slash_from s i
 two_digits_more s i within h rest =
     another_byte s i (omega arith) (digit_is_other _ (left_of _ (is_ascii_digit (slice_index s (i + 1))) h))
     (another_byte s (i + 1) within (digit_is_other _ (right_of (is_ascii_digit (slice_index s i)) _ h)) rest)
 
-mark_more : (s : List ℕ) (i mark : ℕ) → i < length s → (slice_index s i == mark) ≡ true → is_slash mark ≡ false → no_slash_from s (i + 1) → no_slash_from s i
+mark_more : (s : List ℕ) (i mark : ℕ) → i < length s → (slice_index s i == mark) ≡ true → is_slash mark ≡ false
+    → no_slash_from s (i + 1) → no_slash_from s i
 mark_more s i mark within h other rest = another_byte s i within (mark_is_other _ mark h other) rest
 
 pub moment-no_slash : (s : List ℕ) → is_date_time s ≡ true → list_any is_slash s ≡ false

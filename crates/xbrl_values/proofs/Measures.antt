@@ -4,11 +4,13 @@ use Rattle.std.proofs.lemmas.Bool.{or_parts, not-true}
 use Rattle.std.specs.List.{list_any}
 use Rattle.xbrl_values.specs.Period.{is_slash}
 use Rattle.xbrl_values.specs.QName.{is_qname}
-use Rattle.xbrl_values.specs.Unit.{is_unit_mark, is_measure, is_measure_list, is_unit, factors, after_opening, inside, over, under}
+use Rattle.xbrl_values.specs.Unit.{is_unit_mark, is_measure, is_measure_list, is_unit, factors, after_opening, inside}
+use Rattle.xbrl_values.specs.Unit.{over, under}
 use Rattle.xbrl_values.proofs.Bools.{left_of, right_of}
 
 -- what a byte that is no mark is not
-unmarked : (star slash opening closing : Bool) → ((star || slash || opening || closing) ≡ false) → (star ≡ false) × (slash ≡ false) × (opening ≡ false)
+unmarked : (star slash opening closing : Bool) → ((star || slash || opening || closing) ≡ false)
+    → (star ≡ false) × (slash ≡ false) × (opening ≡ false)
 unmarked false false false closing h = (refl, refl, refl)
 unmarked false false true closing h = absurd (true≢false h)
 unmarked false true opening closing h = absurd (true≢false h)

@@ -1,5 +1,6 @@
 -- The names of a path are known from its pointer.
-use Rattle.std.proofs.Common.{◌≡◌, ℕ, zero, suc, List, [], ◌∷◌, ◌++◌, append_assoc, get_or, drop, Bool, true, false, cond, refl, ap, ◌∙◌, eqb, arith}
+use Rattle.std.proofs.Common.{◌≡◌, ℕ, zero, suc, List, [], ◌∷◌, ◌++◌, append_assoc, get_or, drop, Bool, true, false}
+use Rattle.std.proofs.Common.{cond, refl, ap, ◌∙◌, eqb, arith}
 use Rattle.std.proofs.lemmas.Bool.Decides.{nat_tests}
 use Rattle.xbrl_values.specs.Pointer.{escaped, pointer}
 
@@ -15,7 +16,8 @@ unfolding unescaped
 unescaped-plain b [] plain = refl
 unescaped-plain b (y ∷ rest) plain = rw plain refl
 
-unescaped-byte : (tilde slash : Bool) (b : ℕ) (rest : List ℕ) → eqb b 126 ≡ tilde → eqb b 47 ≡ slash → unescaped (cond tilde (126 ∷ 48 ∷ []) (cond slash (126 ∷ 49 ∷ []) (b ∷ [])) ++ rest) ≡ b ∷ unescaped rest
+unescaped-byte : (tilde slash : Bool) (b : ℕ) (rest : List ℕ) → eqb b 126 ≡ tilde → eqb b 47 ≡ slash
+    → unescaped (cond tilde (126 ∷ 48 ∷ []) (cond slash (126 ∷ 49 ∷ []) (b ∷ [])) ++ rest) ≡ b ∷ unescaped rest
 unfolding unescaped
 unescaped-byte true slash b rest is _ = let e : 126 ≡ b = grind (arith, nat_tests) in ap (λ x. x ∷ unescaped rest) e
 unescaped-byte false true b rest _ is = let e : 47 ≡ b = grind (arith, nat_tests) in ap (λ x. x ∷ unescaped rest) e
@@ -24,7 +26,8 @@ unescaped-byte false false b rest plain _ = unescaped-plain b rest plain
 unescaped-escaped : (name : List ℕ) → unescaped (escaped name) ≡ name
 unfolding unescaped escaped
 unescaped-escaped [] = refl
-unescaped-escaped (b ∷ bs) = unescaped-byte (eqb b 126) (eqb b 47) b (escaped bs) refl refl ∙ ap (λ rest. b ∷ rest) (unescaped-escaped bs)
+unescaped-escaped (b ∷ bs) =
+    unescaped-byte (eqb b 126) (eqb b 47) b (escaped bs) refl refl ∙ ap (λ rest. b ∷ rest) (unescaped-escaped bs)
 
 -- ---- what stands before the next slash, and from it on
 
@@ -47,13 +50,15 @@ from-pointer [] = refl
 from-pointer (name ∷ p) = refl
 
 until-byte : (tilde slash : Bool) (b : ℕ) (rest : List ℕ) → eqb b 47 ≡ slash
-    → until_slash (cond tilde (126 ∷ 48 ∷ []) (cond slash (126 ∷ 49 ∷ []) (b ∷ [])) ++ rest) ≡ cond tilde (126 ∷ 48 ∷ []) (cond slash (126 ∷ 49 ∷ []) (b ∷ [])) ++ until_slash rest
+    → until_slash (cond tilde (126 ∷ 48 ∷ []) (cond slash (126 ∷ 49 ∷ []) (b ∷ [])) ++ rest)
+    ≡ cond tilde (126 ∷ 48 ∷ []) (cond slash (126 ∷ 49 ∷ []) (b ∷ [])) ++ until_slash rest
 unfolding until_slash
 until-byte true slash b rest is = refl
 until-byte false true b rest is = refl
 until-byte false false b rest is = rw is refl
 
-from-byte : (tilde slash : Bool) (b : ℕ) (rest : List ℕ) → eqb b 47 ≡ slash → from_slash (cond tilde (126 ∷ 48 ∷ []) (cond slash (126 ∷ 49 ∷ []) (b ∷ [])) ++ rest) ≡ from_slash rest
+from-byte : (tilde slash : Bool) (b : ℕ) (rest : List ℕ) → eqb b 47 ≡ slash
+    → from_slash (cond tilde (126 ∷ 48 ∷ []) (cond slash (126 ∷ 49 ∷ []) (b ∷ [])) ++ rest) ≡ from_slash rest
 unfolding from_slash
 from-byte true slash b rest is = refl
 from-byte false true b rest is = refl
@@ -63,12 +68,15 @@ until-escaped : (name : List ℕ) (p : List (List ℕ)) → until_slash (escaped
 unfolding escaped
 until-escaped [] p = until-pointer p
 until-escaped (b ∷ bs) p =
-    rw append_assoc (until-byte (eqb b 126) (eqb b 47) b (escaped bs ++ pointer p) refl ∙ ap (λ rest. cond (eqb b 126) (126 ∷ 48 ∷ []) (cond (eqb b 47) (126 ∷ 49 ∷ []) (b ∷ [])) ++ rest) (until-escaped bs p))
+    rw append_assoc (until-byte (eqb b 126) (eqb b 47) b (escaped bs ++ pointer p) refl
+    ∙ ap (λ rest. cond (eqb b 126) (126 ∷ 48 ∷ []) (cond (eqb b 47) (126 ∷ 49 ∷ []) (b ∷ [])) ++ rest)
+    (until-escaped bs p))
 
 from-escaped : (name : List ℕ) (p : List (List ℕ)) → from_slash (escaped name ++ pointer p) ≡ pointer p
 unfolding escaped
 from-escaped [] p = from-pointer p
-from-escaped (b ∷ bs) p = rw append_assoc (from-byte (eqb b 126) (eqb b 47) b (escaped bs ++ pointer p) refl ∙ from-escaped bs p)
+from-escaped (b ∷ bs) p =
+    rw append_assoc (from-byte (eqb b 126) (eqb b 47) b (escaped bs ++ pointer p) refl ∙ from-escaped bs p)
 
 -- ---- the names of a place
 

@@ -1,5 +1,7 @@
--- Numbers: the value of a fact with a unit (OIM 1.0, unit core dimension; XML Schema 1.1 part 2, the lexical forms of `decimal` and `double`).
-use Rattle.std.specs.Prelude.{ℕ, ◌+◌, ◌-◌, ◌==◌, ◌&&◌, ◌||◌, nat_lt, not, Bool, List, length, take, drop, slice_index, codes, if◌then◌else◌}
+-- Numbers: the value of a fact with a unit (OIM 1.0, unit core dimension; XML Schema 1.1 part 2, the lexical forms of
+-- `decimal` and `double`).
+use Rattle.std.specs.Prelude.{ℕ, ◌+◌, ◌-◌, ◌==◌, ◌&&◌, ◌||◌, nat_lt, not, Bool, List, length, take, drop, slice_index}
+use Rattle.std.specs.Prelude.{codes, if◌then◌else◌}
 use Rattle.std.specs.List.{list_all, list_any, before_first, after_first, prefix_len, suffix_len}
 use Rattle.std.specs.Char.{is_ascii_digit}
 use Rattle.xbrl_values.specs.Text.{same}
@@ -29,7 +31,9 @@ is_exponent_mark b = (b == 69) || (b == 101)
 
 -- digits, at least one, with at most one point before, among or after them
 unfoldable pub is_mantissa : List ℕ → Bool
-is_mantissa s = are_digits (before_first is_point s) && are_digits (after_first is_point s) && nat_lt 0 (length (before_first is_point s) + length (after_first is_point s))
+is_mantissa s =
+    are_digits (before_first is_point s) && are_digits (after_first is_point s)
+    && nat_lt 0 (length (before_first is_point s) + length (after_first is_point s))
 
 -- digits, at least one, after at most one sign
 unfoldable pub is_exponent : List ℕ → Bool

@@ -1,5 +1,6 @@
 -- Units (OIM 1.0, unit core dimension; its string representation in xBRL-JSON 1.0).
-use Rattle.std.specs.Prelude.{ℕ, ◌-◌, ◌==◌, ◌&&◌, ◌||◌, nat_lt, not, Bool, List, [], ◌∷◌, length, take, slice_index, Option, None, Some, option_and_then, unwrap_or, if◌then◌else◌}
+use Rattle.std.specs.Prelude.{ℕ, ◌-◌, ◌==◌, ◌&&◌, ◌||◌, nat_lt, not, Bool, List, [], ◌∷◌, length, take, slice_index}
+use Rattle.std.specs.Prelude.{Option, None, Some, option_and_then, unwrap_or, if◌then◌else◌}
 use Rattle.std.specs.List.{list_all, list_any, before_first, after_first, slice_split}
 use Rattle.xbrl_values.specs.Period.{is_slash}
 use Rattle.xbrl_values.specs.QName.{is_qname}
@@ -27,7 +28,8 @@ after_opening [] = None
 after_opening (x ∷ xs) = if x == 40 then Some xs else None
 
 abbrev pub before_closing : List ℕ → Option (List ℕ)
-before_closing s = if nat_lt 0 (length s) && (slice_index s (length s - 1) == 41) then Some (take (length s - 1) s) else None
+before_closing s =
+    if nat_lt 0 (length s) && (slice_index s (length s - 1) == 41) then Some (take (length s - 1) s) else None
 
 unfoldable pub inside : List ℕ → Option (List ℕ)
 inside s = option_and_then before_closing (after_opening s)
@@ -38,7 +40,9 @@ is_side s = is_measure s || text_passes is_measure_list (inside s)
 
 -- two sides joined by a slash; a list; or a list in parentheses
 unfoldable pub is_unit : List ℕ → Bool
-is_unit s = if list_any is_slash s then is_side (before_first is_slash s) && is_side (after_first is_slash s) else is_measure_list s || text_passes is_measure_list (inside s)
+is_unit s =
+    if list_any is_slash s then is_side (before_first is_slash s) && is_side (after_first is_slash s)
+    else is_measure_list s || text_passes is_measure_list (inside s)
 
 -- the measures of a side or of a list
 abbrev pub measures_of : List ℕ → List (List ℕ)

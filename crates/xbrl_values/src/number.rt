@@ -5,8 +5,8 @@ ghost use Rattle.std.specs.Char.{is_ascii_digit};
 ghost use Rattle.xbrl_values.specs.Number as number;
 
 /// Whether a text writes a number, as the value of a fact with a unit does (OIM 1.0, unit core dimension; the forms are
-/// those of `decimal` and `double` in XML Schema 1.1 part 2): `INF`, `-INF`, `NaN` or a decimal, which may have an exponent,
-/// with white space of JSON at its ends.
+/// those of `decimal` and `double` in XML Schema 1.1 part 2): `INF`, `-INF`, `NaN` or a decimal, which may have an
+/// exponent, with white space of JSON at its ends.
 #[tactic(auto, unfolding(crate::specs::Number::is_number))]
 pub fn is_number(text: &str) -> bool
     ensures { result ≡ number.is_number text.now }

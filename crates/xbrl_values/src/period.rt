@@ -1,6 +1,9 @@
 //! Date-times and periods.
 ghost use Rattle.std.specs.Prelude.{◌≡◌, ◌+◌, ◌<◌, ◌&&◌, length, is_some, IfSome, MatchOption, false, true};
-ghost use Rattle.xbrl_values.specs.Period.{has_date_time_form as has_date_time_form_lem, is_on_calendar, is_on_clock, is_date_time, two_digits as two_digits_lem, are_two_digits as are_two_digits_lem, is_period, is_backward as is_backward_lem, is_slash};
+ghost use Rattle.xbrl_values.specs.Period.{has_date_time_form as has_date_time_form_lem, is_on_calendar, is_on_clock};
+ghost use Rattle.xbrl_values.specs.Period.{is_date_time, two_digits as two_digits_lem};
+ghost use Rattle.xbrl_values.specs.Period.{are_two_digits as are_two_digits_lem, is_period};
+ghost use Rattle.xbrl_values.specs.Period.{is_backward as is_backward_lem, is_slash};
 ghost use Rattle.xbrl_values.specs.Moment.{IsMoment, IsMomentOf, IsPeriodOf};
 ghost use Rattle.std.specs.List.{list_any, before_first, after_first};
 
@@ -13,9 +16,9 @@ pub enum Period {
     Span(DateTime, DateTime),
 }
 
-/// The period that a text writes, if it writes one (OIM 1.0, period core dimension): `YYYY-MM-DDThh:mm:ss`, or two of these
-/// joined by a slash, each a day of the Gregorian calendar and a time of a clock without leap seconds. By a rule of this
-/// profile it has no zone and no fraction of a second. The order of the two is not looked at.
+/// The period that a text writes, if it writes one (OIM 1.0, period core dimension): `YYYY-MM-DDThh:mm:ss`, or two of
+/// these joined by a slash, each a day of the Gregorian calendar and a time of a clock without leap seconds. By a rule
+/// of this profile it has no zone and no fraction of a second. The order of the two is not looked at.
 pub fn read_period(text: &str) -> Option<Period>
     ensures form { is_some result ≡ is_period text.now }
     ensures value { IfSome result (IsPeriodOf text.now) }
@@ -27,8 +30,8 @@ pub fn read_period(text: &str) -> Option<Period>
     Some(Period::Span(read_date_time(from)?, read_date_time(to)?))
 }
 
-/// Whether a text that is a period writes two date-times of which the first isn't before the second (OIM 1.0, period core
-/// dimension: a duration's start is before its end). They are compared by the byte order of their texts.
+/// Whether a text that is a period writes two date-times of which the first isn't before the second (OIM 1.0, period
+/// core dimension: a duration's start is before its end). They are compared by the byte order of their texts.
 #[tactic(auto, unfolding(crate::specs::Period::is_backward))]
 pub fn is_backward(text: &str) -> bool
     requires { is_period text.now ≡ true }
@@ -40,8 +43,8 @@ pub fn is_backward(text: &str) -> bool
     }
 }
 
-/// What stands before the first slash of a text and after it, either of which may be empty. None where it has no slash. So
-/// the two ends of a period are parted, and the two sides of a unit (xBRL-JSON 1.0).
+/// What stands before the first slash of a text and after it, either of which may be empty. None where it has no slash.
+/// So the two ends of a period are parted, and the two sides of a unit (xBRL-JSON 1.0).
 pub fn split_at_slash(text: &str) -> Option<(&str, &str)>
     ensures { MatchOption result (list_any is_slash text.now ≡ false)
         (λ parts. (list_any is_slash text.now ≡ true)

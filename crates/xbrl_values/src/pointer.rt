@@ -1,12 +1,14 @@
 //! JSON Pointers (RFC 6901).
-ghost use Rattle.std.specs.Prelude.{◌≡◌, ◌↔◌, ◌+◌, ◌≤◌, ◌<◌, ◌++◌, map, length, IfOk, OnOk, MatchOption, IsTrue, string_bytes};
+ghost use Rattle.std.specs.Prelude.{◌≡◌, ◌↔◌, ◌+◌, ◌≤◌, ◌<◌, ◌++◌, map, length, IfOk, OnOk, MatchOption, IsTrue};
+ghost use Rattle.std.specs.Prelude.{string_bytes};
 ghost use Rattle.std.specs.List.{list_all};
-ghost use Rattle.xbrl_values.specs.Pointer.{pointer as pointer_lem, escaped, escaped_byte, is_plain_byte as is_plain_byte_lem};
+ghost use Rattle.xbrl_values.specs.Pointer.{pointer as pointer_lem, escaped, escaped_byte};
+ghost use Rattle.xbrl_values.specs.Pointer.{is_plain_byte as is_plain_byte_lem};
 
 use std::alloc::{AllocError, Global};
 
-/// The pointer to the member that a path of names leads to (RFC 6901, section 3): a slash before each name, in which `~` is
-/// written `~0` and a slash `~1`. That of no names is empty. It fails where memory runs out.
+/// The pointer to the member that a path of names leads to (RFC 6901, section 3): a slash before each name, in which
+/// `~` is written `~0` and a slash `~1`. That of no names is empty. It fails where memory runs out.
 pub fn pointer(alloc: Global, path: &[&str]) -> Result<String, AllocError>
     ensures { IfOk result (λ place. string_bytes place ≡ pointer_lem (map (λ name. name.now) path.now)) }
 {

@@ -1,7 +1,10 @@
 //! Units.
 ghost use Rattle.std.specs.Prelude.{◌≡◌, true, false, map, option_map, unwrap_or, IfOk, MatchOption};
 ghost use Rattle.std.specs.List.{list_any};
-ghost use Rattle.xbrl_values.specs.Unit.{is_unit as is_unit_lem, is_side as is_side_lem, is_measure as is_measure_lem, is_measure_list as is_measure_list_lem, is_unit_mark as is_unit_mark_lem, inside as inside_lem, after_opening as after_opening_lem, before_closing as before_closing_lem, over, under, measures_of};
+ghost use Rattle.xbrl_values.specs.Unit.{is_unit as is_unit_lem, is_side as is_side_lem, is_measure as is_measure_lem};
+ghost use Rattle.xbrl_values.specs.Unit.{is_measure_list as is_measure_list_lem, is_unit_mark as is_unit_mark_lem};
+ghost use Rattle.xbrl_values.specs.Unit.{inside as inside_lem, after_opening as after_opening_lem};
+ghost use Rattle.xbrl_values.specs.Unit.{before_closing as before_closing_lem, over, under, measures_of};
 ghost use Rattle.xbrl_values.specs.QName.{prefix_of};
 
 use crate::name::split_qname;
@@ -15,8 +18,8 @@ pub struct Unit<'a> {
     pub under: Vec<&'a str>,
 }
 
-/// The unit that a text writes, if it writes one (OIM 1.0, unit core dimension), as `is_unit` says. It fails where memory runs
-/// out.
+/// The unit that a text writes, if it writes one (OIM 1.0, unit core dimension), as `is_unit` says. It fails where
+/// memory runs out.
 #[tactic(auto, unfolding(crate::specs::Unit::over, crate::specs::Unit::under))]
 pub fn read_unit<'a>(alloc: Global, text: &'a str) -> Result<Option<Unit<'a>>, AllocError>
     ensures { IfOk result (λ unit. MatchOption unit (is_unit_lem text.now ≡ false)
@@ -47,8 +50,8 @@ fn measures<'a>(alloc: Global, side: &'a str) -> Result<Vec<&'a str>, AllocError
     without_parentheses(side).split('*').collect(alloc)
 }
 
-/// Whether a text writes a unit (OIM 1.0, unit core dimension; xBRL-JSON 1.0): measures joined by asterisks, such a list in
-/// parentheses, or two sides joined by a slash, each a measure or a list in parentheses.
+/// Whether a text writes a unit (OIM 1.0, unit core dimension; xBRL-JSON 1.0): measures joined by asterisks, such a
+/// list in parentheses, or two sides joined by a slash, each a measure or a list in parentheses.
 #[tactic(auto, unfolding(crate::specs::Unit::is_unit))]
 pub fn is_unit(text: &str) -> bool
     ensures { result ≡ is_unit_lem text.now }
@@ -66,8 +69,8 @@ fn is_side(text: &str) -> bool
     is_measure(text) || inside(text).is_some_and(is_measure_list)
 }
 
-/// What stands between a parenthesis at the start of a text and one at its end, or all of it where it has not both. So the
-/// list of measures on a side of a unit is found.
+/// What stands between a parenthesis at the start of a text and one at its end, or all of it where it has not both. So
+/// the list of measures on a side of a unit is found.
 pub fn without_parentheses(text: &str) -> &str
     ensures { result.now ≡ unwrap_or (inside_lem text.now) text.now }
 {
@@ -105,8 +108,8 @@ fn is_measure(text: &str) -> bool
     measure_prefix(text).is_some()
 }
 
-/// The prefix of a measure, which is a qualified name that has, by a rule of this profile, no asterisk, slash or parenthesis.
-/// None where the text is no measure.
+/// The prefix of a measure, which is a qualified name that has, by a rule of this profile, no asterisk, slash or
+/// parenthesis. None where the text is no measure.
 #[tactic(auto, unfolding(crate::specs::Unit::is_measure))]
 pub fn measure_prefix(text: &str) -> Option<&str>
     ensures { MatchOption result (is_measure_lem text.now ≡ false)

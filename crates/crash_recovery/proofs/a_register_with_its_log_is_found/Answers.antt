@@ -6,7 +6,7 @@ pub returns-clause-found : goal.returns-clause-found
 returns-clause-found g c honest = found g.D.Disk honest
 
 pub returns-clause-refused : goal.returns-clause-refused
-returns-clause-refused g c files early requests held = fails_for_cause files held.db.trees held.held
+returns-clause-refused g c files old_style requests held = fails_for_cause files held.db.trees held.held
 
 pub returns-clause-closed : goal.returns-clause-closed
 returns-clause-closed g c = closed g.D.Disk

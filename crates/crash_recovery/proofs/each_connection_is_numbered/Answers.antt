@@ -3,4 +3,6 @@ use Rattle.crash_recovery.proofs.Leaving.{store_is_clean}
 use Rattle.crash_recovery.proofs.each_connection_is_numbered.Goals as goal
 
 pub returns : goal.returns
-returns g c honest = subst IsTrue c.into_store.ensures.undone.numbered (c.into_store.ensures.numbered (store_is_clean honest c.into_store.result))
+returns g c honest =
+    subst IsTrue c.into_store.ensures.undone.numbered
+    (c.into_store.ensures.numbered (store_is_clean honest c.into_store.result))

@@ -13,7 +13,8 @@ use std::alloc::Global;
 use std::marker::Model;
 use table_rows::StoreFault;
 
-/// A completed request: who sent it, under which key, which filing it is to replace, if any, and the bytes of the report.
+/// A completed request: who sent it, under which key, which filing it is to replace, if any, and the bytes of the
+/// report.
 #[derive(Drop)]
 pub struct Completed {
     pub filer: String,
@@ -28,7 +29,13 @@ impl Model for Completed {
 
     ghost Value = { Request };
 
-    ghost view = { λ r. record { filer = string_bytes r.filer; key = string_bytes r.key; target = r.target; body = r.body.items } };
+    ghost view = { λ r. record {
+      filer = string_bytes r.filer;
+      key = string_bytes r.key;
+      target = r.target;
+      body =
+          r.body.items;
+    } };
 }
 
 /// A registered request under its number, which counts from 1, with the filing that it replaces, if any.
@@ -47,10 +54,20 @@ impl Model for Registered {
 
     ghost Value = { Filing };
 
-    ghost view = { λ f. record { number = f.number; request = record { filer = string_bytes f.filer; key = string_bytes f.key; target = f.replaces; body = f.body.items } } };
+    ghost view = { λ f. record {
+      number = f.number;
+      request = record {
+        filer = string_bytes f.filer;
+        key =
+            string_bytes f.key;
+        target = f.replaces;
+        body = f.body.items;
+      };
+    } };
 }
 
-/// The request of a row with the columns `seq`, `filer`, `idem`, `body` and `number`, where it is to replace this filing, if any.
+/// The request of a row with the columns `seq`, `filer`, `idem`, `body` and `number`, where it is to replace this
+/// filing, if any.
 fn read_request(row: &Row, target: Option<u64>) -> Result<Completed, StoreFault>
     ensures { IfOk result (λ r. r ≡ request_in target row.now) }
 {

@@ -9,7 +9,7 @@ ghost use Rattle.filing_model.specs.Views.{view_row};
 ghost use Rattle.table_rows.specs.Rows.{counted_from};
 ghost use Rattle.register_rows.specs.Catalogue.{catalogue_of, view_lines};
 ghost use Rattle.register_rows.specs.Register.{kept_row, number_of};
-ghost use Rattle.register_opening.specs.Reads.{by_first};
+ghost use Rattle.register_tables.specs.Reads.{by_first};
 ghost use Rattle.register_store.specs.Found.{IsPlaced, IsPlaceOf};
 ghost use Rattle.register_store.specs.Numbered.{filing_numbered};
 ghost use Rattle.register_store.specs.Reads.{has_filer};

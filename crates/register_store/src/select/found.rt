@@ -9,10 +9,11 @@ ghost use Rattle.table_rows.specs.Leaving.{MayRead, OnlyReads};
 ghost use Rattle.table_rows.specs.Standing.{HasCommitted};
 ghost use Rattle.register_rows.specs.Register.{amends_rows_by, findings_of, number_of};
 ghost use Rattle.xbrl_report.specs.CodeNumber.{number_of as code_number};
-ghost use Rattle.register_opening.specs.Registers.{IsRegisterOf};
+ghost use Rattle.register_tables.specs.Registers.{IsRegisterOf};
 ghost use Rattle.register_store.specs.Store.{ForRegister};
 ghost use Rattle.register_store.specs.Outcomes.{kept_as, style_at};
-ghost use Rattle.register_store.specs.Found.{FindsKept, IsFound, IsLookUp, IsPlaced, IsReading, found_row, finding_in, target_alone};
+ghost use Rattle.register_store.specs.Found.{FindsKept, IsFound, IsLookUp, IsPlaced, IsReading, found_row, finding_in};
+ghost use Rattle.register_store.specs.Found.{target_alone};
 
 use crate::decode::facts::read_text;
 use crate::kept_body::KeptBody;
@@ -149,31 +150,32 @@ pub(crate) fn target_at<S: Alter>(
 }
 
 /// The style in which the request at this place is answered, where the first so many are answered as before.
-fn style_at(early: u64, seq: i64) -> Style
-    ensures { (place : ℕ) → seq ≡ pos place → result ≡ style_at early place }
+fn style_at(old_style: u64, seq: i64) -> Style
+    ensures { (place : ℕ) → seq ≡ pos place → result ≡ style_at old_style place }
 {
     match u64::try_from(seq) {
-        Ok(place) if place <= early => Style::Old,
+        Ok(place) if place <= old_style => Style::Old,
         _ => Style::Problem,
     }
 }
 
-/// A kept row whole, with the filing that it is to replace, if any: with its number, or with its findings where it has none.
+/// A kept row whole, with the filing that it is to replace, if any: with its number, or with its findings where it has
+/// none.
 fn complete<S: Alter>(
     conn: &mut Connection<S>,
     alloc: Global,
-    early: u64,
+    old_style: u64,
     target: Option<u64>,
     found: FoundRow,
 ) -> Result<KeptRow, StoreFault>
     ensures found { HasCleanDisk (state S.Store conn.new) → (filer key : List ℕ) (n : ℕ) (F : List Request)
         → HasCommitted (IsRegisterOf n F) (state S.Store conn.old) → (is : IsFound filer key F found)
         → target ≡ is.k.request.target → IfOk result (λ row. kept_as filer key row ≡ is.k) }
-    ensures style { (place : ℕ) → found.seq ≡ pos place → IfOk result (λ row. row.style ≡ style_at early place) }
+    ensures style { (place : ℕ) → found.seq ≡ pos place → IfOk result (λ row. row.style ≡ style_at old_style place) }
     ensures leaves { MayRead S.Store conn.old conn.new result }
 {
     let FoundRow { seq, body, number } = found;
-    let style = style_at(early, seq);
+    let style = style_at(old_style, seq);
     match number {
         Some(number) => Ok(KeptRow {
             target,
@@ -197,32 +199,33 @@ fn complete<S: Alter>(
 fn complete_found<S: Alter>(
     conn: &mut Connection<S>,
     alloc: Global,
-    early: u64,
+    old_style: u64,
     found: FoundRow,
 ) -> Result<KeptRow, StoreFault>
     ensures found { HasCleanDisk (state S.Store conn.new) → (filer key : List ℕ) (n : ℕ) (F : List Request)
         → HasCommitted (IsRegisterOf n F) (state S.Store conn.old) → (is : IsFound filer key F found)
         → IfOk result (λ row. kept_as filer key row ≡ is.k) }
-    ensures style { (place : ℕ) → found.seq ≡ pos place → IfOk result (λ row. row.style ≡ style_at early place) }
+    ensures style { (place : ℕ) → found.seq ≡ pos place → IfOk result (λ row. row.style ≡ style_at old_style place) }
     ensures leaves { OnlyReads S.Store conn.old conn.new result }
 {
     let target = target_at(conn, found.seq)?;
-    complete(conn, alloc, early, target, found)
+    complete(conn, alloc, old_style, target, found)
 }
 
-/// What is kept of a filer and key, or `None` where they are new. The first `early` requests are answered as before.
+/// What is kept of a filer and key, or `None` where they are new. The first `old_style` requests are answered as
+/// before.
 pub fn find_kept<S: Alter>(
     conn: &mut Connection<S>,
     alloc: Global,
-    early: u64,
+    old_style: u64,
     filer: &str,
     key: &str,
 ) -> Result<Option<KeptRow>, StoreFault>
-    ensures { FindsKept S.Store early filer.now key.now conn.old conn.new result }
+    ensures { FindsKept S.Store old_style filer.now key.now conn.old conn.new result }
 {
     match look_up(conn, filer, key)? {
         Some(found) => {
-            let row = complete_found(conn, alloc, early, found)?;
+            let row = complete_found(conn, alloc, old_style, found)?;
             Ok(Some(row))
         }
         None => Ok(None),

@@ -11,7 +11,7 @@ ghost use Rattle.register_rows.specs.Register.{kept_row, amends_rows, joined_fro
 ghost use Rattle.register_store.specs.Numbered.{facts_numbered};
 ghost use Rattle.register_store.specs.Calls.{AnswersDurably, KeepsStore};
 ghost use Rattle.register_store.specs.Store.{shows, ForRequests, ForRegister};
-ghost use Rattle.register_opening.specs.Registers.{LeavesOnly};
+ghost use Rattle.register_tables.specs.Registers.{LeavesOnly};
 
 use crate::decode::completed::{Completed, Registered, read_filings, read_requests};
 use crate::decode::facts::read_facts;
@@ -20,7 +20,7 @@ use crate::select::reads;
 use crate::select::replaceable::has_filing;
 use crate::store::Store;
 use filing_model::FilingRow;
-use register_opening::{amends_rows, kept_rows};
+use register_tables::{amends_rows, kept_rows};
 use sqlite::{Alter, Connection, Row};
 use table_rows::StoreFault;
 use xbrl_report::Fact;
@@ -66,8 +66,8 @@ impl<S: Alter> Store<S> {
         read_filings(self.alloc, &both.kept, &both.amends)
     }
 
-    /// The filings of a filer, each with how many facts it has, which filing it replaces and which one replaces it, ascending by number.
-    /// A filer that never came has none.
+    /// The filings of a filer, each with how many facts it has, which filing it replaces and which one replaces it,
+    /// ascending by number. A filer that never came has none.
     pub fn filings(&mut self, filer: &str) -> Result<Vec<FilingRow>, StoreFault>
         ensures rows { ForRequests S.Store self.old self.new (λ F.
             IfOk result (λ rows. map view_row rows.items ≡ listings filer.now None (register F))) }
@@ -99,7 +99,7 @@ impl<S: Alter> Store<S> {
             IfOk result (λ facts. option_map (λ list. list.items) facts ≡ facts_numbered number (register F))) }
         ensures keeps { KeepsStore S.Store self.old self.new }
         ensures durable { ForRequests S.Store self.old self.new (λ F.
-            IsTrue (shows S.Store self.new).is_open → LeavesOnly (shows S.Store self.new) self.old.early F) }
+            IsTrue (shows S.Store self.new).is_open → LeavesOnly (shows S.Store self.new) self.old.old_style F) }
     {
         if number == 0 || self.filings < number {
             return Ok(None);

@@ -7,7 +7,7 @@ ghost use Rattle.table_rows.specs.Leaving.{OnlyQueries};
 ghost use Rattle.table_rows.specs.Reading.{ReadsRows};
 ghost use Rattle.register_rows.specs.Schema.{kept_table, fact_table};
 ghost use Rattle.register_store.specs.Found.{has_seq};
-ghost use Rattle.register_opening.specs.Reads.{Knows, by_first, by_second};
+ghost use Rattle.register_tables.specs.Reads.{Knows, by_first, by_second};
 ghost use Rattle.register_store.specs.Reads.{has_filer, filer_alone, said};
 ghost use Rattle.table_rows.specs.Picking.{has_number};
 

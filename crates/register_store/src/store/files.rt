@@ -15,13 +15,13 @@ use sqlite_disk::Disk;
 use table_rows::StoreFault;
 
 impl<D: Disk + Drop> Store<FileStore<D>> {
-    /// Closes the store and gives its files back in any case: with all that was committed in the database file, or with the
-    /// fault for which it isn't all there, but in the log still. A store that a fault of the disk shut has files too, where
-    /// the disk takes part again.
+    /// Closes the store and gives its files back in any case: with all that was committed in the database file, or with
+    /// the fault for which it isn't all there, but in the log still. A store that a fault of the disk shut has files
+    /// too, where the disk takes part again.
     pub fn close(self) -> Result<Files<D>, (StoreFault, Files<D>)>
         ensures kept { IfOk result (λ files.
             AreClean D.Disk files.log files.db → (F : List Request) → HasRequests over_files self F
-            → HoldRegister D.Disk files self.early F) }
+            → HoldRegister D.Disk files self.old_style F) }
         ensures copied { IfOk result (λ files. AreClean D.Disk files.log files.db → IsCopied self.conn files) }
         ensures usable { IfOk result (λ files.
             IsTrue (D.Disk.is_usable files.log) × IsTrue (D.Disk.is_usable files.db)) }
@@ -35,11 +35,12 @@ impl<D: Disk + Drop> Store<FileStore<D>> {
         }
     }
 
-    /// The files, with all that was committed in the database file. A refusal gives the files up: `close` gives them back.
+    /// The files, with all that was committed in the database file. A refusal gives the files up: `close` gives them
+    /// back.
     pub fn into_files(self) -> Result<Files<D>, StoreFault>
         ensures kept { IfOk result (λ files.
             AreClean D.Disk files.log files.db → (F : List Request) → HasRequests over_files self F
-            → HoldRegister D.Disk files self.early F) }
+            → HoldRegister D.Disk files self.old_style F) }
         ensures copied { IfOk result (λ files. AreClean D.Disk files.log files.db → IsCopied self.conn files) }
         ensures usable { IfOk result (λ files.
             IsTrue (D.Disk.is_usable files.log) × IsTrue (D.Disk.is_usable files.db)) }

@@ -15,7 +15,7 @@ struct Form {
     /// What the tables have beside those of every form.
     sql: &'static str,
     /// How many of its two requests were kept before the migration.
-    early: u64,
+    old_style: u64,
 }
 
 /// The tables of every form, with the smallest report and a refused empty body, which is no JSON text.
@@ -24,12 +24,12 @@ const TABLES: &str =
 
 const SECOND: &Form = &Form {
     sql: "INSERT INTO intake_meta VALUES (1, 'register', 2)",
-    early: 2,
+    old_style: 2,
 };
 
 const THIRD: &Form = &Form {
     sql: "CREATE TABLE migrated (id INTEGER PRIMARY KEY, last INTEGER NOT NULL) STRICT; INSERT INTO migrated VALUES (1, 1); INSERT INTO intake_meta VALUES (1, 'register', 3)",
-    early: 1,
+    old_style: 1,
 };
 
 /// A form, a statement on its tables, why a migration is refused then, and a statement that undoes the first.
@@ -141,7 +141,7 @@ fn has<S: Alter>(
     form: &Form,
     requests: &[Request],
 ) -> Result<bool, StoreFault> {
-    Ok(store.early_count()? == form.early && holds(alloc, store, requests)?)
+    Ok(store.old_style_count()? == form.old_style && holds(alloc, store, requests)?)
 }
 
 /// The register, and whether it has these requests, as many from before the migration as the form says; `None` if it is
@@ -217,7 +217,7 @@ fn migrated_again<S: Fresh>(alloc: Global, form: &Form) -> Result<Store<S>, Open
 fn survives_refusals<S: Fresh>(alloc: Global, form: &Form) -> Option<bool> {
     let mut store: Store<S> = migrated_again(alloc, form).ok()?;
     let is_kept = matches!(holds_again(alloc, &mut store, &THREE[..2]), Ok(true));
-    Some(is_kept && store.early_count() == Ok(form.early))
+    Some(is_kept && store.old_style_count() == Ok(form.old_style))
 }
 
 #[test]

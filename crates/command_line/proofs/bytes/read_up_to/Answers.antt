@@ -25,6 +25,7 @@ loop-reads-preserved g c =
       made = omega (arith, so_far.made, more.made, more.count, c.if-branch-eq0.false);
       room = more.room ∙ so_far.room;
       reads = reads_more _ _ _ _ _ _ _ more.made so_far.reads (more.some (omega (arith, c.if-branch-eq0.false)));
-      given = subst (Consumes (g.R.Source.left c.args.reader.now) (g.R.Source.left c.read_more.new.reader)) (sym {A = List ℕ} more.kept) (Consumes-trans _ _ _ _ _ so_far.given more.given);
+      given = subst (Consumes (g.R.Source.left c.args.reader.now) (g.R.Source.left c.read_more.new.reader))
+          (sym {A = List ℕ} more.kept) (Consumes-trans _ _ _ _ _ so_far.given more.given);
       failures = more.fine ∙ so_far.failures;
     }

@@ -12,7 +12,8 @@ keeps_name old new [] same = ap name_of (sym same)
 keeps_name old new (a ∷ args) added = keeps_name added.0 new args added.2 ∙ added.1.names.0
 
 -- The same, where there was memory for them.
-has_name : {E : Type 0} (old : Command) (args : List Arg) (name : List ℕ) (new : Result Command E) → IfOk new (AddsInTurn AddsArg old args) → name_of old ≡ name → IfOk new (λ task. name_of task ≡ name)
+has_name : {E : Type 0} (old : Command) (args : List Arg) (name : List ℕ) (new : Result Command E)
+    → IfOk new (AddsInTurn AddsArg old args) → name_of old ≡ name → IfOk new (λ task. name_of task ≡ name)
 has_name old args name (Ok new) added is = keeps_name old new args added ∙ is
 has_name old args name (Err _) _ _ = tt
 

@@ -14,5 +14,14 @@ returns-in-Ok-clause-closed g c = (
 )
 
 pub returns-in-Err-clause-refused : goal.returns-in-Err-clause-refused
-returns-in-Err-clause-refused g c =
-    (c.close.result, c.leave-in-Err.ensures, record { last = c.in-Err.store; same = sym c.close.ensures; closed = c.in-Err.ensures.err.0; failed = c.in-Err.ensures.err.1 })
+returns-in-Err-clause-refused g c = (
+  c.close.result,
+  c.leave-in-Err.ensures,
+  record {
+    last = c.in-Err.store;
+    same = sym c.close.ensures;
+    closed =
+        c.in-Err.ensures.err.0;
+    failed = c.in-Err.ensures.err.1;
+  },
+)

@@ -2,5 +2,13 @@ use Rattle.std.proofs.Common.{sym}
 use Rattle.database_places.proofs.closing.give_up.Goals as goal
 
 pub returns : goal.returns
-returns g c =
-    (c.close.result, c.leave.ensures, record { last = c.into_store.result; same = sym c.close.ensures; closed = record { quiet = c.into_store.ensures.quiet; sound = c.into_store.ensures.sound } })
+returns g c = (
+  c.close.result,
+  c.leave.ensures,
+  record {
+    last = c.into_store.result;
+    same = sym c.close.ensures;
+    closed =
+        record { quiet = c.into_store.ensures.quiet; sound = c.into_store.ensures.sound };
+  },
+)

@@ -5,4 +5,5 @@ use Rattle.drill_commands.specs.Shown.{entry_shown}
 use Rattle.drill_commands.proofs.lines.append_entries.Given as goal
 
 abbrev pub invariant-loop-outbox : goal.invariant-loop-outbox
-invariant-loop-outbox l = l.text.items ≡ l.fn.text.items ++ flat_map (λ e. entry_shown (view_listed e)) (take l.outbox-index l.entries)
+invariant-loop-outbox l =
+    l.text.items ≡ l.fn.text.items ++ flat_map (λ e. entry_shown (view_listed e)) (take l.outbox-index l.entries)

@@ -7,12 +7,16 @@ use Rattle.drill_commands.proofs.world.read.Goals as goal
 
 pub returns-clause-said : goal.returns-clause-said
 returns-clause-said c =
-    let same : c.in-Ok.text.now ≡ c.args.bytes.now = search rules in
-    (view_script c.in_ok-script.script, ap script_of (sym same) ∙ c.in_ok-script.ensures.read, c.in_ok-restart_all.ensures.ok)
+    let same : c.in-Ok.text.now ≡ c.args.bytes.now = search rules in (
+      view_script c.in_ok-script.script,
+      ap script_of (sym same) ∙ c.in_ok-script.ensures.read,
+      c.in_ok-restart_all.ensures.ok,
+    )
 
 pub returns-clause-targets : goal.returns-clause-targets
 returns-clause-targets c =
-    subst HaveTargets (sym (ap (λ s. s.events) c.in_ok-restart_all.ensures.ok)) (restarted_targets (view_script c.in_ok-script.script) c.in_ok-script.ensures.targets)
+    subst HaveTargets (sym (ap (λ s. s.events) c.in_ok-restart_all.ensures.ok))
+    (restarted_targets (view_script c.in_ok-script.script) c.in_ok-script.ensures.targets)
 
 pub returns-in_err-script-clause-wrong : goal.returns-in_err-script-clause-wrong
 returns-in_err-script-clause-wrong c =

@@ -7,7 +7,8 @@ use Rattle.event_script.proofs.read.read_events.Given as goal
 
 abbrev pub invariant-loop-line : goal.invariant-loop-line
 invariant-loop-line l =
-    (events_from l.fn.text.number (lines_of l.fn.text.rest.now) ≡ after_events (map view_event l.events.items) (events_from l.behind.number (lines_of l.behind.rest.now)))
+    (events_from l.fn.text.number (lines_of l.fn.text.rest.now)
+    ≡ after_events (map view_event l.events.items) (events_from l.behind.number (lines_of l.behind.rest.now)))
     × HaveTargets (map view_event l.events.items)
 
 abbrev pub decreases-loop-line : goal.decreases-loop-line

@@ -5,7 +5,8 @@ use Rattle.event_script.proofs.read.read_filers.Given as goal
 
 abbrev pub invariant-loop-filer : goal.invariant-loop-filer
 invariant-loop-filer l =
-    (filers_of (lines_of l.fn.text.rest.now) ≡ map string_bytes l.filers.items ++ filers_of (lines_of l.behind.rest.now))
+    (filers_of (lines_of l.fn.text.rest.now) ≡ map string_bytes l.filers.items
+    ++ filers_of (lines_of l.behind.rest.now))
     × (lines_of l.behind.rest.now ≡ drop (length l.filers.items) (lines_of l.fn.text.rest.now))
     × (l.behind.number ≡ l.fn.text.number + length l.filers.items)
 

@@ -5,13 +5,19 @@ use Rattle.event_script.proofs.read.read_script.Goals as goal
 
 pub returns-in-Some-clause-read : goal.returns-in-Some-clause-read
 returns-in-Some-clause-read c =
-    let said = script_of-limit c.args.text.now c.in-Some.behind.rest.now c.in-Some.limit (rw c.new-lines.ensures.rest at c.in-Some.ensures.limit) (rw c.new-lines.ensures.rest at c.in-Some.ensures.behind) in
+    let said =
+    script_of-limit c.args.text.now c.in-Some.behind.rest.now c.in-Some.limit
+    (rw c.new-lines.ensures.rest at c.in-Some.ensures.limit)
+    (rw c.new-lines.ensures.rest at c.in-Some.ensures.behind) in
     let number : c.in-Some.behind.number ≡ 2 = rw c.new-lines.ensures.number at c.in-Some.ensures.number in
     rw (said, ← number) c.read_behind_limit.ensures.read
 
 pub returns-in-Some-clause-wrong : goal.returns-in-Some-clause-wrong
 returns-in-Some-clause-wrong c =
-    let said = script_of-limit c.args.text.now c.in-Some.behind.rest.now c.in-Some.limit (rw c.new-lines.ensures.rest at c.in-Some.ensures.limit) (rw c.new-lines.ensures.rest at c.in-Some.ensures.behind) in
+    let said =
+    script_of-limit c.args.text.now c.in-Some.behind.rest.now c.in-Some.limit
+    (rw c.new-lines.ensures.rest at c.in-Some.ensures.limit)
+    (rw c.new-lines.ensures.rest at c.in-Some.ensures.behind) in
     let number : c.in-Some.behind.number ≡ 2 = rw c.new-lines.ensures.number at c.in-Some.ensures.number in
     rw (said, ← number) c.read_behind_limit.ensures.wrong
 
@@ -29,10 +35,13 @@ pub returns-in-Some-clause-filers : goal.returns-in-Some-clause-filers
 returns-in-Some-clause-filers c = filers_are c.args.text.now c.read_behind_limit.result (returns-in-Some-clause-read c)
 
 pub returns-in-Some-clause-limit : goal.returns-in-Some-clause-limit
-returns-in-Some-clause-limit c = limit_is_small c.args.text.now c.read_behind_limit.result (returns-in-Some-clause-read c)
+returns-in-Some-clause-limit c =
+    limit_is_small c.args.text.now c.read_behind_limit.result (returns-in-Some-clause-read c)
 
 pub returns-in-None-clause-filers : goal.returns-in-None-clause-filers
-returns-in-None-clause-filers c = filers_are c.args.text.now c.read_behind_limit-in-None.result (returns-in-None-clause-read c)
+returns-in-None-clause-filers c =
+    filers_are c.args.text.now c.read_behind_limit-in-None.result (returns-in-None-clause-read c)
 
 pub returns-in-None-clause-limit : goal.returns-in-None-clause-limit
-returns-in-None-clause-limit c = limit_is_small c.args.text.now c.read_behind_limit-in-None.result (returns-in-None-clause-read c)
+returns-in-None-clause-limit c =
+    limit_is_small c.args.text.now c.read_behind_limit-in-None.result (returns-in-None-clause-read c)

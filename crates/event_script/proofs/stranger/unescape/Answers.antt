@@ -5,4 +5,8 @@ use Rattle.event_script.proofs.stranger.unescape.Goals as goal
 
 pub loop-byte-preserved : goal.loop-byte-preserved
 loop-byte-preserved c =
-    rw (c.in_ok-push.ensures.items, ← option_map-push c.loop-byte.bytes.items c.in-Some.byte (unescaped false c.in-Some.after.now), ← c.in-Some.ensures.parts) c.loop-byte.invariant
+    rw (
+      c.in_ok-push.ensures.items,
+      ← option_map-push c.loop-byte.bytes.items c.in-Some.byte (unescaped false c.in-Some.after.now),
+      ← c.in-Some.ensures.parts,
+    ) c.loop-byte.invariant

@@ -4,5 +4,6 @@ use Rattle.event_script.proofs.words.read_arrival.Goals as goal
 
 pub returns : goal.returns
 returns c =
-    let small : c.in_ok-number.number ≤ 4294967295 = number_up_to-small 4294967295 c.args.word.now c.in_ok-number.number (sym c.in_ok-number.ensures) in
+    let small : c.in_ok-number.number ≤ 4294967295 =
+    number_up_to-small 4294967295 c.args.word.now c.in_ok-number.number (sym c.in_ok-number.ensures) in
     search rules

@@ -14,4 +14,5 @@ lines_at-requires c =
     let answered = subst P c.in-Some.is c.in_ok-places.ensures in
     let many = as_many body answered.1.0 pointers c.in-Some.places.items answered.1.2 in
     ap length c.deref-in-Some.ensures.value ∙ many
-    ∙ ap length (ap (map (λ pointer. pointer.now)) c.deref.ensures.value ∙ c.in_ok-pointers.ensures) ∙ length-map c.args.findings.now (λ finding. finding.place)
+    ∙ ap length (ap (map (λ pointer. pointer.now)) c.deref.ensures.value ∙ c.in_ok-pointers.ensures)
+    ∙ length-map c.args.findings.now (λ finding. finding.place)

@@ -5,6 +5,7 @@ use Rattle.gateway_ports.proofs.serving.serve_each.Given as goal
 
 abbrev pub invariant-loop-taken : goal.invariant-loop-taken
 invariant-loop-taken g l = record {
-  served : ServesSome g.S.Store (g.P.Port.traffic l.fn.port) (g.P.Port.traffic l.port) l.fn.intake l.intake (Some l.taken);
+  served : ServesSome g.S.Store (g.P.Port.traffic l.fn.port) (g.P.Port.traffic l.port) l.fn.intake l.intake
+      (Some l.taken);
   down : has_stopped l.fn.intake ≡ true → (l.taken ≡ 0) × (l.intake ≡ l.fn.intake);
 }

@@ -8,5 +8,6 @@ returns-in-Some-next c =
       c.in-Some.value.now,
       c.in-Some-next.field-0.now,
       values_left c.next-2.new.self,
-      sym c.fields_named-values.ensures.values ∙ c.in-Some.ensures.steps ∙ ap (λ vs. c.in-Some.value.now ∷ vs) c.in-Some-next.ensures.steps,
+      sym c.fields_named-values.ensures.values ∙ c.in-Some.ensures.steps
+          ∙ ap (λ vs. c.in-Some.value.now ∷ vs) c.in-Some-next.ensures.steps,
     )

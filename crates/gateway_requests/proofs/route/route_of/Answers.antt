@@ -10,5 +10,7 @@ pub returns-in-None-clause-asked : goal.returns-in-None-clause-asked
 unfolding route
 returns-in-None-clause-asked c =
     let m : Message = view_message c.args.message.now in
-    let none : resource_of_path m.head.path ≡ None = ap resource_of_path (sym c.path.ensures) ∙ sym c.read_path.ensures.value ∙ ap (option_map view_path) c.in-None.is in
+    let none : resource_of_path m.head.path ≡ None =
+    ap resource_of_path (sym c.path.ensures) ∙ sym c.read_path.ensures.value
+    ∙ ap (option_map view_path) c.in-None.is in
     ap (λ named. bare (is_head m) (route_by_resource named m)) none

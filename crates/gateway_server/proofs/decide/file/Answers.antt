@@ -9,8 +9,8 @@ use Rattle.filing_model.specs.Style.{style_of}
 use Rattle.filing_model.specs.Views.{the_request, view_answer}
 use Rattle.filing_model.proofs.Firsts.{firsts_short}
 use Rattle.intake_answers.specs.Answered.{told_style}
-use Rattle.intake_core.specs.Held.{limit_of, early_in}
-use Rattle.intake_core.proofs.Deciding.{early_in-after}
+use Rattle.intake_core.specs.Held.{limit_of, old_style_in}
+use Rattle.intake_core.proofs.Deciding.{old_style_in-after}
 use Rattle.intake_answers.proofs.Styles.{HasStyle-told}
 use Rattle.gateway_server.proofs.Statuses.{phrase-reply_as, phrase-parts, phrase-unavailable}
 use Rattle.gateway_server.proofs.Decisions.{Decides-filed_unavailable}
@@ -22,27 +22,39 @@ returns-in-Ok-clause-decided g c = λ clean before h.
     let told = c.in-Ok.ensures.answer clean before h in (
       firsts (before ++ r ∷ []),
       told.1,
-      early_in-after before r c.args.intake.now c.submit.new.self c.in-Ok.ensures.setting.early h,
+      old_style_in-after before r c.args.intake.now c.submit.new.self c.in-Ok.ensures.setting.old_style h,
       record {
         fit = ⊎_elim
             (λ (known : has_key before r ≡ true). inl known)
-            (λ (new : has_key before r ≡ false). inr (omega (arith, c.in-Ok.ensures.room clean before h new, firsts_short before)))
+            (λ (new : has_key before r ≡ false). inr (omega (
+              arith,
+              c.in-Ok.ensures.room clean before h new,
+              firsts_short before,
+            )))
             (cases_Bool (has_key before r));
         kept = refl;
-        reply = subst (λ (x : Answer). IfOk c.reply_of.result (λ reply. reply_parts reply ≡ reply_as (style_of (early_in c.args.intake.now before) r) x)) told.0.0
-            (c.reply_of.ensures (style_of (early_in c.args.intake.now before) r) told.0.1);
+        reply = subst (λ (x : Answer). IfOk c.reply_of.result
+            (λ reply. reply_parts reply ≡ reply_as (style_of (old_style_in c.args.intake.now before) r) x)) told.0.0
+            (c.reply_of.ensures (style_of (old_style_in c.args.intake.now before) r) told.0.1);
       },
     )
 
 pub returns-in-Ok-clause-phrase : goal.returns-in-Ok-clause-phrase
 returns-in-Ok-clause-phrase g c =
     let style = told_style c.in-Ok.answer in
-    phrase-parts AllocError c.reply_of.result (reply_as style (view_answer c.in-Ok.answer)) (phrase-reply_as style (view_answer c.in-Ok.answer)) (c.reply_of.ensures style (HasStyle-told c.in-Ok.answer))
+    phrase-parts AllocError c.reply_of.result (reply_as style (view_answer c.in-Ok.answer))
+    (phrase-reply_as style (view_answer c.in-Ok.answer)) (c.reply_of.ensures style (HasStyle-told c.in-Ok.answer))
 
 pub returns-in-Err-clause-decided : goal.returns-in-Err-clause-decided
 returns-in-Err-clause-decided g c = λ clean before h.
-    let r : Request = the_request c.args.filer.now c.args.key.now c.args.target c.args.body.now in
-    (before, c.in-Err.ensures.err clean before h, ap (λ n. take n before) c.in-Err.ensures.setting.early, Decides-filed_unavailable (limit_of c.args.intake.now) (early_in c.args.intake.now before) before r c.unavailable.result c.unavailable.ensures)
+    let r : Request = the_request c.args.filer.now c.args.key.now c.args.target c.args.body.now in (
+      before,
+      c.in-Err.ensures.err clean before h,
+      ap (λ n. take n before) c.in-Err.ensures.setting.old_style,
+      Decides-filed_unavailable (limit_of c.args.intake.now) (old_style_in c.args.intake.now before) before r
+          c.unavailable.result c.unavailable.ensures,
+    )
 
 pub returns-in-Err-clause-phrase : goal.returns-in-Err-clause-phrase
-returns-in-Err-clause-phrase g c = phrase-parts AllocError c.unavailable.result.reply unavailable phrase-unavailable c.unavailable.ensures.reply
+returns-in-Err-clause-phrase g c =
+    phrase-parts AllocError c.unavailable.result.reply unavailable phrase-unavailable c.unavailable.ensures.reply

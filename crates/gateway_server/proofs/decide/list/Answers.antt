@@ -6,7 +6,7 @@ use Rattle.filing_model.specs.Listing.{Listing, listings}
 use Rattle.filing_model.specs.Register.{register}
 use Rattle.filing_model.specs.Reply.{list_reply, unavailable}
 use Rattle.filing_model.specs.Views.{view_row}
-use Rattle.intake_core.specs.Held.{limit_of, early_in}
+use Rattle.intake_core.specs.Held.{limit_of, old_style_in}
 use Rattle.gateway_server.proofs.Statuses.{phrase-list_reply, phrase-parts, phrase-unavailable}
 use Rattle.gateway_server.proofs.Decisions.{Decides-listed_unavailable}
 use Rattle.gateway_server.proofs.decide.list.Goals as goal
@@ -14,23 +14,33 @@ use Rattle.gateway_server.proofs.decide.list.Goals as goal
 pub returns-in-Ok-clause-decided : goal.returns-in-Ok-clause-decided
 returns-in-Ok-clause-decided g c = λ clean before h.
     let rows : List Listing = listings c.args.filer.now None (register before) in
-    let same : map view_row c.deref.result.now ≡ rows = ap (map view_row) c.deref.ensures.value ∙ c.in-Ok.ensures.rows clean before h in (
+    let same : map view_row c.deref.result.now ≡ rows =
+    ap (map view_row) c.deref.ensures.value ∙ c.in-Ok.ensures.rows clean before h in (
       before,
       c.in-Ok.ensures.kept clean before h,
-      ap (λ n. take n before) c.in-Ok.ensures.setting.early,
+      ap (λ n. take n before) c.in-Ok.ensures.setting.old_style,
       record {
         fit = tt;
         kept = refl;
-        reply = subst (λ (ls : List Listing). IfOk c.list_reply.result (λ r. reply_parts r ≡ list_reply ls)) same c.list_reply.ensures;
+        reply = subst (λ (ls : List Listing). IfOk c.list_reply.result (λ r. reply_parts r ≡ list_reply ls)) same
+            c.list_reply.ensures;
       },
     )
 
 pub returns-in-Ok-clause-phrase : goal.returns-in-Ok-clause-phrase
-returns-in-Ok-clause-phrase g c = phrase-parts AllocError c.list_reply.result (list_reply (map view_row c.deref.result.now)) (phrase-list_reply (map view_row c.deref.result.now)) c.list_reply.ensures
+returns-in-Ok-clause-phrase g c =
+    phrase-parts AllocError c.list_reply.result (list_reply (map view_row c.deref.result.now))
+    (phrase-list_reply (map view_row c.deref.result.now)) c.list_reply.ensures
 
 pub returns-in-Err-clause-decided : goal.returns-in-Err-clause-decided
-returns-in-Err-clause-decided g c = λ clean before h.
-    (before, c.in-Err.ensures.kept clean before h, ap (λ n. take n before) c.in-Err.ensures.setting.early, Decides-listed_unavailable (limit_of c.args.intake.now) (early_in c.args.intake.now before) before c.args.filer.now None c.unavailable.result c.unavailable.ensures)
+returns-in-Err-clause-decided g c = λ clean before h. (
+  before,
+  c.in-Err.ensures.kept clean before h,
+  ap (λ n. take n before) c.in-Err.ensures.setting.old_style,
+  Decides-listed_unavailable (limit_of c.args.intake.now) (old_style_in c.args.intake.now before) before
+      c.args.filer.now None c.unavailable.result c.unavailable.ensures,
+)
 
 pub returns-in-Err-clause-phrase : goal.returns-in-Err-clause-phrase
-returns-in-Err-clause-phrase g c = phrase-parts AllocError c.unavailable.result.reply unavailable phrase-unavailable c.unavailable.ensures.reply
+returns-in-Err-clause-phrase g c =
+    phrase-parts AllocError c.unavailable.result.reply unavailable phrase-unavailable c.unavailable.ensures.reply

@@ -6,7 +6,7 @@ use Rattle.http_messages.specs.Replies.{reply_parts}
 use Rattle.filing_model.specs.Listing.{Listing}
 use Rattle.filing_model.specs.Reply.{list_reply, unavailable}
 use Rattle.filing_model.specs.Views.{view_row}
-use Rattle.intake_core.specs.Held.{limit_of, early_in}
+use Rattle.intake_core.specs.Held.{limit_of, old_style_in}
 use Rattle.gateway_server.proofs.Statuses.{phrase-list_reply, phrase-parts, phrase-unavailable}
 use Rattle.gateway_server.proofs.Decisions.{Decides-listed_unavailable}
 use Rattle.gateway_server.proofs.decide.show.Goals as goal
@@ -15,20 +15,29 @@ pub returns-in-Ok-clause-decided : goal.returns-in-Ok-clause-decided
 returns-in-Ok-clause-decided g c = λ clean before h. (
   before,
   c.in-Ok.ensures.kept clean before h,
-  ap (λ n. take n before) c.in-Ok.ensures.setting.early,
+  ap (λ n. take n before) c.in-Ok.ensures.setting.old_style,
   record {
     fit = tt;
     kept = refl;
-    reply = subst (λ (ls : List Listing). IfOk c.row_reply.result (λ r. reply_parts r ≡ list_reply ls)) (c.in-Ok.ensures.rows clean before h) c.row_reply.ensures;
+    reply = subst (λ (ls : List Listing). IfOk c.row_reply.result (λ r. reply_parts r ≡ list_reply ls))
+        (c.in-Ok.ensures.rows clean before h) c.row_reply.ensures;
   },
 )
 
 pub returns-in-Ok-clause-phrase : goal.returns-in-Ok-clause-phrase
-returns-in-Ok-clause-phrase g c = phrase-parts AllocError c.row_reply.result (list_reply (map view_row (option_to_list c.in-Ok.row))) (phrase-list_reply (map view_row (option_to_list c.in-Ok.row))) c.row_reply.ensures
+returns-in-Ok-clause-phrase g c =
+    phrase-parts AllocError c.row_reply.result (list_reply (map view_row (option_to_list c.in-Ok.row)))
+    (phrase-list_reply (map view_row (option_to_list c.in-Ok.row))) c.row_reply.ensures
 
 pub returns-in-Err-clause-decided : goal.returns-in-Err-clause-decided
-returns-in-Err-clause-decided g c = λ clean before h.
-    (before, c.in-Err.ensures.kept clean before h, ap (λ n. take n before) c.in-Err.ensures.setting.early, Decides-listed_unavailable (limit_of c.args.intake.now) (early_in c.args.intake.now before) before c.args.filer.now (Some c.args.number) c.unavailable.result c.unavailable.ensures)
+returns-in-Err-clause-decided g c = λ clean before h. (
+  before,
+  c.in-Err.ensures.kept clean before h,
+  ap (λ n. take n before) c.in-Err.ensures.setting.old_style,
+  Decides-listed_unavailable (limit_of c.args.intake.now) (old_style_in c.args.intake.now before) before
+      c.args.filer.now (Some c.args.number) c.unavailable.result c.unavailable.ensures,
+)
 
 pub returns-in-Err-clause-phrase : goal.returns-in-Err-clause-phrase
-returns-in-Err-clause-phrase g c = phrase-parts AllocError c.unavailable.result.reply unavailable phrase-unavailable c.unavailable.ensures.reply
+returns-in-Err-clause-phrase g c =
+    phrase-parts AllocError c.unavailable.result.reply unavailable phrase-unavailable c.unavailable.ensures.reply

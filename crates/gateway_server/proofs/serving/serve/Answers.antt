@@ -2,7 +2,7 @@ use Rattle.std.proofs.Common.{Option, subst, rules}
 use Rattle.filing_model.specs.declared.served.Ended.{Ended}
 use Rattle.filing_model.specs.Serving.{keeping}
 use Rattle.filing_model.specs.Stopping.{No}
-use Rattle.intake_core.specs.Held.{limit_of, early_in}
+use Rattle.intake_core.specs.Held.{limit_of, old_style_in}
 use Rattle.http_wire.specs.Wire.{wire}
 use Rattle.gateway_server.specs.Stopping.{ServesConnectionUntil}
 use Rattle.gateway_server.specs.Written.{WritesTexts}
@@ -16,11 +16,14 @@ returns g c = record {
       let new = wire g.R.Source g.W.Sink c.serve_until-partly.new.reader c.serve_until-partly.new.writer in
       let marks = c.serve_until-partly.result.marks.items in
       let served = c.serve_until-partly.ensures.serves clean before h in
-      let requests = keeping (limit_of c.args.intake.now) (early_in c.args.intake.now before) before served.0 in
-      let ended = subst (λ (how : Option Ended). ServesConnectionUntil requests old new No marks how) c.unwrap.ensures served.3 in
+      let requests = keeping (limit_of c.args.intake.now) (old_style_in c.args.intake.now before) before served.0 in
+      let ended =
+      subst (λ (how : Option Ended). ServesConnectionUntil requests old new No marks how) c.unwrap.ensures
+      served.3 in
       (served.0, served.1, served.2, ServesConnection-ended requests old new No marks c.unwrap.result ended);
   setting = search rules;
   fault = search rules;
   limited = search rules;
-  texts = subst (λ (how : Option Ended). WritesTexts (g.W.Sink.written c.args.writer.now) (g.W.Sink.written c.serve_until-partly.new.writer) how) c.unwrap.ensures c.serve_until-partly.ensures.texts;
+  texts = subst (λ (how : Option Ended). WritesTexts (g.W.Sink.written c.args.writer.now)
+      (g.W.Sink.written c.serve_until-partly.new.writer) how) c.unwrap.ensures c.serve_until-partly.ensures.texts;
 }

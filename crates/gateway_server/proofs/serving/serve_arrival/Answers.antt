@@ -5,13 +5,14 @@ use Rattle.http_wire.specs.Inbox.{held, reads, lent_awaits}
 use Rattle.http_messages.specs.Message.{IsRest}
 use Rattle.filing_model.specs.declared.served.Ended.TheVariants.{InputEnded}
 use Rattle.filing_model.specs.Serving.{keeping}
-use Rattle.intake_core.specs.Held.{limit_of, early_in}
+use Rattle.intake_core.specs.Held.{limit_of, old_style_in}
 use Rattle.http_wire.specs.Wire.{wire}
 use Rattle.gateway_server.specs.Progress.{with_written}
 use Rattle.gateway_server.specs.Stopping.{end_of}
 use Rattle.gateway_server.proofs.Continuing.{HasMessage-next, HasRefusal-next, Serves-end, Serves-fault, is_limit}
 use Rattle.gateway_server.proofs.Ending.{TellsLimit-fault}
-use Rattle.gateway_server.proofs.Written.{WritesTexts-none, WritesTexts-join, WritesTexts-interim, WritesTexts-asked, WritesTexts-fault}
+use Rattle.gateway_server.proofs.Written.{WritesTexts-none, WritesTexts-join, WritesTexts-interim, WritesTexts-asked}
+use Rattle.gateway_server.proofs.Written.{WritesTexts-fault}
 use Rattle.gateway_server.proofs.serving.serve_arrival.Goals as goal
 
 pub returns-in-Ok-Message-clause-serves : goal.returns-in-Ok-Message-clause-serves
@@ -25,7 +26,10 @@ returns-in-Ok-Message-clause-serves g c = λ clean now kept.
           let arrival = rw c.in-Ok-Message.field-0-is at c.in-Ok-Message.ensures.arrival in
           let interim = rw c.in-Ok-Message.field-0-is at c.in-Ok-Message.ensures.interim in
           served.3 before first ended
-          (HasMessage-next (keeping (limit_of c.args.intake.now) (early_in c.args.intake.now now) before now) first (wire g.R.Source g.W.Sink c.args.reader.now c.args.writer.now) (with_written ended (g.W.Sink.written c.next.new.writer)) c.args.inbox.now c.next.new.self c.args.marks.now.items h c.next.ensures.reads arrival.1 interim),
+          (HasMessage-next (keeping (limit_of c.args.intake.now) (old_style_in c.args.intake.now now) before now) first
+          (wire g.R.Source g.W.Sink c.args.reader.now c.args.writer.now)
+          (with_written ended (g.W.Sink.written c.next.new.writer)) c.args.inbox.now c.next.new.self
+          c.args.marks.now.items h c.next.ensures.reads arrival.1 interim),
     )
 
 pub returns-in-Ok-Refuse-clause-serves : goal.returns-in-Ok-Refuse-clause-serves
@@ -37,8 +41,12 @@ returns-in-Ok-Refuse-clause-serves g c = λ clean now kept. (
       let ended = wire g.R.Source g.W.Sink c.next.new.reader c.serve_refusal.new.writer in
       let arrival = rw c.in-Ok-Refuse.field-0-is at c.in-Ok-Refuse.ensures.arrival in
       let interim = rw c.in-Ok-Refuse.field-0-is at c.in-Ok-Refuse.ensures.interim in
-      c.serve_refusal.ensures.serves (keeping (limit_of c.args.intake.now) (early_in c.args.intake.now now) before now) first ended c.next.new.self
-      (HasRefusal-next (keeping (limit_of c.args.intake.now) (early_in c.args.intake.now now) before now) first (wire g.R.Source g.W.Sink c.args.reader.now c.args.writer.now) (with_written ended (g.W.Sink.written c.next.new.writer)) c.args.inbox.now c.next.new.self c.args.marks.now.items h c.next.ensures.reads c.in-Ok-Refuse.refusal arrival.2 interim),
+      c.serve_refusal.ensures.serves (keeping (limit_of c.args.intake.now) (old_style_in c.args.intake.now now) before
+      now) first ended c.next.new.self
+      (HasRefusal-next (keeping (limit_of c.args.intake.now) (old_style_in c.args.intake.now now) before now) first
+      (wire g.R.Source g.W.Sink c.args.reader.now c.args.writer.now)
+      (with_written ended (g.W.Sink.written c.next.new.writer)) c.args.inbox.now c.next.new.self
+      c.args.marks.now.items h c.next.ensures.reads c.in-Ok-Refuse.refusal arrival.2 interim),
 )
 
 pub returns-in-Ok-End-clause-serves : goal.returns-in-Ok-End-clause-serves
@@ -49,10 +57,17 @@ returns-in-Ok-End-clause-serves g c = λ clean now kept. (
   λ before first h.
       let arrival = rw c.in-Ok-End.field-0-is at c.in-Ok-End.ensures.arrival in
       let interim = rw c.in-Ok-End.field-0-is at c.in-Ok-End.ensures.interim in
-      let rest : IsRest (held c.next.new.self) = elim arrival.1 [ inl over ↦ absurd (true≢false (sym over ∙ c.requires.over)) | inr r ↦ r.0 ] in
-      let ended : IsAtEnd (g.R.Source.left c.next.new.reader) = elim arrival.1 [ inl over ↦ absurd (true≢false (sym over ∙ c.requires.over)) | inr r ↦ r.1 ] in
-      let asked : WritesAsked (g.W.Sink.written c.args.writer.now) (g.W.Sink.written c.next.new.writer) (held c.next.new.self) = elim interim [ inl over ↦ absurd (true≢false (sym over.0 ∙ c.requires.over)) | inr w ↦ w ] in
-      Serves-end (keeping (limit_of c.args.intake.now) (early_in c.args.intake.now now) before now) first (wire g.R.Source g.W.Sink c.args.reader.now c.args.writer.now) (wire g.R.Source g.W.Sink c.next.new.reader c.next.new.writer) c.args.inbox.now c.next.new.self c.args.marks.now.items h c.next.ensures.reads ended rest asked,
+      let rest : IsRest (held c.next.new.self) =
+      elim arrival.1 [ inl over ↦ absurd (true≢false (sym over ∙ c.requires.over)) | inr r ↦ r.0 ] in
+      let ended : IsAtEnd (g.R.Source.left c.next.new.reader) =
+      elim arrival.1 [ inl over ↦ absurd (true≢false (sym over ∙ c.requires.over)) | inr r ↦ r.1 ] in
+      let asked : WritesAsked (g.W.Sink.written c.args.writer.now) (g.W.Sink.written c.next.new.writer)
+      (held c.next.new.self) =
+      elim interim [ inl over ↦ absurd (true≢false (sym over.0 ∙ c.requires.over)) | inr w ↦ w ] in
+      Serves-end (keeping (limit_of c.args.intake.now) (old_style_in c.args.intake.now now) before now) first
+      (wire g.R.Source g.W.Sink c.args.reader.now c.args.writer.now)
+      (wire g.R.Source g.W.Sink c.next.new.reader c.next.new.writer) c.args.inbox.now c.next.new.self
+      c.args.marks.now.items h c.next.ensures.reads ended rest asked,
 )
 
 pub returns-in-Err-clause-serves : goal.returns-in-Err-clause-serves
@@ -61,26 +76,35 @@ returns-in-Err-clause-serves g c = λ clean now kept. (
   kept,
   refl,
   λ before first h.
-      Serves-fault (keeping (limit_of c.args.intake.now) (early_in c.args.intake.now now) before now) first (wire g.R.Source g.W.Sink c.args.reader.now c.args.writer.now) (wire g.R.Source g.W.Sink c.next.new.reader c.next.new.writer) c.args.inbox.now c.next.new.self c.args.marks.now.items h c.next.ensures.reads c.in-Err.fault
-      (is_limit (wire g.R.Source g.W.Sink c.args.reader.now c.args.writer.now) (wire g.R.Source g.W.Sink c.next.new.reader c.next.new.writer) (reads c.next.new.self) (held c.next.new.self) c.in-Err.fault c.in-Err.ensures.fault)
+      Serves-fault (keeping (limit_of c.args.intake.now) (old_style_in c.args.intake.now now) before now) first
+      (wire g.R.Source g.W.Sink c.args.reader.now c.args.writer.now)
+      (wire g.R.Source g.W.Sink c.next.new.reader c.next.new.writer) c.args.inbox.now c.next.new.self
+      c.args.marks.now.items h c.next.ensures.reads c.in-Err.fault
+      (is_limit (wire g.R.Source g.W.Sink c.args.reader.now c.args.writer.now)
+      (wire g.R.Source g.W.Sink c.next.new.reader c.next.new.writer) (reads c.next.new.self) (held c.next.new.self)
+      c.in-Err.fault c.in-Err.ensures.fault)
       c.in-Err.ensures.part,
 )
 
 pub returns-in-Err-clause-told : goal.returns-in-Err-clause-told
-returns-in-Err-clause-told g c = TellsLimit-fault (wire g.R.Source g.W.Sink c.args.reader.now c.args.writer.now) (wire g.R.Source g.W.Sink c.next.new.reader c.next.new.writer) c.next.new.self c.in-Err.fault c.in-Err.ensures.fault
+returns-in-Err-clause-told g c =
+    TellsLimit-fault (wire g.R.Source g.W.Sink c.args.reader.now c.args.writer.now)
+    (wire g.R.Source g.W.Sink c.next.new.reader c.next.new.writer) c.next.new.self c.in-Err.fault c.in-Err.ensures.fault
 
 -- ---- what went out
 
 pub returns-in-Ok-Message-clause-texts : goal.returns-in-Ok-Message-clause-texts
 returns-in-Ok-Message-clause-texts g c =
     let interim = rw c.in-Ok-Message.field-0-is at c.in-Ok-Message.ensures.interim in
-    WritesTexts-join (g.W.Sink.written c.args.writer.now) (g.W.Sink.written c.next.new.writer) (g.W.Sink.written c.serve_message.new.writer) (end_of c.serve_message.result)
+    WritesTexts-join (g.W.Sink.written c.args.writer.now) (g.W.Sink.written c.next.new.writer)
+    (g.W.Sink.written c.serve_message.new.writer) (end_of c.serve_message.result)
     (WritesTexts-interim _ _ None (lent_awaits c.next.new.self) refl interim) c.serve_message.ensures.texts
 
 pub returns-in-Ok-Refuse-clause-texts : goal.returns-in-Ok-Refuse-clause-texts
 returns-in-Ok-Refuse-clause-texts g c =
     let interim = rw c.in-Ok-Refuse.field-0-is at c.in-Ok-Refuse.ensures.interim in
-    WritesTexts-join (g.W.Sink.written c.args.writer.now) (g.W.Sink.written c.next.new.writer) (g.W.Sink.written c.serve_refusal.new.writer) (end_of c.serve_refusal.result)
+    WritesTexts-join (g.W.Sink.written c.args.writer.now) (g.W.Sink.written c.next.new.writer)
+    (g.W.Sink.written c.serve_refusal.new.writer) (end_of c.serve_refusal.result)
     (WritesTexts-none _ _ None refl interim) c.serve_refusal.ensures.texts
 
 pub returns-in-Ok-End-clause-texts : goal.returns-in-Ok-End-clause-texts

@@ -11,10 +11,13 @@ returns-in-Stopped-clause-serves g c = λ clean first h.
     (served.0, served.1, served.2, λ before first' on. served.3 before first' (goes.3 before first' on))
 
 pub returns-in-Stopped-clause-read : goal.returns-in-Stopped-clause-read
-returns-in-Stopped-clause-read g c = ReadsSome-join _ _ _ c.args.inbox.now c.arrivals.inbox c.serve_arrival.new.inbox c.arrivals.invariant.read c.serve_arrival.ensures.read
+returns-in-Stopped-clause-read g c =
+    ReadsSome-join _ _ _ c.args.inbox.now c.arrivals.inbox c.serve_arrival.new.inbox c.arrivals.invariant.read
+    c.serve_arrival.ensures.read
 
 pub returns-in-Stopped-clause-texts : goal.returns-in-Stopped-clause-texts
-returns-in-Stopped-clause-texts g c = WritesTexts-join _ (g.W.Sink.written c.arrivals.writer) _ None c.arrivals.invariant.texts c.in-Stopped.ensures.texts
+returns-in-Stopped-clause-texts g c =
+    WritesTexts-join _ (g.W.Sink.written c.arrivals.writer) _ None c.arrivals.invariant.texts c.in-Stopped.ensures.texts
 
 -- what the last arrival came to, after those before it
 pub returns-in-Ended-clause-serves : goal.returns-in-Ended-clause-serves
@@ -24,10 +27,14 @@ returns-in-Ended-clause-serves g c = λ clean first h.
     (served.0, served.1, served.2, λ before first' on. served.3 before first' (goes.3 before first' on))
 
 pub returns-in-Ended-clause-read : goal.returns-in-Ended-clause-read
-returns-in-Ended-clause-read g c = ReadsSome-join _ _ _ c.args.inbox.now c.arrivals.inbox c.serve_arrival.new.inbox c.arrivals.invariant.read c.serve_arrival.ensures.read
+returns-in-Ended-clause-read g c =
+    ReadsSome-join _ _ _ c.args.inbox.now c.arrivals.inbox c.serve_arrival.new.inbox c.arrivals.invariant.read
+    c.serve_arrival.ensures.read
 
 pub returns-in-Ended-clause-texts : goal.returns-in-Ended-clause-texts
-returns-in-Ended-clause-texts g c = WritesTexts-join _ (g.W.Sink.written c.arrivals.writer) _ (Some c.in-Ended.ended) c.arrivals.invariant.texts c.in-Ended.ensures.texts
+returns-in-Ended-clause-texts g c =
+    WritesTexts-join _ (g.W.Sink.written c.arrivals.writer) _ (Some c.in-Ended.ended) c.arrivals.invariant.texts
+    c.in-Ended.ensures.texts
 
 pub arrivals-init : goal.arrivals-init
 arrivals-init g c = record {
@@ -47,8 +54,10 @@ arrivals-preserved g c = record {
   count = search rules;
   reads = search rules;
   writes = search rules;
-  read = ReadsSome-join _ _ _ c.args.inbox.now c.arrivals.inbox c.serve_arrival.new.inbox c.arrivals.invariant.read c.serve_arrival.ensures.read;
-  texts = WritesTexts-join _ (g.W.Sink.written c.arrivals.writer) _ None c.arrivals.invariant.texts c.in-On.ensures.texts;
+  read = ReadsSome-join _ _ _ c.args.inbox.now c.arrivals.inbox c.serve_arrival.new.inbox c.arrivals.invariant.read
+      c.serve_arrival.ensures.read;
+  texts = WritesTexts-join _ (g.W.Sink.written c.arrivals.writer) _ None c.arrivals.invariant.texts
+      c.in-On.ensures.texts;
   setting = search rules;
   goes = λ clean first h.
       let goes = c.arrivals.invariant.goes (c.serve_arrival.ensures.setting.clean clean) first h in

@@ -19,7 +19,11 @@ invariant-arrivals g l = record {
   read : ReadsSome (g.R.Source.left l.fn.reader) (g.R.Source.left l.reader) l.fn.inbox l.inbox;
   texts : WritesTexts (g.W.Sink.written l.fn.writer) (g.W.Sink.written l.writer) None;
   setting : KeepsSetting g.S.Store l.fn.intake l.intake;
-  goes : IsTransition g.S.Store l.fn.intake l.intake (λ early now after. (before : List Request) (first : Wire) → GoesOn (keeping (limit_of l.fn.intake) early before now) first (wire g.R.Source g.W.Sink l.fn.reader l.fn.writer) l.fn.inbox l.fn.marks.items → GoesOn (keeping (limit_of l.fn.intake) early before after) first (wire g.R.Source g.W.Sink l.reader l.writer) l.inbox l.marks.items);
+  goes : IsTransition g.S.Store l.fn.intake l.intake (λ old_style now after. (before : List Request) (first : Wire)
+      → GoesOn (keeping (limit_of l.fn.intake) old_style before now) first
+      (wire g.R.Source g.W.Sink l.fn.reader l.fn.writer) l.fn.inbox l.fn.marks.items
+      → GoesOn (keeping (limit_of l.fn.intake) old_style before after) first
+      (wire g.R.Source g.W.Sink l.reader l.writer) l.inbox l.marks.items);
 }
 
 abbrev pub decreases-arrivals : goal.decreases-arrivals

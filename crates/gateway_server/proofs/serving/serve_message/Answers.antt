@@ -10,7 +10,7 @@ use Rattle.http_messages.specs.Request.{Request as Message}
 use Rattle.filing_model.specs.Serving.{keeping}
 use Rattle.filing_model.specs.Stopping.{ComeBefore}
 use Rattle.filing_model.specs.Text.{reply_text_with}
-use Rattle.intake_core.specs.Held.{limit_of, early_in}
+use Rattle.intake_core.specs.Held.{limit_of, old_style_in}
 use Rattle.gateway_server.specs.Answered.{IsDecided}
 use Rattle.gateway_requests.specs.Route.{view_message}
 use Rattle.gateway_server.specs.Stopping.{IsBefore, IsStoppedAfter, view_stop}
@@ -24,7 +24,9 @@ pub mark-requires : goal.mark-requires
 mark-requires g c =
     let m : Message = view_message c.message-message.result in
     let same = lent_is c.args.inbox.now c.requires.lends m c.message-message.ensures in
-    subst (λ (r : Message). length r.body ≤ max_body_len) same (body_short (held c.args.inbox.now) c.requires.lends.request (lent_len c.args.inbox.now) c.requires.lends.begins)
+    subst (λ (r : Message). length r.body ≤ max_body_len) same
+    (body_short (held c.args.inbox.now) c.requires.lends.request (lent_len c.args.inbox.now)
+    c.requires.lends.begins)
 
 pub returns-then-is_before-clause-serves : goal.returns-then-is_before-clause-serves
 returns-then-is_before-clause-serves g c = λ clean now kept. (
@@ -32,8 +34,10 @@ returns-then-is_before-clause-serves g c = λ clean now kept. (
   kept,
   refl,
   λ before first beside h.
-      message_before (keeping (limit_of c.args.intake.now) (early_in c.args.intake.now now) before now) first beside (g.W.Sink.written c.args.writer.now) c.args.inbox.now c.args.marks.now.items h (view_stop c.args.stop)
-      (subst (λ n. IsBefore (view_stop c.args.stop) (n + 1)) (c.len-number.ensures ∙ c.args.marks.now.ok.0) c.if-is_before.ensures),
+      message_before (keeping (limit_of c.args.intake.now) (old_style_in c.args.intake.now now) before now) first beside
+      (g.W.Sink.written c.args.writer.now) c.args.inbox.now c.args.marks.now.items h (view_stop c.args.stop)
+      (subst (λ n. IsBefore (view_stop c.args.stop) (n + 1)) (c.len-number.ensures
+      ∙ c.args.marks.now.ok.0) c.if-is_before.ensures),
 )
 
 pub returns-clause-serves : goal.returns-clause-serves
@@ -47,18 +51,27 @@ returns-clause-serves g c = λ clean now kept.
           let old = c.args.marks.now.items in
           let new = c.mark.new.marks.items in
           let same : m ≡ h.lends.request = sym (lent_is c.args.inbox.now h.lends m c.message-message.ensures) in
-          let close : c.closes.result ≡ closes h.lends.request.head = c.closes.ensures ∙ ap (λ (r : Message). closes r.head) same in
-          let is = subst (λ (r : Message). IsDecided (limit_of c.args.intake.now) (early_in c.args.intake.now now) now decided.0 (Read r) old new c.in-Ok.decided) same decided.3 in
-          message_replied (keeping (limit_of c.args.intake.now) (early_in c.args.intake.now now) before now) first beside (g.W.Sink.written c.args.writer.now) c.args.inbox.now old h (view_stop c.args.stop)
+          let close : c.closes.result ≡ closes h.lends.request.head =
+          c.closes.ensures ∙ ap (λ (r : Message). closes r.head) same in
+          let is = subst (λ (r : Message). IsDecided (limit_of c.args.intake.now) (old_style_in c.args.intake.now now)
+          now decided.0 (Read r) old new c.in-Ok.decided) same decided.3 in
+          message_replied (keeping (limit_of c.args.intake.now) (old_style_in c.args.intake.now now) before now) first
+          beside (g.W.Sink.written c.args.writer.now) c.args.inbox.now old h (view_stop c.args.stop)
           decided.0 new (g.W.Sink.written c.reply.new.writer) c.closes.result c.reply.result
           close is.marked
-          (c.reply.ensures.written (reply_text_with (early_in c.args.intake.now now) now (Read h.lends.request) is.marked.mark) (subst (λ (b : Bool). IfOk c.in-Ok.decided.reply (λ r. render (reply_parts r) b ≡ reply_text_with (early_in c.args.intake.now now) now (Read h.lends.request) is.marked.mark)) (sym close) is.reply))
-          (subst (λ n. IsStoppedAfter (view_stop c.args.stop) (n + 1) c.reply.result) (c.len-number.ensures ∙ c.args.marks.now.ok.0) c.reply.ensures.stops),
+          (c.reply.ensures.written (reply_text_with (old_style_in c.args.intake.now now) now (Read h.lends.request)
+          is.marked.mark) (subst (λ (b : Bool). IfOk c.in-Ok.decided.reply
+          (λ r. render (reply_parts r) b ≡ reply_text_with (old_style_in c.args.intake.now now) now
+          (Read h.lends.request) is.marked.mark)) (sym close) is.reply))
+          (subst (λ n. IsStoppedAfter (view_stop c.args.stop) (n + 1) c.reply.result) (c.len-number.ensures
+          ∙ c.args.marks.now.ok.0) c.reply.ensures.stops),
     )
 
 pub returns-clause-counted : goal.returns-clause-counted
-returns-clause-counted g c = IsCountAt-next (view_stop c.args.stop) c.len-number.result (vec_len c.mark.new.marks) c.reply.result
-    (subst (ComeBefore (view_stop c.args.stop)) (sym c.len-number.ensures) c.requires.count) c.if-is_before.ensures c.reply.ensures.stops (omega (arith, c.in-Ok.ensures.counted, c.len-number.ensures))
+returns-clause-counted g c =
+    IsCountAt-next (view_stop c.args.stop) c.len-number.result (vec_len c.mark.new.marks) c.reply.result
+    (subst (ComeBefore (view_stop c.args.stop)) (sym c.len-number.ensures) c.requires.count) c.if-is_before.ensures
+    c.reply.ensures.stops (omega (arith, c.in-Ok.ensures.counted, c.len-number.ensures))
 
 pub returns-in-Err-clause-serves : goal.returns-in-Err-clause-serves
 returns-in-Err-clause-serves g c = λ clean now kept.
@@ -67,7 +80,9 @@ returns-in-Err-clause-serves g c = λ clean now kept.
       decided.1,
       decided.2,
       λ before first beside h.
-          message_unmarked (keeping (limit_of c.args.intake.now) (early_in c.args.intake.now now) before now) first beside (g.W.Sink.written c.args.writer.now) c.args.inbox.now c.args.marks.now.items h (view_stop c.args.stop)
+          message_unmarked (keeping (limit_of c.args.intake.now) (old_style_in c.args.intake.now now) before now) first
+          beside (g.W.Sink.written c.args.writer.now) c.args.inbox.now c.args.marks.now.items h
+          (view_stop c.args.stop)
           decided.0 c.mark.new.marks.items decided.3.0 decided.3.1,
     )
 
@@ -80,4 +95,6 @@ pub returns-in-Err-clause-texts : goal.returns-in-Err-clause-texts
 returns-in-Err-clause-texts g c = WritesTexts-same (g.W.Sink.written c.args.writer.now) (Some (Fault Memory)) refl
 
 pub returns-clause-texts : goal.returns-clause-texts
-returns-clause-texts g c = WritesTexts-reply (g.W.Sink.written c.args.writer.now) (g.W.Sink.written c.reply.new.writer) c.in-Ok.decided.reply c.closes.result c.reply.result c.reply.ensures.written
+returns-clause-texts g c =
+    WritesTexts-reply (g.W.Sink.written c.args.writer.now) (g.W.Sink.written c.reply.new.writer) c.in-Ok.decided.reply
+    c.closes.result c.reply.result c.reply.ensures.written

@@ -10,20 +10,27 @@ use Rattle.gateway_server.proofs.serving.serve_refusal.Goals as goal
 
 pub returns-then-is_before-clause-serves : goal.returns-then-is_before-clause-serves
 returns-then-is_before-clause-serves g c = λ requests first beside inbox h.
-    refusal_before requests first beside (g.W.Sink.written c.args.writer.now) inbox c.args.refusal c.args.marks.now.items h (view_stop c.args.stop)
-    (subst (λ n. IsBefore (view_stop c.args.stop) (n + 1)) (c.len-number.ensures ∙ c.args.marks.now.ok.0) c.if-is_before.ensures)
+    refusal_before requests first beside (g.W.Sink.written c.args.writer.now) inbox c.args.refusal
+    c.args.marks.now.items h (view_stop c.args.stop)
+    (subst (λ n. IsBefore (view_stop c.args.stop) (n + 1)) (c.len-number.ensures
+    ∙ c.args.marks.now.ok.0) c.if-is_before.ensures)
 
 pub returns-clause-serves : goal.returns-clause-serves
 returns-clause-serves g c = λ requests first beside inbox h.
-    let is = c.in-Ok.ensures.marked requests.limit requests.early requests.after in
-    refusal_replied requests first beside (g.W.Sink.written c.args.writer.now) inbox c.args.refusal c.args.marks.now.items h (view_stop c.args.stop)
+    let is = c.in-Ok.ensures.marked requests.limit requests.old_style requests.after in
+    refusal_replied requests first beside (g.W.Sink.written c.args.writer.now) inbox c.args.refusal
+    c.args.marks.now.items h (view_stop c.args.stop)
     c.mark_refusal.new.marks.items (g.W.Sink.written c.reply.new.writer) c.reply.result
-    is.marked (c.reply.ensures.written (reply_text_with requests.early requests.after (Refused c.args.refusal) is.marked.mark) is.reply)
-    (subst (λ n. IsStoppedAfter (view_stop c.args.stop) (n + 1) c.reply.result) (c.len-number.ensures ∙ c.args.marks.now.ok.0) c.reply.ensures.stops)
+    is.marked (c.reply.ensures.written (reply_text_with requests.old_style requests.after (Refused c.args.refusal)
+    is.marked.mark) is.reply)
+    (subst (λ n. IsStoppedAfter (view_stop c.args.stop) (n + 1) c.reply.result) (c.len-number.ensures
+    ∙ c.args.marks.now.ok.0) c.reply.ensures.stops)
 
 pub returns-in-Err-clause-serves : goal.returns-in-Err-clause-serves
 returns-in-Err-clause-serves g c = λ requests first beside inbox h.
-    refusal_unmarked requests first beside (g.W.Sink.written c.args.writer.now) inbox c.args.refusal c.args.marks.now.items h (view_stop c.args.stop) c.mark_refusal.new.marks.items (c.in-Err.ensures.marked requests.limit requests.early requests.after).1
+    refusal_unmarked requests first beside (g.W.Sink.written c.args.writer.now) inbox c.args.refusal
+    c.args.marks.now.items h (view_stop c.args.stop) c.mark_refusal.new.marks.items
+    (c.in-Err.ensures.marked requests.limit requests.old_style requests.after).1
 
 pub returns-clause-closes : goal.returns-clause-closes
 returns-clause-closes g c = λ on. true≢false (c.reply.ensures.goes_on on)
@@ -37,4 +44,6 @@ pub returns-in-Err-clause-texts : goal.returns-in-Err-clause-texts
 returns-in-Err-clause-texts g c = WritesTexts-same (g.W.Sink.written c.args.writer.now) (Some (Fault Memory)) refl
 
 pub returns-clause-texts : goal.returns-clause-texts
-returns-clause-texts g c = WritesTexts-reply (g.W.Sink.written c.args.writer.now) (g.W.Sink.written c.reply.new.writer) c.in-Ok.decided.reply true c.reply.result c.reply.ensures.written
+returns-clause-texts g c =
+    WritesTexts-reply (g.W.Sink.written c.args.writer.now) (g.W.Sink.written c.reply.new.writer) c.in-Ok.decided.reply
+    true c.reply.result c.reply.ensures.written

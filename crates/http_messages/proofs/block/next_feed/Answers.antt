@@ -9,7 +9,9 @@ returns-in-Some c =
     let text = c.args.text.now in
     let from = c.args.from in
     let rest : take (length text - from) (drop from text) ≡ drop from text = grind (arith, common_steps) in
-    next_feed_some text from c.in-Some.at (subst (λ hay. NoneBefore (Passes (is_byte 10) hay) 0 (length hay) c.in-Some.at × Passes (is_byte 10) hay c.in-Some.at) rest c.in-Some.ensures)
+    next_feed_some text from c.in-Some.at
+    (subst (λ hay. NoneBefore (Passes (is_byte 10) hay) 0 (length hay) c.in-Some.at
+    × Passes (is_byte 10) hay c.in-Some.at) rest c.in-Some.ensures)
 
 pub returns-in-None : goal.returns-in-None
 returns-in-None c =

@@ -7,4 +7,5 @@ use Rattle.http_messages.proofs.coding.is_any_coding.Goals as goal
 
 pub returns : goal.returns
 returns c =
-    any_from_yields_List is_coding c.any.new.self _ c.any.result c.any.ensures.ran (YieldsList-from_first (λ x. x.now) parts_left {s = c.args.parts} _ refl) (λ x b q k. search (rules, tests))
+    any_from_yields_List is_coding c.any.new.self _ c.any.result c.any.ensures.ran
+    (YieldsList-from_first (λ x. x.now) parts_left {s = c.args.parts} _ refl) (λ x b q k. search (rules, tests))

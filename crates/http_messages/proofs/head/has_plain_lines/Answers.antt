@@ -1,4 +1,5 @@
-use Rattle.std.proofs.Common.{◌≡◌, ℕ, ◌+◌, ◌<◌, List, length, slice_index, true, not, eqb, inl, inr, sym, ◌∙◌, subst, le_of_eq, arith}
+use Rattle.std.proofs.Common.{◌≡◌, ℕ, ◌+◌, ◌<◌, List, length, slice_index, true, not, eqb, inl, inr, sym, ◌∙◌, subst}
+use Rattle.std.proofs.Common.{le_of_eq, arith}
 use Rattle.std.proofs.lemmas.Bool.{cases_lt, eq-eqb, eqb-true, false≢true}
 use Rattle.std.proofs.lemmas.Bool.Decides.{nat_tests}
 use Rattle.std.proofs.lemmas.List.{get_or_past}
@@ -11,7 +12,8 @@ abbrev FollowUpTo : List ℕ → ℕ → Type 0
 FollowUpTo block n = (k : ℕ) → k < n → slice_index block k ≡ 10 → FollowsCr block k
 
 -- and so does the next one
-follow-more : (block : List ℕ) (from at : ℕ) → FollowUpTo block from → IsNextFeed block from at → FollowsCr block at → FollowUpTo block (at + 1)
+follow-more : (block : List ℕ) (from at : ℕ) → FollowUpTo block from
+    → IsNextFeed block from at → FollowsCr block at → FollowUpTo block (at + 1)
 follow-more block from at before next here = λ k low feed. elim (cases_lt k from) [
   | inl past ↦ before k past feed
   | inr near ↦ elim (cases_lt k at) [
@@ -21,7 +23,8 @@ follow-more block from at before next here = λ k low feed. elim (cases_lt k fro
 ]
 
 -- where none follows, all do
-follow-all : (block : List ℕ) (from : ℕ) → FollowUpTo block from → HasNoFeedFrom block from → (k : ℕ) → slice_index block k ≡ 10 → FollowsCr block k
+follow-all : (block : List ℕ) (from : ℕ) → FollowUpTo block from → HasNoFeedFrom block from → (k : ℕ)
+    → slice_index block k ≡ 10 → FollowsCr block k
 follow-all block from before none k feed = elim (cases_lt k from) [
   | inl past ↦ before k past feed
   | inr near ↦ elim (cases_lt k (length block)) [
@@ -38,10 +41,16 @@ pub feeds-init : goal.feeds-init
 feeds-init c = λ k low. absurd (omega (arith, low))
 
 pub feeds-preserved : goal.feeds-preserved
-feeds-preserved c = follow-more c.args.block.now c.feeds.from c.in-Some.at c.feeds.invariant c.in-Some.ensures (c.follows_cr.ensures.0 c.if-not-follows_cr.false)
+feeds-preserved c =
+    follow-more c.args.block.now c.feeds.from c.in-Some.at c.feeds.invariant c.in-Some.ensures
+    (c.follows_cr.ensures.0 c.if-not-follows_cr.false)
 
 pub returns-then-not-follows_cr : goal.returns-then-not-follows_cr
-returns-then-not-follows_cr c = (λ no. absurd (false≢true no), λ plain. sym c.if-not-follows_cr.true ∙ c.follows_cr.ensures.1 (plain.feeds c.in-Some.at c.in-Some.ensures.feed))
+returns-then-not-follows_cr c = (
+  λ no. absurd (false≢true no),
+  λ plain. sym c.if-not-follows_cr.true
+      ∙ c.follows_cr.ensures.1 (plain.feeds c.in-Some.at c.in-Some.ensures.feed),
+)
 
 pub returns-then-is_empty : goal.returns-then-is_empty
 returns-then-is_empty c =

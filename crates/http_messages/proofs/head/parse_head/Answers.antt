@@ -16,8 +16,16 @@ returns-in_ok-copied-in-Ok-Complete-clause-ok c =
     let whole = c.if-head-block.true in
     let room : length headers ≡ 64 = search rules in
     let lines : HasPlainLines block = search rules in
-    let spans : HeadSpans = record { method = head.method; path = span; minor = head.version; fields = c.in_ok-copied-in-Ok-Complete.field-0 } in
-    let are : AreSpansOf head headers span spans = record { method = refl; path_is = refl; minor = refl; fields = search rules } in (
+    let spans : HeadSpans =
+    record {
+      method = head.method;
+      path = span;
+      minor = head.version;
+      fields =
+          c.in_ok-copied-in-Ok-Complete.field-0;
+    } in
+    let are : AreSpansOf head headers span spans =
+    record { method = refl; path_is = refl; minor = refl; fields = search rules } in (
       IsHeadWithin-parsed block headers head span spans room whole are within path.within,
       ReadsHead-parsed block headers head span spans room whole are lines within read path.ok,
     )

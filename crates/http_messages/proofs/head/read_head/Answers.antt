@@ -14,5 +14,7 @@ returns-in_ok-spans-in-End-clause-ok c =
     let rest = take (length bytes - skipped) (drop skipped bytes) in
     let whole : rest ≡ drop skipped bytes = grind (arith, common_steps) in
     let block : rest ≡ from_block bytes = whole ∙ ap (λ k. drop k bytes) c.skipped_len.ensures.value in
-    let parts = parts_at rest c.in_ok-spans-in-End.spans in
-    (subst (IsBlockEnd bytes) all end, rw c.at.ensures (subst (λ text. IsHead text parts) block c.in_ok-spans-in-End.ensures.ok))
+    let parts = parts_at rest c.in_ok-spans-in-End.spans in (
+      subst (IsBlockEnd bytes) all end,
+      rw c.at.ensures (subst (λ text. IsHead text parts) block c.in_ok-spans-in-End.ensures.ok),
+    )

@@ -10,4 +10,6 @@ use Rattle.http_messages.proofs.lists.are_numbers_of.Goals as goal
 pub returns : goal.returns
 returns c =
     let digits = c.args.digits.now in
-    all_from_yields_List (λ (part : List ℕ). is_number part && bytes_eq (significant part) digits) c.all.new.self _ c.all.result c.all.ensures.ran (YieldsList-from_first (λ x. x.now) parts_left {s = c.args.parts} _ refl) (λ x b q k. search (rules, tests))
+    all_from_yields_List (λ (part : List ℕ). is_number part && bytes_eq (significant part) digits) c.all.new.self _
+    c.all.result c.all.ensures.ran (YieldsList-from_first (λ x. x.now) parts_left {s = c.args.parts} _ refl)
+    (λ x b q k. search (rules, tests))

@@ -11,7 +11,11 @@ loop-digit-preserved c =
     let digits = c.args.digits.now in
     let index = c.loop-digit.digit-index in
     let more = digits_value_more 10 digits index c.loop-digit-test.true in
-    let digit : c.from.result ≡ digit_value (get_or digits index 0) = let d = c.requires index 0 c.loop-digit-test.true in grind (arith, nat_tests, d, c.from.ensures) in
-    let step = min-digit (digits_value 10 (take index digits)) (digit_value (get_or digits index 0)) 8388609 (omega arith) in
-    let said : c.min-value.result ≡ min (min (digits_value 10 (take index digits)) 8388609 * 10 + digit_value (get_or digits index 0)) 8388609 = c.min-value.ensures ∙ grind (arith, digit, c.loop-digit.invariant) in
+    let digit : c.from.result ≡ digit_value (get_or digits index 0) = let d =
+    c.requires index 0 c.loop-digit-test.true in grind (arith, nat_tests, d, c.from.ensures) in
+    let step =
+    min-digit (digits_value 10 (take index digits)) (digit_value (get_or digits index 0)) 8388609 (omega arith) in
+    let said : c.min-value.result
+    ≡ min (min (digits_value 10 (take index digits)) 8388609 * 10 + digit_value (get_or digits index 0)) 8388609 =
+    c.min-value.ensures ∙ grind (arith, digit, c.loop-digit.invariant) in
     said ∙ step ∙ ap (λ n. min n 8388609) (sym more)

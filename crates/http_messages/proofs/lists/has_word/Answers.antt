@@ -8,4 +8,5 @@ use Rattle.http_messages.proofs.lists.has_word.Goals as goal
 pub returns : goal.returns
 returns c =
     let word = c.args.word.now in
-    any_from_yields_List (λ (part : List ℕ). same_name part word) c.any.new.self _ c.any.result c.any.ensures.ran (YieldsList-from_first (λ x. x.now) parts_left {s = c.args.parts} _ refl) (λ x b q k. search (rules, tests))
+    any_from_yields_List (λ (part : List ℕ). same_name part word) c.any.new.self _ c.any.result c.any.ensures.ran
+    (YieldsList-from_first (λ x. x.now) parts_left {s = c.args.parts} _ refl) (λ x b q k. search (rules, tests))

@@ -6,6 +6,8 @@ use Rattle.http_messages.proofs.reply.push_type.Goals as goal
 pub returns : goal.returns
 returns c =
     let first = c.in_ok-extend_from_slice.ensures.items in
-    let second = c.in_ok-extend_from_slice-2.ensures.items ∙ ap₂ (λ (xs ys : List ℕ). xs ++ ys) first (c.as_bytes.ensures.value ∙ c.media_type.ensures) in
+    let second =
+    c.in_ok-extend_from_slice-2.ensures.items ∙ ap₂ (λ (xs ys : List ℕ). xs ++ ys) first (c.as_bytes.ensures.value
+    ∙ c.media_type.ensures) in
     OnOk-appended c.extend_from_slice-3.result _ _ _ _ c.extend_from_slice-3.ensures.items
     (ap (λ l. l ++ codes "\r\n") second ∙ type_line_pieces c.args.out.now.items c.args.kind)

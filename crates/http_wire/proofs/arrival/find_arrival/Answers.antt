@@ -21,7 +21,9 @@ returns-in_err-end g c =
     let before = wire g.R.Source g.W.Sink c.args.reader.now c.args.writer.now in
     let after = wire g.R.Source g.W.Sink c.read_block.new.reader c.args.writer.now in
     let none = λ (holds : HoldsArrival bytes). HoldsArrival-ended bytes holds c.in_err-end.ensures.unended in
-    let part = WritesUpTo-read written written bytes false fault _ _ received (Asks-unended bytes c.in_err-end.ensures.unended) (Appends-nil written) c.in_err-end.ensures.reads.fault in
+    let part =
+    WritesUpTo-read written written bytes false fault _ _ received (Asks-unended bytes c.in_err-end.ensures.unended)
+    (Appends-nil written) c.in_err-end.ensures.reads.fault in
     let told = IsFault-read before after received fault refl none c.in_err-end.ensures.reads.fault in
     let gives = err_from_is_err_and c.from_residual.result c.from_residual.ensures.1 in
     record {
@@ -71,7 +73,8 @@ returns-in-Ok g c =
     let after = wire g.R.Source g.W.Sink c.read_request.new.reader c.read_request.new.writer in
     let found = c.read_request.ensures.found in
     record {
-      reads = Receives-join _ _ _ c.args.received.now c.read_block.new.self received c.read_block.ensures.reads.receives found.reads;
+      reads = Receives-join _ _ _ c.args.received.now c.read_block.new.self received c.read_block.ensures.reads.receives
+          found.reads;
       lazy = λ holds.
           let first = c.read_block.ensures.lazy (HoldsArrival-ended (held_bytes c.args.received.now) holds) in
           let second = found.lazy (subst HoldsArrival (sym first.bytes) holds) in
@@ -79,8 +82,11 @@ returns-in-Ok g c =
       found = found.found;
       interim = found.interim;
       part = found.part;
-      fine = subst (λ count. OnOk c.read_request.result (NoneFailed (record before { read_failures = count }) after)) c.in_ok-end.ensures.reads.fine found.fine;
-      fault = subst (λ count. IfErr c.read_request.result (IsFault (record before { read_failures = count }) after (read_count received) (held_bytes received))) c.in_ok-end.ensures.reads.fine found.fault;
+      fine = subst (λ count. OnOk c.read_request.result (NoneFailed (record before { read_failures = count }) after))
+          c.in_ok-end.ensures.reads.fine found.fine;
+      fault = subst (λ count. IfErr c.read_request.result
+          (IsFault (record before { read_failures = count }) after (read_count received) (held_bytes received)))
+          c.in_ok-end.ensures.reads.fine found.fault;
     }
 
 pub returns-in-Err-Memory : goal.returns-in-Err-Memory
@@ -100,7 +106,13 @@ returns-in-Err g c =
     record {
       reads = c.read_block.ensures.reads.receives;
       lazy = λ holds. c.read_block.ensures.lazy (HoldsArrival-ended (held_bytes c.args.received.now) holds);
-      found = (c.in-End.end, end, search rules, subst (λ held. IsHeadFault (slice_range held (skipped_len held) c.in-End.end) c.in-Err.fault) c.bytes.ensures.value c.in-Err.ensures.fault);
+      found = (
+        c.in-End.end,
+        end,
+        search rules,
+        subst (λ held. IsHeadFault (slice_range held (skipped_len held) c.in-End.end) c.in-Err.fault)
+            c.bytes.ensures.value c.in-Err.ensures.fault,
+      );
       interim = Appends-nil _;
       part = tt;
       fine = (c.in_ok-end.ensures.reads.fine, refl);

@@ -5,5 +5,7 @@ use Rattle.http_wire.proofs.arrival.parse_at.Goals as goal
 
 pub returns-in_err-spans-clause-fault : goal.returns-in_err-spans-clause-fault
 returns-in_err-spans-clause-fault c =
-    let fault = subst (λ start. IsHeadFault (slice_range c.args.bytes.now start c.args.end) c.in_err-spans.field-0.0) c.skipped_len-start.ensures.value c.in_err-spans.ensures.fault in
+    let fault =
+    subst (λ start. IsHeadFault (slice_range c.args.bytes.now start c.args.end) c.in_err-spans.field-0.0)
+    c.skipped_len-start.ensures.value c.in_err-spans.ensures.fault in
     search rules

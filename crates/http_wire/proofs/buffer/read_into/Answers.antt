@@ -10,4 +10,6 @@ failed old new more = ⊎_elim
     (λ (high : 2 ^ 64 - 1 ≤ old + 1). inr (omega arith)) (cases_lt (old + 1) (2 ^ 64 - 1))
 
 pub returns-in-Err-clause-fault : goal.returns-in-Err-clause-fault
-returns-in-Err-clause-fault g c = failed (g.R.Source.read_failures c.args.reader.now) (g.R.Source.read_failures c.read.new.self) (rw c.in-Err.is at c.read.ensures.failures)
+returns-in-Err-clause-fault g c =
+    failed (g.R.Source.read_failures c.args.reader.now) (g.R.Source.read_failures c.read.new.self)
+    (rw c.in-Err.is at c.read.ensures.failures)

@@ -10,7 +10,9 @@ use Rattle.http_wire.proofs.reply_reader.take_head.Goals as goal
 
 pub returns-in_err-end : goal.returns-in_err-end
 returns-in_err-end g c =
-    let told = head_failure-read _ _ _ _ c.args.received.now c.read_block.new.self c.in_err-end.field-0.0 c.read_block.ensures.reads.receives c.in_err-end.ensures.unended c.in_err-end.ensures.reads.fault in
+    let told =
+    head_failure-read _ _ _ _ c.args.received.now c.read_block.new.self c.in_err-end.field-0.0
+    c.read_block.ensures.reads.receives c.in_err-end.ensures.unended c.in_err-end.ensures.reads.fault in
     let gives = err_from_is_err_and c.from_residual.result c.from_residual.ensures.1 in
     record {
       head = rw gives.1 tt;
@@ -21,13 +23,20 @@ returns-in_err-end g c =
     }
 
 pub returns-in-TooLong-clause-fault : goal.returns-in-TooLong-clause-fault
-returns-in-TooLong-clause-fault g c =
-    (c.in_ok-end.ensures.reads.fine, Takes-receives _ _ c.args.received.now c.read_block.new.self c.read_block.ensures.reads.receives, rw c.in-TooLong.is at c.in_ok-end.ensures.block)
+returns-in-TooLong-clause-fault g c = (
+  c.in_ok-end.ensures.reads.fine,
+  Takes-receives _ _ c.args.received.now c.read_block.new.self c.read_block.ensures.reads.receives,
+  rw c.in-TooLong.is at c.in_ok-end.ensures.block,
+)
 
 pub returns-in-More-clause-fault : goal.returns-in-More-clause-fault
 returns-in-More-clause-fault g c =
-    let unended = rw c.in-More.is at c.in_ok-end.ensures.block in
-    (c.in_ok-end.ensures.reads.fine, Takes-receives _ _ c.args.received.now c.read_block.new.self c.read_block.ensures.reads.receives, unended, c.read_block.ensures.end (c.in_ok-end.was ∙ ap Ok c.in-More.is))
+    let unended = rw c.in-More.is at c.in_ok-end.ensures.block in (
+      c.in_ok-end.ensures.reads.fine,
+      Takes-receives _ _ c.args.received.now c.read_block.new.self c.read_block.ensures.reads.receives,
+      unended,
+      c.read_block.ensures.end (c.in_ok-end.was ∙ ap Ok c.in-More.is),
+    )
 
 pub returns-in-Some : goal.returns-in-Some
 returns-in-Some g c =
@@ -36,8 +45,11 @@ returns-in-Some g c =
     let new = c.drop_front.new.self in
     let end = c.in-End.end in
     let block = rw c.in-End.is at c.in_ok-end.ensures.block in
-    let here = subst (λ k. IsResponseBlock (slice_range c.bytes-bytes.result.now k end) c.in-Some.head) c.skipped_len.ensures.value c.in-Some.ensures in
-    let is = subst (λ held. IsResponseBlock (slice_range held (skipped_len held) end) c.in-Some.head) c.bytes-bytes.ensures.value here in
+    let here =
+    subst (λ k. IsResponseBlock (slice_range c.bytes-bytes.result.now k end) c.in-Some.head)
+    c.skipped_len.ensures.value c.in-Some.ensures in
+    let is = subst (λ held. IsResponseBlock (slice_range held (skipped_len held) end) c.in-Some.head)
+    c.bytes-bytes.ensures.value here in
     let read = c.read_block.ensures.reads.receives in
     let left = c.drop_front.ensures in
     record {
@@ -52,6 +64,12 @@ pub returns-in-None-clause-fault : goal.returns-in-None-clause-fault
 returns-in-None-clause-fault g c =
     let end = c.in-End.end in
     let block = rw c.in-End.is at c.in_ok-end.ensures.block in
-    let here = subst (λ k. IsNoResponse (slice_range c.bytes-bytes.result.now k end)) c.skipped_len.ensures.value c.in-None.ensures in
-    let none = subst (λ held. IsNoResponse (slice_range held (skipped_len held) end)) c.bytes-bytes.ensures.value here in
-    (c.in_ok-end.ensures.reads.fine, Takes-receives _ _ c.args.received.now c.read_block.new.self c.read_block.ensures.reads.receives, (end, block, none))
+    let here =
+    subst (λ k. IsNoResponse (slice_range c.bytes-bytes.result.now k end)) c.skipped_len.ensures.value
+    c.in-None.ensures in
+    let none =
+    subst (λ held. IsNoResponse (slice_range held (skipped_len held) end)) c.bytes-bytes.ensures.value here in (
+      c.in_ok-end.ensures.reads.fine,
+      Takes-receives _ _ c.args.received.now c.read_block.new.self c.read_block.ensures.reads.receives,
+      (end, block, none),
+    )

@@ -12,6 +12,7 @@ returns c = record {
   joined =
       joined (string_bytes c.in_ok-name.name) (string_bytes c.push_str.new.self) (string_bytes c.push_str-2.new.self)
       (string_bytes c.push_str-3.new.self) c.args.key.now c.args.filer.now c.in_ok-name.ensures.bytes
-      (c.in_ok-push_str.ensures.bytes ∙ ap (λ (key : List ℕ). string_bytes c.in_ok-name.name ++ key) c.as_str-key.ensures.value)
+      (c.in_ok-push_str.ensures.bytes
+      ∙ ap (λ (key : List ℕ). string_bytes c.in_ok-name.name ++ key) c.as_str-key.ensures.value)
       c.in_ok-push_str-2.ensures.bytes c.in_ok-push_str-3.ensures.bytes;
 }

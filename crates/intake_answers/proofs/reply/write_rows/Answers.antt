@@ -24,7 +24,9 @@ pub loop-row-preserved : goal.loop-row-preserved
 loop-row-preserved c =
     let wrote = c.in_ok-write_row.ensures in
     record {
-      more = item_next (λ r. listing_data (view_row r)) c.args.rows.now c.loop-row.row-index _ (record { number = 0; facts = 0; replaces = None; replaced_by = None }) c.args.writer.now.tokens c.loop-row.writer.tokens c.write_row.new.writer.tokens c.loop-row-test.true refl
+      more = item_next (λ r. listing_data (view_row r)) c.args.rows.now c.loop-row.row-index _
+          (record { number = 0; facts = 0; replaces = None; replaced_by = None }) c.args.writer.now.tokens
+          c.loop-row.writer.tokens c.write_row.new.writer.tokens c.loop-row-test.true refl
           c.loop-row.invariant.more wrote.more;
       before = wrote.before ∙ c.loop-row.invariant.before;
     }
@@ -33,9 +35,14 @@ pub returns : goal.returns
 returns c =
     let listed : FilingRow → List Token = λ r. json_tokens (outline (listing_data (view_row r))) in
     record {
-      more = on_ok_weaker c.end_array.result (λ m. m ∙ ap (λ ls. c.args.writer.now.tokens ++ json_tokens (outline (array (items_of ls)))) (sym (map_twice listing_data view_row c.args.rows.now)))
-          (array_whole (λ r. listing_data (view_row r)) c.args.rows.now c.args.writer.now.tokens c.loop-row.writer.tokens c.end_array.new.self.tokens
-          (c.loop-row.invariant.more ∙ ap (λ rs. c.args.writer.now.tokens ++ begin_array ∷ flat_map listed rs) (take_all c.loop-row.row-index c.args.rows.now c.loop-row-test.false))
+      more = on_ok_weaker c.end_array.result (λ m. m
+          ∙ ap (λ ls. c.args.writer.now.tokens ++ json_tokens (outline (array (items_of ls))))
+          (sym (map_twice listing_data view_row c.args.rows.now)))
+          (array_whole (λ r. listing_data (view_row r)) c.args.rows.now c.args.writer.now.tokens
+          c.loop-row.writer.tokens c.end_array.new.self.tokens
+          (c.loop-row.invariant.more
+          ∙ ap (λ rs. c.args.writer.now.tokens ++ begin_array ∷ flat_map listed rs)
+          (take_all c.loop-row.row-index c.args.rows.now c.loop-row-test.false))
           c.end_array.result c.end_array.ensures.ok);
       before = c.end_array.ensures.room.0 ∙ c.loop-row.invariant.before;
     }

@@ -9,6 +9,7 @@ use Rattle.intake_answers.proofs.reply.write_rows.Given as goal
 
 abbrev pub invariant-loop-row : goal.invariant-loop-row
 invariant-loop-row l = record {
-  more : l.writer.tokens ≡ l.fn.writer.tokens ++ begin_array ∷ flat_map (λ r. json_tokens (outline (listing_data (view_row r)))) (take l.row-index l.rows);
+  more : l.writer.tokens ≡ l.fn.writer.tokens ++ begin_array
+      ∷ flat_map (λ r. json_tokens (outline (listing_data (view_row r)))) (take l.row-index l.rows);
   before : l.writer.before ≡ l.fn.writer.before;
 }

@@ -11,8 +11,13 @@ returns-in-Ok g c =
     let out' = g.O.Write.contents c.list-listed.new.output in
     let errand = asked.List c.args.filer in
     subst (λ r. RunsErrand g.S.Store errand out out' c.args.conn c.into_conn.result r) (sym c.listed_as.ensures)
-    (subst (λ conn. RunsErrand g.S.Store errand out out' c.args.conn conn (listed_as c.list-listed.result)) (sym (c.into_conn.ensures ∙ ap (λ s. s.conn) c.into_store.ensures))
-    (lists g.S.Store c.args.filer out out' c.args.conn c.in-Ok.register c.new-intake.result c.list-listed.new.intake c.list-listed.result c.in-Ok.ensures c.new-intake.ensures.store c.new-intake.ensures.holds c.list-listed.ensures))
+    (subst (λ conn. RunsErrand g.S.Store errand out out' c.args.conn conn (listed_as c.list-listed.result))
+    (sym (c.into_conn.ensures ∙ ap (λ s. s.conn) c.into_store.ensures))
+    (lists g.S.Store c.args.filer out out' c.args.conn c.in-Ok.register c.new-intake.result c.list-listed.new.intake
+    c.list-listed.result c.in-Ok.ensures c.new-intake.ensures.store c.new-intake.ensures.holds
+    c.list-listed.ensures))
 
 pub returns-in-Err : goal.returns-in-Err
-returns-in-Err g c = list_refused g.S.Store (g.O.Write.contents c.args.output.now) c.args.conn c.in-Err.back c.in-Err.fault c.held_in-holding.result c.args.filer c.in-Err.ensures.back
+returns-in-Err g c =
+    list_refused g.S.Store (g.O.Write.contents c.args.output.now) c.args.conn c.in-Err.back c.in-Err.fault
+    c.held_in-holding.result c.args.filer c.in-Err.ensures.back

@@ -21,4 +21,5 @@ returns-in-Export-clause-fills g c = no_pages g.S.Store c.args.errand _ _ _ _ (a
 pub returns-in-Pages-clause-runs : goal.returns-in-Pages-clause-runs
 returns-in-Pages-clause-runs g c =
     let out = g.O.Write.contents c.args.output.now in
-    subst (λ errand. RunsErrand g.S.Store errand out out c.args.conn c.write_site.result.0 c.write_site.result.1) (sym c.in-Pages.is) (c.write_site.ensures.runs _ out)
+    subst (λ errand. RunsErrand g.S.Store errand out out c.args.conn c.write_site.result.0 c.write_site.result.1)
+    (sym c.in-Pages.is) (c.write_site.ensures.runs _ out)

@@ -15,15 +15,19 @@ returns-in-Err-Pages g c =
     let pages = g.F.Folder.pages c.args.folder.now in
     let pages' = g.F.Folder.pages c.write_pages.new.folder in
     let writes = rw c.in-Err-Pages.field-0-is at c.in-Err-Pages.ensures in record {
-      runs = λ path out. subst (λ why. RunsErrand g.S.Store (asked.Pages path) out out c.args.conn c.write_pages.new.conn (Err why)) (sym c.writing_fault.ensures)
+      runs = λ path out. subst (λ why. RunsErrand g.S.Store (asked.Pages path) out out c.args.conn
+          c.write_pages.new.conn (Err why)) (sym c.writing_fault.ensures)
           (site_failed path g.S.Store pages pages' c.args.conn c.write_pages.new.conn c.in-Err-Pages.fault writes out);
-      fills = λ path. subst (λ why. FillsFolder g.S.Store (asked.Pages path) pages pages' c.args.conn c.write_pages.new.conn (Err why)) (sym c.writing_fault.ensures)
+      fills = λ path. subst (λ why. FillsFolder g.S.Store (asked.Pages path) pages pages' c.args.conn
+          c.write_pages.new.conn (Err why)) (sym c.writing_fault.ensures)
           (partly_filled path g.S.Store pages pages' c.args.conn c.write_pages.new.conn c.in-Err-Pages.fault);
     }
 
 pub returns-in-Err-Open : goal.returns-in-Err-Open
 returns-in-Err-Open g c =
     let writes = rw c.in-Err-Open.field-0-is at c.in-Err-Open.ensures in record {
-      runs = λ path out. site_refused path g.S.Store _ _ c.args.conn c.write_pages.new.conn c.in-Err-Open.fault c.held_in-holding.result writes out;
-      fills = λ path. unfilled path g.S.Store _ _ c.args.conn c.write_pages.new.conn c.in-Err-Open.fault c.held_in-holding.result writes;
+      runs = λ path out. site_refused path g.S.Store _ _ c.args.conn c.write_pages.new.conn c.in-Err-Open.fault
+          c.held_in-holding.result writes out;
+      fills = λ path. unfilled path g.S.Store _ _ c.args.conn c.write_pages.new.conn c.in-Err-Open.fault
+          c.held_in-holding.result writes;
     }

@@ -13,18 +13,31 @@ use Rattle.intake_process.proofs.serving.serve_next.Goals as goal
 pub returns-in_err-came-clause-answers : goal.returns-in_err-came-clause-answers
 returns-in_err-came-clause-answers g c = λ honest.
     let process = parts g.P.Place.lying c.args.process.now in
-    subst (λ taken. AnswersSome c.args.limit (g.L.Port.traffic c.args.port.now) (g.L.Port.traffic c.accept.new.self) process process taken) (sym (ap (option_map (λ _. 1)) (none_told c.from_residual.result c.from_residual.ensures.0)))
-    (none c.args.limit (g.L.Port.traffic c.args.port.now) (g.L.Port.traffic c.accept.new.self) process None c.in_err-came.ensures.0 tt)
+    subst (λ taken. AnswersSome c.args.limit (g.L.Port.traffic c.args.port.now) (g.L.Port.traffic c.accept.new.self)
+    process process taken) (sym (ap (option_map (λ _. 1))
+    (none_told c.from_residual.result c.from_residual.ensures.0)))
+    (none c.args.limit (g.L.Port.traffic c.args.port.now) (g.L.Port.traffic c.accept.new.self) process None
+    c.in_err-came.ensures.0 tt)
 
 pub returns-in_err-end-clause-answers : goal.returns-in_err-end-clause-answers
 returns-in_err-end-clause-answers g c = λ honest.
     let old = parts g.P.Place.lying c.args.process.now in
     let first = parts g.P.Place.lying c.open_again-refusal.new.process in
     let last = parts g.P.Place.lying c.answer-answered.new.self in
-    subst (λ taken. AnswersSome c.args.limit (g.L.Port.traffic c.args.port.now) (g.L.Port.traffic c.end.new.self) old last taken) (sym (ap (option_map (λ _. 1)) (none_told c.from_residual-in_err-end.result c.from_residual-in_err-end.ensures.0)))
-    (between c.args.limit (g.L.Port.traffic c.args.port.now) (g.L.Port.traffic c.end.new.self) old first last last None (up.after old first last c.open_again-refusal.ensures.stays (up.answered (wire g.L.Reader.Source g.L.Writer.Sink c.in-Some.reader c.in-Some.writer) (wire g.L.Reader.Source g.L.Writer.Sink c.answer-answered.new.reader c.answer-answered.new.writer) first last c.answer-answered.result c.answer-answered.ensures)) (c.open_again-refusal.ensures.leaves honest)
-    (one c.args.limit honest (g.L.Port.traffic c.args.port.now) (g.L.Port.traffic c.accept.new.self) (g.L.Port.traffic c.end.new.self) (wire g.L.Reader.Source g.L.Writer.Sink c.in-Some.reader c.in-Some.writer)
-    (wire g.L.Reader.Source g.L.Writer.Sink c.answer-answered.new.reader c.answer-answered.new.writer) first last c.answer-answered.result None (rw c.in-Some.is at c.in_ok-came.ensures) c.answer-answered.ensures c.end.ensures.coming tt)
+    subst (λ taken. AnswersSome c.args.limit (g.L.Port.traffic c.args.port.now) (g.L.Port.traffic c.end.new.self) old
+    last taken)
+    (sym (ap (option_map (λ _. 1)) (none_told c.from_residual-in_err-end.result
+    c.from_residual-in_err-end.ensures.0)))
+    (between c.args.limit (g.L.Port.traffic c.args.port.now) (g.L.Port.traffic c.end.new.self) old first last last None
+    (up.after old first last c.open_again-refusal.ensures.stays
+    (up.answered (wire g.L.Reader.Source g.L.Writer.Sink c.in-Some.reader c.in-Some.writer)
+    (wire g.L.Reader.Source g.L.Writer.Sink c.answer-answered.new.reader c.answer-answered.new.writer) first last
+    c.answer-answered.result c.answer-answered.ensures)) (c.open_again-refusal.ensures.leaves honest)
+    (one c.args.limit honest (g.L.Port.traffic c.args.port.now) (g.L.Port.traffic c.accept.new.self)
+    (g.L.Port.traffic c.end.new.self) (wire g.L.Reader.Source g.L.Writer.Sink c.in-Some.reader c.in-Some.writer)
+    (wire g.L.Reader.Source g.L.Writer.Sink c.answer-answered.new.reader c.answer-answered.new.writer) first last
+    c.answer-answered.result None (rw c.in-Some.is at c.in_ok-came.ensures) c.answer-answered.ensures
+    c.end.ensures.coming tt)
     (same c.args.limit last))
 
 pub returns-in_ok-end-clause-answers : goal.returns-in_ok-end-clause-answers
@@ -33,28 +46,45 @@ returns-in_ok-end-clause-answers g c = λ honest.
     let first = parts g.P.Place.lying c.open_again-refusal.new.process in
     let last = parts g.P.Place.lying c.answer-answered.new.self in
     let new = parts g.P.Place.lying c.went.new.process in
-    let stays = up.went (wire g.L.Reader.Source g.L.Writer.Sink c.in-Some.reader c.in-Some.writer) (wire g.L.Reader.Source g.L.Writer.Sink c.answer-answered.new.reader c.answer-answered.new.writer) first last new c.answer-answered.result c.answer-answered.ensures (λ other. ap (parts g.P.Place.lying) (c.went.ensures.others other)) c.went.ensures.calls in
-    between c.args.limit (g.L.Port.traffic c.args.port.now) (g.L.Port.traffic c.end.new.self) old first last new (Some 1) (λ u. up.until first last new c.went.ensures.calls (up.after old first new c.open_again-refusal.ensures.stays stays u)) (c.open_again-refusal.ensures.leaves honest)
-    (one c.args.limit honest (g.L.Port.traffic c.args.port.now) (g.L.Port.traffic c.accept.new.self) (g.L.Port.traffic c.end.new.self) (wire g.L.Reader.Source g.L.Writer.Sink c.in-Some.reader c.in-Some.writer)
-    (wire g.L.Reader.Source g.L.Writer.Sink c.answer-answered.new.reader c.answer-answered.new.writer) first last c.answer-answered.result (Some 1) (rw c.in-Some.is at c.in_ok-came.ensures) c.answer-answered.ensures c.end.ensures.coming (refl, c.in_ok-end.ensures.over))
+    let stays =
+    up.went (wire g.L.Reader.Source g.L.Writer.Sink c.in-Some.reader c.in-Some.writer)
+    (wire g.L.Reader.Source g.L.Writer.Sink c.answer-answered.new.reader c.answer-answered.new.writer) first last
+    new c.answer-answered.result c.answer-answered.ensures
+    (λ other. ap (parts g.P.Place.lying) (c.went.ensures.others other)) c.went.ensures.calls in
+    between c.args.limit (g.L.Port.traffic c.args.port.now) (g.L.Port.traffic c.end.new.self) old first last new
+    (Some 1) (λ u. up.until first last new c.went.ensures.calls
+    (up.after old first new c.open_again-refusal.ensures.stays stays u))
+    (c.open_again-refusal.ensures.leaves honest)
+    (one c.args.limit honest (g.L.Port.traffic c.args.port.now) (g.L.Port.traffic c.accept.new.self)
+    (g.L.Port.traffic c.end.new.self) (wire g.L.Reader.Source g.L.Writer.Sink c.in-Some.reader c.in-Some.writer)
+    (wire g.L.Reader.Source g.L.Writer.Sink c.answer-answered.new.reader c.answer-answered.new.writer) first last
+    c.answer-answered.result (Some 1) (rw c.in-Some.is at c.in_ok-came.ensures) c.answer-answered.ensures
+    c.end.ensures.coming (refl, c.in_ok-end.ensures.over))
     (c.went.ensures.leaves honest c.args.limit)
 
 pub returns-in_default-clause-answers : goal.returns-in_default-clause-answers
 returns-in_default-clause-answers g c = λ honest.
     let came = rw c.in_default.is at c.in_ok-came.ensures in
-    none c.args.limit (g.L.Port.traffic c.args.port.now) (g.L.Port.traffic c.accept.new.self) (parts g.P.Place.lying c.args.process.now) (Some 1) came.0 (subst (λ coming. AreCounted coming [] 1) (sym came.1) counted_given_up)
+    none c.args.limit (g.L.Port.traffic c.args.port.now) (g.L.Port.traffic c.accept.new.self)
+    (parts g.P.Place.lying c.args.process.now) (Some 1) came.0
+    (subst (λ coming. AreCounted coming [] 1) (sym came.1) counted_given_up)
 
 pub returns-in_ok-end-clause-closed : goal.returns-in_ok-end-clause-closed
 returns-in_ok-end-clause-closed g c = λ _.
-    awake (wire g.L.Reader.Source g.L.Writer.Sink c.in-Some.reader c.in-Some.writer) (wire g.L.Reader.Source g.L.Writer.Sink c.answer-answered.new.reader c.answer-answered.new.writer) c.open_again-refusal.new.process.intake c.answer-answered.new.self.intake c.went.new.process.intake
-    c.answer-answered.result c.answer-answered.ensures.0 c.went.ensures.failed (λ other. ap (λ process. process.intake) (c.went.ensures.others other))
+    awake (wire g.L.Reader.Source g.L.Writer.Sink c.in-Some.reader c.in-Some.writer)
+    (wire g.L.Reader.Source g.L.Writer.Sink c.answer-answered.new.reader c.answer-answered.new.writer)
+    c.open_again-refusal.new.process.intake c.answer-answered.new.self.intake c.went.new.process.intake
+    c.answer-answered.result c.answer-answered.ensures.0 c.went.ensures.failed
+    (λ other. ap (λ process. process.intake) (c.went.ensures.others other))
 
 pub returns-in_err-end-clause-stays : goal.returns-in_err-end-clause-stays
 returns-in_err-end-clause-stays g c =
     let first = parts g.P.Place.lying c.open_again-refusal.new.process in
     let last = parts g.P.Place.lying c.answer-answered.new.self in
     up.join (parts g.P.Place.lying c.args.process.now) first last c.open_again-refusal.ensures.stays
-    (up.answered (wire g.L.Reader.Source g.L.Writer.Sink c.in-Some.reader c.in-Some.writer) (wire g.L.Reader.Source g.L.Writer.Sink c.answer-answered.new.reader c.answer-answered.new.writer) first last c.answer-answered.result c.answer-answered.ensures)
+    (up.answered (wire g.L.Reader.Source g.L.Writer.Sink c.in-Some.reader c.in-Some.writer)
+    (wire g.L.Reader.Source g.L.Writer.Sink c.answer-answered.new.reader c.answer-answered.new.writer) first last
+    c.answer-answered.result c.answer-answered.ensures)
 
 pub returns-in_ok-end-clause-stays : goal.returns-in_ok-end-clause-stays
 returns-in_ok-end-clause-stays g c =
@@ -62,7 +92,9 @@ returns-in_ok-end-clause-stays g c =
     let last = parts g.P.Place.lying c.answer-answered.new.self in
     let new = parts g.P.Place.lying c.went.new.process in
     up.join (parts g.P.Place.lying c.args.process.now) first new c.open_again-refusal.ensures.stays
-    (up.went (wire g.L.Reader.Source g.L.Writer.Sink c.in-Some.reader c.in-Some.writer) (wire g.L.Reader.Source g.L.Writer.Sink c.answer-answered.new.reader c.answer-answered.new.writer) first last new c.answer-answered.result c.answer-answered.ensures
+    (up.went (wire g.L.Reader.Source g.L.Writer.Sink c.in-Some.reader c.in-Some.writer)
+    (wire g.L.Reader.Source g.L.Writer.Sink c.answer-answered.new.reader c.answer-answered.new.writer) first last
+    new c.answer-answered.result c.answer-answered.ensures
     (λ other. ap (parts g.P.Place.lying) (c.went.ensures.others other)) c.went.ensures.calls)
 
 pub returns-in_err-came-clause-stays : goal.returns-in_err-came-clause-stays

@@ -10,7 +10,8 @@ returns-in-Err g c =
     let old = parts g.P.Place.lying c.args.process.now in
     let new = parts g.P.Place.lying c.open.new.self in
     record {
-      found = λ honest is. not_opened c.args.limit (g.L.Port.traffic c.args.port.now) old new c.in-Err.ensures.calls (c.in-Err.ensures.leaves honest is);
+      found = λ honest is. not_opened c.args.limit (g.L.Port.traffic c.args.port.now) old new c.in-Err.ensures.calls
+          (c.in-Err.ensures.leaves honest is);
       made = λ honest is closed known. tt;
       closed = c.in-Err.ensures.refused;
       steps = (c.in-Err.ensures, refl);
@@ -26,11 +27,16 @@ returns-in-Ok-served g c =
     let served = parts g.P.Place.lying c.listen_and_serve-served.new.process in
     let new = parts g.P.Place.lying c.close.new.self in
     record {
-      found = λ honest is. between c.args.limit port port' old opened served new (Some c.args.most) (while_open c.args.limit has old opened served new c.in-Ok.totals c.close.result c.in-Ok.ensures c.close.ensures) (c.in-Ok.ensures.leaves honest is) (c.in-Ok-served.ensures.answers honest) (c.close.ensures.leaves honest c.args.limit);
+      found = λ honest is. between c.args.limit port port' old opened served new (Some c.args.most)
+          (while_open c.args.limit has old opened served new c.in-Ok.totals c.close.result c.in-Ok.ensures
+          c.close.ensures) (c.in-Ok.ensures.leaves honest is) (c.in-Ok-served.ensures.answers honest)
+          (c.close.ensures.leaves honest c.args.limit);
       made = λ honest is closed known. (
         opened,
         c.in-Ok.ensures.made honest is closed known,
-        between c.args.limit port port' opened opened served new (Some c.args.most) (until opened served new c.close.ensures.calls) (same c.args.limit opened) (c.in-Ok-served.ensures.answers honest) (c.close.ensures.leaves honest c.args.limit),
+        between c.args.limit port port' opened opened served new (Some c.args.most)
+            (until opened served new c.close.ensures.calls) (same c.args.limit opened)
+            (c.in-Ok-served.ensures.answers honest) (c.close.ensures.leaves honest c.args.limit),
       );
       closed = c.close.ensures.is_closed;
       steps = record {
@@ -55,7 +61,10 @@ returns-in-Err-served g c =
     let served = parts g.P.Place.lying c.listen_and_serve-served.new.process in
     let new = parts g.P.Place.lying c.close.new.self in
     record {
-      found = λ honest is. between c.args.limit port port' old opened served new None (while_open c.args.limit has old opened served new c.in-Ok.totals c.close.result c.in-Ok.ensures c.close.ensures) (c.in-Ok.ensures.leaves honest is) (c.in-Err-served.ensures.answers honest) (c.close.ensures.leaves honest c.args.limit);
+      found = λ honest is. between c.args.limit port port' old opened served new None
+          (while_open c.args.limit has old opened served new c.in-Ok.totals c.close.result c.in-Ok.ensures
+          c.close.ensures) (c.in-Ok.ensures.leaves honest is) (c.in-Err-served.ensures.answers honest)
+          (c.close.ensures.leaves honest c.args.limit);
       made = λ honest is closed known. tt;
       closed = c.close.ensures.is_closed;
       steps = record {

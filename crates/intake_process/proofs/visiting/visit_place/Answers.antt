@@ -6,7 +6,12 @@ returns-in-Ok g c = record {
   opened = Ok c.in-Ok.conn;
   between = g.P.Place.lying c.open.new.place;
   opens = c.in-Ok.ensures.opens;
-  goes = (c.run_errand-left.result.0, c.run_errand-left.ensures.runs, c.run_errand-left.ensures.fills, c.leave-closed.ensures);
+  goes = (
+    c.run_errand-left.result.0,
+    c.run_errand-left.ensures.runs,
+    c.run_errand-left.ensures.fills,
+    c.leave-closed.ensures,
+  );
 }
 
 pub returns-in-Err : goal.returns-in-Err

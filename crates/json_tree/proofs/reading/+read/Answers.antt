@@ -6,7 +6,8 @@ use Rattle.json.proofs.Grammar.{value_is, value-begin_array, value-begin_object,
 use Rattle.serde_json.specs.Data.{null, boolean, number, string, array, object, no_members, put}
 use Rattle.serde_json.specs.Read.{of_json, of_items, of_members, converted}
 use Rattle.serde_json.specs.View.{number_view}
-use Rattle.json_tree.proofs.Turns.{converted-array, converted-object, item_read, item_refused, items_over, member_read, member_refused, key_refused, members_over}
+use Rattle.json_tree.proofs.Turns.{converted-array, converted-object, item_read, item_refused, items_over, member_read}
+use Rattle.json_tree.proofs.Turns.{member_refused, key_refused, members_over}
 use Rattle.json_tree.specs.Putting.{put_all}
 use Rattle.json_tree.specs.View.{view}
 use Rattle.json_tree.specs.declared.tree.Tree.{Text, Number, Bool, Null, the_lemmas}
@@ -37,13 +38,21 @@ read_value-returns-then-depth-eq0-2-clause-not_json t c never =
 pub read_value-returns-in_err-read_items-in-BeginArray-clause-not_json : goal.read_value-returns-in_err-read_items-in-BeginArray-clause-not_json
 read_value-returns-in_err-read_items-in-BeginArray-clause-not_json t c refused =
     let first : c.args.reader.now ≡ token_of c.in_ok-token.token ∷ c.next.new.self = grind arith in
-    let opened = ap (converted of_json) (ap (value c.args.depth) (first ∙ ap (λ k. token_of k ∷ c.next.new.self) c.in-BeginArray.is) ∙ value-begin_array c.args.depth c.next.new.self (omega arith)) ∙ converted-array (items (value (c.args.depth - 1)) (length c.next.new.self) c.next.new.self) in
+    let opened =
+    ap (converted of_json) (ap (value c.args.depth) (first
+    ∙ ap (λ k. token_of k ∷ c.next.new.self) c.in-BeginArray.is)
+    ∙ value-begin_array c.args.depth c.next.new.self (omega arith))
+    ∙ converted-array (items (value (c.args.depth - 1)) (length c.next.new.self) c.next.new.self) in
     opened ∙ ap (parse_map array) (c.read_items.ensures.not_json (grind arith))
 
 pub read_value-returns-in_err-read_members-in-BeginObject-clause-not_json : goal.read_value-returns-in_err-read_members-in-BeginObject-clause-not_json
 read_value-returns-in_err-read_members-in-BeginObject-clause-not_json t c refused =
     let first : c.args.reader.now ≡ token_of c.in_ok-token.token ∷ c.next.new.self = grind arith in
-    let opened = ap (converted of_json) (ap (value c.args.depth) (first ∙ ap (λ k. token_of k ∷ c.next.new.self) c.in-BeginObject.is) ∙ value-begin_object c.args.depth c.next.new.self (omega arith)) ∙ converted-object (members (value (c.args.depth - 1)) (length c.next.new.self) c.next.new.self) in
+    let opened =
+    ap (converted of_json) (ap (value c.args.depth) (first
+    ∙ ap (λ k. token_of k ∷ c.next.new.self) c.in-BeginObject.is)
+    ∙ value-begin_object c.args.depth c.next.new.self (omega arith))
+    ∙ converted-object (members (value (c.args.depth - 1)) (length c.next.new.self) c.next.new.self) in
     opened ∙ ap (parse_map object) (c.read_members.ensures.not_json (grind arith))
 
 pub read_value-returns-in-String-clause-ok : goal.read_value-returns-in-String-clause-ok
@@ -51,21 +60,24 @@ read_value-returns-in-String-clause-ok t c =
     let first : c.args.reader.now ≡ token_of c.in_ok-token.token ∷ c.next.new.self = grind arith in
     let is : c.args.reader.now ≡ Token.string c.in-String.text.now ∷ c.next.new.self = grind (arith, first) in
     let seen : view (Text c.in-String.text) ≡ string c.in-String.text.now = search (rules, the_lemmas) in
-    ap (converted of_json) (ap (value c.args.depth) is ∙ value_is c.args.depth _) ∙ ap (λ d. Some (d, c.next.new.self)) (sym seen)
+    ap (converted of_json) (ap (value c.args.depth) is ∙ value_is c.args.depth _)
+    ∙ ap (λ d. Some (d, c.next.new.self)) (sym seen)
 
 pub read_value-returns-in-Bool-clause-ok : goal.read_value-returns-in-Bool-clause-ok
 read_value-returns-in-Bool-clause-ok t c =
     let first : c.args.reader.now ≡ token_of c.in_ok-token.token ∷ c.next.new.self = grind arith in
     let is : c.args.reader.now ≡ Token.boolean c.in-Bool.b ∷ c.next.new.self = grind (arith, first) in
     let seen : view (Bool c.in-Bool.b) ≡ boolean c.in-Bool.b = search (rules, the_lemmas) in
-    ap (converted of_json) (ap (value c.args.depth) is ∙ value_is c.args.depth _) ∙ ap (λ d. Some (d, c.next.new.self)) (sym seen)
+    ap (converted of_json) (ap (value c.args.depth) is ∙ value_is c.args.depth _)
+    ∙ ap (λ d. Some (d, c.next.new.self)) (sym seen)
 
 pub read_value-returns-in-Null-clause-ok : goal.read_value-returns-in-Null-clause-ok
 read_value-returns-in-Null-clause-ok t c =
     let first : c.args.reader.now ≡ token_of c.in_ok-token.token ∷ c.next.new.self = grind arith in
     let is : c.args.reader.now ≡ Token.null ∷ c.next.new.self = grind (arith, first) in
     let seen : view (Null) ≡ null = search (rules, the_lemmas) in
-    ap (converted of_json) (ap (value c.args.depth) is ∙ value_is c.args.depth _) ∙ ap (λ d. Some (d, c.next.new.self)) (sym seen)
+    ap (converted of_json) (ap (value c.args.depth) is ∙ value_is c.args.depth _)
+    ∙ ap (λ d. Some (d, c.next.new.self)) (sym seen)
 
 pub read_value-returns-in-Some-clause-ok : goal.read_value-returns-in-Some-clause-ok
 read_value-returns-in-Some-clause-ok t c =
@@ -83,27 +95,43 @@ read_value-returns-in-None-clause-not_json t c refused =
 pub read_value-returns-in-EndObject-clause-not_json : goal.read_value-returns-in-EndObject-clause-not_json
 read_value-returns-in-EndObject-clause-not_json t c refused =
     let first : c.args.reader.now ≡ token_of c.in_ok-token.token ∷ c.next.new.self = grind arith in
-    let none : value c.args.depth c.args.reader.now ≡ None = rw (value_is c.args.depth c.args.reader.now, first) (grind arith) in
+    let none : value c.args.depth c.args.reader.now ≡ None =
+    rw (value_is c.args.depth c.args.reader.now, first) (grind arith) in
     ap (converted of_json) none
 
 pub read_value-returns-in_ok-read_items-in-BeginArray-clause-ok : goal.read_value-returns-in_ok-read_items-in-BeginArray-clause-ok
 read_value-returns-in_ok-read_items-in-BeginArray-clause-ok t c =
     let first : c.args.reader.now ≡ token_of c.in_ok-token.token ∷ c.next.new.self = grind arith in
-    let opened = ap (converted of_json) (ap (value c.args.depth) (first ∙ ap (λ k. token_of k ∷ c.next.new.self) c.in-BeginArray.is) ∙ value-begin_array c.args.depth c.next.new.self (omega arith)) ∙ converted-array (items (value (c.args.depth - 1)) (length c.next.new.self) c.next.new.self) in
+    let opened =
+    ap (converted of_json) (ap (value c.args.depth) (first
+    ∙ ap (λ k. token_of k ∷ c.next.new.self) c.in-BeginArray.is)
+    ∙ value-begin_array c.args.depth c.next.new.self (omega arith))
+    ∙ converted-array (items (value (c.args.depth - 1)) (length c.next.new.self) c.next.new.self) in
     let found = c.in_ok-read_items-in-BeginArray in
-    opened ∙ ap (parse_map array) found.ensures.ok ∙ ap (λ d. Some (d, c.read_items.new.reader)) (sym (view-Array found.field-0))
+    opened ∙ ap (parse_map array) found.ensures.ok
+    ∙ ap (λ d. Some (d, c.read_items.new.reader)) (sym (view-Array found.field-0))
 
 pub read_value-returns-in_ok-read_members-in-BeginObject-clause-ok : goal.read_value-returns-in_ok-read_members-in-BeginObject-clause-ok
 read_value-returns-in_ok-read_members-in-BeginObject-clause-ok t c =
     let first : c.args.reader.now ≡ token_of c.in_ok-token.token ∷ c.next.new.self = grind arith in
-    let opened = ap (converted of_json) (ap (value c.args.depth) (first ∙ ap (λ k. token_of k ∷ c.next.new.self) c.in-BeginObject.is) ∙ value-begin_object c.args.depth c.next.new.self (omega arith)) ∙ converted-object (members (value (c.args.depth - 1)) (length c.next.new.self) c.next.new.self) in
+    let opened =
+    ap (converted of_json) (ap (value c.args.depth) (first
+    ∙ ap (λ k. token_of k ∷ c.next.new.self) c.in-BeginObject.is)
+    ∙ value-begin_object c.args.depth c.next.new.self (omega arith))
+    ∙ converted-object (members (value (c.args.depth - 1)) (length c.next.new.self) c.next.new.self) in
     let found = c.in_ok-read_members-in-BeginObject in
-    opened ∙ ap (parse_map object) found.ensures.ok ∙ ap (λ d. Some (d, c.read_members.new.reader)) (sym (view-Object found.field-0))
+    opened ∙ ap (parse_map object) found.ensures.ok
+    ∙ ap (λ d. Some (d, c.read_members.new.reader)) (sym (view-Object found.field-0))
 
 pub read_items-items-init : goal.read_items-items-init
 read_items-items-init t c =
-    let all = converted of_items (items (value c.args.depth) (length c.args.reader.now) c.args.reader.now) in
-    (length c.args.reader.now, omega arith, none_before all ∙ ap (λ vs. parse_map (items_before vs) all) (sym c.new-found.ensures.items), omega arith)
+    let all = converted of_items (items (value c.args.depth) (length c.args.reader.now) c.args.reader.now) in (
+      length c.args.reader.now,
+      omega arith,
+      none_before all
+          ∙ ap (λ vs. parse_map (items_before vs) all) (sym c.new-found.ensures.items),
+      omega arith,
+    )
 
 pub read_items-returns-in_err-item-clause-not_json : goal.read_items-returns-in_err-item-clause-not_json
 read_items-returns-in_err-item-clause-not_json t c refused =
@@ -111,7 +139,8 @@ read_items-returns-in_err-item-clause-not_json t c refused =
     let l = c.items in
     let n = l.invariant.0 in
     let going : (after_end_array l.reader ≡ None) × (c.take_end_array.new.self ≡ l.reader) = grind arith in
-    l.invariant.2 ∙ ap (parse_map (items_before l.found.items)) (item_refused p n l.reader going.0 (rw (← going.1) (c.read_value.ensures.not_json (grind arith))))
+    l.invariant.2 ∙ ap (parse_map (items_before l.found.items))
+    (item_refused p n l.reader going.0 (rw (← going.1) (c.read_value.ensures.not_json (grind arith))))
 
 pub read_items-items-preserved : goal.read_items-items-preserved
 read_items-items-preserved t c =
@@ -127,7 +156,8 @@ read_items-items-preserved t c =
       n - 1,
       omega (arith, l.invariant.1),
       l.invariant.2 ∙ ap (parse_map (items_before l.found.items)) turn ∙ one_more_item l.found.items v _
-          ∙ ap (λ vs. parse_map (items_before vs) (converted of_items (items p (n - 1) r))) (sym c.in_ok-push.ensures.items),
+          ∙ ap (λ vs. parse_map (items_before vs) (converted of_items (items p (n - 1) r)))
+          (sym c.in_ok-push.ensures.items),
       omega (arith, l.invariant.3),
     )
 
@@ -137,17 +167,23 @@ read_items-returns-clause-ok t c =
     let l = c.items in
     let n = l.invariant.0 in
     let r = c.take_end_array.new.self in
-    l.invariant.2 ∙ ap (parse_map (items_before l.found.items)) (items_over p n l.reader r l.invariant.1 (grind arith)) ∙ ap (λ ds. Some (ds, r)) (items_before-no_items l.found.items)
+    l.invariant.2 ∙ ap (parse_map (items_before l.found.items)) (items_over p n l.reader r l.invariant.1 (grind arith))
+    ∙ ap (λ ds. Some (ds, r)) (items_before-no_items l.found.items)
 
 pub read_members-members-init : goal.read_members-members-init
 read_members-members-init t c =
-    let all = members (value c.args.depth) (length c.args.reader.now) c.args.reader.now in
-    (length c.args.reader.now, omega arith, ap (λ ms. converted (λ found. of_members found (put_all no_members ms)) all) (sym c.new-found.ensures.items), omega arith)
+    let all = members (value c.args.depth) (length c.args.reader.now) c.args.reader.now in (
+      length c.args.reader.now,
+      omega arith,
+      ap (λ ms. converted (λ found. of_members found (put_all no_members ms)) all) (sym c.new-found.ensures.items),
+      omega arith,
+    )
 
 pub read_members-returns-in_err-name-clause-not_json : goal.read_members-returns-in_err-name-clause-not_json
 read_members-returns-in_err-name-clause-not_json t c refused =
     let l = c.members in
-    l.invariant.2 ∙ key_refused (value c.args.depth) (put_all no_members l.found.items) l.invariant.0 l.reader c.in_err-name.ensures.value
+    l.invariant.2 ∙ key_refused (value c.args.depth) (put_all no_members l.found.items) l.invariant.0 l.reader
+    c.in_err-name.ensures.value
 
 pub read_members-returns-in_err-member-clause-not_json : goal.read_members-returns-in_err-member-clause-not_json
 read_members-returns-in_err-member-clause-not_json t c refused =
@@ -155,7 +191,8 @@ read_members-returns-in_err-member-clause-not_json t c refused =
     let k = c.in-Some.name.now in
     let s = c.next_key.new.self in
     let named : read_key l.reader ≡ Some (Some k, s) = grind arith in
-    l.invariant.2 ∙ member_refused (value c.args.depth) (put_all no_members l.found.items) l.invariant.0 k l.reader s named (c.read_value.ensures.not_json (grind arith))
+    l.invariant.2 ∙ member_refused (value c.args.depth) (put_all no_members l.found.items) l.invariant.0 k l.reader s
+    named (c.read_value.ensures.not_json (grind arith))
 
 pub read_members-members-preserved : goal.read_members-members-preserved
 read_members-members-preserved t c =
@@ -184,5 +221,6 @@ pub read_members-returns-clause-ok : goal.read_members-returns-clause-ok
 read_members-returns-clause-ok t c =
     let l = c.members in
     let r = c.next_key.new.self in
-    l.invariant.2 ∙ members_over (value c.args.depth) (put_all no_members l.found.items) l.invariant.0 l.reader r l.invariant.1 (grind arith)
+    l.invariant.2 ∙ members_over (value c.args.depth) (put_all no_members l.found.items) l.invariant.0 l.reader r
+    l.invariant.1 (grind arith)
     ∙ ap (λ ms. Some (ms, r)) (sym c.in_ok-in_order.ensures)

@@ -18,7 +18,8 @@ decreases-read_members l = 2 * l.depth + 1
 abbrev pub invariant-read_items-items : goal.invariant-read_items-items
 invariant-read_items-items l =
     (n : ℕ) × (length l.reader ≤ n)
-    × (converted of_items (items (value l.depth) (length l.initial.reader) l.initial.reader) ≡ parse_map (items_before l.found.items) (converted of_items (items (value l.depth) n l.reader)))
+    × (converted of_items (items (value l.depth) (length l.initial.reader) l.initial.reader)
+    ≡ parse_map (items_before l.found.items) (converted of_items (items (value l.depth) n l.reader)))
     × (length l.reader ≤ length l.initial.reader)
 
 abbrev pub decreases-read_items-items : goal.decreases-read_items-items
@@ -27,7 +28,8 @@ decreases-read_items-items l = length l.reader
 abbrev pub invariant-read_members-members : goal.invariant-read_members-members
 invariant-read_members-members l =
     (n : ℕ) × (length l.reader ≤ n)
-    × (converted (λ ms. of_members ms no_members) (members (value l.depth) (length l.initial.reader) l.initial.reader) ≡ converted (λ ms. of_members ms (put_all no_members l.found.items)) (members (value l.depth) n l.reader))
+    × (converted (λ ms. of_members ms no_members) (members (value l.depth) (length l.initial.reader) l.initial.reader)
+    ≡ converted (λ ms. of_members ms (put_all no_members l.found.items)) (members (value l.depth) n l.reader))
     × (length l.reader ≤ length l.initial.reader)
 
 abbrev pub decreases-read_members-members : goal.decreases-read_members-members

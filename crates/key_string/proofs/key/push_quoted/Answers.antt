@@ -20,7 +20,8 @@ pub returns-in_err-push-3-clause-err : goal.returns-in_err-push-3-clause-err
 returns-in_err-push-3-clause-err c =
     let before = starts_with_of_append _ _ _ c.loop-byte.invariant in
     let escaped : StartsWith c.if-matches.out.items c.args.out.now.items = elim c.if-matches.branch [
-      | then-matches+in_ok-push-2 w ↦ starts_with_trans _ _ _ (starts_with_of_append _ _ _ (ap (λ out. out.items) w.out-is ∙ w.in_ok-push-2.ensures.items)) before
+      | then-matches+in_ok-push-2 w ↦ starts_with_trans _ _ _
+          (starts_with_of_append _ _ _ (ap (λ out. out.items) w.out-is ∙ w.in_ok-push-2.ensures.items)) before
       | else-matches w ↦ rw w.out-is before
     ] in
     let gives = err_from_is_err_and c.from_residual-in_err-push-3.result c.from_residual-in_err-push-3.ensures.1 in

@@ -11,5 +11,6 @@ pub loop-byte-preserved : goal.loop-byte-preserved
 loop-byte-preserved c =
     let same = c.as_bytes-byte-items.ensures.value in
     let i = c.loop-byte.byte-index in
-    subst (λ t. AddsText t c.args.written.now.items c.append_byte.new.written.items) (sym (take_more c.args.text.now i 0 (rw same at c.loop-byte-test.true)))
+    subst (λ t. AddsText t c.args.written.now.items c.append_byte.new.written.items)
+    (sym (take_more c.args.text.now i 0 (rw same at c.loop-byte-test.true)))
     (adds_more (take i c.args.text.now) _ _ _ _ c.loop-byte.invariant (rw same at c.in_ok-append_byte.ensures))

@@ -7,7 +7,8 @@ use Rattle.outbox_commands.proofs.errand.run_errand.Goals.{then-is_random, else-
 
 pub returns-in-Err : goal.returns-in-Err
 returns-in-Err g c =
-    let r = refused g.D.Disk Found (parts g.P.Place.lying c.args.process.now) (parts g.P.Place.lying c.open.new.process) c.in-Err.fault c.in-Err.ensures in
+    let r = refused g.D.Disk Found (parts g.P.Place.lying c.args.process.now) (parts g.P.Place.lying c.open.new.process)
+    c.in-Err.fault c.in-Err.ensures in
     inr (record { why = r.why; opens = r.opens; says = c.of_opening.ensures ∙ r.says }, refl, refl)
 
 pub returns : goal.returns
@@ -20,15 +21,20 @@ returns g c =
     let out' = g.O.Write.contents c.perform-came.new.output in
     inl (record {
       opened = before;
-      opens = opened g.D.Disk Found (parts g.P.Place.lying c.args.process.now) before c.open.result c.in_default.not-Err c.open.ensures;
+      opens = opened g.D.Disk Found (parts g.P.Place.lying c.args.process.now) before c.open.result c.in_default.not-Err
+          c.open.ensures;
       done = after;
       came = c.perform-came.result;
       performs =
-          subst (λ n. PerformsErrand c.args.errand net n out out' before after c.perform-came.result) (sym c.answer-done.ensures.traffic) c.perform-came.ensures;
+          subst (λ n. PerformsErrand c.args.errand net n out out' before after c.perform-came.result)
+          (sym c.answer-done.ensures.traffic) c.perform-came.ensures;
       looked = parts g.P.Place.lying c.if-is_random.process;
       looks = elim c.if-is_random.branch [
-        | then-is_random w ↦ subst (λ p. IsHonest g.D.Disk → Leaves after (parts g.P.Place.lying p)) (sym w.process-is) w.tell_same.ensures
-        | else-is_random w ↦ subst (λ p. IsHonest g.D.Disk → Leaves after (parts g.P.Place.lying p)) (sym w.process-is) (λ honest. record { kept = λ it keeps. keeps; certain = λ sure. sure })
+        | then-is_random w ↦ subst (λ p. IsHonest g.D.Disk
+            → Leaves after (parts g.P.Place.lying p)) (sym w.process-is) w.tell_same.ensures
+        | else-is_random w ↦ subst (λ p. IsHonest g.D.Disk
+            → Leaves after (parts g.P.Place.lying p)) (sym w.process-is)
+            (λ honest. record { kept = λ it keeps. keeps; certain = λ sure. sure })
       ];
       closed = c.close.ensures.0;
       closes = c.close.ensures.1;

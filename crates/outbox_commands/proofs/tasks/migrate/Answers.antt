@@ -10,7 +10,8 @@ returns g c =
     inl (
       migrated,
       c.close.ensures.0,
-      opened g.D.Disk Migrated (parts g.P.Place.lying c.args.process.now) migrated c.open.result c.in_default.not-Err c.open.ensures,
+      opened g.D.Disk Migrated (parts g.P.Place.lying c.args.process.now) migrated c.open.result c.in_default.not-Err
+          c.open.ensures,
       c.close.ensures.1,
       c.show_migrated-shown.ensures,
     )

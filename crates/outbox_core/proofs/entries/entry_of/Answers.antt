@@ -8,11 +8,14 @@ use Rattle.outbox_core.proofs.entries.entry_of.Goals as goal
 
 pub returns-clause-found : goal.returns-clause-found
 returns-clause-found g c clean it was =
-    let early = clean_before c.read_found.ensures.leaves clean in
-    rw (← find_id c.args.id it.entries) (c.read_found.ensures.read clean it (stands c.entry_with_id.ensures.leaves early was) _ (c.in_ok-row.ensures.found early it was) (found_at (has_id c.args.id) it.entries))
+    let was_clean = clean_before c.read_found.ensures.leaves clean in
+    rw (← find_id c.args.id it.entries) (c.read_found.ensures.read clean it
+    (stands c.entry_with_id.ensures.leaves was_clean was) _ (c.in_ok-row.ensures.found was_clean it was)
+    (found_at (has_id c.args.id) it.entries))
 
 pub returns-clause-leaves : goal.returns-clause-leaves
-returns-clause-leaves g c = asked_first (λ _. Ended) c.read_found.result c.in_ok-row.ensures.leaves c.read_found.ensures.leaves
+returns-clause-leaves g c =
+    asked_first (λ _. Ended) c.read_found.result c.in_ok-row.ensures.leaves c.read_found.ensures.leaves
 
 pub returns-in_err-row-clause-leaves : goal.returns-in_err-row-clause-leaves
 returns-in_err-row-clause-leaves g c = let left = ended c.in_err-row.ensures.leaves in search rules

@@ -3,10 +3,10 @@ use Rattle.sqlite.specs.Held.{state}
 use Rattle.sqlite.proofs.StateLemmas.{survives_weaker}
 use Rattle.table_rows.specs.Standing.{HasCommitted}
 use Rattle.filing_model.specs.Outbox.{Entry}
-use Rattle.outbox_opening.specs.Entries.{entry_at}
+use Rattle.outbox_tables.specs.Entries.{entry_at}
 use Rattle.outbox_core.specs.Entries.{with_state}
 use Rattle.filing_model.specs.Views.{view_state}
-use Rattle.outbox_opening.specs.Rows.{IsOutboxOf, LeavesOutbox}
+use Rattle.outbox_tables.specs.Rows.{IsOutboxOf, LeavesOutbox}
 use Rattle.outbox_core.proofs.EntryLemmas.{same_state}
 use Rattle.outbox_core.proofs.ReadLemmas.{some_mapped}
 use Rattle.outbox_core.proofs.entries.move_entry.Goals as goal
@@ -14,8 +14,13 @@ use Rattle.outbox_core.proofs.entries.move_entry.Goals as goal
 pub returns-then-eq-clause-moved : goal.returns-then-eq-clause-moved
 returns-then-eq-clause-moved g c clean it was alive at =
     let same : c.in-Ok.to ≡ c.args.from = search rules in
-    let still = same_state it.entries c.args.id (view_state c.in-Ok.to) (at ∙ ap (λ s. Some (view_state s)) (sym same)) in
-    (c.in-Ok.ensures.moved, subst (λ l. HasCommitted (IsOutboxOf (record { filer = it.filer; entries = l })) (state g.S.Store c.args.conn.now)) (sym still) was, alive)
+    let still =
+    same_state it.entries c.args.id (view_state c.in-Ok.to) (at ∙ ap (λ s. Some (view_state s)) (sym same)) in (
+      c.in-Ok.ensures.moved,
+      subst (λ l. HasCommitted (IsOutboxOf (record { filer = it.filer; entries = l }))
+          (state g.S.Store c.args.conn.now)) (sym still) was,
+      alive,
+    )
 
 pub returns-in-Ok-set_state-clause-moved : goal.returns-in-Ok-set_state-clause-moved
 returns-in-Ok-set_state-clause-moved g c clean it was alive at =

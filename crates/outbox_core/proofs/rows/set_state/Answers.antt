@@ -6,7 +6,7 @@ use Rattle.sqlite.specs.State.{Executes, CommitsBy}
 use Rattle.sqlite.proofs.StateLemmas.{survives_weaker}
 use Rattle.table_rows.proofs.WriteLemmas.{refused_stands}
 use Rattle.filing_model.specs.Views.{view_state}
-use Rattle.outbox_opening.specs.Rows.{IsOutboxOf, code_of, number_of}
+use Rattle.outbox_tables.specs.Rows.{IsOutboxOf, code_of, number_of}
 use Rattle.outbox_core.proofs.Texts.{update_text}
 use Rattle.outbox_core.proofs.UpdateLemmas.{bound_number, update_stands, update_leaves}
 use Rattle.outbox_core.proofs.ListLemmas.{another_state}
@@ -18,9 +18,19 @@ returns-clause-moved g c clean it was alive found =
     let new = state g.S.Store c.execute.new.self in
     let to = view_state c.args.state in
     let id : to_z w64 c.args.id ≡ pos c.args.id = omega (arith, ints) in
-    let ran = rw (c.params-to_sql.ensures, c.params-to_sql-2.ensures, c.params-to_sql-3.ensures, c.code_of.ensures, c.number_of.ensures, bound_number to) at (c.execute.ensures.runs clean) in
+    let ran =
+    rw (
+      c.params-to_sql.ensures,
+      c.params-to_sql-2.ensures,
+      c.params-to_sql-3.ensures,
+      c.code_of.ensures,
+      c.number_of.ensures,
+      bound_number to,
+    ) at (c.execute.ensures.runs clean) in
     let fits = another_state it c.args.id to c.requires.number (was.now alive).list in
-    update_stands old new it was alive to c.args.id found fits c.execute.result (subst (λ (n : ℤ). Executes update_text (Int n ∷ Int (pos (code_of to)) ∷ number_of to ∷ []) old new c.execute.result) id ran)
+    update_stands old new it was alive to c.args.id found fits c.execute.result
+    (subst (λ (n : ℤ). Executes update_text (Int n ∷ Int (pos (code_of to)) ∷ number_of to ∷ []) old new
+    c.execute.result) id ran)
 
 pub returns-clause-kept : goal.returns-clause-kept
 returns-clause-kept g c clean it was =
@@ -34,7 +44,17 @@ returns-clause-crash g c =
     let new = state g.S.Store c.execute.new.self in
     let to = view_state c.args.state in
     let id : to_z w64 c.args.id ≡ pos c.args.id = omega (arith, ints) in
-    let left = rw (c.params-to_sql.ensures, c.params-to_sql-2.ensures, c.params-to_sql-3.ensures, c.code_of.ensures, c.number_of.ensures, bound_number to) at c.execute.ensures.survives in
+    let left =
+    rw (
+      c.params-to_sql.ensures,
+      c.params-to_sql-2.ensures,
+      c.params-to_sql-3.ensures,
+      c.code_of.ensures,
+      c.number_of.ensures,
+      bound_number to,
+    ) at c.execute.ensures.survives in
     survives_weaker old new _ _ (λ _ trees h it was alive found.
     let fits = another_state it c.args.id to c.requires.number (was.now alive).list in
-    update_leaves old new it was alive to c.args.id found fits trees (subst (λ (n : ℤ). CommitsBy update_text (Int n ∷ Int (pos (code_of to)) ∷ number_of to ∷ []) old trees) id h)) left
+    update_leaves old new it was alive to c.args.id found fits trees
+    (subst (λ (n : ℤ). CommitsBy update_text (Int n ∷ Int (pos (code_of to)) ∷ number_of to ∷ []) old trees) id h))
+    left

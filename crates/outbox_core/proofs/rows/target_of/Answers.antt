@@ -1,12 +1,13 @@
 use Rattle.std.proofs.Common.{sym, ◌∙◌, rules}
-use Rattle.outbox_opening.specs.Entries.{target_at}
+use Rattle.outbox_tables.specs.Entries.{target_at}
 use Rattle.table_rows.proofs.LeavingLemmas.{ended}
 use Rattle.outbox_core.proofs.TargetReads.{number_read, none_read}
 use Rattle.outbox_core.proofs.rows.target_of.Goals as goal
 
 pub returns-in_ok-get-in-Some-clause-found : goal.returns-in_ok-get-in-Some-clause-found
 returns-in_ok-get-in-Some-clause-found g c clean it was =
-    number_read (target_at it.entries c.args.id) _ _ (sym c.in-Some.is ∙ c.in_ok-row.ensures.found clean it was) c.in_ok-get-in-Some.ensures.ok.1
+    number_read (target_at it.entries c.args.id) _ _ (sym c.in-Some.is
+    ∙ c.in_ok-row.ensures.found clean it was) c.in_ok-get-in-Some.ensures.ok.1
 
 pub returns-in-None-clause-found : goal.returns-in-None-clause-found
 returns-in-None-clause-found g c clean it was =

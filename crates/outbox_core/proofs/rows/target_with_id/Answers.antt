@@ -16,5 +16,7 @@ returns-clause-found g c clean it was =
     let old = state g.S.Store c.args.conn.now in
     let new = state g.S.Store c.first_row.new.conn in
     let id : to_z w64 c.args.id ≡ pos c.args.id = omega (arith, ints) in
-    let ran = subst (λ (n : ℤ). QueriesRow target_text (Int n ∷ []) old new (row_or_none c.first_row.result)) id (rw c.params-to_sql.ensures at (c.first_row.ensures.row clean)) in
+    let ran =
+    subst (λ (n : ℤ). QueriesRow target_text (Int n ∷ []) old new (row_or_none c.first_row.result)) id
+    (rw c.params-to_sql.ensures at (c.first_row.ensures.row clean)) in
     target_selected c.args.id old new it was c.first_row.result ran

@@ -4,7 +4,9 @@ use Rattle.outbox_tasks.proofs.asking.ask.Goals as goal
 
 pub returns-in_err-print_answer-in-Ok : goal.returns-in_err-print_answer-in-Ok
 returns-in_err-print_answer-in-Ok g c =
-    let told = err_from_is_err_and c.from_residual-in_err-print_answer-in-Ok.result c.from_residual-in_err-print_answer-in-Ok.ensures.1 in
+    let told =
+    err_from_is_err_and c.from_residual-in_err-print_answer-in-Ok.result
+    c.from_residual-in_err-print_answer-in-Ok.ensures.1 in
     let found = c.in_ok-question.ensures in
     rw told.1 (
       found.reads,

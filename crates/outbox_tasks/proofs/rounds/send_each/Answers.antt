@@ -5,24 +5,35 @@ use Rattle.outbox_tasks.proofs.rounds.send_each.Goals as goal
 
 pub loop-id-init : goal.loop-id-init
 loop-id-init g c =
-    let first = none g.S.Store c.args.ids.now (g.N.Dial.traffic c.args.network.now) c.args.outbox.now (g.O.Write.contents c.args.output.now) in
+    let first =
+    none g.S.Store c.args.ids.now (g.N.Dial.traffic c.args.network.now) c.args.outbox.now
+    (g.O.Write.contents c.args.output.now) in
     (first.0, first.1, omega arith)
 
 pub loop-id-preserved : goal.loop-id-preserved
 loop-id-preserved g c =
-    step g.S.Store c.args.ids.now c.loop-id.id-index 0 (g.N.Dial.traffic c.args.network.now) (g.N.Dial.traffic c.loop-id.network) (g.N.Dial.traffic c.send_in_round.new.network) c.args.outbox.now c.loop-id.outbox
-    c.send_in_round.new.outbox (g.O.Write.contents c.args.output.now) (g.O.Write.contents c.loop-id.output) (g.O.Write.contents c.send_in_round.new.output) c.loop-id.failed c.from-failed.result c.in_ok-has_failed.has_failed
+    step g.S.Store c.args.ids.now c.loop-id.id-index 0 (g.N.Dial.traffic c.args.network.now)
+    (g.N.Dial.traffic c.loop-id.network) (g.N.Dial.traffic c.send_in_round.new.network) c.args.outbox.now
+    c.loop-id.outbox
+    c.send_in_round.new.outbox (g.O.Write.contents c.args.output.now) (g.O.Write.contents c.loop-id.output)
+    (g.O.Write.contents c.send_in_round.new.output) c.loop-id.failed c.from-failed.result
+    c.in_ok-has_failed.has_failed
     c.loop-id-test.true c.loop-id.invariant c.in_ok-has_failed.ensures c.from-failed.ensures
 
 pub returns-in_err-has_failed : goal.returns-in_err-has_failed
 returns-in_err-has_failed g c =
     let told = err_from_is_err_and c.from_residual.result c.from_residual.ensures.1 in
     rw (told.1, told.2)
-    (stop g.S.Store c.args.ids.now c.loop-id.id-index 0 (g.N.Dial.traffic c.args.network.now) (g.N.Dial.traffic c.loop-id.network) (g.N.Dial.traffic c.send_in_round.new.network) c.args.outbox.now c.loop-id.outbox
-    c.send_in_round.new.outbox (g.O.Write.contents c.args.output.now) (g.O.Write.contents c.loop-id.output) (g.O.Write.contents c.send_in_round.new.output) c.loop-id.failed c.in_err-has_failed.field-0.0 c.loop-id-test.true
+    (stop g.S.Store c.args.ids.now c.loop-id.id-index 0 (g.N.Dial.traffic c.args.network.now)
+    (g.N.Dial.traffic c.loop-id.network) (g.N.Dial.traffic c.send_in_round.new.network) c.args.outbox.now
+    c.loop-id.outbox
+    c.send_in_round.new.outbox (g.O.Write.contents c.args.output.now) (g.O.Write.contents c.loop-id.output)
+    (g.O.Write.contents c.send_in_round.new.output) c.loop-id.failed c.in_err-has_failed.field-0.0
+    c.loop-id-test.true
     c.loop-id.invariant c.in_err-has_failed.ensures)
 
 pub returns : goal.returns
 returns g c =
-    end g.S.Store c.args.ids.now c.loop-id.id-index (g.N.Dial.traffic c.args.network.now) (g.N.Dial.traffic c.loop-id.network) c.args.outbox.now c.loop-id.outbox (g.O.Write.contents c.args.output.now)
+    end g.S.Store c.args.ids.now c.loop-id.id-index (g.N.Dial.traffic c.args.network.now)
+    (g.N.Dial.traffic c.loop-id.network) c.args.outbox.now c.loop-id.outbox (g.O.Write.contents c.args.output.now)
     (g.O.Write.contents c.loop-id.output) c.loop-id.failed c.loop-id-test.false c.loop-id.invariant

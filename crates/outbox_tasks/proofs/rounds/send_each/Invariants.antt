@@ -4,5 +4,7 @@ use Rattle.outbox_tasks.proofs.rounds.send_each.Given as goal
 
 abbrev pub invariant-loop-id : goal.invariant-loop-id
 invariant-loop-id g l =
-    (made : HaveTurns g.S.Store (AreToSend l.ids) (take l.id-index l.ids) (g.N.Dial.traffic l.fn.network) (g.N.Dial.traffic l.network) l.fn.outbox l.outbox (g.O.Write.contents l.fn.output) (g.O.Write.contents l.output))
+    (made : HaveTurns g.S.Store (AreToSend l.ids) (take l.id-index l.ids) (g.N.Dial.traffic l.fn.network)
+    (g.N.Dial.traffic l.network) l.fn.outbox l.outbox (g.O.Write.contents l.fn.output)
+    (g.O.Write.contents l.output))
     × (l.failed ≡ failures made.turns) × (l.failed ≤ l.id-index)

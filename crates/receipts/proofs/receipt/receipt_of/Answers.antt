@@ -13,7 +13,10 @@ returns c = record {
   when = string_bytes c.in_ok-moment.moment;
   moment_is = c.in_ok-moment.ensures;
   tells = λ request sendable same.
-      let found : Some c.in-Some.request ≡ Some request = sym c.in-Some.is ∙ c.in_ok-request.ensures request sendable same in
+      let found : Some c.in-Some.request ≡ Some request =
+      sym c.in-Some.is ∙ c.in_ok-request.ensures request sendable same in
       let is : c.in-Some.request ≡ request = cc in
-      c.in_ok-text.ensures ∙ ap₂ (λ (r : Request) (m : List ℕ). receipt_text c.args.exchange.now.id r (reply_parts c.in_ok-reply.reply) m c.args.port) is c.as_str.ensures.value;
+      c.in_ok-text.ensures
+      ∙ ap₂ (λ (r : Request) (m : List ℕ). receipt_text c.args.exchange.now.id r (reply_parts c.in_ok-reply.reply) m
+      c.args.port) is c.as_str.ensures.value;
 }

@@ -8,8 +8,11 @@ use Rattle.receipts.proofs.receipt.reply_in.Goals as goal
 
 pub returns-in-Ok : goal.returns-in-Ok
 returns-in-Ok c =
-    let rest : Option (List ℕ) = Some (device_inner c.read_reply.new.reader).now in
-    (rest, subst (λ inner. HasGiven (Some inner.now) rest (λ front. GivesReply front (reply_parts c.in-Ok.reply))) c.new-reader.ensures.inner c.in-Ok.ensures.ok)
+    let rest : Option (List ℕ) = Some (device_inner c.read_reply.new.reader).now in (
+      rest,
+      subst (λ inner. HasGiven (Some inner.now) rest (λ front. GivesReply front (reply_parts c.in-Ok.reply)))
+          c.new-reader.ensures.inner c.in-Ok.ensures.ok,
+    )
 
 pub returns-in-Err : goal.returns-in-Err
 returns-in-Err c =
@@ -17,6 +20,8 @@ returns-in-Err c =
     let failures : ℕ = device_failures c.read_reply.new.reader in (
       rest,
       failures,
-      subst (λ count. IsReplyFailure (Some c.args.bytes.now) rest count failures c.in-Err.fault) c.new-reader.ensures.failures
-          (subst (λ inner. IsReplyFailure (Some inner.now) rest (device_failures c.new-reader.result) failures c.in-Err.fault) c.new-reader.ensures.inner c.in-Err.ensures.fault),
+      subst (λ count. IsReplyFailure (Some c.args.bytes.now) rest count failures c.in-Err.fault)
+          c.new-reader.ensures.failures
+          (subst (λ inner. IsReplyFailure (Some inner.now) rest (device_failures c.new-reader.result) failures
+          c.in-Err.fault) c.new-reader.ensures.inner c.in-Err.ensures.fault),
     )

@@ -7,15 +7,18 @@ use Rattle.register_export.specs.Records.{wanted_records}
 use Rattle.register_export.proofs.writing.write_numbered.Goals as goal
 
 pub returns-in-Some-clause-written : goal.returns-in-Some-clause-written
-returns-in-Some-clause-written g c clean early F was f is there =
-    let told = c.in_ok-filing.ensures.found clean early F was is in
-    let both : Some c.in-Some.filing ≡ Some (whole (register F) f) = sym c.in-Some.is ∙ told ∙ ap (option_map (whole (register F))) there in
+returns-in-Some-clause-written g c clean old_style F was f is there =
+    let told = c.in_ok-filing.ensures.found clean old_style F was is in
+    let both : Some c.in-Some.filing ≡ Some (whole (register F) f) =
+    sym c.in-Some.is ∙ told ∙ ap (option_map (whole (register F))) there in
     let same : c.in-Some.filing ≡ whole (register F) f = cc both in
-    subst (λ filing. OnOk c.write_filing.result (Appends (g.O.Write.contents c.args.output.now) (g.O.Write.contents c.write_filing.new.output) (wanted_records c.args.form (option_map (λ s. s.now) c.args.filer) filing)))
+    subst (λ filing. OnOk c.write_filing.result (Appends (g.O.Write.contents c.args.output.now)
+    (g.O.Write.contents c.write_filing.new.output)
+    (wanted_records c.args.form (option_map (λ s. s.now) c.args.filer) filing)))
     same c.write_filing.ensures
 
 pub returns-in-None-clause-written : goal.returns-in-None-clause-written
-returns-in-None-clause-written g c clean early F was f is there =
-    let told = c.in_ok-filing.ensures.found clean early F was is in
+returns-in-None-clause-written g c clean old_style F was f is there =
+    let told = c.in_ok-filing.ensures.found clean old_style F was is in
     let none = sym c.in-None.is ∙ told ∙ ap (option_map (whole (register F))) there in
     absurd (cc none)

@@ -9,7 +9,7 @@ use Rattle.sqlite.specs.State.{HasCleanDisk}
 use Rattle.fact_records.specs.Fields.{first_line}
 use Rattle.filing_model.specs.Register.{register}
 use Rattle.filing_model.proofs.Keeping.{register_numbered}
-use Rattle.register_opening.proofs.Calls.{refuses}
+use Rattle.register_tables.proofs.Calls.{refuses}
 use Rattle.table_rows.proofs.LeavingLemmas.{clean_before, ended, none_yet, passed_then, stands}
 use Rattle.table_rows.specs.Leaving.Ending.{Passed}
 use Rattle.register_export.specs.Records.{filing_records}
@@ -19,8 +19,10 @@ use Rattle.register_export.proofs.writing.write_records.Goals as goal
 pub loop-at-init : goal.loop-at-init
 loop-at-init g c = record {
   leaves = none_yet (state g.S.Store c.args.conn.now);
-  written = λ clean early F was is count.
-      subst (Appends (g.O.Write.contents c.args.output.now) (g.O.Write.contents c.print.new.output)) (c.as_bytes.ensures.value ∙ c.first_line.ensures ∙ sym (append-nil (first_line c.args.form))) c.in_ok-print.ensures;
+  written = λ clean old_style F was is count.
+      subst (Appends (g.O.Write.contents c.args.output.now) (g.O.Write.contents c.print.new.output))
+      (c.as_bytes.ensures.value ∙ c.first_line.ensures
+      ∙ sym (append-nil (first_line c.args.form))) c.in_ok-print.ensures;
 }
 
 pub loop-at-preserved : goal.loop-at-preserved
@@ -28,7 +30,7 @@ loop-at-preserved g c =
     let had = c.loop-at.invariant in
     let more = c.in_ok-write_numbered.ensures in record {
       leaves = passed_then had.leaves more.leaves;
-      written = λ clean early F was is count.
+      written = λ clean old_style F was is count.
           let before : HasCleanDisk (state g.S.Store c.loop-at.conn) = clean_before more.leaves clean in
           let low : c.loop-at.at < length (register F) = omega (arith, c.loop-at-test.true, count) in
           let next = next_filing 1 c.loop-at.at (register F) (register_numbered F) low in
@@ -37,24 +39,29 @@ loop-at-preserved g c =
           let front = first_line c.args.form in
           let so_far = flat_map text (take c.loop-at.at (register F)) in
           subst (Appends (g.O.Write.contents c.args.output.now) (g.O.Write.contents c.write_numbered.new.output))
-          (append_assoc front so_far (text next.0) ∙ ap (λ l. front ++ l) (sym (next_written text c.loop-at.at (register F) next.0 next.2)))
-          (Appends-trans _ _ _ (front ++ so_far) (text next.0) (had.written before early F was is count)
-          (more.written clean early F (stands had.leaves before was) next.0 is (rw number at next.1)));
+          (append_assoc front so_far (text next.0)
+          ∙ ap (λ l. front ++ l) (sym (next_written text c.loop-at.at (register F) next.0 next.2)))
+          (Appends-trans _ _ _ (front ++ so_far) (text next.0) (had.written before old_style F was is count)
+          (more.written clean old_style F (stands had.leaves before was) next.0 is (rw number at next.1)));
     }
 
 pub returns : goal.returns
 returns g c =
     let had = c.loop-at.invariant in record {
-      exported = λ clean early F was is count.
+      exported = λ clean old_style F was is count.
           let text = filing_records c.args.form (option_map (λ s. s.now) c.args.filer) (register F) in
-          subst (λ fs. Appends (g.O.Write.contents c.args.output.now) (g.O.Write.contents c.loop-at.output) (first_line c.args.form ++ flat_map text fs))
-          (take_all c.loop-at.at (register F) (omega (arith, c.loop-at-test.false, count))) (had.written clean early F was is count);
+          subst (λ fs. Appends (g.O.Write.contents c.args.output.now) (g.O.Write.contents c.loop-at.output)
+          (first_line c.args.form ++ flat_map text fs))
+          (take_all c.loop-at.at (register F) (omega (arith, c.loop-at-test.false, count)))
+          (had.written clean old_style F was is count);
       leaves = had.leaves;
     }
 
 pub returns-in_err-print-clause-leaves : goal.returns-in_err-print-clause-leaves
-returns-in_err-print-clause-leaves g c = refuses Passed c.from_residual.result c.from_residual.ensures.0 (ended (none_yet (state g.S.Store c.args.conn.now)))
+returns-in_err-print-clause-leaves g c =
+    refuses Passed c.from_residual.result c.from_residual.ensures.0 (ended (none_yet (state g.S.Store c.args.conn.now)))
 
 pub returns-in_err-write_numbered-clause-leaves : goal.returns-in_err-write_numbered-clause-leaves
 returns-in_err-write_numbered-clause-leaves g c =
-    refuses Passed c.from_residual-in_err-write_numbered.result c.from_residual-in_err-write_numbered.ensures.0 (passed_then c.loop-at.invariant.leaves c.in_err-write_numbered.ensures.leaves)
+    refuses Passed c.from_residual-in_err-write_numbered.result c.from_residual-in_err-write_numbered.ensures.0
+    (passed_then c.loop-at.invariant.leaves c.in_err-write_numbered.ensures.leaves)

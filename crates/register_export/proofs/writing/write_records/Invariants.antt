@@ -11,7 +11,7 @@ use Rattle.fact_records.specs.Fields.{first_line}
 use Rattle.filing_model.specs.Request.{Request}
 use Rattle.filing_model.specs.Register.{register}
 use Rattle.register_rows.specs.Catalogue.{catalogue_of, view_lines}
-use Rattle.register_opening.specs.Registers.{IsRegisterOf}
+use Rattle.register_tables.specs.Registers.{IsRegisterOf}
 use Rattle.register_export.specs.Records.{filing_records}
 use Rattle.register_export.proofs.writing.write_records.Given as goal
 
@@ -20,6 +20,9 @@ invariant-loop-at g l =
     let old = state g.S.Store l.fn.conn in
     let now = state g.S.Store l.conn in record {
       leaves : Leaves Passed old now;
-      written : HasCleanDisk now → (early : ℕ) (F : List Request) → HasCommitted (IsRegisterOf early F) old → view_lines l.counts.catalogue ≡ catalogue_of F → l.counts.filings ≡ length (register F)
-          → Appends (g.O.Write.contents l.fn.output) (g.O.Write.contents l.output) (first_line l.form ++ flat_map (filing_records l.form (option_map (λ s. s.now) l.filer) (register F)) (take l.at (register F)));
+      written : HasCleanDisk now → (old_style : ℕ) (F : List Request) → HasCommitted (IsRegisterOf old_style F) old
+          → view_lines l.counts.catalogue ≡ catalogue_of F → l.counts.filings ≡ length (register F)
+          → Appends (g.O.Write.contents l.fn.output) (g.O.Write.contents l.output)
+          (first_line l.form ++ flat_map (filing_records l.form (option_map (λ s. s.now) l.filer) (register F))
+          (take l.at (register F)));
     }

@@ -12,5 +12,7 @@ loop-code-preserved g c =
     let had = c.loop-code.invariant in
     let code = string_bytes c.in-Some.code.now in
     let named : c.as_str-in-loop-code.result.now ≡ filer_page code = search rules in
-    let added = subst (λ name. Adds (g.F.Folder.pages c.loop-code.folder) (g.F.Folder.pages c.write.new.self) (name ∷ [])) named c.in_ok-write.ensures.written in
+    let added =
+    subst (λ name. Adds (g.F.Folder.pages c.loop-code.folder) (g.F.Folder.pages c.write.new.self) (name ∷ [])) named
+    c.in_ok-write.ensures.written in
     (had.0 ++ code ∷ [], filer_added _ _ _ had.0 code had.1 added)

@@ -4,4 +4,5 @@ use Rattle.register_pages.specs.Pages.{Adds, filer_page}
 use Rattle.register_pages.proofs.others.write_filers.Given as goal
 
 abbrev pub invariant-loop-code : goal.invariant-loop-code
-invariant-loop-code g l = (shown : List (List ℕ)) × Adds (g.F.Folder.pages l.fn.folder) (g.F.Folder.pages l.folder) (map filer_page shown)
+invariant-loop-code g l =
+    (shown : List (List ℕ)) × Adds (g.F.Folder.pages l.fn.folder) (g.F.Folder.pages l.folder) (map filer_page shown)

@@ -7,7 +7,7 @@ use Rattle.table_rows.specs.Standing.{HasCommitted}
 use Rattle.filing_model.specs.Request.{Request}
 use Rattle.filing_model.specs.Register.{register}
 use Rattle.register_rows.specs.Catalogue.{catalogue_of, view_lines}
-use Rattle.register_opening.specs.Registers.{IsRegisterOf}
+use Rattle.register_tables.specs.Registers.{IsRegisterOf}
 use Rattle.register_pages.specs.Pages.{Adds, filing_pages}
 use Rattle.register_pages.proofs.site.write_filings.Given as goal
 
@@ -16,6 +16,9 @@ invariant-loop-at g l =
     let old = state g.S.Store l.fn.conn in
     let now = state g.S.Store l.conn in record {
       leaves : Leaves Passed old now;
-      written : HasCleanDisk now → (early : ℕ) (requests : List Request) → HasCommitted (IsRegisterOf early requests) old → view_lines l.counts.catalogue ≡ catalogue_of requests → l.counts.filings ≡ length (register requests)
-          → Adds (g.F.Folder.pages l.fn.folder) (g.F.Folder.pages l.folder) (filing_pages (take l.at (register requests)));
+      written : HasCleanDisk now → (old_style : ℕ) (requests : List Request)
+          → HasCommitted (IsRegisterOf old_style requests) old → view_lines l.counts.catalogue ≡ catalogue_of requests
+          → l.counts.filings ≡ length (register requests)
+          → Adds (g.F.Folder.pages l.fn.folder) (g.F.Folder.pages l.folder)
+          (filing_pages (take l.at (register requests)));
     }

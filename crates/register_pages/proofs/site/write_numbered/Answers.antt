@@ -6,14 +6,16 @@ use Rattle.register_pages.specs.Pages.{Adds, filing_page}
 use Rattle.register_pages.proofs.site.write_numbered.Goals as goal
 
 pub returns-in-Some-clause-written : goal.returns-in-Some-clause-written
-returns-in-Some-clause-written g c clean early requests was f is there =
-    let told = c.in_ok-filing.ensures.found clean early requests was is in
-    let both : Some c.in-Some.filing ≡ Some (whole (register requests) f) = sym c.in-Some.is ∙ told ∙ ap (option_map (whole (register requests))) there in
+returns-in-Some-clause-written g c clean old_style requests was f is there =
+    let told = c.in_ok-filing.ensures.found clean old_style requests was is in
+    let both : Some c.in-Some.filing ≡ Some (whole (register requests) f) =
+    sym c.in-Some.is ∙ told ∙ ap (option_map (whole (register requests))) there in
     let same : c.in-Some.filing ≡ whole (register requests) f = cc both in
-    subst (λ filing. OnOk c.write_filing.result (Adds (g.F.Folder.pages c.args.folder.now) (g.F.Folder.pages c.write_filing.new.folder) (filing_page filing.number ∷ []))) same c.write_filing.ensures
+    subst (λ filing. OnOk c.write_filing.result (Adds (g.F.Folder.pages c.args.folder.now)
+    (g.F.Folder.pages c.write_filing.new.folder) (filing_page filing.number ∷ []))) same c.write_filing.ensures
 
 pub returns-in-None-clause-written : goal.returns-in-None-clause-written
-returns-in-None-clause-written g c clean early requests was f is there =
-    let told = c.in_ok-filing.ensures.found clean early requests was is in
+returns-in-None-clause-written g c clean old_style requests was f is there =
+    let told = c.in_ok-filing.ensures.found clean old_style requests was is in
     let none = sym c.in-None.is ∙ told ∙ ap (option_map (whole (register requests))) there in
     absurd (cc none)

@@ -9,7 +9,9 @@ use Rattle.register_rows.proofs.verdict.check_next.Goals as goal
 pub returns-then-not-is_target : goal.returns-then-not-is_target
 returns-then-not-is_target c F are number place repeated target tail sound =
     let read = c.target_of-target.result in
-    let same = told_target F c.args.row.now c.args.seq read.0 (view_rows_left c.args.rest) read.1.now c.target_of-target.ensures.only target tail sound in
+    let same =
+    told_target F c.args.row.now c.args.seq read.0 (view_rows_left c.args.rest) read.1.now
+    c.target_of-target.ensures.only target tail sound in
     let yes = c.is_target.ensures.1 (subst IsTarget same sound.completed.target) in
     absurd (let no = c.if-not-is_target.true in cc)
 
@@ -20,7 +22,17 @@ returns c F are number place repeated =
     let row = c.args.row.now in
     let fresh : has_key F (request_in read.0 row) ≡ false = sym repeated ∙ c.if-is_repeated.false in
     let completed = (c.in-Some.ensures read.0 (c.is_target.ensures.0 c.if-not-is_target.false)).1 in
-    let others : OtherRows = with_target c.args.seq read.0 (record { finding = rest.findings.now; filing = rest.filings.now; fact = rest.facts.now; amends = read.1.now }) in
-    let same : view_rows_left rest ≡ others = ap (λ l. record { finding = rest.findings.now; filing = rest.filings.now; fact = rest.facts.now; amends = l }) c.target_of-target.ensures.begins in
-    told_of_any F row c.args.seq read.0 (view_rows_left rest) others _ same (told_target F row c.args.seq read.0 (view_rows_left rest) read.1.now c.target_of-target.ensures.only)
+    let others : OtherRows =
+    with_target c.args.seq read.0 (record {
+      finding = rest.findings.now;
+      filing = rest.filings.now;
+      fact =
+          rest.facts.now;
+      amends = read.1.now;
+    }) in
+    let same : view_rows_left rest ≡ others =
+    ap (λ l. record { finding = rest.findings.now; filing = rest.filings.now; fact = rest.facts.now; amends = l })
+    c.target_of-target.ensures.begins in
+    told_of_any F row c.args.seq read.0 (view_rows_left rest) others _ same
+    (told_target F row c.args.seq read.0 (view_rows_left rest) read.1.now c.target_of-target.ensures.only)
     c.check_filed.result (c.check_filed.ensures F are number place completed fresh)

@@ -10,5 +10,7 @@ use Rattle.register_rows.proofs.verdict.first_repeated.Given as goal
 
 abbrev pub invariant-loop-at : goal.invariant-loop-at
 invariant-loop-at l =
-    ((filer key : List ℕ) → contains_by (λ p. ordering_then (slice_cmp nat_cmp filer p.0.now) (slice_cmp nat_cmp key p.1.now)) l.seen ≡ has_key (map (request_in None) (take l.at l.kept)) (the_request filer key None []))
+    ((filer key : List ℕ)
+    → contains_by (λ p. ordering_then (slice_cmp nat_cmp filer p.0.now) (slice_cmp nat_cmp key p.1.now)) l.seen
+    ≡ has_key (map (request_in None) (take l.at l.kept)) (the_request filer key None []))
     × ((i : ℕ) → i < l.at → is_repeated_at l.kept i ≡ false)

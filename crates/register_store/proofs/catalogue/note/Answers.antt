@@ -14,12 +14,21 @@ returns-in-Valid c F held place fresh is =
     let row = c.args.row.now in
     let r : Request = the_request row.filer.now row.key.now row.target row.body.now in
     let n = suc (length (register F)) in
-    let facts : length c.facts.result.now ≡ fact_count r.body = ap length (c.facts.ensures ∙ (rw c.in-Valid.is at c.requires.facts)) ∙ as_many r.body in
-    c.note.ensures F r held (record { seq_is = place; facts_are = facts; target_is = refl; number = n; registered = judged_as (kept F) r row.judged.now is ∙ ap (outcome_of n) c.in-Valid.is })
+    let facts : length c.facts.result.now ≡ fact_count r.body =
+    ap length (c.facts.ensures ∙ (rw c.in-Valid.is at c.requires.facts)) ∙ as_many r.body in
+    c.note.ensures F r held (record {
+      seq_is = place;
+      facts_are = facts;
+      target_is = refl;
+      number = n;
+      registered =
+          judged_as (kept F) r row.judged.now is ∙ ap (outcome_of n) c.in-Valid.is;
+    })
     ∙ sym (catalogue_new F r fresh)
 
 pub returns-in-Refused : goal.returns-in-Refused
 returns-in-Refused c F held place fresh is =
     let row = c.args.row.now in
     let r : Request = the_request row.filer.now row.key.now row.target row.body.now in
-    held ∙ sym (catalogue_refused F r fresh c.in-Refused.field-0 (judged_as (kept F) r row.judged.now is ∙ ap (outcome_of (suc (length (register F)))) c.in-Refused.is))
+    held ∙ sym (catalogue_refused F r fresh c.in-Refused.field-0 (judged_as (kept F) r row.judged.now is
+    ∙ ap (outcome_of (suc (length (register F)))) c.in-Refused.is))

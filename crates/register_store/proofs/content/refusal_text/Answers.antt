@@ -10,7 +10,11 @@ use Rattle.register_store.proofs.content.refusal_text.Goals as goal
 pub returns : goal.returns
 returns c =
     let members = refusal_members c.args.style c.args.status c.args.word.now in
-    whole_text (object members) c.end_refusal.new.writer.before c.into_inner.result.items c.end_refusal.new.writer.tokens
-    (c.in_ok-end_refusal.ensures.before ∙ c.in_ok-begin_object.ensures.room.0 ∙ c.new-writer.ensures.before ∙ c.new.ensures.items)
+    whole_text (object members) c.end_refusal.new.writer.before c.into_inner.result.items
+    c.end_refusal.new.writer.tokens
+    (c.in_ok-end_refusal.ensures.before ∙ c.in_ok-begin_object.ensures.room.0 ∙ c.new-writer.ensures.before
+    ∙ c.new.ensures.items)
     c.into_inner.ensures.items
-    (c.in_ok-end_refusal.ensures.more ∙ ap (λ ts. ts ++ members_tokens (members_outline members)) (c.in_ok-begin_object.ensures.ok ∙ ap (λ ts. ts ++ begin_object ∷ []) c.new-writer.ensures.tokens))
+    (c.in_ok-end_refusal.ensures.more
+    ∙ ap (λ ts. ts ++ members_tokens (members_outline members)) (c.in_ok-begin_object.ensures.ok
+    ∙ ap (λ ts. ts ++ begin_object ∷ []) c.new-writer.ensures.tokens))

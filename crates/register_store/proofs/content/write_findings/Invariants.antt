@@ -8,6 +8,7 @@ use Rattle.register_store.proofs.content.write_findings.Given as goal
 
 abbrev pub invariant-loop-finding : goal.invariant-loop-finding
 invariant-loop-finding l = record {
-  more : l.writer.tokens ≡ l.fn.writer.tokens ++ begin_array ∷ flat_map (λ f. json_tokens (outline (finding_data f))) (take l.finding-index l.findings);
+  more : l.writer.tokens ≡ l.fn.writer.tokens ++ begin_array
+      ∷ flat_map (λ f. json_tokens (outline (finding_data f))) (take l.finding-index l.findings);
   before : l.writer.before ≡ l.fn.writer.before;
 }

@@ -10,6 +10,13 @@ returns g c = record {
   leaves = c.run.ensures.leaves;
   was_inside = c.run.ensures.inside;
   gains = λ clean. IfOk-weaker c.run.result _ _ (λ _ ran.
-      filing_gains (state g.S.Store c.args.tx.now.conn.now) (state g.S.Store c.run.new.tx.conn.now) (pos c.args.number) (pos c.args.seq) ran.0
-      (rw (c.params-to_sql.ensures, c.params-to_sql-2.ensures, to_z-of_z w64 (pos c.args.number) (record { sfits = omega (arith, c.requires.number) }), to_z-of_z w64 (pos c.args.seq) (record { sfits = omega (arith, c.requires.seq) })) at ran.1)) (c.run.ensures.ran clean);
+      filing_gains (state g.S.Store c.args.tx.now.conn.now) (state g.S.Store c.run.new.tx.conn.now) (pos c.args.number)
+      (pos c.args.seq) ran.0
+      (rw (
+        c.params-to_sql.ensures,
+        c.params-to_sql-2.ensures,
+        to_z-of_z w64 (pos c.args.number) (record { sfits = omega (arith, c.requires.number) }),
+        to_z-of_z w64 (pos c.args.seq) (record { sfits = omega (arith, c.requires.seq) }),
+      ) at ran.1))
+      (c.run.ensures.ran clean);
 }

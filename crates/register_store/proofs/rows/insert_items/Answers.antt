@@ -5,7 +5,7 @@ use Rattle.sqlite.specs.State.{HasCleanDisk}
 use Rattle.table_rows.specs.Rows.{counted_from}
 use Rattle.table_rows.proofs.StepLemmas.{begins, goes_on, counted_more}
 use Rattle.register_rows.specs.Schema.{register_tables}
-use Rattle.register_opening.specs.Gains.{GainsRows}
+use Rattle.register_tables.specs.Gains.{GainsRows}
 use Rattle.table_rows.proofs.InsideLemmas.{writes_then, writes_nothing}
 use Rattle.register_store.proofs.rows.insert_items.Goals as goal
 
@@ -18,13 +18,17 @@ items-preserved g c =
     record {
       count = ap (λ n. n + 1) c.items.invariant.count;
       gains = λ clean inside.
-          let early : HasCleanDisk old = omega (arith, made.leaves.survives.clean) in
+          let was_clean : HasCleanDisk old = omega (arith, made.leaves.survives.clean) in
           let i = c.items.item-index in
           let item = c.item-item.result in
-          let both = goes_on register_tables g.T.InsertItem.table _ _ first old now (c.items.invariant.gains early inside) (made.gains clean) in
+          let both =
+          goes_on register_tables g.T.InsertItem.table _ _ first old now (c.items.invariant.gains was_clean inside)
+          (made.gains clean) in
           let index : c.items.at + 1 ≡ 1 + i = omega (arith, c.items.invariant.count) in
           let rows = counted_more (g.T.RowItem.row_of c.args.number) c.args.items.now i item c.items-test.true in
-          subst (λ rows. GainsRows g.T.InsertItem.table rows first now) (sym (rows ∙ ap (λ x. counted_from (g.T.RowItem.row_of c.args.number) 1 (take i c.args.items.now) ++ x ∷ []) (rw (← index, ← c.item-item.is) refl))) both;
+          subst (λ rows. GainsRows g.T.InsertItem.table rows first now)
+          (sym (rows ∙ ap (λ x. counted_from (g.T.RowItem.row_of c.args.number) 1 (take i c.args.items.now)
+          ++ x ∷ []) (rw (← index, ← c.item-item.is) refl))) both;
       leaves = writes_then c.items.invariant.leaves made.leaves;
     }
 
@@ -32,7 +36,9 @@ pub returns-clause-gains : goal.returns-clause-gains
 returns-clause-gains g c clean inside =
     let end : c.items.item-index ≡ length c.args.items.now = search rules in
     let whole = ap (λ n. take n c.args.items.now) end ∙ take-length c.args.items.now in
-    subst (λ xs. GainsRows g.T.InsertItem.table (counted_from (g.T.RowItem.row_of c.args.number) 1 xs) (state g.S.Store c.args.tx.now.conn.now) (state g.S.Store c.items.tx.conn.now)) whole (c.items.invariant.gains clean inside)
+    subst (λ xs. GainsRows g.T.InsertItem.table (counted_from (g.T.RowItem.row_of c.args.number) 1 xs)
+    (state g.S.Store c.args.tx.now.conn.now) (state g.S.Store c.items.tx.conn.now)) whole
+    (c.items.invariant.gains clean inside)
 
 pub items-init : goal.items-init
 items-init g c = record {

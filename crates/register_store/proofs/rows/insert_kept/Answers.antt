@@ -15,6 +15,18 @@ returns-clause-inserts g c = record {
   gains = λ clean. IfOk-weaker c.run.result _ _ (λ _ ran.
       let row = c.args.row.now in
       rw (held_as Int pos c.args.number)
-      (kept_gains (state g.S.Store c.args.tx.now.conn.now) (state g.S.Store c.run.new.tx.conn.now) (pos c.args.seq) row.filer.now row.key.now row.body.now (option_map pos c.args.number) ran.0
-      (rw (c.params-to_sql.ensures, c.params-to_sql-2.ensures, c.params-to_sql-3.ensures, c.params-to_sql-4.ensures, c.params-to_sql-5.ensures, c.as_str.ensures.value, c.signed-number.ensures, bound_maybe (option_map pos c.args.number), to_z-of_z w64 (pos c.args.seq) (record { sfits = omega (arith, c.requires.seq) })) at ran.1))) (c.run.ensures.ran clean);
+      (kept_gains (state g.S.Store c.args.tx.now.conn.now) (state g.S.Store c.run.new.tx.conn.now) (pos c.args.seq)
+      row.filer.now row.key.now row.body.now (option_map pos c.args.number) ran.0
+      (rw (
+        c.params-to_sql.ensures,
+        c.params-to_sql-2.ensures,
+        c.params-to_sql-3.ensures,
+        c.params-to_sql-4.ensures,
+        c.params-to_sql-5.ensures,
+        c.as_str.ensures.value,
+        c.signed-number.ensures,
+        bound_maybe (option_map pos c.args.number),
+        to_z-of_z w64 (pos c.args.seq) (record { sfits = omega (arith, c.requires.seq) }),
+      ) at ran.1)))
+      (c.run.ensures.ran clean);
 }

@@ -6,7 +6,7 @@ use Rattle.sqlite.specs.State.{HasCleanDisk}
 use Rattle.sqlite.proofs.StateLemmas.{survives_then}
 use Rattle.sqlite.proofs.Callers.{survives_begin}
 use Rattle.filing_model.specs.Register.{Kept}
-use Rattle.register_opening.proofs.Undone.{undone_adds_nothing, not_committed}
+use Rattle.register_tables.proofs.Undone.{undone_adds_nothing, not_committed}
 use Rattle.register_store.specs.Outcomes.{kept_new}
 use Rattle.register_store.specs.Changes.{AddsRows, AddsTo, KeepsRequest}
 use Rattle.register_store.proofs.write.keep.Goals as goal
@@ -17,10 +17,14 @@ returns g c =
     let last = c.write.new.tx.conn.now in
     let end = c.commit.new.self.0 in
     let begun = c.transaction-tx.ensures.begun in
-    let same : end ≡ c.conn-2-1.given.0 = sym (c.conn-2-1.given.1 (sym (c.write.ensures.leaves.same_reference ∙ c.transaction-tx.ensures.same_reference))) in
+    let same : end ≡ c.conn-2-1.given.0 =
+    sym (c.conn-2-1.given.1 (sym (c.write.ensures.leaves.same_reference
+    ∙ c.transaction-tx.ensures.same_reference))) in
     let row = c.args.row.now in
     let k : Kept = kept_new c.args.number row in
-    let rows : HasCleanDisk (state g.S.Store last) → AddsRows c.args.seq k (state g.S.Store old).now (state g.S.Store last).now = λ mid. rw begun at (c.in_ok-write.ensures.adds mid).adds in
+    let rows : HasCleanDisk (state g.S.Store last)
+    → AddsRows c.args.seq k (state g.S.Store old).now (state g.S.Store last).now =
+    λ mid. rw begun at (c.in_ok-write.ensures.adds mid).adds in
     let keeps : KeepsRequest g.S.Store c.args.seq c.args.number row old end c.commit.result = record {
       key = c.write.ensures.key;
       autocommit = c.commit.ensures.ended;
@@ -34,13 +38,20 @@ returns g c =
             committed = done.1.committed_is ∙ sym done.1.now_is;
           }) (c.commit.ensures.ok clean);
       -- once it is kept, a crash leaves it
-      durable = λ clean. IfOk-weaker c.commit.result _ _ (λ _ done trees left. g.met.S.Store.settled end.store trees done.1.is_open left ∙ ap (λ (d : Database). d.trees) (done.1.committed_is ∙ sym done.1.now_is)) (c.commit.ensures.ok clean);
+      durable =
+          λ clean. IfOk-weaker c.commit.result _ _ (λ _ done trees left. g.met.S.Store.settled end.store trees
+          done.1.is_open left ∙ ap (λ (d : Database). d.trees) (done.1.committed_is ∙ sym done.1.now_is))
+          (c.commit.ensures.ok clean);
       neither = λ clean.
           let mid : HasCleanDisk (state g.S.Store last) = omega (arith, c.commit.ensures.survives.clean) in
           let kept = rw begun at c.write.ensures.leaves.keeps mid in
-          IfErr-weaker c.commit.result _ _ (λ error h. not_committed g.S.Store old last end kept error (c.in_ok-write.ensures.adds mid).inside h) (c.commit.ensures.err clean);
-      crash = survives_then (state g.S.Store old) (state g.S.Store last) (state g.S.Store end) _ _ (AddsTo c.args.seq k (state g.S.Store old).now) (λ _ db none. absurd none)
-          (λ late db is. record { db = _; adds = rows (omega (arith, c.commit.ensures.survives.clean)); is = is }) (survives_begin g.S.Store old (state g.S.Store last) _ (rw begun at c.write.ensures.leaves.survives)) c.commit.ensures.survives;
+          IfErr-weaker c.commit.result _ _ (λ error h. not_committed g.S.Store old last end kept error
+          (c.in_ok-write.ensures.adds mid).inside h) (c.commit.ensures.err clean);
+      crash = survives_then (state g.S.Store old) (state g.S.Store last) (state g.S.Store end) _ _
+          (AddsTo c.args.seq k (state g.S.Store old).now) (λ _ db none. absurd none)
+          (λ late db is. record { db = _; adds = rows (omega (arith, c.commit.ensures.survives.clean)); is = is })
+          (survives_begin g.S.Store old (state g.S.Store last) _ (rw begun at c.write.ensures.leaves.survives))
+          c.commit.ensures.survives;
     } in
     subst (λ h. KeepsRequest g.S.Store c.args.seq c.args.number row old h c.commit.result) same keeps
 
@@ -50,7 +61,9 @@ returns-in_err-write g c =
     let last = c.write.new.tx.conn.now in
     let end = c.drop-tx.new.self.0 in
     let begun = c.transaction-tx.ensures.begun in
-    let same : end ≡ c.conn-1.given.0 = sym (c.conn-1.given.1 (sym (c.write.ensures.leaves.same_reference ∙ c.transaction-tx.ensures.same_reference))) in
+    let same : end ≡ c.conn-1.given.0 =
+    sym (c.conn-1.given.1 (sym (c.write.ensures.leaves.same_reference
+    ∙ c.transaction-tx.ensures.same_reference))) in
     let failed = (err_from_is_err_and c.from_residual.result c.from_residual.ensures.1).1 in
     let row = c.args.row.now in
     let keeps : KeepsRequest g.S.Store c.args.seq c.args.number row old end c.from_residual.result = record {
@@ -61,7 +74,10 @@ returns-in_err-write g c =
       neither = λ clean.
           let kept = rw begun at c.write.ensures.leaves.keeps (omega (arith, c.drop-tx.ensures.survives.clean)) in
           rw failed (undone_adds_nothing g.S.Store old last end kept (c.drop-tx.ensures.undone clean));
-      crash = survives_then (state g.S.Store old) (state g.S.Store last) (state g.S.Store end) _ _ (AddsTo c.args.seq (kept_new c.args.number row) (state g.S.Store old).now) (λ _ db none. absurd none) (λ _ db none. absurd none)
-          (survives_begin g.S.Store old (state g.S.Store last) _ (rw begun at c.write.ensures.leaves.survives)) c.drop-tx.ensures.survives;
+      crash = survives_then (state g.S.Store old) (state g.S.Store last) (state g.S.Store end) _ _
+          (AddsTo c.args.seq (kept_new c.args.number row) (state g.S.Store old).now) (λ _ db none. absurd none)
+          (λ _ db none. absurd none)
+          (survives_begin g.S.Store old (state g.S.Store last) _ (rw begun at c.write.ensures.leaves.survives))
+          c.drop-tx.ensures.survives;
     } in
     subst (λ h. KeepsRequest g.S.Store c.args.seq c.args.number row old h c.from_residual.result) same keeps

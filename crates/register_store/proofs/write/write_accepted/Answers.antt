@@ -15,14 +15,19 @@ returns-clause-adds g c clean =
     let last = state g.S.Store c.insert_items.new.tx.conn.now in
     let row = c.args.row.now in
     let late : HasCleanDisk next = omega (arith, c.insert_items.ensures.leaves.survives.clean) in
-    let early : HasCleanDisk mid = omega (arith, c.insert_filing.ensures.leaves.survives.clean, late) in
-    let one = c.in_ok-insert_kept.ensures.inserts.gains early in
+    let was_clean : HasCleanDisk mid = omega (arith, c.insert_filing.ensures.leaves.survives.clean, late) in
+    let one = c.in_ok-insert_kept.ensures.inserts.gains was_clean in
     let two = c.in_ok-insert_filing.ensures.gains late in
-    IfOk-weaker c.insert_items.result _ _ (λ _ three. adds_accepted c.args.seq (the_request row.filer.now row.key.now None row.body.now) refl c.args.number first mid next last one two (rw c.requires.facts at three))
+    IfOk-weaker c.insert_items.result _ _ (λ _ three. adds_accepted c.args.seq
+    (the_request row.filer.now row.key.now None row.body.now) refl c.args.number first mid next last one two
+    (rw c.requires.facts at three))
     (c.insert_items.ensures.gains clean two.inside)
 
 pub returns-in_err-insert_filing-clause-leaves : goal.returns-in_err-insert_filing-clause-leaves
-returns-in_err-insert_filing-clause-leaves g c = writes_then c.insert_kept.ensures.inserts.leaves c.insert_filing.ensures.leaves
+returns-in_err-insert_filing-clause-leaves g c =
+    writes_then c.insert_kept.ensures.inserts.leaves c.insert_filing.ensures.leaves
 
 pub returns-clause-leaves : goal.returns-clause-leaves
-returns-clause-leaves g c = writes_then (writes_then c.insert_kept.ensures.inserts.leaves c.insert_filing.ensures.leaves) c.insert_items.ensures.leaves
+returns-clause-leaves g c =
+    writes_then (writes_then c.insert_kept.ensures.inserts.leaves c.insert_filing.ensures.leaves)
+    c.insert_items.ensures.leaves

@@ -13,9 +13,10 @@ returns-clause-adds g c clean =
     let mid = state g.S.Store c.insert_kept.new.tx.conn.now in
     let last = state g.S.Store c.insert_items.new.tx.conn.now in
     let row = c.args.row.now in
-    let early : HasCleanDisk mid = omega (arith, c.insert_items.ensures.leaves.survives.clean) in
-    let one = c.in_ok-insert_kept.ensures.inserts.gains early in
-    IfOk-weaker c.insert_items.result _ _ (λ _ two. adds_refused c.args.seq (the_request row.filer.now row.key.now None row.body.now) refl c.args.findings.now first mid last one two)
+    let was_clean : HasCleanDisk mid = omega (arith, c.insert_items.ensures.leaves.survives.clean) in
+    let one = c.in_ok-insert_kept.ensures.inserts.gains was_clean in
+    IfOk-weaker c.insert_items.result _ _ (λ _ two. adds_refused c.args.seq
+    (the_request row.filer.now row.key.now None row.body.now) refl c.args.findings.now first mid last one two)
     (c.insert_items.ensures.gains clean one.inside)
 
 pub returns-clause-leaves : goal.returns-clause-leaves

@@ -9,7 +9,8 @@ use Rattle.report_places.proofs.lead.lead_of.Given as goal
 abbrev pub invariant-parts : goal.invariant-parts
 invariant-parts l =
     ((value : Json) → map node_token l.nodes ≡ json_tokens value
-    → (v : Json) × (rest : List Token) × (drop l.token (map node_token l.nodes) ≡ json_tokens v ++ rest) × (lead l.pointer value ≡ along (parts_of [] l.rest) l.token v))
+    → (v : Json) × (rest : List Token) × (drop l.token (map node_token l.nodes) ≡ json_tokens v ++ rest)
+    × (lead l.pointer value ≡ along (parts_of [] l.rest) l.token v))
     × IsUtf8 l.rest
 
 abbrev pub decreases-parts : goal.decreases-parts

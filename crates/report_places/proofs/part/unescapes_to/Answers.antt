@@ -8,7 +8,13 @@ unfolding unescape
 returns c =
     let l = c.loop-at in
     let name = c.args.name.now in
-    let none : unescape (drop l.at c.args.part.now) ≡ [] = ap unescape (drop_all l.at c.args.part.now c.loop-at-test.false) in (
+    let none : unescape (drop l.at c.args.part.now) ≡ [] =
+    ap unescape (drop_all l.at c.args.part.now c.loop-at-test.false) in (
       λ all. l.invariant.0.1 (none ∙ sym (drop_all l.matched name (omega (arith, eqb-true _ _ all)))),
-      λ same. eq-eqb _ _ (omega (arith, ap length (sym none ∙ l.invariant.0.0 same), length-drop l.matched name, l.invariant.2)),
+      λ same. eq-eqb _ _ (omega (
+        arith,
+        ap length (sym none ∙ l.invariant.0.0 same),
+        length-drop l.matched name,
+        l.invariant.2,
+      )),
     )

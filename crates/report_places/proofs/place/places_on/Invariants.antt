@@ -4,4 +4,5 @@ use Rattle.report_places.specs.Place.{ArePlacesOf}
 use Rattle.report_places.proofs.place.places_on.Given as goal
 
 abbrev pub invariant-loop-pointer : goal.invariant-loop-pointer
-invariant-loop-pointer l = (value : Json) → document l.text ≡ Some value → ArePlacesOf l.text value (map (λ pointer. pointer.now) (take l.pointer-index l.pointers)) l.places.items
+invariant-loop-pointer l = (value : Json) → document l.text ≡ Some value
+    → ArePlacesOf l.text value (map (λ pointer. pointer.now) (take l.pointer-index l.pointers)) l.places.items

@@ -10,7 +10,8 @@ pub returns-then-byte-eq34-clause-value : goal.returns-then-byte-eq34-clause-val
 returns-then-byte-eq34-clause-value c =
     let l = c.loop-index in
     let bytes = c.args.bytes.now in
-    at_quote bytes l.index (omega arith) c.if-byte-eq34.true (l.invariant ∙ ap (λ b. l.index + span (cond b in_escape in_string) (drop l.index bytes)) c.if-is_escaped.false)
+    at_quote bytes l.index (omega arith) c.if-byte-eq34.true (l.invariant
+    ∙ ap (λ b. l.index + span (cond b in_escape in_string) (drop l.index bytes)) c.if-is_escaped.false)
 
 pub loop-index-preserved : goal.loop-index-preserved
 loop-index-preserved c =
@@ -27,4 +28,5 @@ loop-index-preserved c =
     ]
 
 pub returns-clause-value : goal.returns-clause-value
-returns-clause-value c = let l = c.loop-index in at_end c.args.bytes.now l.index (cond l.is_escaped in_escape in_string) (omega arith) (omega arith) l.invariant
+returns-clause-value c = let l = c.loop-index in
+    at_end c.args.bytes.now l.index (cond l.is_escaped in_escape in_string) (omega arith) (omega arith) l.invariant

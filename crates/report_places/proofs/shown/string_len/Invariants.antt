@@ -4,4 +4,5 @@ use Rattle.json.specs.Align.{span}
 use Rattle.report_places.proofs.shown.string_len.Given as goal
 
 abbrev pub invariant-loop-index : goal.invariant-loop-index
-invariant-loop-index l = span in_string l.bytes ≡ l.index + span (cond l.is_escaped in_escape in_string) (drop l.index l.bytes)
+invariant-loop-index l =
+    span in_string l.bytes ≡ l.index + span (cond l.is_escaped in_escape in_string) (drop l.index l.bytes)

@@ -31,10 +31,12 @@ elements-preserved c = (
       let f = first_item (left_at c.args.nodes.now l.at) now.0 rest has.1 now.1 in
       let next = c.after-at.ensures.value f.0 _ f.3 in
       let some : l.left ≡ suc (l.left - 1) = omega arith in
-      let far : l.at - c.args.from + length (json_tokens f.0) ≡ c.after-at.result - c.args.from = omega (arith, next, l.invariant.0) in (
+      let far : l.at - c.args.from + length (json_tokens f.0) ≡ c.after-at.result - c.args.from =
+      omega (arith, next, l.invariant.0) in (
         f.1,
         skip_front all l.at c.after-at.result (json_tokens f.0) _ f.3 next,
-        now.2 ∙ ap (behind (l.at - c.args.from)) (ap₂ element_of some f.2) ∙ behind-behind (l.at - c.args.from) (length (json_tokens f.0)) (element_of (l.left - 1) f.1)
+        now.2 ∙ ap (behind (l.at - c.args.from)) (ap₂ element_of some f.2)
+            ∙ behind-behind (l.at - c.args.from) (length (json_tokens f.0)) (element_of (l.left - 1) f.1)
             ∙ ap (λ n. behind n (element_of (l.left - 1) f.1)) far,
       ),
 )
@@ -45,5 +47,7 @@ returns c items rest e =
     let nodes = c.args.nodes.now in
     let now = l.invariant.1 items rest e in
     let over = no_item (left_at nodes l.at) now.0 rest
-    (λ h. true≢false (sym (c.begins_element.ensures.1 (omega (arith, h.0, length-drop l.at (map node_token nodes), length-map nodes node_token), h.1)) ∙ c.elements-test.false)) now.1 in
+    (λ h. true≢false (sym (c.begins_element.ensures.1
+    (omega (arith, h.0, length-drop l.at (map node_token nodes), length-map nodes node_token), h.1))
+    ∙ c.elements-test.false)) now.1 in
     now.2 ∙ ap (λ vs. behind (l.at - c.args.from) (element_of l.left vs)) over

@@ -10,7 +10,8 @@ abbrev pub invariant-elements : goal.invariant-elements
 invariant-elements l =
     (l.from ≤ l.at)
     × ((vs : Items) (rest : List Token) → drop l.from (map node_token l.nodes) ≡ items_tokens vs ++ rest
-    → (more : Items) × (drop l.at (map node_token l.nodes) ≡ items_tokens more ++ rest) × (element_of l.index vs ≡ behind (l.at - l.from) (element_of l.left more)))
+    → (more : Items) × (drop l.at (map node_token l.nodes) ≡ items_tokens more ++ rest)
+    × (element_of l.index vs ≡ behind (l.at - l.from) (element_of l.left more)))
 
 abbrev pub decreases-elements : goal.decreases-elements
 decreases-elements l = l.left

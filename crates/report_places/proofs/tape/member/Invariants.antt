@@ -13,7 +13,8 @@ invariant-members l =
     (l.from ≤ l.at)
     × ((ms : Members) (rest : List Token) → drop l.from (map node_token l.nodes) ≡ members_tokens ms ++ rest
     → (more : Members) × (earlier : Option Found) × (drop l.at (map node_token l.nodes) ≡ members_tokens more ++ rest)
-    × (member_of (unescape l.part) ms ≡ later_or (behind (l.at - l.from) (member_of (unescape l.part) more)) earlier) × IsFound (map node_token l.nodes) l.from earlier l.found)
+    × (member_of (unescape l.part) ms ≡ later_or (behind (l.at - l.from) (member_of (unescape l.part) more)) earlier)
+    × IsFound (map node_token l.nodes) l.from earlier l.found)
 
 abbrev pub decreases-members : goal.decreases-members
 decreases-members l = length l.nodes - l.at

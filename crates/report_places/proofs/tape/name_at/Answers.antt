@@ -10,7 +10,9 @@ returns-in_err-name c =
     let nodes = c.args.nodes.now in
     let gone : c.from_residual.result ≡ None = grind arith in
     subst (IsNameAt nodes c.args.at) (sym gone)
-    (λ ms rest e. absurd (members_need_tokens ms rest (sym (drop_all c.args.at (map node_token nodes) (omega (arith, length-map nodes node_token, c.in_err-name.ensures))) ∙ e)))
+    (λ ms rest e. absurd (members_need_tokens ms rest
+    (sym (drop_all c.args.at (map node_token nodes)
+    (omega (arith, length-map nodes node_token, c.in_err-name.ensures))) ∙ e)))
 
 pub returns-in_default : goal.returns-in_default
 returns-in_default c ms rest e =

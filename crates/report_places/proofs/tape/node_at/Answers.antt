@@ -13,5 +13,6 @@ returns-then-at-nodes c =
     record {
       within = within;
       first = here nodes at (Object 0) within;
-      link = subst (LinkAt (map node_token nodes) at) (get_or_default nodes at Null (Object 0) within) (c.requires at (omega arith) within);
+      link = subst (LinkAt (map node_token nodes) at) (get_or_default nodes at Null (Object 0) within)
+          (c.requires at (omega arith) within);
     }

@@ -9,6 +9,10 @@ use Rattle.vectors.proofs.run.run_all.Goals as goal
 pub returns-clause-failed : goal.returns-clause-failed
 returns-clause-failed c =
     let outcomes = c.as_slice.result.now in
-    let numbers : map (λ (o : Outcome). o.number) outcomes ≡ NUMBERS = ap (map (λ (o : Outcome). o.number)) c.as_slice.ensures.value ∙ c.in_ok-outcomes.ensures.numbers in
-    let some = subst (λ (ns : List ℕ). AreSomeOf ns (map (λ (o : Outcome). o.number) (filter fails outcomes))) numbers (some_of (λ o. o.number) fails outcomes) in
-    IfOk-weaker c.report_of.result _ _ (λ report failed. subst (AreSomeOf NUMBERS) (sym failed) some) c.report_of.ensures.failed
+    let numbers : map (λ (o : Outcome). o.number) outcomes ≡ NUMBERS =
+    ap (map (λ (o : Outcome). o.number)) c.as_slice.ensures.value ∙ c.in_ok-outcomes.ensures.numbers in
+    let some =
+    subst (λ (ns : List ℕ). AreSomeOf ns (map (λ (o : Outcome). o.number) (filter fails outcomes))) numbers
+    (some_of (λ o. o.number) fails outcomes) in
+    IfOk-weaker c.report_of.result _ _ (λ report failed. subst (AreSomeOf NUMBERS) (sym failed) some)
+    c.report_of.ensures.failed

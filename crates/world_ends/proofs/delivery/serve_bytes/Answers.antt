@@ -6,7 +6,7 @@ use Rattle.filing_model.specs.Stopping.{ServesUntil}
 use Rattle.http_wire.specs.Wire.{Wire}
 use Rattle.gateway_server.specs.Stopping.{view_stop}
 use Rattle.gateway_server.proofs.Whole.{serves_until_whole}
-use Rattle.filing_ends.specs.Bytes.{bytes_left, bytes_kept, refusals}
+use Rattle.end_processes.specs.Bytes.{bytes_left, bytes_kept, refusals}
 use Rattle.world_ends.specs.Processes.{KeepsSurely}
 use Rattle.world_ends.proofs.delivery.serve_bytes.Goals as goal
 
@@ -17,12 +17,31 @@ returns-clause-serves g c = λ limit done keeps up.
     let marks = c.serve_part-marks.result.marks.items in
     let ended = c.serve_part-marks.result.ended in
     let crash = view_stop c.args.stop in
-    let from : Wire = record { left = Some (bytes_left c.new-reader.result); written = Some (bytes_kept c.new-writer.result); read_failures = 0; write_failures = refusals c.new-writer.result } in
-    let to : Wire = record { left = Some (bytes_left reader); written = Some (bytes_kept writer); read_failures = 0; write_failures = refusals writer } in
+    let from : Wire =
+    record {
+      left = Some (bytes_left c.new-reader.result);
+      written =
+          Some (bytes_kept c.new-writer.result);
+      read_failures = 0;
+      write_failures = refusals c.new-writer.result;
+    } in
+    let to : Wire =
+    record {
+      left = Some (bytes_left reader);
+      written = Some (bytes_kept writer);
+      read_failures =
+          0;
+      write_failures = refusals writer;
+    } in
     let part = c.serve_part-marks.ensures.serves limit (firsts done) keeps up in
-    let not_written : (sent : ℕ) → ended ≢ Some (Fault (Write sent)) = λ sent e. true≢false (sym (c.is_refused.ensures sent e) ∙ c.if-is_refused.false) in
-    let whole = serves_until_whole limit from to done (firsts done) part.after c.args.bytes.now (bytes_left reader) (bytes_kept writer) crash marks ended refl (ap Some c.new-reader.ensures) (ap Some c.new-writer.ensures.text) refl refl (omega arith) refl not_written part.serves part.fault in (
+    let not_written : (sent : ℕ) → ended ≢ Some (Fault (Write sent)) =
+    λ sent e. true≢false (sym (c.is_refused.ensures sent e) ∙ c.if-is_refused.false) in
+    let whole =
+    serves_until_whole limit from to done (firsts done) part.after c.args.bytes.now (bytes_left reader)
+    (bytes_kept writer) crash marks ended refl (ap Some c.new-reader.ensures) (ap Some c.new-writer.ensures.text)
+    refl refl (omega arith) refl not_written part.serves part.fault in (
       whole.0,
-      subst (λ text. ServesUntil limit done c.args.bytes.now crash whole.0 marks ended text) (sym c.into_text.ensures) whole.1,
+      subst (λ text. ServesUntil limit done c.args.bytes.now crash whole.0 marks ended text) (sym c.into_text.ensures)
+          whole.1,
       subst (λ F. KeepsSurely c.serve_part-marks.new.process limit F) whole.2 part.keeps,
     )

@@ -1,6 +1,6 @@
 use Rattle.std.proofs.Common.{sym, ◌∙◌, subst}
 use Rattle.table_rows.specs.Causes.{store_fault}
-use Rattle.filing_ends.proofs.Causes.{of_closing}
+use Rattle.end_processes.proofs.Causes.{of_closing}
 use Rattle.world_ends.specs.Processes.{IsNotStopped, lying_in}
 use Rattle.world_ends.proofs.Serving.{not_closed}
 use Rattle.world_ends.proofs.opening.close.Goals as goal
@@ -14,8 +14,11 @@ pub returns-in-Err-clause-refused : goal.returns-in-Err-clause-refused
 returns-in-Err-clause-refused g c =
     let old = c.args.process.now in
     let closes = c.close-outcome.ensures in
-    let why = not_closed old.intake old.place.files (lying_in c.close-outcome.new.self.place) c.close-outcome.result.outcome c.in-Err.error (λ none. (closes.already none).1) closes.files c.in-Err.is in
-    subst (λ cause. IsNotStopped {g = g.D.Disk} old.intake (lying_in c.close-outcome.new.self.place) cause) (sym c.of_close.ensures) why
+    let why =
+    not_closed old.intake old.place.files (lying_in c.close-outcome.new.self.place) c.close-outcome.result.outcome
+    c.in-Err.error (λ none. (closes.already none).1) closes.files c.in-Err.is in
+    subst (λ cause. IsNotStopped {g = g.D.Disk} old.intake (lying_in c.close-outcome.new.self.place) cause)
+    (sym c.of_close.ensures) why
 
 pub returns-in-Err-clause-store : goal.returns-in-Err-clause-store
 returns-in-Err-clause-store g c = λ e. of_closing (store_fault c.in-Err.error) (sym c.of_close.ensures ∙ (cc e))

@@ -13,4 +13,5 @@ returns-in-Err-clause-refused g c = (c.in-Err.fault, c.in-Err.ensures.why, c.fro
 
 pub returns-in-Err-clause-store : goal.returns-in-Err-clause-store
 returns-in-Err-clause-store g c = λ e.
-    found_not g.D.Disk (lying_in c.args.process.now.place) (lying_in c.open.new.self.place) c.in-Err.fault c.in-Err.ensures.why (sym c.from.ensures ∙ (cc e))
+    found_not g.D.Disk (lying_in c.args.process.now.place) (lying_in c.open.new.self.place) c.in-Err.fault
+    c.in-Err.ensures.why (sym c.from.ensures ∙ (cc e))

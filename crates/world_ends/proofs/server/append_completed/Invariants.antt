@@ -5,4 +5,6 @@ use Rattle.filing_model.specs.Text.{completed}
 use Rattle.world_ends.proofs.server.append_completed.Given as goal
 
 abbrev pub invariant-loop-request : goal.invariant-loop-request
-invariant-loop-request l = (arrivals : List Arrival) (ending : Ending) → BeginsArrivals l.bytes arrivals ending → length l.marks ≤ length arrivals → l.done.items ++ l.request-iterator.rest.items ≡ l.fn.done.items ++ completed arrivals l.marks
+invariant-loop-request l = (arrivals : List Arrival) (ending : Ending) → BeginsArrivals l.bytes arrivals ending
+    → length l.marks ≤ length arrivals → l.done.items ++ l.request-iterator.rest.items ≡ l.fn.done.items
+    ++ completed arrivals l.marks

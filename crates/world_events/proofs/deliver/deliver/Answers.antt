@@ -18,9 +18,18 @@ returns-clause-step g c = λ outboxes.
     let served = c.in_ok-before.ensures.delivered in
     let up : server.up ≡ true = sym c.is_up.ensures ∙ c.if-not-is_up.false in
     let took = c.as_slice.ensures.value ∙ ap (λ (s : Sent). s.bytes) c.from.view_is in
-    let given : c.first-given.result.now ≡ take c.args.bytes from.bytes = c.first-given.ensures ∙ ap (take c.args.bytes) took in
+    let given : c.first-given.result.now ≡ take c.args.bytes from.bytes =
+    c.first-given.ensures ∙ ap (take c.args.bytes) took in
     let output : ℕ → ℕ → Output = λ given before.
-    record { item = c.args.item; given = given; before = before; marks = parts.marks.items; ended = parts.ended; bytes = parts.text.items } in
+    record {
+      item = c.args.item;
+      given = given;
+      before = before;
+      marks = parts.marks.items;
+      ended = parts.ended;
+      bytes =
+          parts.text.items;
+    } in
     let pushed : c.push_reserved.new.self.items ≡ old ++ output (length c.first-given.result.now) parts.before ∷ [] =
     rw c.reserve.ensures.items at c.push_reserved.ensures.items in
     let came = served.before in
@@ -32,7 +41,8 @@ returns-clause-step g c = λ outboxes.
       marks = parts.marks.items;
       ended = parts.ended;
       out = parts.text.items;
-      serves = subst (λ bytes. ServesUntil server.limit server.done bytes (view_crash c.args.crash) served.arrivals parts.marks.items parts.ended parts.text.items) given served.serves;
+      serves = subst (λ bytes. ServesUntil server.limit server.done bytes (view_crash c.args.crash) served.arrivals
+          parts.marks.items parts.ended parts.text.items) given served.serves;
       becomes =
           let more = pushed ∙ λ i. old ++ output (length (given i)) (came i) ∷ [] in
           λ i. world_of (served.becomes i) sent (more i) outboxes;

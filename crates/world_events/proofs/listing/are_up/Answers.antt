@@ -8,5 +8,6 @@ use Rattle.world_events.proofs.listing.are_up.Goals as goal
 
 pub returns : goal.returns
 returns g c =
-    all_from_yields_List (λ (filer : FilerParts). filer.box.up) _ _ c.all.result c.all.ensures.ran (YieldsList-from_slice c.args.filers.now c.iter.ensures.rest) (λ x b q k. search (rules, tests))
+    all_from_yields_List (λ (filer : FilerParts). filer.box.up) _ _ c.all.result c.all.ensures.ran
+    (YieldsList-from_slice c.args.filers.now c.iter.ensures.rest) (λ x b q k. search (rules, tests))
     ∙ sym (list_all-map (λ (box : Outbox). box.up) (λ filer. filer.box) c.args.filers.now)

@@ -7,5 +7,6 @@ use Rattle.world_events.proofs.listing.states_of_all.Given as goal
 abbrev pub invariant-loop-at : goal.invariant-loop-at
 invariant-loop-at g l = record {
   same : boxes l.filers.items ≡ boxes l.fn.filers.items;
-  list : map view_listed l.list.items ++ states_from (suc l.at) (drop l.at (boxes l.fn.filers.items)) ≡ states_from 1 (boxes l.fn.filers.items);
+  list : map view_listed l.list.items ++ states_from (suc l.at) (drop l.at (boxes l.fn.filers.items))
+      ≡ states_from 1 (boxes l.fn.filers.items);
 }

@@ -6,4 +6,5 @@ pub returns-in-None : goal.returns-in-None
 returns-in-None c = rw (of_language _ _ _ _ None c.in-None.ensures) c.report.ensures
 
 pub returns-in-Some : goal.returns-in-Some
-returns-in-Some c = rw (of_language _ _ _ _ (Some c.in-Some.text.now) c.in-Some.ensures, ← c.is_language.ensures) c.report_if.ensures
+returns-in-Some c =
+    rw (of_language _ _ _ _ (Some c.in-Some.text.now) c.in-Some.ensures, ← c.is_language.ensures) c.report_if.ensures

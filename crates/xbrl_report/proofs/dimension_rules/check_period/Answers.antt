@@ -5,7 +5,8 @@ use Rattle.xbrl_report.proofs.dimension_rules.check_period.Goals as goal
 
 pub returns-in-None : goal.returns-in-None
 returns-in-None c =
-    let forward : is_backward c.args.text.now ≡ false = forward-no_period c.args.text.now (sym c.in-None.ensures.form) in
+    let forward : is_backward c.args.text.now ≡ false =
+    forward-no_period c.args.text.now (sym c.in-None.ensures.form) in
     rw (← c.in-None.ensures.form, forward) c.report.ensures
 
 pub returns-in-Some-At : goal.returns-in-Some-At

@@ -11,5 +11,6 @@ pub returns-then-not-is_empty : goal.returns-then-not-is_empty
 unfolding is_language
 returns-then-not-is_empty c =
     let all : c.all.result ≡ list_all is_language_byte c.args.text.now =
-    all_from_yields_List is_language_byte _ _ c.all.result c.all.ensures.ran (YieldsList-from_bytes c.args.text.now c.bytes.ensures.rest) (λ x b q k. search (rules, tests)) in
+    all_from_yields_List is_language_byte _ _ c.all.result c.all.ensures.ran
+    (YieldsList-from_bytes c.args.text.now c.bytes.ensures.rest) (λ x b q k. search (rules, tests)) in
     grind (arith, nat_tests)

@@ -8,11 +8,14 @@ use Rattle.xbrl_values.proofs.name.split_at_colon.Goals as goal
 
 -- where there is no colon, nothing stands after one
 parts : (s : List ℕ) (r : Option (Bor (List ℕ) × Bor (List ℕ)))
-    → MatchOption r (position_or_len (λ b. eqb b 58) s ≡ length s) (λ x. (position_or_len (λ b. eqb b 58) s < length s) × (x.0.now ≡ before_first (λ b. eqb b 58) s) × (x.1.now ≡ after_first (λ b. eqb b 58) s))
+    → MatchOption r (position_or_len (λ b. eqb b 58) s ≡ length s) (λ x. (position_or_len (λ b. eqb b 58) s < length s)
+    × (x.0.now ≡ before_first (λ b. eqb b 58) s) × (x.1.now ≡ after_first (λ b. eqb b 58) s))
     → MatchOption r (local_of s ≡ []) (λ x. (x.0.now ≡ prefix_of s) × (x.1.now ≡ local_of s))
 unfolding prefix_of local_of
 parts s None h = drop_of_length-le s (omega (arith, h))
 parts s (Some x) h = (h.1, h.2)
 
 pub returns : goal.returns
-returns c = parts c.args.text.now c.split_once.result (split_once_first 58 c.args.text.now c.split_once.result c.split_once.ensures.cases (lit< tt))
+returns c =
+    parts c.args.text.now c.split_once.result (split_once_first 58 c.args.text.now c.split_once.result
+    c.split_once.ensures.cases (lit< tt))

@@ -7,4 +7,6 @@ abbrev pub decreases-loop-end : goal.decreases-loop-end
 decreases-loop-end l = l.end
 
 abbrev pub invariant-loop-end : goal.invariant-loop-end
-invariant-loop-end l = (l.end ≤ length l.bytes) × (suffix_len is_space l.bytes ≡ (length l.bytes - l.end) + suffix_len is_space (take l.end l.bytes))
+invariant-loop-end l =
+    (l.end ≤ length l.bytes) × (suffix_len is_space l.bytes
+    ≡ (length l.bytes - l.end) + suffix_len is_space (take l.end l.bytes))

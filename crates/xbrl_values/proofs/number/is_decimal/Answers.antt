@@ -12,7 +12,8 @@ returns-then-mark-unsigned c =
     let value = c.place_of_exponent_mark-mark.ensures.value in
     let at_end : position_or_len is_exponent_mark unsigned ≡ length unsigned = omega (arith, value) in
     let none = none_from_position is_exponent_mark unsigned at_end in
-    let mantissa : is_mantissa (before_first is_exponent_mark unsigned) ≡ true = sym (rw value at c.is_mantissa.ensures) ∙ c.if-is_mantissa.true in
+    let mantissa : is_mantissa (before_first is_exponent_mark unsigned) ≡ true =
+    sym (rw value at c.is_mantissa.ensures) ∙ c.if-is_mantissa.true in
     let same : eqb c.place_of_exponent_mark-mark.result (length unsigned) ≡ true = grind (arith, nat_tests) in
     rw (← c.without_sign-unsigned.ensures, mantissa, none) same
 
@@ -23,6 +24,8 @@ returns-else-mark-unsigned c =
     let value = c.place_of_exponent_mark-mark.ensures.value in
     let before_end : position_or_len is_exponent_mark unsigned < length unsigned = omega (arith, value) in
     let some = some_from_position is_exponent_mark unsigned before_end in
-    let mantissa : is_mantissa (before_first is_exponent_mark unsigned) ≡ true = sym (rw value at c.is_mantissa.ensures) ∙ c.if-is_mantissa.true in
-    let exponent : c.is_exponent.result ≡ is_exponent (after_first is_exponent_mark unsigned) = rw (c.after.ensures, value) at c.is_exponent.ensures in
+    let mantissa : is_mantissa (before_first is_exponent_mark unsigned) ≡ true =
+    sym (rw value at c.is_mantissa.ensures) ∙ c.if-is_mantissa.true in
+    let exponent : c.is_exponent.result ≡ is_exponent (after_first is_exponent_mark unsigned) =
+    rw (c.after.ensures, value) at c.is_exponent.ensures in
     rw (← c.without_sign-unsigned.ensures, mantissa, some) exponent

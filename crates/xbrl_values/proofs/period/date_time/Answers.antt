@@ -12,4 +12,5 @@ returns-clause-form c =
     let hour : to_z w8 a.hour ≡ pos a.hour = to_z_pos w8 a.hour (omega (arith, c.requires.hour)) in
     let minute : to_z w8 a.minute ≡ pos a.minute = to_z_pos w8 a.minute (omega (arith, c.requires.minute)) in
     let second : to_z w8 a.second ≡ pos a.second = to_z_pos w8 a.second (omega (arith, c.requires.second)) in
-    c.ok.ensures.variant ∙ exists _ a.year a.month a.day a.hour a.minute a.second c.requires.year (simp (year, month, day, hour, minute, second) at c.new.ensures.succeeds)
+    c.ok.ensures.variant ∙ exists _ a.year a.month a.day a.hour a.minute a.second c.requires.year
+    (simp (year, month, day, hour, minute, second) at c.new.ensures.succeeds)

@@ -16,5 +16,6 @@ returns-in_default c =
 pub returns : goal.returns
 returns c =
     let empty = pointer_past c.args.path.now c.loop-name.name-index (omega arith) in
-    let none : length (pointer (map (λ n. n.now) (drop c.loop-name.name-index c.args.path.now))) ≡ 0 = ap length empty in
+    let none : length (pointer (map (λ n. n.now) (drop c.loop-name.name-index c.args.path.now))) ≡ 0 =
+    ap length empty in
     (λ _. omega (arith, c.loop-name.invariant), λ _. refl)

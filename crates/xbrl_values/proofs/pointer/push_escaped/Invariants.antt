@@ -4,4 +4,5 @@ use Rattle.xbrl_values.specs.Pointer.{escaped}
 use Rattle.xbrl_values.proofs.pointer.push_escaped.Given as goal
 
 abbrev pub invariant-loop-character : goal.invariant-loop-character
-invariant-loop-character l = string_bytes l.place ++ escaped (chars_rest l.character-iterator) ≡ string_bytes l.initial.place ++ escaped l.name
+invariant-loop-character l =
+    string_bytes l.place ++ escaped (chars_rest l.character-iterator) ≡ string_bytes l.initial.place ++ escaped l.name

@@ -8,4 +8,6 @@ pub returns : goal.returns
 unfolding is_measure_list
 returns c =
     let split = c.split.ensures in
-    all_from_yields_List is_measure _ _ c.all.result c.all.ensures.ran (YieldsList-from_str_split 42 c.args.text.now (lit< tt) split.text split.has_more split.pattern) (λ x b q k. search (rules, tests))
+    all_from_yields_List is_measure _ _ c.all.result c.all.ensures.ran
+    (YieldsList-from_str_split 42 c.args.text.now (lit< tt) split.text split.has_more split.pattern)
+    (λ x b q k. search (rules, tests))

@@ -6,4 +6,6 @@ use Rattle.xbrl_values.proofs.unit.measures.Goals as goal
 pub returns : goal.returns
 returns c =
     let split = c.split.ensures in
-    rw (← c.without_parentheses.ensures) (map_from_collect c.collect.result c.collect.ensures.ran (YieldsList-from_str_split 42 c.without_parentheses.result.now (lit< tt) split.text split.has_more split.pattern))
+    rw (← c.without_parentheses.ensures) (map_from_collect c.collect.result c.collect.ensures.ran
+    (YieldsList-from_str_split 42 c.without_parentheses.result.now (lit< tt) split.text split.has_more
+    split.pattern))

@@ -5,4 +5,5 @@ use Rattle.event_script.proofs.script.Script.filer_codes.Goals as goal
 
 pub returns : goal.returns
 returns c =
-    map_from_collect _ c.collect.ensures.ran (YieldsList-from_map_by _ (λ r. r.now) string_bytes (YieldsList-from_slice c.args.self.now.filers.items cc) c.map.ensures.closure (λ x r q k. search rules))
+    map_from_collect _ c.collect.ensures.ran (YieldsList-from_map_by _ (λ r. r.now) string_bytes
+    (YieldsList-from_slice c.args.self.now.filers.items cc) c.map.ensures.closure (λ x r q k. search rules))

@@ -11,7 +11,8 @@ returns g c = record {
   after_fault = search rules;
   over = search rules;
   closed = search rules;
-  failed = c.close_after.ensures.failed ∙ ap (λ (fails : Bool). is_failed (conn_inbox c.args.self.now) || fails) c.is_err.ensures.value;
+  failed = c.close_after.ensures.failed
+      ∙ ap (λ (fails : Bool). is_failed (conn_inbox c.args.self.now) || fails) c.is_err.ensures.value;
   reader = search rules;
   bytes = search rules;
 }

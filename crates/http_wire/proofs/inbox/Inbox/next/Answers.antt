@@ -11,14 +11,20 @@ use Rattle.http_wire.specs.Inbox.{held, unread, reads, is_over, is_failed, Reads
 use Rattle.http_wire.specs.ReadingOn.{FindsNext}
 use Rattle.http_wire.specs.Received.{Receives, ReceivesNothing}
 use Rattle.http_wire.specs.Wire.{wire, NoneFailed}
-use Rattle.http_wire.proofs.InboxLemmas.{ReadsNothing-after, ReadsOn-after, LendsFirst-found, WasOpen, WasOpen-tested, is_over-tested, or-none}
+use Rattle.http_wire.proofs.InboxLemmas.{ReadsNothing-after, ReadsOn-after, LendsFirst-found, WasOpen, WasOpen-tested}
+use Rattle.http_wire.proofs.InboxLemmas.{is_over-tested, or-none}
 use Rattle.http_wire.proofs.ReceivedLemmas.{Receives-nil}
 use Rattle.http_wire.proofs.inbox.Inbox.next.Goals as goal
 
 -- what a call on an inbox that was open comes to
-opened : {R W : Type 0} {r : Reads R} {w : Writes W} {reader reader' : R} {writer writer' : W} {old : Inbox} (mid : Inbox) {new : Inbox} {result : Result Next ConnFault}
-    → WasOpen old mid → held mid ≡ unread old → reads mid ≡ reads old → Receives (r.left reader) (r.left reader') mid.received new.received → (HoldsArrival (held mid) → ReceivesNothing reader reader' mid.received new.received)
-    → IfOk result (IsNext (r.left reader') old new) → IfOk result (WritesInterim (w.written writer) (w.written writer') old new) → IfErr result (WritesUpTo (w.written writer) (w.written writer') (held new))
+opened : {R W : Type 0} {r : Reads R} {w : Writes W} {reader reader' : R} {writer writer' : W} {old : Inbox}
+    (mid : Inbox) {new : Inbox} {result : Result Next ConnFault}
+    → WasOpen old mid → held mid ≡ unread old → reads mid ≡ reads old
+    → Receives (r.left reader) (r.left reader') mid.received new.received
+    → (HoldsArrival (held mid) → ReceivesNothing reader reader' mid.received new.received)
+    → IfOk result (IsNext (r.left reader') old new)
+    → IfOk result (WritesInterim (w.written writer) (w.written writer') old new)
+    → IfErr result (WritesUpTo (w.written writer) (w.written writer') (held new))
     → OnOk result (NoneFailed (wire r w reader writer) (wire r w reader' writer'))
     → IfErr result (IsFault (wire r w reader writer) (wire r w reader' writer') (reads new) (held new))
     → is_failed new ≡ is_err result → OnErr result (is_over new ≡ true)
@@ -45,7 +51,8 @@ returns-then-ne g c =
     let dropped = c.drop_message.ensures in
     let ended : is_over mid ≡ true = is_over-tested _ _ c.if-ne.ensures in
     let over = sym dropped.over ∙ ended in
-    let nothing : ReadsNothing c.args.reader.now c.args.reader.now old mid = record { reader = refl; count = dropped.count; held_is = dropped.held } in
+    let nothing : ReadsNothing c.args.reader.now c.args.reader.now old mid =
+    record { reader = refl; count = dropped.count; held_is = dropped.held } in
     record {
       reads = ReadsOn-after _ _ old mid mid dropped.held dropped.count (Receives-nil _ mid.received);
       lazy = λ _. nothing;
@@ -68,7 +75,10 @@ returns-in-Ok-Request g c =
     let was = WasOpen-tested c.args.self.now mid dropped.over dropped.failed dropped.none c.if-ne.ensures in
     let told = c.in-Ok-Request.ensures in
     let found = rw c.in-Ok-Request.field-0-is at told.found in
-    opened mid was dropped.held dropped.count told.reads told.lazy (was.more, LendsFirst-found _ c.in-Ok-Request.parsed was.opened refl found.0 found.1)
+    opened mid was dropped.held dropped.count told.reads told.lazy (
+      was.more,
+      LendsFirst-found _ c.in-Ok-Request.parsed was.opened refl found.0 found.1,
+    )
     (rw c.in-Ok-Request.field-0-is at told.interim) tt told.fine tt (dropped.failed ∙ was.fine) tt
 
 pub returns-in-Ok-Refused : goal.returns-in-Ok-Refused
@@ -77,7 +87,11 @@ returns-in-Ok-Refused g c =
     let dropped = c.drop_message.ensures in
     let was = WasOpen-tested c.args.self.now mid dropped.over dropped.failed dropped.none c.if-ne.ensures in
     let told = c.in-Ok-Refused.ensures in
-    opened mid was dropped.held dropped.count told.reads told.lazy (was.more, refl, rw c.in-Ok-Refused.field-0-is at told.found)
+    opened mid was dropped.held dropped.count told.reads told.lazy (
+      was.more,
+      refl,
+      rw c.in-Ok-Refused.field-0-is at told.found,
+    )
     (rw c.in-Ok-Refused.field-0-is at told.interim) tt told.fine tt refl tt
 
 pub returns-in-Ok-Rest : goal.returns-in-Ok-Rest
@@ -86,7 +100,10 @@ returns-in-Ok-Rest g c =
     let dropped = c.drop_message.ensures in
     let was = WasOpen-tested c.args.self.now mid dropped.over dropped.failed dropped.none c.if-ne.ensures in
     let told = c.in-Ok-Rest.ensures in
-    opened mid was dropped.held dropped.count told.reads told.lazy (refl, inr (rw c.in-Ok-Rest.field-0-is at told.found))
+    opened mid was dropped.held dropped.count told.reads told.lazy (
+      refl,
+      inr (rw c.in-Ok-Rest.field-0-is at told.found),
+    )
     (inr (rw c.in-Ok-Rest.field-0-is at told.interim)) tt told.fine tt refl tt
 
 pub returns-in-Err : goal.returns-in-Err

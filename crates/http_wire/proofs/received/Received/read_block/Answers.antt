@@ -9,7 +9,8 @@ use Rattle.http_wire.proofs.ReceivedLemmas.{Receives-join, Receives-nil, no_answ
 use Rattle.http_wire.proofs.received.Received.read_block.Goals as goal
 
 -- bytes that hold no end of a block held none at first
-first-unended : {R : Type 0} (a b : R) (x y : Received) → ReceivesNothing a b x y ⊎ IsUnended (held_bytes x) → IsUnended (held_bytes y) → IsUnended (held_bytes x)
+first-unended : {R : Type 0} (a b : R) (x y : Received) → ReceivesNothing a b x y ⊎ IsUnended (held_bytes x)
+    → IsUnended (held_bytes y) → IsUnended (held_bytes x)
 first-unended a b x y (inl same) unended = subst IsUnended same.bytes unended
 first-unended a b x y (inr first) unended = first
 
@@ -31,7 +32,8 @@ returns-then-ne g c =
         fault = tt;
       };
       lazy = λ ended. elim before.lazy [ inl same ↦ same | inr first ↦ absurd (ended first) ];
-      block = subst (λ bytes. IsBlock bytes c.find_block_from-block.result) c.bytes.ensures.value c.find_block_from-block.ensures;
+      block = subst (λ bytes. IsBlock bytes c.find_block_from-block.result) c.bytes.ensures.value
+          c.find_block_from-block.ensures;
       end = λ more. absurd (false≢true (sym (rw (one_answer refl more) at c.if-ne.ensures)));
       unended = tt;
     }
@@ -45,9 +47,11 @@ returns-in_err-read_more g c =
     let gives = err_from_is_err_and c.from_residual.result c.from_residual.ensures.1 in
     record {
       reads = record {
-        receives = Receives-join _ _ _ c.args.self.now c.loop-block.self new before.reads c.read_more.ensures.reads.receives;
+        receives =
+            Receives-join _ _ _ c.args.self.now c.loop-block.self new before.reads c.read_more.ensures.reads.receives;
         fine = rw gives.1 tt;
-        fault = rw gives.1 (subst₂ (λ count fault. IsReadFault count (g.R.Source.read_failures c.read_more.new.reader) new fault) before.fine (sym gives.2) c.in_err-read_more.ensures.reads.fault);
+        fault = rw gives.1 (subst₂ (λ count fault. IsReadFault count (g.R.Source.read_failures c.read_more.new.reader)
+            new fault) before.fine (sym gives.2) c.in_err-read_more.ensures.reads.fault);
       };
       lazy = λ ended. absurd (ended first);
       block = rw gives.1 tt;
@@ -63,7 +67,9 @@ returns-then-not-branch g c =
     let ended = c.read_more.ensures.end (c.in_ok-read_more.was ∙ ap Ok c.if-not-branch.true) in
     record {
       reads = record {
-        receives = Receives-join _ _ _ c.args.self.now c.loop-block.self c.read_more.new.self before.reads c.read_more.ensures.reads.receives;
+        receives =
+            Receives-join _ _ _ c.args.self.now c.loop-block.self c.read_more.new.self before.reads
+            c.read_more.ensures.reads.receives;
         fine = c.in_ok-read_more.ensures.reads.fine ∙ before.fine;
         fault = tt;
       };
@@ -77,11 +83,17 @@ pub loop-block-preserved : goal.loop-block-preserved
 loop-block-preserved g c =
     let here = c.loop-block.self in
     let before = c.loop-block.invariant in
-    let searched = subst (λ bytes. (more : List ℕ) → HasNoEndUpTo (from_block (bytes ++ more)) c.searched_len-searched.result) c.bytes-in-loop-block.ensures.value c.searched_len-searched.ensures.unended in
+    let searched =
+    subst (λ bytes. (more : List ℕ) → HasNoEndUpTo (from_block (bytes ++ more)) c.searched_len-searched.result)
+    c.bytes-in-loop-block.ensures.value c.searched_len-searched.ensures.unended in
     let unended : IsUnended (held_bytes here) = search rules in
     record {
-      searched = subst (λ bytes. HasNoEndUpTo (from_block bytes) c.searched_len-searched.result) (sym c.read_more.ensures.reads.receives.bytes) (searched (drop (length (held_bytes here)) (held_bytes c.read_more.new.self)));
-      reads = Receives-join _ _ _ c.args.self.now here c.read_more.new.self before.reads c.read_more.ensures.reads.receives;
+      searched =
+          subst (λ bytes. HasNoEndUpTo (from_block bytes) c.searched_len-searched.result)
+          (sym c.read_more.ensures.reads.receives.bytes)
+          (searched (drop (length (held_bytes here)) (held_bytes c.read_more.new.self)));
+      reads = Receives-join _ _ _ c.args.self.now here c.read_more.new.self before.reads
+          c.read_more.ensures.reads.receives;
       fine = c.in_ok-read_more.ensures.reads.fine ∙ before.fine;
       lazy = inr (first-unended _ _ c.args.self.now here before.lazy unended);
     }

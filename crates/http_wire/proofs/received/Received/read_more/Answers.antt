@@ -2,7 +2,8 @@ use Rattle.std.proofs.Common.{◌<◌, Ok, refl, sym, ap, ◌∙◌, subst, arit
 use Rattle.std.proofs.lemmas.Result.{err_from_is_err_and}
 use Rattle.http_wire.specs.Received.{IsReadFault}
 use Rattle.http_messages.specs.Reads.{max_reads}
-use Rattle.http_wire.proofs.ReceivedLemmas.{Receives-nil, Receives-kept, Receives-count, IsReadFault-fill, no_answer, no_more}
+use Rattle.http_wire.proofs.ReceivedLemmas.{Receives-nil, Receives-kept, Receives-count, IsReadFault-fill, no_answer}
+use Rattle.http_wire.proofs.ReceivedLemmas.{no_more}
 use Rattle.http_wire.proofs.received.Received.read_more.Goals as goal
 
 pub returns-then-self-eq-MAX_READS : goal.returns-then-self-eq-MAX_READS
@@ -40,7 +41,9 @@ returns-then-count-eq0 g c =
     let old = c.args.self.now in
     let told = c.in_ok-count.ensures in
     let none = c.if-count-eq0.true in
-    let reads = Receives-count _ _ old _ c.in_ok-count.count c.fill.ensures.kept told.given told.count (omega arith) (omega arith) (λ _. none) in
+    let reads =
+    Receives-count _ _ old _ c.in_ok-count.count c.fill.ensures.kept told.given told.count (omega arith)
+    (omega arith) (λ _. none) in
     record {
       reads = record {
         receives = reads;
@@ -59,7 +62,9 @@ returns g c =
     let some = c.if-count-eq0.false in
     record {
       reads = record {
-        receives = Receives-count _ _ old _ c.in_ok-count.count c.fill.ensures.kept told.given told.count (omega arith) (omega (arith, some)) (λ same. absurd (omega (arith, same)));
+        receives =
+            Receives-count _ _ old _ c.in_ok-count.count c.fill.ensures.kept told.given told.count (omega arith)
+            (omega (arith, some)) (λ same. absurd (omega (arith, same)));
         fine = told.fine;
         fault = tt;
       };

@@ -7,7 +7,8 @@ use Rattle.http_wire.proofs.ReceivedLemmas.{Receives-join, no_answer}
 use Rattle.http_wire.proofs.received.Received.read_up_to.Goals as goal
 
 -- where more is read, less was there at first
-less : {R : Type 0} (a b : R) (x y : Received) (len : ℕ) → (len ≤ length (held_bytes x) → ReceivesNothing a b x y) → length (held_bytes y) < len → ¬ (len ≤ length (held_bytes x))
+less : {R : Type 0} (a b : R) (x y : Received) (len : ℕ) → (len ≤ length (held_bytes x) → ReceivesNothing a b x y)
+    → length (held_bytes y) < len → ¬ (len ≤ length (held_bytes x))
 less a b x y len lazy low holds = let same = ap length (lazy holds).bytes in omega (arith, same, low, holds)
 
 pub returns-in_err-read_more : goal.returns-in_err-read_more
@@ -21,7 +22,8 @@ returns-in_err-read_more g c =
       reads = record {
         receives = Receives-join _ _ _ c.args.self.now here new before.reads c.read_more.ensures.reads.receives;
         fine = rw gives.1 tt;
-        fault = rw gives.1 (subst₂ (λ count fault. IsReadFault count (g.R.Source.read_failures c.read_more.new.reader) new fault) before.fine (sym gives.2) c.in_err-read_more.ensures.reads.fault);
+        fault = rw gives.1 (subst₂ (λ count fault. IsReadFault count (g.R.Source.read_failures c.read_more.new.reader)
+            new fault) before.fine (sym gives.2) c.in_err-read_more.ensures.reads.fault);
       };
       lazy = λ holds. absurd (less _ _ c.args.self.now here c.args.len before.lazy low holds);
       filled = rw gives.1 tt;
@@ -55,7 +57,8 @@ loop-self-preserved g c =
     let before = c.loop-self.invariant in
     let low : length (held_bytes here) < c.args.len = omega (arith, c.loop-self-test.true, c.len.ensures) in
     record {
-      reads = Receives-join _ _ _ c.args.self.now here c.read_more.new.self before.reads c.read_more.ensures.reads.receives;
+      reads = Receives-join _ _ _ c.args.self.now here c.read_more.new.self before.reads
+          c.read_more.ensures.reads.receives;
       fine = c.in_ok-read_more.ensures.reads.fine ∙ before.fine;
       lazy = λ holds. absurd (less _ _ c.args.self.now here c.args.len before.lazy low holds);
     }

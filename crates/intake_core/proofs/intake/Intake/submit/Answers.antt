@@ -1,18 +1,20 @@
-use Rattle.std.proofs.Common.{◌≡◌, ◌<◌, ◌≤◌, ◌++◌, ◌∷◌, [], ℕ, false, List, length, Result, Ok, Err, IsTrue, IfOk, OnOk, sym, ap, ◌∙◌, subst, rules}
+use Rattle.std.proofs.Common.{◌≡◌, ◌<◌, ◌≤◌, ◌++◌, ◌∷◌, [], ℕ, false, List, length, Result, Ok, Err, IsTrue, IfOk, OnOk}
+use Rattle.std.proofs.Common.{sym, ap, ◌∙◌, subst, rules}
 use Rattle.sqlite.specs.State.{Survives}
 use Rattle.sqlite.proofs.StateLemmas.{survives_weaker}
 use Rattle.filing_model.specs.Request.{Request, firsts, has_key}
 use Rattle.filing_model.specs.Views.{the_request}
 use Rattle.filing_model.proofs.Firsts.{firsts_repeat}
 use Rattle.register_store.specs.Store.{shows}
-use Rattle.register_opening.specs.Registers.{LeavesRegister}
+use Rattle.register_tables.specs.Registers.{LeavesRegister}
 use Rattle.register_store.proofs.StoreLemmas.{leaves}
 use Rattle.intake_answers.specs.Cache.{IsNameIfAny}
-use Rattle.intake_core.specs.Held.{HoldsRequests, early_of}
+use Rattle.intake_core.specs.Held.{HoldsRequests, old_style_of}
 use Rattle.intake_core.proofs.Deciding.{IfSome-made, HoldsRequests-repeat}
 use Rattle.intake_core.proofs.intake.Intake.submit.Goals as goal
 
-on_both : {T E : Type 0} (x : Result T E) (P : Type 0) (Q : T → Type 0) (R : Type 0) → (P → (a : T) → Q a → R) → OnOk x P → IfOk x Q → OnOk x R
+on_both : {T E : Type 0} (x : Result T E) (P : Type 0) (Q : T → Type 0) (R : Type 0) → (P → (a : T) → Q a → R)
+    → OnOk x P → IfOk x Q → OnOk x R
 on_both (Ok a) P Q R f p q = f p a q
 on_both (Err e) P Q R f p q = tt
 
@@ -20,7 +22,8 @@ pub returns-in-Some : goal.returns-in-Some
 returns-in-Some g c = record {
   answer = λ clean requests h.
       let r : Request = the_request c.args.filer.now c.args.key.now c.args.target c.args.body.now in
-      let named : IsNameIfAny c.args.filer.now c.args.key.now c.ok-name.result = rw c.ok-name.ensures.value (IfSome-made c.name_of.result _ c.name_of.ensures) in
+      let named : IsNameIfAny c.args.filer.now c.args.key.now c.ok-name.result =
+      rw c.ok-name.ensures.value (IfSome-made c.name_of.result _ c.name_of.ensures) in
       let known = c.in-Some.ensures.answer requests h c.args.filer.now c.args.key.now named in
       (known.0, HoldsRequests-repeat requests r c.recall.new.self known.1 (c.recall.ensures.same requests h));
   err = search rules;
@@ -31,14 +34,19 @@ returns-in-Some g c = record {
   -- no call was made, and what was committed last is all that a crash leaves
   durable = λ clean requests h alive.
       let r : Request = the_request c.args.filer.now c.args.key.now c.args.target c.args.body.now in
-      let named : IsNameIfAny c.args.filer.now c.args.key.now c.ok-name.result = rw c.ok-name.ensures.value (IfSome-made c.name_of.result _ c.name_of.ensures) in
+      let named : IsNameIfAny c.args.filer.now c.args.key.now c.ok-name.result =
+      rw c.ok-name.ensures.value (IfSome-made c.name_of.result _ c.name_of.ensures) in
       let known = c.in-Some.ensures.answer requests h c.args.filer.now c.args.key.now named in
       let held : HoldsRequests g.S.Store c.recall.new.self requests = c.recall.ensures.same requests h in
-      let still : IsTrue (shows g.S.Store c.recall.new.self.store).is_open = subst (λ s. IsTrue (shows g.S.Store s).is_open) (sym c.recall.ensures.rest.0) alive in (
+      let still : IsTrue (shows g.S.Store c.recall.new.self.store).is_open =
+      subst (λ s. IsTrue (shows g.S.Store s).is_open) (sym c.recall.ensures.rest.0) alive in (
         still,
-        λ trees left. subst (λ n. LeavesRegister n (firsts (requests ++ r ∷ [])) trees) (ap (λ s. s.early) c.recall.ensures.rest.0)
-            (subst (λ (rs : List Request). LeavesRegister (early_of c.recall.new.self) rs trees) (sym (firsts_repeat requests r known.1 ∙ h.firsts'))
-            (leaves (early_of c.recall.new.self) requests (shows g.S.Store c.recall.new.self.store) held.rows.stands still trees (g.met.S.Store.settled c.recall.new.self.store.conn.store trees still left))),
+        λ trees left. subst (λ n. LeavesRegister n (firsts (requests ++ r ∷ [])) trees)
+            (ap (λ s. s.old_style) c.recall.ensures.rest.0)
+            (subst (λ (rs : List Request). LeavesRegister (old_style_of c.recall.new.self) rs trees)
+            (sym (firsts_repeat requests r known.1 ∙ h.firsts'))
+            (leaves (old_style_of c.recall.new.self) requests (shows g.S.Store c.recall.new.self.store) held.rows.stands
+            still trees (g.met.S.Store.settled c.recall.new.self.store.conn.store trees still left))),
       );
   down = search rules;
   stops = search rules;
@@ -58,23 +66,30 @@ returns g c = record {
       (full.0, subst (λ (limit : ℕ). limit ≤ k) c.recall.ensures.rest.1 full.1, full.2);
   room = λ clean requests h.
       let r : Request = the_request c.args.filer.now c.args.key.now c.args.target c.args.body.now in
-      subst (λ (limit : ℕ). OnOk c.decide-result.result (has_key requests r ≡ false → length requests < limit)) c.recall.ensures.rest.1
+      subst (λ (limit : ℕ). OnOk c.decide-result.result (has_key requests r ≡ false → length requests < limit))
+      c.recall.ensures.rest.1
       (c.decide-result.ensures.room clean requests (c.recall.ensures.same requests h));
   crash =
       let r : Request = the_request c.args.filer.now c.args.key.now c.args.target c.args.body.now in
       let new = shows g.S.Store c.decide-result.new.self.store in
-      subst (λ s. Survives (shows g.S.Store s) new (λ trees. (requests : List Request) → HoldsRequests g.S.Store c.args.self.now requests → IsTrue (shows g.S.Store s).is_open → LeavesRegister s.early (firsts (requests ++ r ∷ [])) trees)) c.recall.ensures.rest.0
-      (survives_weaker (shows g.S.Store c.recall.new.self.store) new _ _ (λ _ trees left requests h alive. left requests (c.recall.ensures.same requests h) alive) c.decide-result.ensures.crash);
+      subst (λ s. Survives (shows g.S.Store s) new (λ trees. (requests : List Request)
+      → HoldsRequests g.S.Store c.args.self.now requests → IsTrue (shows g.S.Store s).is_open
+      → LeavesRegister s.old_style (firsts (requests ++ r ∷ [])) trees)) c.recall.ensures.rest.0
+      (survives_weaker (shows g.S.Store c.recall.new.self.store) new _ _
+      (λ _ trees left requests h alive. left requests (c.recall.ensures.same requests h) alive)
+      c.decide-result.ensures.crash);
   -- the requests that are kept are committed
   durable = λ clean requests h alive.
       let r : Request = the_request c.args.filer.now c.args.key.now c.args.target c.args.body.now in
       let held = c.recall.ensures.same requests h in
       let new = c.decide-result.new.self in
-      let same : early_of new ≡ early_of c.args.self.now = c.decide-result.ensures.setting.early ∙ ap (λ s. s.early) c.recall.ensures.rest.0 in
+      let same : old_style_of new ≡ old_style_of c.args.self.now =
+      c.decide-result.ensures.setting.old_style ∙ ap (λ s. s.old_style) c.recall.ensures.rest.0 in
       on_both c.decide-result.result _ _ _ (λ still _ told. (
         still,
         λ trees left. subst (λ n. LeavesRegister n (firsts (requests ++ r ∷ [])) trees) same
-            (leaves (early_of new) (firsts (requests ++ r ∷ [])) (shows g.S.Store new.store) told.1.rows.stands still trees (g.met.S.Store.settled new.store.conn.store trees still left)),
+            (leaves (old_style_of new) (firsts (requests ++ r ∷ [])) (shows g.S.Store new.store) told.1.rows.stands
+            still trees (g.met.S.Store.settled new.store.conn.store trees still left)),
       ))
       (c.decide-result.ensures.open clean requests held) (c.decide-result.ensures.answer clean requests held);
   down = search rules;

@@ -4,7 +4,8 @@ use Rattle.outbox_process.proofs.Keeping.{none_of, refuses, is_open, not_begun, 
 use Rattle.outbox_process.proofs.process.OutboxProcess.open.Goals as goal
 
 pub returns-then-is_some : goal.returns-then-is_some
-returns-then-is_some g c = is_open c.args.beginning (parts g.P.Place.lying c.args.self.now) (sym c.is_some.ensures ∙ c.if-is_some.true)
+returns-then-is_some g c =
+    is_open c.args.beginning (parts g.P.Place.lying c.args.self.now) (sym c.is_some.ensures ∙ c.if-is_some.true)
 
 pub returns-in-Err : goal.returns-in-Err
 returns-in-Err g c =
@@ -13,18 +14,25 @@ returns-in-Err g c =
 
 pub returns-in-Ok-begin : goal.returns-in-Ok-begin
 returns-in-Ok-begin g c =
-    opens c.args.beginning _ _ c.in-Ok.conn c.in-Ok-begin.outbox (none_of c.args.self.now.outbox (sym c.is_some.ensures ∙ c.if-is_some.false)) refl refl c.in-Ok.ensures.opens.comes c.in-Ok-begin.ensures.begins c.in-Ok-begin.ensures.up
+    opens c.args.beginning _ _ c.in-Ok.conn c.in-Ok-begin.outbox
+    (none_of c.args.self.now.outbox (sym c.is_some.ensures ∙ c.if-is_some.false)) refl refl
+    c.in-Ok.ensures.opens.comes c.in-Ok-begin.ensures.begins c.in-Ok-begin.ensures.up
 
 pub returns-then-is_of_others : goal.returns-then-is_of_others
 returns-then-is_of_others g c =
     let closed = none_of c.args.self.now.outbox (sym c.is_some.ensures ∙ c.if-is_some.false) in
     refuses c.args.beginning _ _ _ refl closed closed
-    (not_begun c.args.beginning (g.P.Place.lying c.args.self.now.place) (g.P.Place.lying c.open.new.place) (g.P.Place.lying c.give_up.new.place) (g.P.Place.lying c.remove_new_log.new.place) c.in-Ok.conn c.in-Err-begin.back
-    c.give_up.ensures.0 c.in-Err-begin.fault c.in-Ok.ensures.opens.comes c.in-Err-begin.ensures.refused c.give_up.ensures.1 c.remove_new_log.ensures c.give_up.ensures.2)
+    (not_begun c.args.beginning (g.P.Place.lying c.args.self.now.place) (g.P.Place.lying c.open.new.place)
+    (g.P.Place.lying c.give_up.new.place) (g.P.Place.lying c.remove_new_log.new.place) c.in-Ok.conn
+    c.in-Err-begin.back
+    c.give_up.ensures.0 c.in-Err-begin.fault c.in-Ok.ensures.opens.comes c.in-Err-begin.ensures.refused
+    c.give_up.ensures.1 c.remove_new_log.ensures c.give_up.ensures.2)
 
 pub returns-else-is_of_others : goal.returns-else-is_of_others
 returns-else-is_of_others g c =
     let closed = none_of c.args.self.now.outbox (sym c.is_some.ensures ∙ c.if-is_some.false) in
     refuses c.args.beginning _ _ _ refl closed closed
-    (not_begun c.args.beginning (g.P.Place.lying c.args.self.now.place) (g.P.Place.lying c.open.new.place) (g.P.Place.lying c.give_up.new.place) (g.P.Place.lying c.give_up.new.place) c.in-Ok.conn c.in-Err-begin.back
-    c.give_up.ensures.0 c.in-Err-begin.fault c.in-Ok.ensures.opens.comes c.in-Err-begin.ensures.refused c.give_up.ensures.1 (keeps_lying (g.P.Place.lying c.give_up.new.place)) c.give_up.ensures.2)
+    (not_begun c.args.beginning (g.P.Place.lying c.args.self.now.place) (g.P.Place.lying c.open.new.place)
+    (g.P.Place.lying c.give_up.new.place) (g.P.Place.lying c.give_up.new.place) c.in-Ok.conn c.in-Err-begin.back
+    c.give_up.ensures.0 c.in-Err-begin.fault c.in-Ok.ensures.opens.comes c.in-Err-begin.ensures.refused
+    c.give_up.ensures.1 (keeps_lying (g.P.Place.lying c.give_up.new.place)) c.give_up.ensures.2)

@@ -12,6 +12,7 @@ returns c F r are filer next =
     record {
       filers_are = ap (map (λ o. string_bytes o)) c.in_ok-push.ensures.items ∙ map-append (λ o. string_bytes o) _ _
           ∙ ap₂ (λ l o. l ++ o ∷ []) are.filers_are copied
-          ∙ sym (ap (map whose) (filing_more (kept F) r next.number next.registered) ∙ map-append whose (register F) (next_filing (register F) r ∷ []));
+          ∙ sym (ap (map whose) (filing_more (kept F) r next.number next.registered)
+          ∙ map-append whose (register F) (next_filing (register F) r ∷ []));
       lines_are = c.note.ensures F r (c.in_ok-reserve.ensures.same ∙ are.lines_are) next;
     }

@@ -11,4 +11,5 @@ returns-clause-judged c F r are filer target body =
     judged_as (kept F) r j
     (subst (λ b. IsAmendmentJudgement r.filer b (is_free (register F) r.filer r.target) j) (sym body)
     (subst₂ (λ f t. IsAmendmentJudgement f c.args.body.now (is_free (register F) f t) j) (sym filer) (sym target)
-    (subst (λ free. IsAmendmentJudgement c.args.filer.now c.args.body.now free j) (c.is_free.ensures F are) is)))) c.judge_amendment.ensures.judged
+    (subst (λ free. IsAmendmentJudgement c.args.filer.now c.args.body.now free j) (c.is_free.ensures F are) is))))
+    c.judge_amendment.ensures.judged

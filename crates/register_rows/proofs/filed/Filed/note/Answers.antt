@@ -11,7 +11,14 @@ returns-in-Valid c F r are filer target has seq is =
     let so = rw c.in-Valid.is at is in
     let its : c.facts.result.now ≡ facts r.body = c.facts.ensures ∙ rw c.in-Valid.is at has in
     let many : length c.facts.result.now ≡ fact_count r.body = ap length its ∙ length-map _ _ in
-    c.add.ensures F r are filer (record { seq_is = seq; facts_are = many; target_is = target; number = suc (length (register F)); registered = so })
+    c.add.ensures F r are filer (record {
+      seq_is = seq;
+      facts_are = many;
+      target_is = target;
+      number =
+          suc (length (register F));
+      registered = so;
+    })
 
 pub returns-in-Refused : goal.returns-in-Refused
 returns-in-Refused c F r are filer target has seq is =

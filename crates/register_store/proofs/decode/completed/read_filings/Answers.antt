@@ -1,4 +1,5 @@
-use Rattle.std.proofs.Common.{◌≡◌, ◌<◌, ◌≤◌, ◌+◌, ◌∷◌, ◌++◌, [], append-nil, suc, length, drop, take, get_or, ap, subst, sym, ◌∙◌, arith}
+use Rattle.std.proofs.Common.{◌≡◌, ◌<◌, ◌≤◌, ◌+◌, ◌∷◌, ◌++◌, [], append-nil, suc, length, drop, take, get_or, ap, subst}
+use Rattle.std.proofs.Common.{sym, ◌∙◌, arith}
 use Rattle.filing_model.specs.Register.{filings}
 use Rattle.table_rows.specs.Rows.{counted_from}
 use Rattle.register_rows.specs.Register.{kept_row, amends_rows, joined_from}
@@ -19,15 +20,19 @@ loop-at-preserved c ks rows amends =
     let tail = c.target_of-target.result.1.now in
     let had = c.loop-at.invariant ks rows amends in
     let low : at < length (counted_from kept_row 1 ks) = subst (λ l. at < length l) rows c.loop-at-test.true in
-    let is : row ≡ get_or (counted_from kept_row 1 ks) at row = subst (λ l. row ≡ get_or l at row) rows c.index-rows-at.is in
+    let is : row ≡ get_or (counted_from kept_row 1 ks) at row =
+    subst (λ l. row ≡ get_or l at row) rows c.index-rows-at.is in
     let place : at + 1 ≡ 1 + at = omega arith in
     let next : suc at ≡ at + 1 = omega arith in
-    let s = step 1 ks at (at + 1) row c.loop-at.rest.now tail target place low is had.1 c.target_of-target.ensures.only in
+    let s = step 1 ks at (at + 1) row c.loop-at.rest.now tail target place low is had.1
+    c.target_of-target.ensures.only in
     let read = c.in_ok-filing.ensures ∙ filing_read ks at (at + 1) row target tail s in
     let more = filings_step ks at s.k s.taken in (
       elim c.match-branch-2.branch [
-        | in-Some+in_ok-push w ↦ rw w.list-is (w.in_ok-push.ensures.items ∙ ap (λ l. l ++ w.in-Some.filing ∷ []) had.0 ∙ ap (λ o. filings (take at ks) ++ filing_list o) (sym w.in-Some.is ∙ read) ∙ sym more)
-        | in_default w ↦ rw w.list-is (had.0 ∙ sym (append-nil (filings (take at ks))) ∙ ap (λ o. filings (take at ks) ++ filing_list o) (sym w.in_default.is ∙ read) ∙ sym more)
+        | in-Some+in_ok-push w ↦ rw w.list-is (w.in_ok-push.ensures.items ∙ ap (λ l. l ++ w.in-Some.filing ∷ []) had.0
+            ∙ ap (λ o. filings (take at ks) ++ filing_list o) (sym w.in-Some.is ∙ read) ∙ sym more)
+        | in_default w ↦ rw w.list-is (had.0 ∙ sym (append-nil (filings (take at ks)))
+            ∙ ap (λ o. filings (take at ks) ++ filing_list o) (sym w.in_default.is ∙ read) ∙ sym more)
       ],
       s.tail_is ∙ ap (λ n. joined_from amends_rows (at + 1 + 1) (drop n ks)) next,
     )

@@ -8,8 +8,10 @@ use Rattle.register_store.proofs.select.catalogued.number_at.Given as goal
 abbrev pub invariant-search : goal.invariant-search
 invariant-search l = record {
   within : l.high ≤ length (view_lines l.catalogue);
-  lower : (F : List Request) → view_lines l.catalogue ≡ catalogue_of F → (i : ℕ) (e : Entry) → i < l.low → slice_get (catalogue_of F) i ≡ Some e → e.seq < l.place;
-  upper : (F : List Request) → view_lines l.catalogue ≡ catalogue_of F → (i : ℕ) (e : Entry) → l.high ≤ i → slice_get (catalogue_of F) i ≡ Some e → l.place < e.seq;
+  lower : (F : List Request) → view_lines l.catalogue ≡ catalogue_of F → (i : ℕ) (e : Entry) → i < l.low
+      → slice_get (catalogue_of F) i ≡ Some e → e.seq < l.place;
+  upper : (F : List Request) → view_lines l.catalogue ≡ catalogue_of F → (i : ℕ) (e : Entry) → l.high ≤ i
+      → slice_get (catalogue_of F) i ≡ Some e → l.place < e.seq;
 }
 
 abbrev pub decreases-search : goal.decreases-search

@@ -8,4 +8,5 @@ use Rattle.register_store.proofs.select.catalogued.row_at.Goals as goal
 pub returns : goal.returns
 returns c F k is placed =
     let number = sym (c.number_at.ensures F k is placed) ∙ c.in_ok-number_at.was in
-    c.row_of.ensures F is ∙ ap (option_map (listing (register F))) (filing_told F c.in_ok-number_at.field-0 c.args.place k placed number)
+    c.row_of.ensures F is ∙ ap (option_map (listing (register F)))
+    (filing_told F c.in_ok-number_at.field-0 c.args.place k placed number)

@@ -8,8 +8,11 @@ use Rattle.register_store.proofs.select.found.complete_found.Goals as goal
 
 pub returns-clause-found : goal.returns-clause-found
 returns-clause-found g c clean filer key n F was is =
-    let early : HasCleanDisk (state g.S.Store c.target_at.new.conn) = clean_before c.complete.ensures.leaves clean in
-    c.complete.ensures.found clean filer key n F (stands c.in_ok-target.ensures.leaves early was) is (c.in_ok-target.ensures.found early n F was is.seq is.k (search (rules, is.seq_is)) is.placed)
+    let was_clean : HasCleanDisk (state g.S.Store c.target_at.new.conn) =
+    clean_before c.complete.ensures.leaves clean in
+    c.complete.ensures.found clean filer key n F (stands c.in_ok-target.ensures.leaves was_clean was) is
+    (c.in_ok-target.ensures.found was_clean n F was is.seq is.k (search (rules, is.seq_is)) is.placed)
 
 pub returns-clause-leaves : goal.returns-clause-leaves
-returns-clause-leaves g c = asked_first (λ _. Ended) c.complete.result c.in_ok-target.ensures.leaves c.complete.ensures.leaves
+returns-clause-leaves g c =
+    asked_first (λ _. Ended) c.complete.result c.in_ok-target.ensures.leaves c.complete.ensures.leaves

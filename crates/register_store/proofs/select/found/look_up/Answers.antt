@@ -10,7 +10,8 @@ returns-clause-found g c clean e F was =
     let old = state g.S.Store c.args.conn.now in
     let new = state g.S.Store c.rows_with_key.new.conn in
     let read = c.in_ok-rows.ensures.read clean (knows F old was) in
-    IfOk-weaker c.read_first.result _ _ (λ found h. key_found c.args.filer.now c.args.key.now F old new c.in_ok-rows.rows.items was read found h) c.read_first.ensures
+    IfOk-weaker c.read_first.result _ _ (λ found h. key_found c.args.filer.now c.args.key.now F old new
+    c.in_ok-rows.rows.items was read found h) c.read_first.ensures
 
 pub returns-clause-leaves : goal.returns-clause-leaves
 returns-clause-leaves g c = concluded c.read_first.result c.in_ok-rows.ensures.leaves

@@ -14,8 +14,11 @@ pub returns-clause-found : goal.returns-clause-found
 returns-clause-found g c clean e F was n k seq placed =
     let old = state g.S.Store c.args.conn.now in
     let new = state g.S.Store c.rows_of_target.new.conn in
-    let read : ReadsRows amends_table (has_seq (pos n)) unsorted target_alone c.in_ok-rows.rows.items old new = subst (λ s. ReadsRows amends_table (has_seq s) unsorted target_alone c.in_ok-rows.rows.items old new) (to_z-of_z w64 c.args.seq c.ranges.seq ∙ seq) (c.in_ok-rows.ensures.read clean (knows_all F old was)) in
-    IfOk-weaker c.read_target.result _ _ (λ found h. h n k.request.target (c.deref.ensures.value ∙ target_read F old new c.in_ok-rows.rows.items was n k placed read)) c.read_target.ensures
+    let read : ReadsRows amends_table (has_seq (pos n)) unsorted target_alone c.in_ok-rows.rows.items old new =
+    subst (λ s. ReadsRows amends_table (has_seq s) unsorted target_alone c.in_ok-rows.rows.items old new)
+    (to_z-of_z w64 c.args.seq c.ranges.seq ∙ seq) (c.in_ok-rows.ensures.read clean (knows_all F old was)) in
+    IfOk-weaker c.read_target.result _ _ (λ found h. h n k.request.target (c.deref.ensures.value
+    ∙ target_read F old new c.in_ok-rows.rows.items was n k placed read)) c.read_target.ensures
 
 pub returns-clause-leaves : goal.returns-clause-leaves
 returns-clause-leaves g c = concluded c.read_target.result c.in_ok-rows.ensures.leaves

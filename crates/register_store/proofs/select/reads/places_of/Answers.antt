@@ -6,7 +6,9 @@ use Rattle.register_store.proofs.select.reads.places_of.Goals as goal
 
 pub returns-clause-read : goal.returns-clause-read
 returns-clause-read g c clean knows =
-    IfOk-weaker c.select.result _ _ (λ rows h. reads_places_of (state g.S.Store c.args.conn.now) (state g.S.Store c.select.new.conn) knows rows.items c.args.filer.now (rw c.params-to_sql.ensures at h)) (c.select.ensures.shown clean)
+    IfOk-weaker c.select.result _ _ (λ rows h. reads_places_of (state g.S.Store c.args.conn.now)
+    (state g.S.Store c.select.new.conn) knows rows.items c.args.filer.now (rw c.params-to_sql.ensures at h))
+    (c.select.ensures.shown clean)
 
 pub select-requires : goal.select-requires
 select-requires g c = query_places_of

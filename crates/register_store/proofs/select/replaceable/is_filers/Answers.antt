@@ -8,4 +8,5 @@ use Rattle.register_store.proofs.select.replaceable.is_filers.Goals as goal
 pub returns-clause-found : goal.returns-clause-found
 returns-clause-found g c clean e F was n k seq placed =
     let read = c.in_ok-rows.ensures.read clean (knows F _ was) in
-    c.is_text.ensures k.request.filer (c.deref.ensures.value ∙ kept_shown F _ _ _ filer_alone was _ n k (to_z-of_z w64 c.args.seq c.ranges.seq ∙ seq) placed read)
+    c.is_text.ensures k.request.filer (c.deref.ensures.value
+    ∙ kept_shown F _ _ _ filer_alone was _ n k (to_z-of_z w64 c.args.seq c.ranges.seq ∙ seq) placed read)

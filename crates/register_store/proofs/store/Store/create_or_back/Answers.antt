@@ -1,8 +1,8 @@
 use Rattle.std.proofs.Common.{refl, sym, ◌∙◌, rules, arith}
 use Rattle.sqlite.specs.Held.{state}
 use Rattle.sqlite.proofs.StateLemmas.{survives_weaker}
-use Rattle.register_opening.specs.Refusals.{GivesBackMaking}
-use Rattle.register_opening.proofs.Making.{none_registered, leaves_empty}
+use Rattle.register_tables.specs.Refusals.{GivesBackMaking}
+use Rattle.register_tables.proofs.Making.{none_registered, leaves_empty}
 use Rattle.register_store.proofs.StoreLemmas.{none_listed}
 use Rattle.register_store.proofs.store.Store.create_or_back.Goals as goal
 
@@ -12,7 +12,12 @@ returns-in-Ok g c = record {
     made = λ clean none.
         let made = c.in-Ok.ensures.makes.made clean none in
         record {
-          stands = record { autocommit = c.make_register.ensures.makes.autocommit; now = λ _. made.1; committed = λ _. made.2 };
+          stands = record {
+            autocommit = c.make_register.ensures.makes.autocommit;
+            now = λ _. made.1;
+            committed =
+                λ _. made.2;
+          };
           kept_is = refl;
           filings_is = rw none_registered refl;
           within = omega arith;
@@ -21,7 +26,8 @@ returns-in-Ok g c = record {
     counts = search rules;
     taken = search rules;
     refused = search rules;
-    crash = survives_weaker (state g.S.Store c.args.conn) (state g.S.Store c.make_register.new.conn) _ _ (λ _ trees made. leaves_empty g.S.Store c.args.conn trees made) c.make_register.ensures.makes.crash;
+    crash = survives_weaker (state g.S.Store c.args.conn) (state g.S.Store c.make_register.new.conn) _ _
+        (λ _ trees made. leaves_empty g.S.Store c.args.conn trees made) c.make_register.ensures.makes.crash;
     durable = search rules;
   };
   back = search rules;

@@ -2,31 +2,44 @@ use Rattle.std.proofs.Common.{sym, ◌∙◌, subst, rules}
 use Rattle.sqlite.specs.Held.{state}
 use Rattle.sqlite.proofs.StateLemmas.{survives_weaker}
 use Rattle.table_rows.specs.Standing.{HasCommitted}
-use Rattle.register_opening.specs.Refusals.{GivesBackMigrating}
-use Rattle.register_opening.specs.Registers.{IsRegisterOf}
-use Rattle.register_opening.proofs.Surveyed.{early_within, leaves_migrated}
+use Rattle.register_tables.specs.Refusals.{GivesBackMigrating}
+use Rattle.register_tables.specs.Registers.{IsRegisterOf}
+use Rattle.register_tables.proofs.Surveyed.{old_style_within, leaves_migrated}
 use Rattle.register_store.proofs.store.Store.migrate_or_back.Goals as goal
 
 pub returns-in-Ok : goal.returns-in-Ok
 returns-in-Ok g c = record {
   outcome = record {
     migrated = λ clean form alone.
-        let m = c.in-Ok.ensures.migrated clean form alone in
-        (m.requests, m.were, record { stands = m.are; kept_is = m.kept_is; filings_is = m.filings_is; within = early_within form _ _ _ m.were.rows.early_is; catalogue_is = m.catalogue_is });
-    only = λ clean form early F alone is.
-        let found = c.in-Ok.ensures.only clean form early F alone is in
+        let m = c.in-Ok.ensures.migrated clean form alone in (
+          m.requests,
+          m.were,
+          record {
+            stands = m.are;
+            kept_is = m.kept_is;
+            filings_is = m.filings_is;
+            within =
+                old_style_within form _ _ _ m.were.rows.old_style_is;
+            catalogue_is = m.catalogue_is;
+          },
+        );
+    only = λ clean form old_style F alone is.
+        let found = c.in-Ok.ensures.only clean form old_style F alone is in
         let same = sym found.0 in (
           found.0,
           record {
-            stands = subst (λ n. HasCommitted (IsRegisterOf n F) (state g.S.Store c.migrate_register.new.conn)) same found.1;
+            stands = subst (λ n. HasCommitted (IsRegisterOf n F) (state g.S.Store c.migrate_register.new.conn)) same
+                found.1;
             kept_is = found.2;
             filings_is = found.3;
-            within = rw found.0 (early_within form _ early _ is.rows.early_is);
+            within = rw found.0 (old_style_within form _ old_style _ is.rows.old_style_is);
             catalogue_is = found.4;
           },
         );
     refused = search rules;
-    crash = survives_weaker (state g.S.Store c.args.conn) (state g.S.Store c.migrate_register.new.conn) _ _ (λ _ trees m form early F alone is. leaves_migrated g.S.Store c.args.conn trees m form early F alone is) c.migrate_register.ensures.crash;
+    crash = survives_weaker (state g.S.Store c.args.conn) (state g.S.Store c.migrate_register.new.conn) _ _
+        (λ _ trees m form old_style F alone is. leaves_migrated g.S.Store c.args.conn trees m form old_style F alone is)
+        c.migrate_register.ensures.crash;
     durable = search rules;
   };
   back = search rules;

@@ -13,4 +13,9 @@ invariant_of-self-2 g c =
 pub returns-clause-restarted : goal.returns-clause-restarted
 returns-clause-restarted g c =
     let inside = c.self.inside in
-    rw (sym c.self.view_is) (λ i. record { limit = inside.limit; done = inside.done.items; up = c.in_ok-open.ensures.up i })
+    rw (sym c.self.view_is) (λ i. record {
+      limit = inside.limit;
+      done = inside.done.items;
+      up =
+          c.in_ok-open.ensures.up i;
+    })

@@ -11,7 +11,9 @@ invariant_of-self g c = λ none.
     let old = c.self.inside in
     let keeps = c.self.invariant none in
     let before = world_of old.server old.sent.items old.outputs.items old.filers.items in
-    let after = world_of c.play_on-played.new.server c.play_on-played.new.sent.items c.play_on-played.new.outputs.items c.play_on-played.new.filers.items in
+    let after =
+    world_of c.play_on-played.new.server c.play_on-played.new.sent.items c.play_on-played.new.outputs.items
+    c.play_on-played.new.filers.items in
     keeps_step before (view_event c.args.event.now) after keeps (c.in-Ok.ensures.step keeps.own)
 
 pub returns-in-Ok : goal.returns-in-Ok
@@ -21,7 +23,9 @@ returns-in-Ok g c =
     let old = c.self.inside in
     let keeps = c.self.invariant none in
     let before = world_of old.server old.sent.items old.outputs.items old.filers.items in
-    let after = world_of c.play_on-played.new.server c.play_on-played.new.sent.items c.play_on-played.new.outputs.items c.play_on-played.new.filers.items in
+    let after =
+    world_of c.play_on-played.new.server c.play_on-played.new.sent.items c.play_on-played.new.outputs.items
+    c.play_on-played.new.filers.items in
     let stepped = c.in-Ok.ensures.step keeps.own in
     record {
       step = rw (sym c.self.view_is) stepped;
@@ -56,7 +60,9 @@ returns-in-Err g c =
           let is = reopen_why c.saturating_add-number.result n c.in-Err.why (sym c.of-fault.ensures ∙ told) in
           rw (sym c.self.view_is) (c.in-Err.ensures.reopen (ap Err is));
       counts = λ first. c.saturating_add-number.ensures ∙ ap (λ (w : Played). next_number w.events) c.self.view_is;
-      numbered = λ first. subst (Tells c.saturating_add-number.result) (sym c.of-fault.ensures) (tells_own c.saturating_add-number.result c.in-Err.why);
+      numbered =
+          λ first. subst (Tells c.saturating_add-number.result) (sym c.of-fault.ensures)
+          (tells_own c.saturating_add-number.result c.in-Err.why);
       ended = λ fault e. absurd (let no : None ≡ Some fault = sym none ∙ fault_is ∙ e in cc);
       stops = refl;
       goes_on = tt;

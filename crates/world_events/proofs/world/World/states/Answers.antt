@@ -6,7 +6,8 @@ use Rattle.world_events.proofs.world.World.states.Goals as goal
 pub invariant_of-self : goal.invariant_of-self
 invariant_of-self g c = λ none.
     let inside = c.self.inside in
-    subst (λ boxes. Keeps (world_with inside.server inside.sent.items inside.outputs.items boxes)) (sym c.all_states.ensures.same) (c.self.invariant none)
+    subst (λ boxes. Keeps (world_with inside.server inside.sent.items inside.outputs.items boxes))
+    (sym c.all_states.ensures.same) (c.self.invariant none)
 
 pub returns-clause-store : goal.returns-clause-store
 returns-clause-store g c = rw (sym c.self.view_is) c.all_states.ensures.store

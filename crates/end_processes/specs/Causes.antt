@@ -1,0 +1,76 @@
+-- The causes by which an end tells the refusals below it. Want of memory is told as that alone.
+use Rattle.sqlite.specs.declared.error.Error.{Error}
+use Rattle.table_rows.specs.declared.cause.Cause.{Cause as Refusal}
+use Rattle.table_rows.specs.declared.cause.Cause.TheVariants as refusal
+use Rattle.table_rows.specs.Causes.{cause_of, store_fault}
+use Rattle.table_rows.specs.declared.fault.StoreFault.{StoreFault}
+use Rattle.table_rows.specs.declared.fault.StoreFault.TheVariants as store
+use Rattle.register_tables.specs.declared.fault.OpenFault.{OpenFault}
+use Rattle.register_tables.specs.declared.fault.OpenFault.TheVariants as register
+use Rattle.outbox_tables.specs.declared.fault.OutboxFault.{OutboxFault}
+use Rattle.outbox_tables.specs.declared.fault.OutboxFault.TheVariants as outbox
+use Rattle.command_line.specs.declared.fault.DatabaseFault.{DatabaseFault}
+use Rattle.command_line.specs.declared.fault.DatabaseFault.TheVariants as database
+use Rattle.register_tables.specs.declared.fault.CreateFault.{CreateFault}
+use Rattle.register_tables.specs.declared.fault.CreateFault.TheVariants as making
+use Rattle.intake_process.specs.declared.fault.OpeningFault.{OpeningFault}
+use Rattle.intake_process.specs.declared.fault.OpeningFault.TheVariants as opening
+use Rattle.end_processes.specs.declared.cause.Cause.{Cause}
+use Rattle.end_processes.specs.declared.cause.Cause.TheVariants as cause
+
+abbrev pub reopen_cause_by : Refusal → Cause
+reopen_cause_by refusal.Memory = cause.Memory
+reopen_cause_by refusal.Disk = cause.Reopen
+reopen_cause_by refusal.Other = cause.Reopen
+
+-- of a call on a store
+abbrev pub store_cause : StoreFault → Cause
+store_cause store.Memory = cause.Memory
+store_cause store.Store = cause.Store
+
+-- of a database that was not opened
+abbrev pub reopen_cause : Error → Cause
+reopen_cause error = reopen_cause_by (cause_of error)
+
+-- of a register that was not opened
+abbrev pub register_cause : OpenFault → Cause
+register_cause register.NotOurs = cause.Reopen
+register_cause (register.Damaged row) = cause.Reopen
+register_cause register.Memory = cause.Memory
+register_cause register.Disk = cause.Reopen
+
+-- of a place that gave no database
+abbrev pub files_cause : DatabaseFault → Cause
+files_cause database.Memory = cause.Memory
+files_cause _ = cause.Reopen
+
+-- of a register that was not made
+abbrev pub making_cause : CreateFault → Cause
+making_cause making.Taken = cause.Store
+making_cause making.Memory = cause.Memory
+making_cause making.Disk = cause.Store
+
+-- of a register that was not opened, or not made, in the place where it lies
+abbrev pub opening_cause : OpeningFault → Cause
+opening_cause (opening.Files fault) = files_cause fault
+opening_cause (opening.Taken holding) = cause.Reopen
+opening_cause (opening.Create fault) = making_cause fault
+opening_cause (opening.Open fault holding) = register_cause fault
+
+-- of an outbox that was not opened
+abbrev pub outbox_cause : OutboxFault → Cause
+outbox_cause outbox.BadFiler = cause.Reopen
+outbox_cause outbox.Taken = cause.Reopen
+outbox_cause outbox.NotOurs = cause.Reopen
+outbox_cause (outbox.Damaged row) = cause.Reopen
+outbox_cause outbox.Memory = cause.Memory
+outbox_cause outbox.Disk = cause.Reopen
+
+-- of a store that did not give its files back
+abbrev pub closing_cause : StoreFault → Cause
+closing_cause store.Memory = cause.Memory
+closing_cause store.Store = cause.Reopen
+
+-- of a database that was not closed
+abbrev pub close_cause : Error → Cause
+close_cause error = closing_cause (store_fault error)

@@ -1,0 +1,65 @@
+-- What contracts see of an outbox in files.
+use Rattle.std.specs.Prelude.{◌≡◌, ℕ, true, List, Option, Some, None, Result, Ok, Err}
+use Rattle.key_string.specs.Filer.{is_filer}
+use Rattle.http_messages.specs.declared.refusal.ReplyFault.TheVariants.{Cut, Malformed, NoLength, TooLarge, Read}
+use Rattle.http_messages.specs.declared.refusal.ReplyFault.TheVariants.{ReadLimit, Memory}
+use Rattle.filing_model.specs.Outbox.{Entry, State}
+use Rattle.filing_world.specs.World.{Outbox}
+use Rattle.outbox_core.specs.declared.fault.TakeFault.TheVariants as take
+use Rattle.filing_model.specs.declared.state.State.{State as Stored}
+use Rattle.outbox_tables.specs.Entries.{Contents, empty}
+use Rattle.outbox_core.specs.Entries.{set_state}
+use Rattle.filing_model.specs.Views.{view_state}
+use Rattle.filer_client.specs.declared.fault.ExchangeFault.{ExchangeFault}
+use Rattle.filer_client.specs.declared.fault.ExchangeFault.TheVariants.{Write, Reply, Take}
+use Rattle.table_rows.specs.declared.fault.StoreFault.{StoreFault}
+use Rattle.table_rows.specs.declared.fault.StoreFault.TheVariants as store
+use Rattle.end_processes.specs.declared.outboxes.Opening.{Opening}
+use Rattle.end_processes.specs.declared.outboxes.Opening.TheVariants.{Made, Found}
+
+-- an outbox that is up
+abbrev pub up_with : List ℕ → List Entry → Outbox
+up_with filer entries = record { filer = filer; entries = entries; up = true }
+
+-- ---- what it has
+
+-- these are its filer and its entries: none where it is made, and else those that lie in the database
+abbrev pub ComesWith : Opening → Type 0 → Contents → Type 0
+ComesWith (Made filer) Lies it = it ≡ empty filer.now
+ComesWith Found Lies it = Lies
+
+-- it is made for a filer, if it is made
+abbrev pub IsForFiler : Opening → Type 0
+IsForFiler (Made filer) = is_filer filer.now ≡ true
+IsForFiler Found = Unit {0}
+
+-- what there is after a call that answered so, or what there was, where it was refused
+abbrev pub after_answer : {A E X : Type 0} → Result A E → X → (A → X) → X
+after_answer (Ok answer) old left = left answer
+after_answer (Err fault) old left = old
+
+-- ---- what is heard
+
+-- A reply that cannot be read is none, and moves nothing. Else memory ran out, or the outbox did not take the reply.
+abbrev pub why_unheard : ExchangeFault → Option StoreFault
+why_unheard (Reply Cut) = None
+why_unheard (Reply Malformed) = None
+why_unheard (Reply NoLength) = None
+why_unheard (Reply TooLarge) = None
+why_unheard (Reply ReadLimit) = None
+why_unheard (Reply Read) = None
+why_unheard (Reply Memory) = Some store.Memory
+why_unheard (Take take.Memory) = Some store.Memory
+why_unheard (Take take.NoEntry) = Some store.Store
+why_unheard (Take take.Store) = Some store.Store
+why_unheard (Write sent) = Some store.Store
+
+-- the state that an entry came to, or its own
+abbrev pub state_or : State → Option Stored → State
+state_or own None = own
+state_or own (Some to) = view_state to
+
+-- the entries, with the one of this number in the state that it came to
+abbrev pub entries_after : List Entry → ℕ → Option Stored → List Entry
+entries_after entries number None = entries
+entries_after entries number (Some to) = set_state entries number (view_state to)

@@ -1,5 +1,0 @@
-use Rattle.outbox_opening.proofs.Texts.{meta_reads}
-use Rattle.outbox_opening.proofs.rows.meta_rows.Goals as goal
-
-pub select-requires : goal.select-requires
-select-requires g c = meta_reads

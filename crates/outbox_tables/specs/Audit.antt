@@ -1,0 +1,189 @@
+-- What an opening makes of the rows that it finds.
+use Rattle.std.specs.Prelude.{IsSome, ◌≡◌, ◌≤◌, ◌⊎◌, ⊤, ℕ, suc, pos, ◌^◌, Bool, true, false, not, ◌&&◌, ◌||◌}
+use Rattle.std.specs.Prelude.{if◌then◌else◌, List, [], ◌∷◌, filter, length, codes, bytes_eq, nat_le, nat_lt, Option}
+use Rattle.std.specs.Prelude.{Some, None}
+use Rattle.std.specs.List.{list_any}
+use Rattle.std.specs.Ordering.{int_eq}
+use Rattle.sqlite.specs.declared.types.Value.{Value}
+use Rattle.sqlite.specs.declared.types.Value.TheVariants.{Null, Int, Text, Blob}
+use Rattle.sqlite.specs.Order.{Row, column}
+use Rattle.sqlite.specs.Store.{Ghosts}
+use Rattle.sqlite.specs.Held.{Held, state}
+use Rattle.sqlite.specs.State.{State, Shown, FailsToQuery}
+use Rattle.sqlite.specs.declared.error.Error.{Error}
+use Rattle.key_string.specs.Key.{IsKey, is_key}
+use Rattle.filing_model.specs.Outbox.{Entry}
+use Rattle.table_rows.specs.Causes.{cause_of}
+use Rattle.table_rows.specs.declared.cause.Cause.{Cause}
+use Rattle.table_rows.specs.declared.cause.Cause.TheVariants.{Disk, Other}
+use Rattle.outbox_tables.specs.declared.fault.OutboxFault.{OutboxFault}
+use Rattle.outbox_tables.specs.declared.fault.OutboxFault.TheVariants as fault
+use Rattle.outbox_tables.specs.Entries.{FitsNumber}
+use Rattle.key_string.specs.Filer.{is_filer}
+use Rattle.http_messages.specs.Head.{max_body_len}
+use Rattle.http_messages.specs.Posting.{IsTarget}
+
+abbrev pub is_int : ℕ → Value → Bool
+is_int n (Int k) = int_eq k (pos n)
+is_int n _ = false
+
+abbrev pub is_absent : Value → Bool
+is_absent Null = true
+is_absent _ = false
+
+-- the text of a key
+abbrev pub is_key_text : Value → Bool
+is_key_text (Text t) = is_key t
+is_key_text _ = false
+
+-- a body within its limit
+abbrev pub is_body : Value → Bool
+is_body (Blob b) = nat_le (length b) max_body_len
+is_body _ = false
+
+-- a number of the register is from 1 to 2^63 - 1
+abbrev pub is_number : Value → Bool
+is_number (Int (pos n)) = nat_le 1 n && nat_lt n (2 ^ 63)
+is_number _ = false
+
+-- a state, with a number where it is that of a confirmed entry and with none else
+abbrev pub is_state : Value → Value → Bool
+is_state code number =
+    if is_int 1 code then is_number number
+    else ((is_int 0 code || (is_int 2 code || is_int 3 code)) && is_absent number)
+
+-- the row of an entry, as an outbox keeps it, of this id
+abbrev pub is_entry : ℕ → Row → Bool
+is_entry id row =
+    is_int id (column row 0) && (is_key_text (column row 1)
+    && (is_body (column row 2) && is_state (column row 3) (column row 4)))
+
+-- the rows of this id
+abbrev pub with_id : ℕ → List Row → List Row
+with_id id rows = filter (λ row. is_int id (column row 0)) rows
+
+-- the rows of `target` with the id of an entry: none, or one with the number of a filing
+abbrev pub is_target : List Row → Bool
+is_target [] = true
+is_target (row ∷ []) = is_number (column row 1)
+is_target (row ∷ other ∷ rows) = false
+
+-- the row of an entry is sound, and so is what is said of its target
+abbrev pub is_sound : List Row → ℕ → Row → Bool
+is_sound targets id row = is_entry id row && is_target (with_id id targets)
+
+-- the first row that is not so, where the first of the rows has this id
+abbrev pub first_damaged : List Row → ℕ → List Row → Option ℕ
+first_damaged targets id [] = None
+first_damaged targets id (row ∷ rows) = if is_sound targets id row then first_damaged targets (suc id) rows else Some id
+
+-- an id from 1 to so many
+abbrev pub is_id_to : ℕ → Value → Bool
+is_id_to count (Int (pos n)) = nat_le 1 n && nat_le n count
+is_id_to count _ = false
+
+-- a row of `target` is that of none of so many entries
+abbrev pub is_left_over : ℕ → List Row → Bool
+is_left_over count targets = list_any (λ row. not (is_id_to count (column row 0))) targets
+
+abbrev pub or_left_over : Bool → Option ℕ → Option ℕ
+or_left_over left (Some row) = Some row
+or_left_over left None = if left then Some 0 else None
+
+-- the row of the first entry that is not sound; or 0, where each is and a row of `target` is that of no entry
+abbrev pub damaged_row : List Row → List Row → Option ℕ
+damaged_row targets rows = or_left_over (is_left_over (length rows) targets) (first_damaged targets 1 rows)
+
+-- what the database is
+abbrev pub is_outbox : Value → Bool
+is_outbox (Text t) = bytes_eq t (codes "outbox")
+is_outbox _ = false
+
+-- the code of a filer
+abbrev pub filer_text : Value → Option (List ℕ)
+filer_text (Text t) = if is_filer t then Some t else None
+filer_text _ = None
+
+-- the filer of the one row of `outbox_meta`, where it is one in this form
+abbrev pub filer_in : ℕ → List Row → Option (List ℕ)
+filer_in form (row ∷ []) =
+    if is_int 1 (column row 0) && (is_outbox (column row 1) && is_int form (column row 2))
+    then filer_text (column row 3) else None
+filer_in form _ = None
+
+-- a row of two columns
+abbrev pub IsPair : Row → Type 0
+IsPair row = row ≡ column row 0 ∷ column row 1 ∷ []
+
+-- an entry that may be sent, with a number that fits
+pub record IsKept (e : Entry) : Type 0 where
+  pub key : IsKey e.key
+  pub target : IsTarget e.target
+  pub body : length e.body ≤ max_body_len
+  pub number : FitsNumber e.state
+
+-- ---- why a database is not opened
+
+abbrev pub meta_text : List ℕ
+meta_text = codes "SELECT id, kind, form, filer FROM outbox_meta"
+
+abbrev pub targets_text : List ℕ
+targets_text = codes "SELECT id, number FROM target"
+
+abbrev pub entries_text : List ℕ
+entries_text = codes "SELECT id, idem, body, state, number FROM entry ORDER BY id"
+
+-- the query failed for such a cause
+abbrev pub StopsFor : Cause → List ℕ → State → State → Type 0
+StopsFor cause text old new = (error : Error) × FailsToQuery text [] old new error × (cause_of error ≡ cause)
+
+-- `outbox_meta` cannot be read, for another cause than memory or disk, or its rows are not the one row of this form
+abbrev pub IsNoOutbox : ℕ → State → State → Type 0
+IsNoOutbox form old new =
+    ((rows : List Row) × Shown meta_text [] old new rows × (filer_in form rows ≡ None))
+    ⊎ StopsFor Other meta_text old new
+
+-- the filer was found in the row of this form
+abbrev pub ReadsFiler : ℕ → State → State → Type 0
+ReadsFiler form old new = (rows : List Row) × Shown meta_text [] old new rows × IsSome (filer_in form rows)
+
+-- The row is the first, in the order of the ids and counted from 1, that is not that of an entry or whose target is
+-- none; or it is 0, and a row of `target` is that of no entry, or `entry` cannot be read, for another cause than memory
+-- or disk.
+abbrev pub IsDamagedAt : List Row → ℕ → State → State → Type 0
+IsDamagedAt targets row old new =
+    ((rows : List Row) × Shown entries_text [] old new rows × (damaged_row targets rows ≡ Some row))
+    ⊎ ((row ≡ 0) × StopsFor Other entries_text old new)
+
+-- So it is where the rows of `target` were read before; or the row is 0, and these cannot be read, for such a cause.
+abbrev pub AreDamaged : {S : Type 0} → Ghosts S → ℕ → Held S → Held S → Type 0
+AreDamaged {S} g row old new =
+    ((row ≡ 0) × StopsFor Other targets_text (state g old) (state g new))
+    ⊎ ((mid : Held S) × (targets : List Row) × Shown targets_text [] (state g old) (state g mid) targets
+    × IsDamagedAt targets row (state g mid) (state g new))
+
+-- so it is where the filer was found before
+abbrev pub IsDamaged : {S : Type 0} → Ghosts S → ℕ → Held S → Held S → Type 0
+IsDamaged {S} g row old new = (mid : Held S) × ReadsFiler 2 (state g old) (state g mid) × AreDamaged g row mid new
+
+-- the query of `target` failed by the disk, or that of `entry` where those rows were read before
+abbrev pub AreStopped : {S : Type 0} → Ghosts S → Held S → Held S → Type 0
+AreStopped {S} g old new =
+    StopsFor Disk targets_text (state g old) (state g new)
+    ⊎ ((mid : Held S) × (targets : List Row) × Shown targets_text [] (state g old) (state g mid) targets
+    × StopsFor Disk entries_text (state g mid) (state g new))
+
+-- the query of `outbox_meta` failed by it, or one of the others where the filer was found before
+abbrev pub IsStopped : {S : Type 0} → Ghosts S → Held S → Held S → Type 0
+IsStopped {S} g old new =
+    StopsFor Disk meta_text (state g old) (state g new)
+    ⊎ ((mid : Held S) × ReadsFiler 2 (state g old) (state g mid) × AreStopped g mid new)
+
+-- what a refusal says of the database; an opening has no other refusals
+abbrev pub IsRefused : {S : Type 0} → Ghosts S → OutboxFault → Held S → Held S → Type 0
+IsRefused g fault.BadFiler old new = ⊥
+IsRefused g fault.Taken old new = ⊥
+IsRefused g fault.NotOurs old new = IsNoOutbox 2 (state g old) (state g new)
+IsRefused g (fault.Damaged row) old new = IsDamaged g row old new
+IsRefused g fault.Memory old new = ⊤
+IsRefused g fault.Disk old new = IsStopped g old new

@@ -1,0 +1,43 @@
+-- What is promised where an outbox in the form before this one is brought into this one.
+use Rattle.std.specs.Prelude.{◌≡◌, ◌≤◌, ◌^◌, true, false, List, length, Result, IsTrue, IfOk, IfErr, OnOk, string_bytes}
+use Rattle.key_string.specs.Filer.{is_filer}
+use Rattle.sqlite.specs.Store.{Ghosts}
+use Rattle.sqlite.specs.Held.{Held, state}
+use Rattle.sqlite.specs.State.{HasCleanDisk, Survives}
+use Rattle.filing_model.specs.Outbox.{Entry}
+use Rattle.table_rows.specs.Standing.{HasCommitted, IsLasting, KeepsOnErr}
+use Rattle.outbox_tables.specs.declared.fault.OutboxFault.{OutboxFault}
+use Rattle.outbox_tables.specs.declared.opening.FoundOutbox.{FoundOutbox}
+use Rattle.outbox_tables.specs.Entries.{Contents, contents_of}
+use Rattle.outbox_tables.specs.Rows.{IsOutboxOf}
+use Rattle.outbox_tables.specs.Earlier.{IsAlone, IsEarlierOf, IsNotMigrated, is_blocked, LeavesMigrated}
+use Rattle.outbox_tables.specs.Faults.{IsFailure}
+
+-- The outbox that was there in the earlier form was brought into this one over a connection, in one transaction: its
+-- filer, and how many entries it has. Or it was refused. What is said of the rows holds where the disk is clean at the
+-- end.
+pub record MigratesOutbox {S : Type 0} (g : Ghosts S) (old new : Held S)
+    (result : Result FoundOutbox OutboxFault) : Type 0 where
+  pub autocommit : new.in_transaction ≡ false
+  -- Where the database has no other tables, the rows held an outbox in that form, and hold the same in this one.
+  pub migrated :
+      HasCleanDisk (state g new) → IsAlone (state g old).now.schema
+      → IfOk result (λ found.
+      (entries : List Entry)
+      × IsEarlierOf (contents_of (string_bytes found.filer) entries) (state g old).now
+      × HasCommitted (IsOutboxOf (contents_of (string_bytes found.filer) entries)) (state g new)
+      × (found.count ≡ length entries))
+  pub «open» : HasCleanDisk (state g new) → OnOk result (IsTrue (state g new).is_open)
+  pub code : IfOk result (λ found. is_filer (string_bytes found.filer) ≡ true)
+  pub few : IfOk result (λ found. found.count ≤ 2 ^ 62)
+  -- A refusal says why; where the rows hold an outbox in that form and the name is not in the way, it is by memory or
+  -- disk. What is committed is what was committed.
+  pub refused : HasCleanDisk (state g new) → IfErr result (λ fault. IsNotMigrated g fault old new)
+  pub sound :
+      HasCleanDisk (state g new)
+      → IfErr result (λ fault. (it : Contents) → IsEarlierOf it (state g old).now
+      → is_blocked (state g old).now.schema ≡ false → IsFailure fault)
+  pub undone : KeepsOnErr (state g old) (state g new) result
+  -- A crash leaves what it could leave before, or the migrated rows, and after the call these alone.
+  pub crash : Survives (state g old) (state g new) (LeavesMigrated (state g old))
+  pub durable : HasCleanDisk (state g new) → OnOk result (IsLasting (state g new))

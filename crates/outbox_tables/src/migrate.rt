@@ -1,0 +1,100 @@
+//! An outbox in the form before this one is brought into this one.
+
+ghost use Rattle.std.specs.Prelude.{◌≡◌, ◌≤◌, ◌^◌, List, length, true, false, None, IsTrue, IfOk, IfErr, OnOk};
+ghost use Rattle.std.specs.Prelude.{string_bytes};
+ghost use Rattle.key_string.specs.Filer.{is_filer};
+ghost use Rattle.filing_model.specs.Outbox.{Entry as Item};
+ghost use Rattle.sqlite.specs.Effect.{IsDatabase};
+ghost use Rattle.sqlite.specs.Held.{state};
+ghost use Rattle.sqlite.specs.State.{HasCleanDisk, Survives};
+ghost use Rattle.table_rows.specs.Leaving.{OnlyReads, OnlyWrites};
+ghost use Rattle.table_rows.specs.Standing.{IsCommitted, IsLasting, KeepsOnErr, IsAtRest};
+ghost use Rattle.outbox_tables.specs.Schema.{HasCommon};
+ghost use Rattle.outbox_tables.specs.Entries.{Contents, contents_of};
+ghost use Rattle.outbox_tables.specs.Rows.{IsOutboxOf};
+ghost use Rattle.outbox_tables.specs.Earlier.{IsAlone, IsEarlierOf, IsFound, IsNotFound, Raises, LeavesMigrated};
+ghost use Rattle.outbox_tables.specs.Faults.{IsFailure};
+ghost use Rattle.outbox_tables.specs.Migrating.{MigratesOutbox};
+
+use crate::fault::OutboxFault;
+use crate::opening::{FoundOutbox, count_whole, filer_of};
+use sqlite::{Alter, Connection, Error, Transaction};
+use sqlite_catalog::layout::is_used;
+use std::alloc::Global;
+use table_rows::{is_settled, run};
+
+/// Reads the outbox of a database in the form before this one. Nothing is written.
+fn read_earlier<S: Alter>(
+    alloc: Global,
+    conn: &mut Connection<S>,
+) -> Result<FoundOutbox, OutboxFault>
+    ensures found { HasCleanDisk (state S.Store conn.new) → HasCommon (state S.Store conn.old).now.schema
+        → (IsTrue (state S.Store conn.old).is_open → IsDatabase (state S.Store conn.old).now)
+        → IfOk result (λ found.
+        (entries : List Item)
+        × IsEarlierOf (contents_of (string_bytes found.filer) entries) (state S.Store conn.old).now
+        × (found.count ≡ length entries)) }
+    ensures code { IfOk result (λ found. is_filer (string_bytes found.filer) ≡ true) }
+    ensures few { IfOk result (λ found. found.count ≤ 2 ^ 62) }
+    ensures read { HasCleanDisk (state S.Store conn.new) → OnOk result (IsFound S.Store conn.old conn.new) }
+    ensures refused { HasCleanDisk (state S.Store conn.new)
+        → IfErr result (λ fault. IsNotFound S.Store fault conn.old conn.new) }
+    ensures sound { HasCleanDisk (state S.Store conn.new)
+        → (it : Contents) → IsEarlierOf it (state S.Store conn.old).now
+        → (state S.Store conn.old).step_limit ≡ None → IfErr result IsFailure }
+    ensures leaves { OnlyReads S.Store conn.old conn.new result }
+{
+    let filer = filer_of(conn, alloc, 1)?;
+    let count = count_whole(alloc, conn, &[])?;
+    Ok(FoundOutbox { filer, count })
+}
+
+/// Makes the table of the targets, and raises the form.
+fn raise<S: Alter>(tx: &mut Transaction<'_, S>) -> Result<(), Error>
+    ensures ran { HasCleanDisk (state S.Store tx.new.conn.now)
+        → OnOk result (Raises S.Store tx.old.conn.now tx.new.conn.now) }
+    ensures leaves { OnlyWrites S.Store tx.old.conn tx.new.conn }
+{
+    run(
+        tx,
+        "CREATE TABLE target (id INTEGER PRIMARY KEY, number INTEGER NOT NULL) STRICT",
+        &[],
+    )?;
+    run(tx, "UPDATE outbox_meta SET form = 2 WHERE id = 1", &[])
+}
+
+/// Writes it in one transaction.
+fn write<S: Alter>(conn: &mut Connection<S>) -> Result<(), Error>
+    requires autocommit { conn.old.in_transaction ≡ false }
+    ensures autocommit { conn.new.in_transaction ≡ false }
+    ensures migrated { HasCleanDisk (state S.Store conn.new) → (it : Contents)
+        → IsAlone (state S.Store conn.old).now.schema → IsEarlierOf it (state S.Store conn.old).now
+        → OnOk result (IsOutboxOf it (state S.Store conn.new).now) }
+    ensures committed { HasCleanDisk (state S.Store conn.new) → OnOk result (IsCommitted (state S.Store conn.new)) }
+    ensures durable { HasCleanDisk (state S.Store conn.new) → OnOk result (IsLasting (state S.Store conn.new)) }
+    ensures undone { KeepsOnErr (state S.Store conn.old) (state S.Store conn.new) result }
+    ensures crash { Survives (state S.Store conn.old) (state S.Store conn.new)
+        (LeavesMigrated (state S.Store conn.old)) }
+{
+    let mut tx = conn.transaction();
+    raise(&mut tx)?;
+    tx.commit()
+}
+
+/// Brings an outbox in the form before this one into this one, in one transaction: no entry has a target. What is said
+/// of the new rows holds where the database has no other tables.
+pub fn migrate_outbox<S: Alter>(
+    alloc: Global,
+    conn: &mut Connection<S>,
+) -> Result<FoundOutbox, OutboxFault>
+    requires { IsAtRest conn.old }
+    ensures { MigratesOutbox S.Store conn.old conn.new result }
+{
+    prove!(is_settled(conn));
+    let found = read_earlier(alloc, conn)?;
+    if is_used(conn.schema(), b"target") {
+        return Err(OutboxFault::NotOurs);
+    }
+    write(conn)?;
+    Ok(found)
+}

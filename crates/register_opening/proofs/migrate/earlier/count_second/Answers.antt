@@ -1,5 +1,0 @@
-use Rattle.std.proofs.Common.{refl}
-use Rattle.register_opening.proofs.migrate.earlier.count_second.Goals as goal
-
-pub returns-clause-counted : goal.returns-clause-counted
-returns-clause-counted g c clean = record { mid = c.args.conn.now; early_is = (refl, refl); totals_are = c.in_ok-totals.ensures.counted clean }

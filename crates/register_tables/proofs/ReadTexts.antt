@@ -1,0 +1,156 @@
+-- What the texts of the SELECTs mean under the declared tables.
+use Rattle.std.proofs.Common.{ℕ, List, [], ◌∷◌, codes, refl, sym, subst}
+use Rattle.sqlite_schema.specs.declared.schema.Index.{Index}
+use Rattle.sqlite_schema.specs.declared.schema.View.{View}
+use Rattle.sqlite.specs.Table.{Table}
+use Rattle.sqlite.specs.Schema.{Schema}
+use Rattle.sqlite.specs.Collation.TheVariants.{Binary}
+use Rattle.sqlite.specs.Term.{Term, col, op2}
+use Rattle.sqlite_sql.specs.declared.ops.BinaryOp.TheVariants.{Compare}
+use Rattle.sqlite_sql.specs.declared.ops.CompareOp.TheVariants.{Eq}
+use Rattle.sqlite_tied.specs.Compute.{everything}
+use Rattle.sqlite.specs.Listing.{understood}
+use Rattle.sqlite.specs.Query.{Query}
+use Rattle.table_rows.specs.Tables.{schema_with}
+use Rattle.table_rows.proofs.SelectLemmas.{one_table}
+use Rattle.table_rows.proofs.ReadingLemmas.{by_each}
+use Rattle.table_rows.proofs.QueryLemmas.{Asks}
+use Rattle.table_rows.proofs.TextLemmas.{IsQueryText}
+use Rattle.register_tables.specs.Opening.{all_meta, all_kept, all_findings, all_filings, all_facts, all_migrated}
+use Rattle.register_tables.specs.Opening.{all_amends}
+use Rattle.register_rows.specs.Schema.{common_tables, register_tables, HasCommon, IsDeclared}
+
+-- each is a SELECT
+
+pub query_meta : IsQueryText all_meta
+unfolding everything
+query_meta = refl
+
+pub query_kept : IsQueryText all_kept
+unfolding everything
+query_kept = refl
+
+pub query_findings : IsQueryText all_findings
+unfolding everything
+query_findings = refl
+
+pub query_filings : IsQueryText all_filings
+unfolding everything
+query_filings = refl
+
+pub query_facts : IsQueryText all_facts
+unfolding everything
+query_facts = refl
+
+pub query_migrated : IsQueryText all_migrated
+unfolding everything
+query_migrated = refl
+
+pub query_amends : IsQueryText all_amends
+unfolding everything
+query_amends = refl
+
+-- the columns of the row from this place on
+abbrev pub columns : List ℕ → List Term
+columns [] = []
+columns (at ∷ ats) = col 1 at ∷ columns ats
+
+-- the column at this place equals the parameter
+abbrev pub equals : ℕ → List Term
+equals at = op2 (Compare Eq Binary) (col 1 at) (col 0 0) ∷ []
+
+module _ (tables : List Table) (indexes : List Index) (views : List View) where
+  abbrev schema : Schema
+  schema = schema_with common_tables tables indexes views
+
+  meta_text : Asks schema all_meta (one_table 0 [] (columns (0 ∷ 2 ∷ 3 ∷ [])) (by_each (col 1 0 ∷ [])))
+  unfolding understood everything
+  meta_text =
+      record { names = codes "id" ∷ codes "kind" ∷ codes "form" ∷ []; is = refl; plain = (refl, refl); listing = refl }
+
+  kept_text : Asks schema all_kept (one_table 1 [] (columns (0 ∷ 2 ∷ 3 ∷ 4 ∷ 5 ∷ [])) (by_each (col 1 0 ∷ [])))
+  unfolding understood everything
+  kept_text =
+      record {
+        names = codes "seq" ∷ codes "filer" ∷ codes "idem" ∷ codes "body" ∷ codes "number" ∷ [];
+        is =
+            refl;
+        plain = (refl, refl);
+        listing = refl;
+      }
+
+  findings_text : Asks schema all_findings (one_table 3 [] (columns (1 ∷ 2 ∷ 3 ∷ 4 ∷ []))
+      (by_each (col 1 1 ∷ col 1 2 ∷ [])))
+  unfolding understood everything
+  findings_text =
+      record {
+        names = codes "seq" ∷ codes "pos" ∷ codes "code" ∷ codes "place" ∷ [];
+        is = refl;
+        plain =
+            (refl, refl);
+        listing = refl;
+      }
+
+  filings_text : Asks schema all_filings (one_table 5 [] (columns (0 ∷ 2 ∷ [])) (by_each (col 1 0 ∷ [])))
+  unfolding understood everything
+  filings_text = record { names = codes "number" ∷ codes "seq" ∷ []; is = refl; plain = (refl, refl); listing = refl }
+
+  facts_text : Asks schema all_facts (one_table 7 [] (columns (1 ∷ 2 ∷ 3 ∷ 4 ∷ 5 ∷ 6 ∷ 7 ∷ []))
+      (by_each (col 1 1 ∷ col 1 2 ∷ [])))
+  unfolding understood everything
+  facts_text = record {
+    names = codes "number" ∷ codes "pos" ∷ codes "id" ∷ codes "concept" ∷ codes "dimensions" ∷ codes "value"
+        ∷ codes "decimals" ∷ [];
+    is = refl;
+    plain = (refl, refl);
+    listing = refl;
+  }
+
+module _ (tables : List Table) (indexes : List Index) (views : List View) where
+  abbrev whole_schema : Schema
+  whole_schema = schema_with register_tables tables indexes views
+
+  migrated_text : Asks whole_schema all_migrated (one_table 9 [] (columns (0 ∷ 2 ∷ [])) (by_each (col 1 0 ∷ [])))
+  unfolding understood everything
+  migrated_text = record { names = codes "id" ∷ codes "last" ∷ []; is = refl; plain = (refl, refl); listing = refl }
+
+  amends_text : Asks whole_schema all_amends (one_table 10 [] (columns (0 ∷ 2 ∷ [])) (by_each (col 1 0 ∷ [])))
+  unfolding understood everything
+  amends_text = record { names = codes "seq" ∷ codes "target" ∷ []; is = refl; plain = (refl, refl); listing = refl }
+
+pub asks_migrated : (s : Schema) → IsDeclared s
+    → Asks s all_migrated (one_table 9 [] (columns (0 ∷ 2 ∷ [])) (by_each (col 1 0 ∷ [])))
+asks_migrated s d =
+    subst (λ t. Asks t all_migrated (one_table 9 [] (columns (0 ∷ 2 ∷ [])) (by_each (col 1 0 ∷ [])))) (sym d.is)
+    (migrated_text d.tables d.indexes d.views)
+
+pub asks_amends : (s : Schema) → IsDeclared s
+    → Asks s all_amends (one_table 10 [] (columns (0 ∷ 2 ∷ [])) (by_each (col 1 0 ∷ [])))
+asks_amends s d =
+    subst (λ t. Asks t all_amends (one_table 10 [] (columns (0 ∷ 2 ∷ [])) (by_each (col 1 0 ∷ [])))) (sym d.is)
+    (amends_text d.tables d.indexes d.views)
+
+-- the same of any schema that begins with the tables of every form
+pub on_ours : (text : List ℕ) (q : Query) → ((tables : List Table) (indexes : List Index) (views : List View)
+    → Asks (schema_with common_tables tables indexes views) text q) → (s : Schema) → HasCommon s → Asks s text q
+on_ours text q asks s d = subst (λ t. Asks t text q) (sym d.is) (asks d.tables d.indexes d.views)
+
+pub asks_meta : (s : Schema) → HasCommon s
+    → Asks s all_meta (one_table 0 [] (columns (0 ∷ 2 ∷ 3 ∷ [])) (by_each (col 1 0 ∷ [])))
+asks_meta = on_ours _ _ meta_text
+
+pub asks_kept : (s : Schema) → HasCommon s
+    → Asks s all_kept (one_table 1 [] (columns (0 ∷ 2 ∷ 3 ∷ 4 ∷ 5 ∷ [])) (by_each (col 1 0 ∷ [])))
+asks_kept = on_ours _ _ kept_text
+
+pub asks_findings : (s : Schema) → HasCommon s
+    → Asks s all_findings (one_table 3 [] (columns (1 ∷ 2 ∷ 3 ∷ 4 ∷ [])) (by_each (col 1 1 ∷ col 1 2 ∷ [])))
+asks_findings = on_ours _ _ findings_text
+
+pub asks_filings : (s : Schema) → HasCommon s
+    → Asks s all_filings (one_table 5 [] (columns (0 ∷ 2 ∷ [])) (by_each (col 1 0 ∷ [])))
+asks_filings = on_ours _ _ filings_text
+
+pub asks_facts : (s : Schema) → HasCommon s
+    → Asks s all_facts (one_table 7 [] (columns (1 ∷ 2 ∷ 3 ∷ 4 ∷ 5 ∷ 6 ∷ 7 ∷ [])) (by_each (col 1 1 ∷ col 1 2 ∷ [])))
+asks_facts = on_ours _ _ facts_text

@@ -1,0 +1,5 @@
+use Rattle.register_tables.proofs.ReadTexts.{query_meta}
+use Rattle.register_tables.proofs.select.reads.meta_rows.Goals as goal
+
+pub select-requires : goal.select-requires
+select-requires g c = query_meta

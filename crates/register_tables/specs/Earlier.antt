@@ -1,0 +1,70 @@
+-- Registers in the forms before this one.
+use Rattle.std.specs.Prelude.{◌≡◌, ◌≤◌, ℕ, Bool, List, [], ◌∷◌, ◌++◌, length}
+use Rattle.std.specs.List.{list_any}
+use Rattle.sqlite.specs.Change.{created}
+use Rattle.sqlite.specs.Effect.{Database, IsDatabase}
+use Rattle.sqlite.specs.Held.{Held, state}
+use Rattle.sqlite.specs.Schema.{Schema}
+use Rattle.sqlite.specs.Store.{Ghosts}
+use Rattle.sqlite.specs.Table.{Table}
+use Rattle.sqlite_catalog.specs.Change.{is_used}
+use Rattle.filing_model.specs.Request.{Request}
+use Rattle.table_rows.specs.Rows.{TableHas}
+use Rattle.table_rows.specs.Tables.{BeginsWith, no_schema}
+use Rattle.register_tables.specs.declared.migrate.earlier.Earlier.{Earlier}
+use Rattle.register_tables.specs.declared.migrate.earlier.Earlier.TheVariants.{Second, Third}
+use Rattle.register_rows.specs.Register.{form_row, migrated_row}
+use Rattle.register_rows.specs.Schema.{common_tables, meta_table, migrated_table, amends_table}
+use Rattle.register_tables.specs.Walk.{AreAllOf}
+
+-- the number in the row of `intake_meta`
+abbrev pub form_number : Earlier → ℕ
+form_number Second = 2
+form_number Third = 3
+
+-- the tables of a register in this form
+abbrev pub tables_of : Earlier → List Table
+tables_of Second = common_tables
+tables_of Third = common_tables ++ migrated_table ∷ []
+
+-- those that it has not, and a register has
+abbrev pub lacking : Earlier → List Table
+lacking Second = migrated_table ∷ amends_table ∷ []
+lacking Third = amends_table ∷ []
+
+-- whether the name of one of these is in use
+abbrev pub is_blocked : Schema → Earlier → Bool
+is_blocked schema form = list_any (λ t. is_used schema t.name) (lacking form)
+
+-- what is declared once these tables are made, one after another
+abbrev pub made_from : Schema → List Table → Schema
+made_from schema [] = schema
+made_from schema (t ∷ tables) = made_from (created schema t) tables
+
+-- these tables and their indexes alone are declared, as they were made in a database that had none
+abbrev pub IsAlone : Earlier → Schema → Type 0
+IsAlone form schema = schema ≡ made_from no_schema (tables_of form)
+
+-- Of so many kept requests the first `old_style` were kept before there were problem details: in the second form all,
+-- and in the third as many as the one row of `migrated` says.
+abbrev pub HasOldStyle : Earlier → Database → ℕ → ℕ → Type 0
+HasOldStyle Second db old_style kept = old_style ≡ kept
+HasOldStyle Third db old_style kept = TableHas db migrated_table (migrated_row old_style ∷ []) × (old_style ≤ kept)
+
+-- the rows stand for these requests, in this form; none is to replace a filing, as there is no `amends`
+pub record StandsForEarlier (form : Earlier) (db : Database) (old_style : ℕ) (F : List Request) : Type 0 where
+  pub declared : BeginsWith (tables_of form) db.schema
+  pub meta_is : TableHas db meta_table (form_row (form_number form) ∷ [])
+  pub are : AreAllOf F [] db
+  pub old_style_is : HasOldStyle form db old_style (length F)
+
+-- a database, as SQLite's files have one, whose rows do
+pub record IsEarlierOf (form : Earlier) (old_style : ℕ) (F : List Request) (db : Database) : Type 0 where
+  pub sound : IsDatabase db
+  pub rows : StandsForEarlier form db old_style F
+
+-- Whatever form the tables alone have, and whatever requests the rows stand for in it, this holds of them.
+abbrev pub ForEarlier : {S : Type 0} → Ghosts S → Held S → (Earlier → ℕ → List Request → Type 0) → Type 0
+ForEarlier g conn Holds =
+    (form : Earlier) (old_style : ℕ) (F : List Request) → IsAlone form (state g conn).now.schema
+    → IsEarlierOf form old_style F (state g conn).now → Holds form old_style F

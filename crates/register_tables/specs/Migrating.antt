@@ -1,0 +1,238 @@
+-- What a migration reads and writes, and why a database is not migrated.
+use Rattle.std.specs.Prelude.{◌≡◌, ◌≢◌, ◌⊎◌, ◌≤◌, ℕ, pos, false, List, [], ◌∷◌, length, codes, Result, Ok, Err, IsTrue}
+use Rattle.std.specs.Prelude.{IfOk, IfErr, OnOk, OnErr}
+use Rattle.sqlite.specs.Order.{Row}
+use Rattle.sqlite.specs.Store.{Ghosts}
+use Rattle.sqlite.specs.Held.{Held, state}
+use Rattle.sqlite.specs.Tree.{Trees}
+use Rattle.sqlite.specs.Steps.{FailsToCommit}
+use Rattle.sqlite.specs.State.{State, HasCleanDisk, IsUnchanged, Survives, ExecutesInside, IsRolledBack}
+use Rattle.sqlite.specs.declared.error.Error.{Error}
+use Rattle.sqlite.specs.declared.types.Value.TheVariants.{Int}
+use Rattle.filing_model.specs.Request.{Request}
+use Rattle.filing_model.specs.Register.{register}
+use Rattle.table_rows.specs.Causes.{cause_of}
+use Rattle.table_rows.specs.Standing.{HasCommitted}
+use Rattle.table_rows.specs.declared.cause.Cause.{Cause}
+use Rattle.table_rows.specs.declared.cause.Cause.TheVariants as cause
+use Rattle.register_rows.specs.declared.verdict.Verdict.TheVariants as verdict
+use Rattle.register_tables.specs.declared.migrate.earlier.Earlier.{Earlier}
+use Rattle.register_tables.specs.declared.migrate.earlier.Earlier.TheVariants.{Second, Third}
+use Rattle.register_tables.specs.declared.fault.OpenFault.{OpenFault}
+use Rattle.register_tables.specs.declared.fault.OpenFault.TheVariants as fault
+use Rattle.register_tables.specs.declared.opening.Counts.{Counts}
+use Rattle.register_tables.specs.declared.opening.walk.Totals.{Totals}
+use Rattle.register_rows.specs.Audit.{OtherRows, IsVerdict}
+use Rattle.register_rows.specs.Catalogue.{catalogue_of, view_lines}
+use Rattle.register_tables.specs.Gains.{AddsNothing}
+use Rattle.register_tables.specs.Earlier.{form_number, is_blocked, ForEarlier, IsAlone, IsEarlierOf}
+use Rattle.register_tables.specs.Faults.{table_fault, IsFailure}
+use Rattle.register_tables.specs.Making.{create_migrated, create_amends, begun}
+use Rattle.register_tables.specs.Opening as opening
+use Rattle.register_tables.specs.Opening.{all_meta, all_migrated, row_texts, AreWithin, IsRead, AreRead, StopsFor}
+use Rattle.register_rows.specs.Register.{form_row, migrated_row}
+use Rattle.register_rows.specs.Schema.{HasCommon}
+use Rattle.register_tables.specs.Registers.{IsRegisterOf, LeavesOnly}
+use Rattle.register_tables.specs.Walk.{Amounts}
+
+-- ---- what is read
+
+-- the four tables stand for requests, of which so many are kept and registered, and nothing was written
+pub record AreTotals (totals : Totals) (old new : State) : Type 0 where
+  pub same : IsUnchanged old new
+  pub amounts : HasCommon old.now.schema → Amounts totals [] old.now
+
+-- of so many kept requests these were kept before there were problem details: all, or as many as the row of `migrated`
+-- says that was read
+abbrev pub ReadsOldStyle : {S : Type 0} → Ghosts S → Earlier → ℕ → ℕ → Held S → Held S → Type 0
+ReadsOldStyle g Second old_style kept old new = (old ≡ new) × (old_style ≡ kept)
+ReadsOldStyle g Third old_style kept old new =
+    IsRead g all_migrated old new (migrated_row old_style ∷ []) × (old_style ≤ kept)
+
+-- a register in this form holds so much
+pub record IsCounted {S : Type 0} (g : Ghosts S) (form : Earlier) (counts : Counts) (old new : Held S) : Type 0 where
+  pub mid : Held S
+  pub old_style_is : ReadsOldStyle g form counts.old_style counts.kept old mid
+  pub totals_are : AreTotals (record { kept = counts.kept; filings = counts.filings; catalogue = counts.catalogue })
+      (state g mid) (state g new)
+
+-- one in this form was found, and holds so much
+pub record IsSurveyed {S : Type 0} (g : Ghosts S) (form : Earlier) (counts : Counts) (old new : Held S) : Type 0 where
+  pub mid : Held S
+  pub form_is : IsRead g all_meta old mid (form_row (form_number form) ∷ [])
+  pub counted : IsCounted g form counts mid new
+
+-- ---- why nothing is found
+
+-- `intake_meta` cannot be read, or its rows are not the one row of an earlier form
+abbrev pub HasNoForm : {S : Type 0} → Ghosts S → OpenFault → Held S → Held S → Type 0
+HasNoForm g fault.NotOurs old new =
+    StopsFor g cause.Other (all_meta ∷ []) old new
+    ⊎ ((rows : List Row) × IsRead g all_meta old new rows
+    × ((form : Earlier) → rows ≢ form_row (form_number form) ∷ []))
+HasNoForm g (fault.Damaged row) old new = ⊥
+HasNoForm g fault.Memory old new = StopsFor g cause.Memory (all_meta ∷ []) old new
+HasNoForm g fault.Disk old new = StopsFor g cause.Disk (all_meta ∷ []) old new
+
+-- the four tables cannot be read, or their rows stand for no requests; memory may also be short once they are read
+abbrev pub HasNoTotals : {S : Type 0} → Ghosts S → OpenFault → Held S → Held S → Type 0
+HasNoTotals g fault.NotOurs old new = ⊥
+HasNoTotals g (fault.Damaged row) old new =
+    ((row ≡ 0) × StopsFor g cause.Other row_texts old new)
+    ⊎ ((kept : List Row) × (others : OtherRows)
+    × AreRead g row_texts old new (kept ∷ others.finding ∷ others.filing ∷ others.fact ∷ []) × (others.amends ≡ [])
+    × IsVerdict kept others (verdict.Damaged row))
+HasNoTotals g fault.Memory old new =
+    StopsFor g cause.Memory row_texts old new ⊎ ((rows : List (List Row)) × AreRead g row_texts old new rows)
+HasNoTotals g fault.Disk old new = StopsFor g cause.Disk row_texts old new
+
+-- the rows of `migrated` say no number of so many kept requests
+abbrev pub SaysNone : ℕ → List Row → Type 0
+SaysNone kept rows = (old_style : ℕ) → rows ≡ migrated_row old_style ∷ [] → old_style ≤ kept → ⊥
+
+-- beside those of `intake_meta` the tables of this form cannot be read, or their rows stand for no requests
+abbrev pub HasNoCounts : {S : Type 0} → Ghosts S → Earlier → OpenFault → Held S → Held S → Type 0
+HasNoCounts g Second why old new = HasNoTotals g why old new
+HasNoCounts {S} g Third why old new =
+    ((error : Error) × (why ≡ table_fault error) × StopsFor g (cause_of error) (all_migrated ∷ []) old new)
+    ⊎ ((mid : Held S) × (rows : List Row) × IsRead g all_migrated old mid rows
+    × (HasNoTotals g why mid new ⊎ ((why ≡ fault.Damaged 0) × (totals : Totals)
+    × AreTotals totals (state g mid) (state g new) × SaysNone totals.kept rows)))
+
+-- so no register in an earlier form was found
+abbrev pub IsNotSurveyed : {S : Type 0} → Ghosts S → OpenFault → Held S → Held S → Type 0
+IsNotSurveyed {S} g why old new =
+    HasNoForm g why old new ⊎ ((form : Earlier) × (mid : Held S)
+    × IsRead g all_meta old mid (form_row (form_number form) ∷ []) × HasNoCounts g form why mid new)
+
+-- ---- what is written
+
+abbrev pub insert_old_style : List ℕ
+insert_old_style = codes "INSERT INTO migrated VALUES (1, ?1)"
+
+abbrev pub raise_form : List ℕ
+raise_form = codes "UPDATE intake_meta SET form = 4 WHERE id = 1"
+
+-- a statement, and the values of its parameters
+abbrev pub Statement : Type 0
+Statement = List ℕ × Row
+
+-- the statements for a register of this form, where so many requests were kept before there were problem details
+abbrev pub migrating : Earlier → ℕ → List Statement
+migrating Second old_style =
+    (create_migrated, []) ∷ (create_amends, []) ∷ (insert_old_style, Int (pos old_style) ∷ []) ∷ (raise_form, []) ∷ []
+migrating Third old_style = (create_amends, []) ∷ (raise_form, []) ∷ []
+
+-- inside a transaction, which goes on, the statements are run, one after another
+abbrev pub AreDone : {S : Type 0} → Ghosts S → List Statement → Held S → Held S → Type 0
+AreDone g [] old new = old ≡ new
+AreDone {S} g (s ∷ more) old new =
+    (mid : Held S) × ((count : ℕ) × ExecutesInside 0 s.0 s.1 (state g old) (state g mid) (Ok count))
+    × AreDone g more mid new
+
+-- one of them fails with this error, after those before it were run
+abbrev pub StopsAt : {S : Type 0} → Ghosts S → Error → List Statement → Held S → Held S → Type 0
+StopsAt g error [] old new = ⊥
+StopsAt {S} g error (s ∷ more) old new =
+    ExecutesInside 0 s.0 s.1 (state g old) (state g new) (Err error)
+    ⊎ ((mid : Held S) × ((count : ℕ) × ExecutesInside 0 s.0 s.1 (state g old) (state g mid) (Ok count))
+    × StopsAt g error more mid new)
+
+-- they were run in one transaction, they and no others, and what they made is committed
+pub record AreCommitted {S : Type 0} (g : Ghosts S) (statements : List Statement) (old new : Held S) : Type 0 where
+  pub last : Held S
+  pub done : AreDone g statements (begun old) last
+  pub is_open : IsTrue (state g new).is_open
+  pub now_is : (state g new).now ≡ (state g last).now
+  pub committed_is : (state g new).committed ≡ (state g last).now
+
+-- a statement failed with this error and what the others did was undone, or they were all run and could not be
+-- committed
+pub record AreUndone {S : Type 0} (g : Ghosts S) (error : Error) (statements : List Statement) (old new : Held S)
+    : Type 0 where
+  pub last : Held S
+  pub counts : (state g last).faults ≤ (state g new).faults
+  pub why : (StopsAt g error statements (begun old) last × IsRolledBack (state g last) (state g new))
+      ⊎ (AreDone g statements (begun old) last × FailsToCommit (state g last) (state g new) error)
+
+-- the trees are what all the statements make of the database
+pub record AreTreesOf {S : Type 0} (g : Ghosts S) (statements : List Statement) (old : Held S) (trees
+    : Trees) : Type 0 where
+  pub last : Held S
+  pub done : AreDone g statements (begun old) last
+  pub is : trees ≡ (state g last).now.trees
+
+-- ---- the whole
+
+-- a register in this form was found, no name is in the way, and its statements were run
+pub record IsMigrated {S : Type 0} (g : Ghosts S) (form : Earlier) (counts : Counts) (old new : Held S) : Type 0 where
+  pub mid : Held S
+  pub surveyed : IsSurveyed g form counts old mid
+  pub free : is_blocked (state g mid).now.schema form ≡ false
+  pub written : AreCommitted g (migrating form counts.old_style) mid new
+
+-- what a crash may leave of them
+pub record MigratesTo {S : Type 0} (g : Ghosts S) (old : Held S) (trees : Trees) : Type 0 where
+  pub form : Earlier
+  pub counts : Counts
+  pub mid : Held S
+  pub surveyed : IsSurveyed g form counts old mid
+  pub written : AreTreesOf g (migrating form counts.old_style) mid trees
+
+-- the rows stood for requests in this form, and stand for the same in the present form
+pub record Migrates {S : Type 0} (g : Ghosts S) (form : Earlier) (counts : Counts) (old new : Held S) : Type 0 where
+  pub requests : List Request
+  pub were : IsEarlierOf form counts.old_style requests (state g old).now
+  pub are : HasCommitted (IsRegisterOf counts.old_style requests) (state g new)
+  pub kept_is : counts.kept ≡ length requests
+  pub filings_is : counts.filings ≡ length (register requests)
+  pub catalogue_is : view_lines counts.catalogue ≡ catalogue_of requests
+
+-- a fault of a statement that writes, which is not one of the rows
+abbrev pub write_fault_by : Cause → OpenFault
+write_fault_by cause.Memory = fault.Memory
+write_fault_by cause.Disk = fault.Disk
+write_fault_by cause.Other = fault.Disk
+
+abbrev pub write_fault : Error → OpenFault
+write_fault error = write_fault_by (cause_of error)
+
+-- why it is not migrated, where it was found: a name is in the way, or the statements failed
+abbrev pub IsHindered : {S : Type 0} → Ghosts S → Earlier → ℕ → OpenFault → Held S → Held S → Type 0
+IsHindered g form old_style why old new =
+    ((why ≡ fault.NotOurs) × IsTrue (is_blocked (state g old).now.schema form) × (old ≡ new))
+    ⊎ ((is_blocked (state g old).now.schema form ≡ false) × (error : Error) × (why ≡ write_fault error)
+    × AreUndone g error (migrating form old_style) old new)
+
+-- what a refusal says of the database
+abbrev pub IsNotMigrated : {S : Type 0} → Ghosts S → OpenFault → Held S → Held S → Type 0
+IsNotMigrated {S} g why old new =
+    IsNotSurveyed g why old new ⊎ ((form : Earlier) × (counts : Counts) × (mid : Held S)
+    × IsSurveyed g form counts old mid × IsHindered g form counts.old_style why mid new)
+
+-- What the bringing of a register from an earlier form into the present one does, in one transaction.
+pub record MigratesRegister {S : Type 0} (g : Ghosts S) (old new : Held S) (result : Result Counts OpenFault)
+    : Type 0 where
+  pub autocommit : new.in_transaction ≡ false
+  -- The rows stood for requests, and stand for them in the present form. Others than those that are counted they didn't
+  -- stand for.
+  pub migrated : HasCleanDisk (state g new) → (form : Earlier) → IsAlone form (state g old).now.schema
+      → IfOk result (λ counts. Migrates g form counts old new)
+  pub only : HasCleanDisk (state g new) → IfOk result (λ counts. ForEarlier g old (λ _. opening.IsCounted g new counts))
+  pub few : IfOk result AreWithin
+  -- The statements of the form that was read, and they alone, were run in one transaction and committed.
+  pub ran : HasCleanDisk (state g new) → IfOk result (λ counts. (form : Earlier) × IsMigrated g form counts old new)
+  -- A refusal says why; where the rows stand for requests and no name is in the way, it is by memory, or by the disk or
+  -- another failure of a statement that writes. It leaves the rows as they were.
+  pub refused : HasCleanDisk (state g new) → IfErr result (λ fault. IsNotMigrated g fault old new)
+  pub sound : HasCleanDisk (state g new)
+      → IfErr result (λ fault. (form : Earlier) (old_style : ℕ) (F : List Request)
+      → IsEarlierOf form old_style F (state g old).now
+      → is_blocked (state g old).now.schema form ≡ false → IsFailure fault)
+  pub neither : HasCleanDisk (state g new) → OnErr result (AddsNothing (state g old) (state g new))
+  -- A crash leaves what it could leave before, or what all the statements make, and after the call the migrated rows
+  -- alone.
+  pub crash : Survives (state g old) (state g new) (MigratesTo g old)
+  pub durable : HasCleanDisk (state g new)
+      → OnOk result (ForEarlier g old (λ _ old_style F. IsTrue (state g new).is_open
+      × LeavesOnly (state g new) old_style F))

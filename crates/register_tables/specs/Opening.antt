@@ -1,0 +1,181 @@
+-- What an opening reads, and why a database is not opened.
+use Rattle.std.specs.Prelude.{◌≡◌, ◌≢◌, ◌⊎◌, ◌≤◌, ◌^◌, ℕ, false, List, [], ◌∷◌, ◌++◌, length, codes, Result, IfOk}
+use Rattle.std.specs.Prelude.{IfErr}
+use Rattle.sqlite.specs.Order.{Row}
+use Rattle.sqlite.specs.Store.{Ghosts}
+use Rattle.sqlite.specs.Held.{Held, state}
+use Rattle.sqlite.specs.State.{HasCleanDisk, Shown, FailsToQuery}
+use Rattle.sqlite.specs.declared.error.Error.{Error}
+use Rattle.table_rows.specs.Causes.{cause_of}
+use Rattle.table_rows.specs.declared.cause.Cause.{Cause}
+use Rattle.table_rows.specs.declared.cause.Cause.TheVariants as cause
+use Rattle.filing_model.specs.Request.{Request}
+use Rattle.filing_model.specs.Register.{register}
+use Rattle.table_rows.specs.Standing.{HasCommitted, CommitsNothing, StaysOnOk, KeepsOnErr}
+use Rattle.register_tables.specs.declared.opening.Counts.{Counts}
+use Rattle.register_rows.specs.declared.verdict.Verdict.TheVariants as verdict
+use Rattle.register_tables.specs.declared.fault.OpenFault.{OpenFault}
+use Rattle.register_tables.specs.declared.fault.OpenFault.TheVariants as fault
+use Rattle.register_rows.specs.Audit.{AreRowsOf, OtherRows, IsVerdict}
+use Rattle.register_rows.specs.Catalogue.{catalogue_of, view_lines}
+use Rattle.register_tables.specs.Faults.{IsFailure}
+use Rattle.register_rows.specs.Register.{meta_row, migrated_row}
+use Rattle.register_rows.specs.Schema.{IsDeclared}
+use Rattle.register_tables.specs.Registers.{ForRows, IsRegisterOf}
+
+-- ---- the rows of the tables, each in the order of its key
+
+abbrev pub all_meta : List ℕ
+all_meta = codes "SELECT id, kind, form FROM intake_meta ORDER BY id"
+
+abbrev pub all_kept : List ℕ
+all_kept = codes "SELECT seq, filer, idem, body, number FROM kept ORDER BY seq"
+
+abbrev pub all_findings : List ℕ
+all_findings = codes "SELECT seq, pos, code, place FROM finding ORDER BY seq, pos"
+
+abbrev pub all_filings : List ℕ
+all_filings = codes "SELECT number, seq FROM filing ORDER BY number"
+
+abbrev pub all_facts : List ℕ
+all_facts = codes "SELECT number, pos, id, concept, dimensions, value, decimals FROM fact ORDER BY number, pos"
+
+abbrev pub all_migrated : List ℕ
+all_migrated = codes "SELECT id, last FROM migrated ORDER BY id"
+
+abbrev pub all_amends : List ℕ
+all_amends = codes "SELECT seq, target FROM amends ORDER BY seq"
+
+-- the tables with the rows of kept requests
+abbrev pub row_texts : List (List ℕ)
+row_texts = all_kept ∷ all_findings ∷ all_filings ∷ all_facts ∷ []
+
+-- those that an earlier form did not have
+abbrev pub new_texts : List (List ℕ)
+new_texts = all_migrated ∷ all_amends ∷ []
+
+-- the tables beside `intake_meta`
+abbrev pub table_texts : List (List ℕ)
+table_texts = new_texts ++ row_texts
+
+-- the query shows these rows, and the limit on steps stays
+pub record IsRead {S : Type 0} (g : Ghosts S) (text : List ℕ) (old new : Held S) (rows : List Row) : Type 0 where
+  pub shown : Shown text [] (state g old) (state g new) rows
+  pub limit : new.step_limit ≡ old.step_limit
+
+-- of several queries, one after another, each shows its rows
+abbrev pub AreRead : {S : Type 0} → Ghosts S → List (List ℕ) → Held S → Held S → List (List Row) → Type 0
+AreRead g [] old new [] = old ≡ new
+AreRead g [] old new (rows ∷ more) = ⊥
+AreRead g (text ∷ texts) old new [] = ⊥
+AreRead {S} g (text ∷ texts) old new (rows ∷ more) =
+    (mid : Held S) × IsRead g text old mid rows × AreRead g texts mid new more
+
+-- one of them cannot be run, after those before it, for such a cause
+abbrev pub StopsFor : {S : Type 0} → Ghosts S → Cause → List (List ℕ) → Held S → Held S → Type 0
+StopsFor g why [] old new = ⊥
+StopsFor {S} g why (text ∷ texts) old new =
+    ((error : Error) × FailsToQuery text [] (state g old) (state g new) error × (cause_of error ≡ why))
+    ⊎ ((mid : Held S) × (rows : List Row) × IsRead g text old mid rows × StopsFor g why texts mid new)
+
+-- ---- the rows beside those of kept requests
+
+-- the rows of the tables that an earlier form did not have
+pub record Later : Type 0 where
+  pub migrated : List Row
+  pub amends : List Row
+
+-- of so many kept requests the first `old_style` are told what they were told before
+pub record SaysOldStyle (kept old_style : ℕ) (later : Later) : Type 0 where
+  pub migrated_is : later.migrated ≡ migrated_row old_style ∷ []
+  pub within : old_style ≤ kept
+
+-- so it is of no number
+abbrev pub SaysNothing : ℕ → Later → Type 0
+SaysNothing kept later = (old_style : ℕ) → SaysOldStyle kept old_style later → ⊥
+
+-- why the rows stand for no register: the first kept row that is not sound, or 0; and 0 where the five tables are
+-- sound, but not `migrated`
+abbrev pub AreDamaged : List Row → OtherRows → Later → ℕ → Type 0
+AreDamaged kept others later row =
+    IsVerdict kept others (verdict.Damaged row) ⊎ ((row ≡ 0) × ((F : List Request) × AreRowsOf kept others F)
+    × SaysNothing (length kept) later)
+
+-- ---- why a database is not opened
+
+-- `intake_meta` cannot be read, for another cause than memory or disk, or its rows are not the one row
+abbrev pub IsNoRegister : {S : Type 0} → Ghosts S → Held S → Held S → Type 0
+IsNoRegister g old new =
+    StopsFor g cause.Other (all_meta ∷ []) old new
+    ⊎ ((rows : List Row) × IsRead g all_meta old new rows × (rows ≢ meta_row ∷ []))
+
+-- another table cannot be read so, and the row is 0; or the rows stand for no register, and this row is told
+abbrev pub IsDamagedAt : {S : Type 0} → Ghosts S → ℕ → Held S → Held S → Type 0
+IsDamagedAt g row old new =
+    ((row ≡ 0) × StopsFor g cause.Other table_texts old new)
+    ⊎ ((later : Later) × (kept : List Row) × (others : OtherRows)
+    × AreRead g table_texts old new (later.migrated ∷ later.amends ∷ kept ∷ others.finding ∷ others.filing ∷ others.fact
+    ∷ []) × (others.amends ≡ later.amends) × AreDamaged kept others later row)
+
+-- so it is where the rows of `intake_meta` are the one row
+abbrev pub IsDamaged : {S : Type 0} → Ghosts S → ℕ → Held S → Held S → Type 0
+IsDamaged {S} g row old new = (mid : Held S) × IsRead g all_meta old mid (meta_row ∷ []) × IsDamagedAt g row mid new
+
+-- the same of the tables with the rows of kept requests, where those of the others were read
+abbrev pub IsRefusedAfter : {S : Type 0} → Ghosts S → Later → OpenFault → Held S → Held S → Type 0
+IsRefusedAfter g later fault.NotOurs old new = ⊥
+IsRefusedAfter g later (fault.Damaged row) old new =
+    ((row ≡ 0) × StopsFor g cause.Other row_texts old new)
+    ⊎ ((kept : List Row) × (others : OtherRows)
+    × AreRead g row_texts old new (kept ∷ others.finding ∷ others.filing ∷ others.fact ∷ [])
+    × (others.amends ≡ later.amends) × AreDamaged kept others later row)
+IsRefusedAfter g later fault.Memory old new =
+    StopsFor g cause.Memory row_texts old new ⊎ ((rows : List (List Row)) × AreRead g row_texts old new rows)
+IsRefusedAfter g later fault.Disk old new = StopsFor g cause.Disk row_texts old new
+
+-- the seven queries show their rows
+abbrev pub AreAllRead : {S : Type 0} → Ghosts S → Held S → Held S → Type 0
+AreAllRead g old new = (rows : List (List Row)) × AreRead g (all_meta ∷ table_texts) old new rows
+
+-- What a refusal says of the database. The disk is blamed where a query of the seven failed by it, and memory where one
+-- failed for want of it, or where none failed and the rows were looked through.
+abbrev pub IsRefused : {S : Type 0} → Ghosts S → OpenFault → Held S → Held S → Type 0
+IsRefused g fault.NotOurs old new = IsNoRegister g old new
+IsRefused g (fault.Damaged row) old new = IsDamaged g row old new
+IsRefused g fault.Memory old new = StopsFor g cause.Memory (all_meta ∷ table_texts) old new ⊎ AreAllRead g old new
+IsRefused g fault.Disk old new = StopsFor g cause.Disk (all_meta ∷ table_texts) old new
+
+-- ---- what is told where it is one
+
+-- The rows stand for these requests, which are committed, these are the counts, and that is said of the filings.
+abbrev pub IsCounted : {S : Type 0} → Ghosts S → Held S → Counts → ℕ → List Request → Type 0
+IsCounted g conn counts old_style F =
+    (counts.old_style ≡ old_style) × HasCommitted (IsRegisterOf old_style F) (state g conn) × (counts.kept ≡ length F)
+    × (counts.filings ≡ length (register F))
+    × (view_lines counts.catalogue ≡ catalogue_of F)
+
+abbrev pub AreWithin : Counts → Type 0
+AreWithin counts = (counts.kept ≤ 2 ^ 62) × (counts.filings ≤ counts.kept) × (counts.old_style ≤ counts.kept)
+
+-- ---- the whole
+
+-- What the reading of a register tells of it, and that it writes nothing.
+pub record ReadsRegister {S : Type 0} (g : Ghosts S) (old new : Held S) (result : Result Counts OpenFault)
+    : Type 0 where
+  -- The rows stand for requests, and these are counted. Others than those that are counted they don't stand for.
+  pub found : HasCleanDisk (state g new) → IsDeclared (state g old).now.schema
+      → IfOk result (λ counts. (F : List Request) × IsRegisterOf counts.old_style F (state g old).now
+      × HasCommitted (IsRegisterOf counts.old_style F) (state g new) × (counts.kept ≡ length F)
+      × (counts.filings ≡ length (register F))
+      × (view_lines counts.catalogue ≡ catalogue_of F))
+  pub only : HasCleanDisk (state g new) → IfOk result (λ counts. ForRows g old (IsCounted g new counts))
+  pub few : IfOk result AreWithin
+  -- A refusal says why; where the rows stand for requests, it is by memory or disk.
+  pub refused : HasCleanDisk (state g new) → IfErr result (λ fault. IsRefused g fault old new)
+  pub sound : HasCleanDisk (state g new) → IfErr result (λ fault. ForRows g old (λ _ _. IsFailure fault))
+  -- The connection is as it was, and after a refusal at least what is committed. A crash leaves what it could leave
+  -- before.
+  pub same : StaysOnOk (state g old) (state g new) result
+  pub keeps : KeepsOnErr (state g old) (state g new) result
+  pub mode : new.in_transaction ≡ false
+  pub survives : CommitsNothing (state g old) (state g new)

@@ -1,0 +1,75 @@
+-- What a refusal says of the connection that it gives back, and what is left to say of one that it gives up.
+use Rattle.std.specs.Prelude.{◌≡◌, ◌≢◌, ℕ, false, List, None}
+use Rattle.sqlite.specs.Store.{Ghosts}
+use Rattle.sqlite.specs.Held.{Held, state}
+use Rattle.sqlite.specs.State.{HasCleanDisk, Survives}
+use Rattle.sqlite.specs.declared.error.Error.{Error}
+use Rattle.filing_model.specs.Request.{Request}
+use Rattle.table_rows.specs.Standing.{CommitsNothing}
+use Rattle.register_tables.specs.declared.fault.CreateFault.{CreateFault}
+use Rattle.register_tables.specs.declared.fault.CreateFault.TheVariants as making
+use Rattle.register_tables.specs.declared.fault.OpenFault.{OpenFault}
+use Rattle.register_tables.specs.Gains.{AddsNothing}
+use Rattle.register_tables.specs.Earlier.{IsEarlierOf, is_blocked}
+use Rattle.register_tables.specs.declared.migrate.earlier.Earlier.{Earlier}
+use Rattle.register_tables.specs.Faults.{create_fault, IsFailure}
+use Rattle.register_tables.specs.Making.{Makes, FailsToMake}
+use Rattle.register_tables.specs.Migrating.{IsNotMigrated, MigratesTo}
+use Rattle.register_tables.specs.Opening.{IsRefused}
+use Rattle.register_tables.specs.Registers.{ForRows}
+
+-- ---- the connection comes back
+
+-- No register was made, and the connection comes back as one that may be used again: what is written is what was
+-- committed. Another fault than Taken has its cause in a statement or in the commit.
+pub record GivesBackMaking {S : Type 0} (g : Ghosts S) (conn : Held S) (fault : CreateFault) (back : Held S)
+    : Type 0 where
+  pub autocommit : back.in_transaction ≡ false
+  pub unlimited : back.step_limit ≡ None
+  pub same : HasCleanDisk (state g back) → AddsNothing (state g conn) (state g back)
+  pub why : HasCleanDisk (state g back) → fault ≢ making.Taken
+      → (error : Error) × (fault ≡ create_fault error) × FailsToMake g error conn back
+  -- A crash leaves what it could leave before, or what all the statements make of the database.
+  pub crash : Survives (state g conn) (state g back) (Makes g conn)
+
+-- No register was opened, and the connection comes back as one that may be used again: what is written is what was
+-- committed, and the fault says why.
+pub record GivesBackOpening {S : Type 0} (g : Ghosts S) (conn : Held S) (fault : OpenFault) (back : Held S)
+    : Type 0 where
+  pub autocommit : back.in_transaction ≡ false
+  pub unlimited : back.step_limit ≡ None
+  pub same : HasCleanDisk (state g back) → AddsNothing (state g conn) (state g back)
+  pub why : HasCleanDisk (state g back) → IsRefused g fault conn back
+  -- Where the rows stand for requests, it is by memory or disk.
+  pub sound : HasCleanDisk (state g back) → ForRows g conn (λ _ _. IsFailure fault)
+  -- A crash leaves what it could leave before.
+  pub crash : CommitsNothing (state g conn) (state g back)
+
+-- No register was migrated, and the connection comes back as one that may be used again: what is written is what was
+-- committed, and the fault says why.
+pub record GivesBackMigrating {S : Type 0} (g : Ghosts S) (conn : Held S) (fault : OpenFault) (back : Held S)
+    : Type 0 where
+  pub autocommit : back.in_transaction ≡ false
+  pub unlimited : back.step_limit ≡ None
+  pub same : HasCleanDisk (state g back) → AddsNothing (state g conn) (state g back)
+  pub why : HasCleanDisk (state g back) → IsNotMigrated g fault conn back
+  -- Where the rows stand for requests in an earlier form, and no name is in the way, it is by memory, or by the disk or
+  -- another failure of a statement that writes.
+  pub sound : HasCleanDisk (state g back)
+      → (form : Earlier) (old_style : ℕ) (F : List Request) → IsEarlierOf form old_style F (state g conn).now
+      → is_blocked (state g conn).now.schema form ≡ false → IsFailure fault
+  -- A crash leaves what it could leave before, or what all the statements make of the database.
+  pub crash : Survives (state g conn) (state g back) (MigratesTo g conn)
+
+-- ---- the connection is given up
+
+-- No clause can name the last state of a connection that is given up: this says that some such state is its last. The
+-- calls that give the connection back say it of the one that comes back.
+abbrev pub GivesUpMaking : {S : Type 0} → Ghosts S → Held S → CreateFault → Type 0
+GivesUpMaking {S} g conn fault = (last : Held S) × GivesBackMaking g conn fault last
+
+abbrev pub GivesUpOpening : {S : Type 0} → Ghosts S → Held S → OpenFault → Type 0
+GivesUpOpening {S} g conn fault = (last : Held S) × GivesBackOpening g conn fault last
+
+abbrev pub GivesUpMigrating : {S : Type 0} → Ghosts S → Held S → OpenFault → Type 0
+GivesUpMigrating {S} g conn fault = (last : Held S) × GivesBackMigrating g conn fault last

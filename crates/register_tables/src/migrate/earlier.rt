@@ -1,0 +1,302 @@
+//! What is read of a register in a form before this one.
+
+ghost use Rattle.std.specs.Prelude.{◌≡◌, ◌≢◌, ◌≤◌, ◌^◌, ◌⊎◌, ◌↔◌, ◌∷◌, [], ℕ, pos, length, IsTrue, IfOk, IfErr, IfSome};
+ghost use Rattle.std.specs.Prelude.{None};
+ghost use Rattle.sqlite.specs.Held.{state};
+ghost use Rattle.sqlite.specs.State.{HasCleanDisk};
+ghost use Rattle.register_rows.specs.Audit.{IsVerdict};
+ghost use Rattle.register_rows.specs.Catalogue.{view_lines};
+ghost use Rattle.register_tables.specs.Earlier.{form_number};
+ghost use Rattle.register_tables.specs.Migrating.{AreTotals, IsCounted, IsSurveyed, IsNotSurveyed, HasNoForm};
+ghost use Rattle.register_tables.specs.Migrating.{HasNoTotals, HasNoCounts, SaysNone};
+ghost use Rattle.register_tables.specs.Opening.{AreWithin, all_meta, IsRead};
+ghost use Rattle.register_rows.specs.Register.{form_row, migrated_row};
+ghost use Rattle.table_rows.specs.Leaving.{OnlyReads};
+
+use crate::fault::OpenFault;
+use crate::opening::walk::{Totals, count_by_walk};
+use crate::opening::watch::Unwatched;
+use crate::opening::{Counts, meta_fault, number_of, read_tables, table_fault};
+use crate::select::reads;
+use register_rows::{Cell, Verdict, audit, is_row};
+use sqlite::{Alter, Connection, Row};
+use std::alloc::Global;
+use table_rows::Cause;
+
+/// The forms in which registers were kept before this one.
+#[derive(Clone, Copy, Debug, PartialEq, Eq)]
+pub enum Earlier {
+    /// With the tables of every form alone: all kept requests are from before there were problem details.
+    Second,
+    /// With a row beside them that says which of the kept requests are: the first so many.
+    Third,
+}
+
+impl Earlier {
+    /// The number of the form in the row of `intake_meta`.
+    fn number(self) -> i64
+        ensures { result ≡ pos (form_number self) }
+    {
+        match self {
+            Earlier::Second => 2,
+            Earlier::Third => 3,
+        }
+    }
+}
+
+fn has_form(row: &Row, form: Earlier) -> bool
+    ensures { IsTrue result ↔ (row.now ≡ form_row (form_number form)) }
+{
+    is_row(
+        row,
+        &[
+            Cell::Int(1),
+            Cell::Text(b"register".as_slice()),
+            Cell::Int(form.number()),
+        ],
+    )
+}
+
+/// The earlier form whose row this is.
+fn form_of(row: &Row) -> Option<Earlier>
+    ensures some { IfSome result (λ form. row.now ≡ form_row (form_number form)) }
+    ensures none { result ≡ None → (form : Earlier) → row.now ≢ form_row (form_number form) }
+{
+    if has_form(row, Earlier::Second) {
+        Some(Earlier::Second)
+    } else if has_form(row, Earlier::Third) {
+        Some(Earlier::Third)
+    } else {
+        None
+    }
+}
+
+/// The earlier form whose one row these are.
+fn form_in(rows: &[Row]) -> Option<Earlier>
+    ensures some { IfSome result (λ form. rows.now ≡ form_row (form_number form) ∷ []) }
+    ensures none { result ≡ None → (form : Earlier) → rows.now ≢ form_row (form_number form) ∷ [] }
+{
+    match rows {
+        [row] => form_of(row),
+        _ => None,
+    }
+}
+
+/// Reads `intake_meta`, whose rows are to be the one row of an earlier form.
+fn read_form<S: Alter>(conn: &mut Connection<S>) -> Result<Earlier, OpenFault>
+    ensures read { HasCleanDisk (state S.Store conn.new)
+        → IfOk result (λ form. IsRead S.Store all_meta conn.old conn.new (form_row (form_number form) ∷ [])) }
+    ensures refused { HasCleanDisk (state S.Store conn.new)
+        → IfErr result (λ fault. HasNoForm S.Store fault conn.old conn.new) }
+    ensures leaves { OnlyReads S.Store conn.old conn.new result }
+{
+    match reads::meta_rows(conn) {
+        Ok(rows) => match form_in(&rows) {
+            Some(form) => Ok(form),
+            None => Err(OpenFault::NotOurs),
+        },
+        Err(error) => Err(meta_fault(error)),
+    }
+}
+
+/// How many requests these rows stand for, and how many of them are registered.
+fn totals_in(
+    alloc: Global,
+    kept: &[Row],
+    findings: &[Row],
+    filings: &[Row],
+    facts: &[Row],
+) -> Result<Totals, OpenFault>
+    ensures counted { IfOk result (λ totals.
+        (totals.kept ≡ length kept.now)
+        × IsVerdict kept.now
+        (record { finding = findings.now; filing = filings.now; fact = facts.now; amends = [] })
+        (Verdict.Sound totals.catalogue)
+        × (totals.filings ≡ length (view_lines totals.catalogue))) }
+    ensures few { IfOk result (λ totals. (totals.kept ≤ 2 ^ 62) × (totals.filings ≤ totals.kept)) }
+    ensures refused { IfErr result (λ fault.
+        (fault ≡ OpenFault.Memory)
+        ⊎ ((row : ℕ) × (fault ≡ OpenFault.Damaged row)
+        × IsVerdict kept.now
+        (record { finding = findings.now; filing = filings.now; fact = facts.now; amends = [] })
+        (Verdict.Damaged row))) }
+{
+    match audit(alloc, kept, findings, filings, facts, &[]) {
+        Ok(Verdict::Sound { catalogue }) => Ok(Totals {
+            kept: kept.len() as u64,
+            filings: catalogue.len(),
+            catalogue,
+        }),
+        Ok(Verdict::Damaged { row }) => Err(OpenFault::Damaged { row }),
+        Err(_) => Err(OpenFault::Memory),
+    }
+}
+
+/// Counts what the four tables stand for, which are read whole.
+fn count_whole<S: Alter>(alloc: Global, conn: &mut Connection<S>) -> Result<Totals, OpenFault>
+    ensures counted { HasCleanDisk (state S.Store conn.new)
+        → IfOk result (λ totals. AreTotals totals (state S.Store conn.old) (state S.Store conn.new)) }
+    ensures few { IfOk result (λ totals. (totals.kept ≤ 2 ^ 62) × (totals.filings ≤ totals.kept)) }
+    ensures refused { HasCleanDisk (state S.Store conn.new)
+        → IfErr result (λ fault. HasNoTotals S.Store fault conn.old conn.new) }
+    ensures leaves { OnlyReads S.Store conn.old conn.new result }
+{
+    match read_tables(conn) {
+        Ok(tables) => totals_in(
+            alloc,
+            &tables.kept,
+            &tables.findings,
+            &tables.filings,
+            &tables.facts,
+        ),
+        Err(error) => Err(table_fault(error)),
+    }
+}
+
+/// Counts what they stand for with one kept request in memory at a time. `None` says nothing of the rows.
+fn count_walked<S: Alter>(
+    alloc: Global,
+    conn: &mut Connection<S>,
+) -> Result<Option<Totals>, OpenFault>
+    ensures counted { HasCleanDisk (state S.Store conn.new)
+        → IfOk result (λ found.
+        IfSome found (λ totals. AreTotals totals (state S.Store conn.old) (state S.Store conn.new))) }
+    ensures few { IfOk result (λ found.
+        IfSome found (λ totals. (totals.kept ≤ 2 ^ 62) × (totals.filings ≤ totals.kept))) }
+    ensures refused { HasCleanDisk (state S.Store conn.new)
+        → IfErr result (λ fault. HasNoTotals S.Store fault conn.old conn.new) }
+    ensures leaves { OnlyReads S.Store conn.old conn.new result }
+{
+    match count_by_walk(alloc, conn, &[], &mut Unwatched) {
+        Ok(found) => Ok(found),
+        Err(error) => match Cause::from(error) {
+            Cause::Memory => Err(OpenFault::Memory),
+            Cause::Disk => Err(OpenFault::Disk),
+            Cause::Other => Ok(None),
+        },
+    }
+}
+
+/// Counts what the four tables stand for.
+fn count_four<S: Alter>(alloc: Global, conn: &mut Connection<S>) -> Result<Totals, OpenFault>
+    ensures counted { HasCleanDisk (state S.Store conn.new)
+        → IfOk result (λ totals. AreTotals totals (state S.Store conn.old) (state S.Store conn.new)) }
+    ensures few { IfOk result (λ totals. (totals.kept ≤ 2 ^ 62) × (totals.filings ≤ totals.kept)) }
+    ensures refused { HasCleanDisk (state S.Store conn.new)
+        → IfErr result (λ fault. HasNoTotals S.Store fault conn.old conn.new) }
+    ensures leaves { OnlyReads S.Store conn.old conn.new result }
+{
+    match count_walked(alloc, conn)? {
+        Some(totals) => Ok(totals),
+        None => count_whole(alloc, conn),
+    }
+}
+
+/// The number in the rows of `migrated`, where it is one of so many kept requests.
+fn old_style_of(rows: &[Row], kept: u64) -> Option<u64>
+    ensures some { IfSome result (λ old_style. (rows.now ≡ migrated_row old_style ∷ []) × (old_style ≤ kept)) }
+    ensures none { result ≡ None → SaysNone kept rows.now }
+{
+    match rows {
+        [row] => number_of(row, kept),
+        _ => None,
+    }
+}
+
+/// How much is held in the second form.
+fn count_second<S: Alter>(alloc: Global, conn: &mut Connection<S>) -> Result<Counts, OpenFault>
+    ensures counted { HasCleanDisk (state S.Store conn.new)
+        → IfOk result (λ counts. IsCounted S.Store Earlier.Second counts conn.old conn.new) }
+    ensures few { IfOk result AreWithin }
+    ensures refused { HasCleanDisk (state S.Store conn.new)
+        → IfErr result (λ fault. HasNoCounts S.Store Earlier.Second fault conn.old conn.new) }
+    ensures leaves { OnlyReads S.Store conn.old conn.new result }
+{
+    let totals = count_four(alloc, conn)?;
+    Ok(Counts {
+        kept: totals.kept,
+        filings: totals.filings,
+        old_style: totals.kept,
+        catalogue: totals.catalogue,
+    })
+}
+
+/// So much is held in the third form, where the rows of `migrated` are these.
+fn counts_with(totals: Totals, migrated: &[Row]) -> Result<Counts, OpenFault>
+    ensures told { IfOk result (λ counts.
+        (counts.kept ≡ totals.kept) × (counts.filings ≡ totals.filings) × (counts.catalogue ≡ totals.catalogue)
+        × (migrated.now ≡ migrated_row counts.old_style ∷ []) × (counts.old_style ≤ counts.kept)) }
+    ensures refused { IfErr result (λ fault. (fault ≡ OpenFault.Damaged 0) × SaysNone totals.kept migrated.now) }
+{
+    match old_style_of(migrated, totals.kept) {
+        Some(old_style) => Ok(Counts {
+            kept: totals.kept,
+            filings: totals.filings,
+            old_style,
+            catalogue: totals.catalogue,
+        }),
+        None => Err(OpenFault::Damaged { row: 0 }),
+    }
+}
+
+/// How much is held in the third form.
+fn count_third<S: Alter>(alloc: Global, conn: &mut Connection<S>) -> Result<Counts, OpenFault>
+    ensures counted { HasCleanDisk (state S.Store conn.new)
+        → IfOk result (λ counts. IsCounted S.Store Earlier.Third counts conn.old conn.new) }
+    ensures few { IfOk result AreWithin }
+    ensures refused { HasCleanDisk (state S.Store conn.new)
+        → IfErr result (λ fault. HasNoCounts S.Store Earlier.Third fault conn.old conn.new) }
+    ensures leaves { OnlyReads S.Store conn.old conn.new result }
+{
+    match reads::migrated_rows(conn) {
+        Ok(migrated) => {
+            let totals = count_four(alloc, conn)?;
+            counts_with(totals, &migrated)
+        }
+        Err(error) => Err(table_fault(error)),
+    }
+}
+
+/// A register in an earlier form, and how much it holds.
+#[derive(Drop)]
+pub(crate) struct Survey {
+    pub(crate) form: Earlier,
+    pub(crate) counts: Counts,
+}
+
+fn count_in<S: Alter>(
+    alloc: Global,
+    conn: &mut Connection<S>,
+    form: Earlier,
+) -> Result<Counts, OpenFault>
+    ensures counted { HasCleanDisk (state S.Store conn.new)
+        → IfOk result (λ counts. IsCounted S.Store form counts conn.old conn.new) }
+    ensures few { IfOk result AreWithin }
+    ensures refused { HasCleanDisk (state S.Store conn.new)
+        → IfErr result (λ fault. HasNoCounts S.Store form fault conn.old conn.new) }
+    ensures leaves { OnlyReads S.Store conn.old conn.new result }
+{
+    match form {
+        Earlier::Second => count_second(alloc, conn),
+        Earlier::Third => count_third(alloc, conn),
+    }
+}
+
+/// Reads which earlier form the register is in, and how much it holds.
+pub(crate) fn read_earlier<S: Alter>(
+    alloc: Global,
+    conn: &mut Connection<S>,
+) -> Result<Survey, OpenFault>
+    ensures found { HasCleanDisk (state S.Store conn.new)
+        → IfOk result (λ found. IsSurveyed S.Store found.form found.counts conn.old conn.new) }
+    ensures few { IfOk result (λ found.
+        (found.counts.kept ≤ 2 ^ 62) × (found.counts.filings ≤ found.counts.kept)
+        × (found.counts.old_style ≤ found.counts.kept)) }
+    ensures refused { HasCleanDisk (state S.Store conn.new)
+        → IfErr result (λ fault. IsNotSurveyed S.Store fault conn.old conn.new) }
+    ensures leaves { OnlyReads S.Store conn.old conn.new result }
+{
+    let form = read_form(conn)?;
+    let counts = count_in(alloc, conn, form)?;
+    Ok(Survey { form, counts })
+}

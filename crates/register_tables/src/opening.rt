@@ -1,0 +1,327 @@
+//! What an opening finds in a database.
+
+ghost use Rattle.std.specs.Prelude.{◌≡◌, ◌≤◌, ◌<◌, ◌⊎◌, ◌↔◌, ◌∷◌, [], ℕ, length, false, Err, IsTrue, IfOk, IfErr};
+ghost use Rattle.std.specs.Prelude.{IfSome, OnOk, None, Option};
+ghost use Rattle.filing_model.specs.Register.{register};
+ghost use Rattle.sqlite.specs.Held.{state};
+ghost use Rattle.sqlite.specs.declared.types.Value.TheVariants.{Int};
+ghost use Rattle.sqlite.specs.State.{HasCleanDisk};
+ghost use Rattle.table_rows.specs.Leaving.{OnlyQueries, OnlyReads};
+ghost use Rattle.table_rows.specs.Causes.{cause_of};
+ghost use Rattle.register_rows.specs.Audit.{IsVerdict};
+ghost use Rattle.register_rows.specs.Catalogue.{view_lines};
+ghost use Rattle.register_tables.specs.Faults.{meta_fault, table_fault};
+ghost use Rattle.register_tables.specs.Opening.{all_meta, row_texts, new_texts, IsRead, AreRead, StopsFor};
+ghost use Rattle.register_tables.specs.Opening.{SaysOldStyle, SaysNothing, AreDamaged, IsRefused, IsRefusedAfter};
+ghost use Rattle.register_tables.specs.Opening.{AreWithin, ReadsRegister};
+ghost use Rattle.register_rows.specs.Register.{meta_row, migrated_row};
+ghost use Rattle.register_rows.specs.Schema.{HasCommon};
+ghost use Rattle.register_tables.specs.Walk.{AreCounted};
+ghost use Rattle.table_rows.specs.Standing.{IsAtRest};
+
+pub(crate) mod walk;
+pub(crate) mod watch;
+
+use crate::fault::OpenFault;
+use crate::opening::walk::{Totals, count_by_walk};
+use crate::opening::watch::Watch;
+use crate::select::reads;
+use register_rows::{Catalogue, Cell, Verdict, audit, is_row, last_in};
+use sqlite::types::ValueRef;
+use sqlite::{Alter, Connection, Error, Row};
+use std::alloc::Global;
+use table_rows::{Cause, is_settled};
+
+pub(crate) fn meta_fault(error: Error) -> OpenFault
+    ensures { result ≡ meta_fault error }
+{
+    match Cause::from(error) {
+        Cause::Memory => OpenFault::Memory,
+        Cause::Disk => OpenFault::Disk,
+        Cause::Other => OpenFault::NotOurs,
+    }
+}
+
+pub(crate) fn table_fault(error: Error) -> OpenFault
+    ensures { result ≡ table_fault error }
+{
+    match Cause::from(error) {
+        Cause::Memory => OpenFault::Memory,
+        Cause::Disk => OpenFault::Disk,
+        Cause::Other => OpenFault::Damaged { row: 0 },
+    }
+}
+
+/// Whether the rows of `intake_meta` are the one row of a register.
+fn is_register(rows: &[Row]) -> bool
+    ensures { IsTrue result ↔ (rows.now ≡ meta_row ∷ []) }
+{
+    match rows {
+        [row] => is_row(
+            row,
+            &[
+                Cell::Int(1),
+                Cell::Text(b"register".as_slice()),
+                Cell::Int(4),
+            ],
+        ),
+        _ => false,
+    }
+}
+
+/// Reads `intake_meta`, whose rows are to be the one row.
+fn read_meta<S: Alter>(conn: &mut Connection<S>) -> Result<(), OpenFault>
+    ensures read { HasCleanDisk (state S.Store conn.new)
+        → OnOk result (IsRead S.Store all_meta conn.old conn.new (meta_row ∷ [])) }
+    ensures refused { HasCleanDisk (state S.Store conn.new)
+        → IfErr result (λ fault. IsRefused S.Store fault conn.old conn.new) }
+    ensures leaves { OnlyReads S.Store conn.old conn.new result }
+{
+    match reads::meta_rows(conn) {
+        Ok(rows) => {
+            if is_register(&rows) {
+                Ok(())
+            } else {
+                Err(OpenFault::NotOurs)
+            }
+        }
+        Err(error) => Err(meta_fault(error)),
+    }
+}
+
+/// The rows of the four tables beside `intake_meta`, each in the order of its key.
+#[derive(Drop)]
+pub(crate) struct Tables {
+    pub(crate) kept: Vec<Row>,
+    pub(crate) findings: Vec<Row>,
+    pub(crate) filings: Vec<Row>,
+    pub(crate) facts: Vec<Row>,
+}
+
+pub(crate) fn read_tables<S: Alter>(conn: &mut Connection<S>) -> Result<Tables, Error>
+    ensures read { HasCleanDisk (state S.Store conn.new)
+        → IfOk result (λ tables.
+        AreRead S.Store row_texts conn.old conn.new
+        (tables.kept.items ∷ tables.findings.items ∷ tables.filings.items ∷ tables.facts.items ∷ [])) }
+    ensures failed { HasCleanDisk (state S.Store conn.new)
+        → IfErr result (λ error. StopsFor S.Store (cause_of error) row_texts conn.old conn.new) }
+    ensures leaves { OnlyQueries S.Store conn.old conn.new result }
+{
+    let kept = reads::kept_rows(conn)?;
+    let findings = reads::finding_rows(conn)?;
+    let filings = reads::filing_rows(conn)?;
+    let facts = reads::fact_rows(conn)?;
+    Ok(Tables {
+        kept,
+        findings,
+        filings,
+        facts,
+    })
+}
+
+/// The rows of the tables that an earlier form did not have, each in the order of its key.
+#[derive(Drop)]
+pub(crate) struct Later {
+    migrated: Vec<Row>,
+    amends: Vec<Row>,
+}
+
+fn read_later<S: Alter>(conn: &mut Connection<S>) -> Result<Later, Error>
+    ensures read { HasCleanDisk (state S.Store conn.new)
+        → IfOk result (λ later.
+        AreRead S.Store new_texts conn.old conn.new (later.migrated.items ∷ later.amends.items ∷ [])) }
+    ensures failed { HasCleanDisk (state S.Store conn.new)
+        → IfErr result (λ error. StopsFor S.Store (cause_of error) new_texts conn.old conn.new) }
+    ensures leaves { OnlyQueries S.Store conn.old conn.new result }
+{
+    let migrated = reads::migrated_rows(conn)?;
+    let amends = reads::amends_rows(conn)?;
+    Ok(Later { migrated, amends })
+}
+
+/// How much a register holds: how many requests are kept, how many of them are registered, how many were kept before
+/// there were problem details, and what is said of the filings.
+#[derive(Debug, Drop)]
+pub struct Counts {
+    pub kept: u64,
+    pub filings: u64,
+    pub old_style: u64,
+    pub catalogue: Catalogue,
+}
+
+/// The number in the row, where it is the row of `migrated` and the number one of so many kept requests.
+pub(crate) fn number_of(row: &Row, kept: u64) -> Option<u64>
+    ensures some { IfSome result (λ old_style. (row.now ≡ migrated_row old_style) × (old_style ≤ kept)) }
+    ensures none { result ≡ None → (old_style : ℕ) → row.now ≡ migrated_row old_style → old_style ≤ kept → ⊥ }
+{
+    match last_in(row) {
+        Some(old_style)
+            if old_style <= kept && is_row(row, &[Cell::Int(1), Cell::Int(old_style as i64)]) =>
+            Some(old_style),
+        _ => None,
+    }
+}
+
+/// The number in the row of `migrated`, where it is one of so many kept requests.
+fn old_style_in(kept: u64, later: &Later) -> Option<u64>
+    ensures some { IfSome result (λ old_style.
+        SaysOldStyle kept old_style (record { migrated = later.now.migrated.items; amends = later.now.amends.items })) }
+    ensures none { result ≡ None
+        → SaysNothing kept (record { migrated = later.now.migrated.items; amends = later.now.amends.items }) }
+{
+    match later.migrated.as_slice() {
+        [row] => number_of(row, kept),
+        _ => None,
+    }
+}
+
+/// Counts what the rows stand for, where they stand for a list of requests.
+fn count(
+    alloc: Global,
+    kept: &[Row],
+    findings: &[Row],
+    filings: &[Row],
+    facts: &[Row],
+    later: &Later,
+) -> Result<Counts, OpenFault>
+    ensures counted { IfOk result (λ counts.
+        (counts.kept ≡ length kept.now)
+        × SaysOldStyle counts.kept counts.old_style (record {
+          migrated = later.now.migrated.items;
+          amends = later.now.amends.items;
+        })
+        × IsVerdict kept.now
+        (record { finding = findings.now; filing = filings.now; fact = facts.now; amends = later.now.amends.items })
+        (Verdict.Sound counts.catalogue)
+        × (counts.filings ≡ length (view_lines counts.catalogue))) }
+    ensures few { IfOk result AreWithin }
+    ensures refused { IfErr result (λ fault.
+        (fault ≡ OpenFault.Memory)
+        ⊎ ((row : ℕ) × (fault ≡ OpenFault.Damaged row)
+        × AreDamaged kept.now
+        (record {
+          finding = findings.now;
+          filing = filings.now;
+          fact = facts.now;
+          amends = later.now.amends.items;
+        })
+        (record { migrated = later.now.migrated.items; amends = later.now.amends.items }) row)) }
+{
+    match audit(alloc, kept, findings, filings, facts, &later.amends) {
+        Ok(Verdict::Sound { catalogue }) => match old_style_in(kept.len() as u64, later) {
+            Some(old_style) => Ok(Counts {
+                kept: kept.len() as u64,
+                filings: catalogue.len(),
+                old_style,
+                catalogue,
+            }),
+            None => Err(OpenFault::Damaged { row: 0 }),
+        },
+        Ok(Verdict::Damaged { row }) => Err(OpenFault::Damaged { row }),
+        Err(_) => Err(OpenFault::Memory),
+    }
+}
+
+/// So much is held, where the rows of the later tables are those of so many kept requests.
+fn counts_of(totals: Totals, later: &Later) -> Option<Counts>
+    ensures { IfSome result (λ counts.
+        (counts.kept ≡ totals.kept) × (counts.filings ≡ totals.filings) × (counts.catalogue ≡ totals.catalogue)
+        × SaysOldStyle counts.kept counts.old_style (record {
+          migrated = later.now.migrated.items;
+          amends = later.now.amends.items;
+        })) }
+{
+    Some(Counts {
+        kept: totals.kept,
+        filings: totals.filings,
+        old_style: old_style_in(totals.kept, later)?,
+        catalogue: totals.catalogue,
+    })
+}
+
+/// Counts what the rows stand for with one kept request in memory at a time. `None` says nothing of the rows: the
+/// tables are then read whole, and say what is refused.
+fn count_one_by_one<S: Alter, W: Watch>(
+    alloc: Global,
+    conn: &mut Connection<S>,
+    later: &Later,
+    watch: &mut W,
+) -> Result<Option<Counts>, OpenFault>
+    ensures found { HasCleanDisk (state S.Store conn.new) → HasCommon (state S.Store conn.old).now.schema
+        → IfOk result (λ found.
+        IfSome found (λ counts.
+        AreCounted counts (record { migrated = later.now.migrated.items; amends = later.now.amends.items })
+        (state S.Store conn.old).now)) }
+    ensures few { IfOk result (λ found.
+        IfSome found AreWithin) }
+    ensures failed { HasCleanDisk (state S.Store conn.new)
+        → IfErr result (λ fault.
+        (error : Error) × (fault ≡ table_fault error)
+        × StopsFor S.Store (cause_of error) row_texts conn.old conn.new) }
+    ensures leaves { OnlyReads S.Store conn.old conn.new result }
+{
+    match count_by_walk(alloc, conn, &later.amends, watch) {
+        Ok(Some(totals)) => Ok(counts_of(totals, later)),
+        Ok(None) => Ok(None),
+        Err(error) => match Cause::from(error) {
+            Cause::Memory => Err(OpenFault::Memory),
+            Cause::Disk => Err(OpenFault::Disk),
+            Cause::Other => Ok(None),
+        },
+    }
+}
+
+/// Counts what the rows stand for beside those of the later tables.
+fn count_all<S: Alter, W: Watch>(
+    alloc: Global,
+    conn: &mut Connection<S>,
+    later: &Later,
+    watch: &mut W,
+) -> Result<Counts, OpenFault>
+    ensures counted { HasCleanDisk (state S.Store conn.new)
+        → IfOk result (λ counts.
+        HasCommon (state S.Store conn.old).now.schema
+        → AreCounted counts (record { migrated = later.now.migrated.items; amends = later.now.amends.items })
+        (state S.Store conn.old).now) }
+    ensures few { IfOk result AreWithin }
+    ensures refused { HasCleanDisk (state S.Store conn.new)
+        → IfErr result (λ fault.
+        IsRefusedAfter S.Store (record {
+          migrated = later.now.migrated.items;
+          amends = later.now.amends.items;
+        }) fault conn.old conn.new) }
+    ensures leaves { OnlyReads S.Store conn.old conn.new result }
+{
+    if let Some(counts) = count_one_by_one(alloc, conn, later, watch)? {
+        return Ok(counts);
+    }
+    match read_tables(conn) {
+        Ok(tables) => count(
+            alloc,
+            &tables.kept,
+            &tables.findings,
+            &tables.filings,
+            &tables.facts,
+            later,
+        ),
+        Err(error) => Err(table_fault(error)),
+    }
+}
+
+/// Reads how much the register holds that the database is, and tells `watch` how far it is: nothing is written,
+/// whatever the answer is. How the tables are declared is not tested.
+pub fn read_register<S: Alter, W: Watch>(
+    alloc: Global,
+    conn: &mut Connection<S>,
+    watch: &mut W,
+) -> Result<Counts, OpenFault>
+    requires { IsAtRest conn.old }
+    ensures { ReadsRegister S.Store conn.old conn.new result }
+{
+    prove!(is_settled(conn));
+    read_meta(conn)?;
+    match read_later(conn) {
+        Ok(later) => count_all(alloc, conn, &later, watch),
+        Err(error) => Err(table_fault(error)),
+    }
+}

@@ -1,0 +1,135 @@
+//! The SELECTs of a walk over a register's tables: the rows of one table with a key, by what is left of its key, or how
+//! many rows it has.
+
+ghost use Rattle.std.specs.Prelude.{◌≡◌, ◌<◌, ◌^◌, ◌-◌, pos, length, filter, [], IfOk, IfSome};
+ghost use Rattle.sqlite.specs.Held.{state};
+ghost use Rattle.sqlite.specs.State.{HasCleanDisk};
+ghost use Rattle.register_tables.specs.Reads.{has_texts};
+ghost use Rattle.table_rows.specs.Leaving.{OnlyQueries};
+ghost use Rattle.table_rows.specs.Picking.{has_number, CountsTo, Picks, rows_in};
+ghost use Rattle.register_rows.specs.Schema.{HasCommon, kept_table, finding_table, filing_table, fact_table};
+
+use sqlite::types::ValueRef;
+use sqlite::{Alter, Connection, Error, Row, params};
+use table_rows::{count_in, select};
+
+/// The kept rows with this place.
+pub(crate) fn kept_at<S: Alter>(conn: &mut Connection<S>, seq: u64) -> Result<Vec<Row>, Error>
+    requires { seq < 2 ^ 63 }
+    ensures picks { HasCleanDisk (state S.Store conn.new) → HasCommon (state S.Store conn.old).now.schema
+        → IfOk result (λ rows. Picks kept_table (has_number seq) rows.items (state S.Store conn.old).now) }
+    ensures leaves { OnlyQueries S.Store conn.old conn.new result }
+{
+    select(
+        conn,
+        "SELECT seq, filer, idem, body, number FROM kept WHERE seq = ?1 ORDER BY seq",
+        params![seq as i64],
+    )
+}
+
+/// The findings of the request at this place, by `pos`.
+pub(crate) fn findings_at<S: Alter>(conn: &mut Connection<S>, seq: u64) -> Result<Vec<Row>, Error>
+    requires { seq < 2 ^ 63 }
+    ensures picks { HasCleanDisk (state S.Store conn.new) → HasCommon (state S.Store conn.old).now.schema
+        → IfOk result (λ rows. Picks finding_table (has_number seq) rows.items (state S.Store conn.old).now) }
+    ensures leaves { OnlyQueries S.Store conn.old conn.new result }
+{
+    select(
+        conn,
+        "SELECT seq, pos, code, place FROM finding WHERE seq = ?1 ORDER BY pos",
+        params![seq as i64],
+    )
+}
+
+/// The filings with this number.
+pub(crate) fn filings_numbered<S: Alter>(
+    conn: &mut Connection<S>,
+    number: u64,
+) -> Result<Vec<Row>, Error>
+    requires { number < 2 ^ 63 }
+    ensures picks { HasCleanDisk (state S.Store conn.new) → HasCommon (state S.Store conn.old).now.schema
+        → IfOk result (λ rows. Picks filing_table (has_number number) rows.items (state S.Store conn.old).now) }
+    ensures leaves { OnlyQueries S.Store conn.old conn.new result }
+{
+    select(
+        conn,
+        "SELECT number, seq FROM filing WHERE number = ?1 ORDER BY number",
+        params![number as i64],
+    )
+}
+
+/// The facts of the filing with this number, by `pos`.
+pub(crate) fn facts_numbered<S: Alter>(
+    conn: &mut Connection<S>,
+    number: u64,
+) -> Result<Vec<Row>, Error>
+    requires { number < 2 ^ 63 }
+    ensures picks { HasCleanDisk (state S.Store conn.new) → HasCommon (state S.Store conn.old).now.schema
+        → IfOk result (λ rows. Picks fact_table (has_number number) rows.items (state S.Store conn.old).now) }
+    ensures leaves { OnlyQueries S.Store conn.old conn.new result }
+{
+    select(
+        conn,
+        "SELECT number, pos, id, concept, dimensions, value, decimals FROM fact WHERE number = ?1 ORDER BY pos",
+        params![number as i64],
+    )
+}
+
+/// How many kept rows have this filer and key.
+pub(crate) fn count_with_key<S: Alter>(
+    conn: &mut Connection<S>,
+    filer: &[u8],
+    key: &[u8],
+) -> Result<usize, Error>
+    ensures counted { HasCleanDisk (state S.Store conn.new) → HasCommon (state S.Store conn.old).now.schema
+        → IfOk result (λ count.
+        count ≡ length (filter (has_texts filer.now key.now) (rows_in (state S.Store conn.old).now kept_table))) }
+    ensures leaves { OnlyQueries S.Store conn.old conn.new result }
+{
+    let rows = select(
+        conn,
+        "SELECT seq FROM kept WHERE filer = ?1 AND idem = ?2 ORDER BY seq",
+        &[ValueRef::Text(filer), ValueRef::Text(key)],
+    )?;
+    Ok(rows.len())
+}
+
+/// How many rows `kept` has, or `None` where it has more than are counted.
+pub(crate) fn count_kept<S: Alter>(conn: &mut Connection<S>) -> Result<Option<u64>, Error>
+    ensures counted { HasCleanDisk (state S.Store conn.new) → HasCommon (state S.Store conn.old).now.schema
+        → IfOk result (λ found. IfSome found (λ count. CountsTo kept_table count (state S.Store conn.old).now)) }
+    ensures leaves { OnlyQueries S.Store conn.old conn.new result }
+{
+    let rows = select(conn, "SELECT count(*) FROM kept", &[])?;
+    Ok(count_in(&rows))
+}
+
+/// How many rows `finding` has, or `None` where it has more than are counted.
+pub(crate) fn count_findings<S: Alter>(conn: &mut Connection<S>) -> Result<Option<u64>, Error>
+    ensures counted { HasCleanDisk (state S.Store conn.new) → HasCommon (state S.Store conn.old).now.schema
+        → IfOk result (λ found. IfSome found (λ count. CountsTo finding_table count (state S.Store conn.old).now)) }
+    ensures leaves { OnlyQueries S.Store conn.old conn.new result }
+{
+    let rows = select(conn, "SELECT count(*) FROM finding", &[])?;
+    Ok(count_in(&rows))
+}
+
+/// How many rows `filing` has, or `None` where it has more than are counted.
+pub(crate) fn count_filings<S: Alter>(conn: &mut Connection<S>) -> Result<Option<u64>, Error>
+    ensures counted { HasCleanDisk (state S.Store conn.new) → HasCommon (state S.Store conn.old).now.schema
+        → IfOk result (λ found. IfSome found (λ count. CountsTo filing_table count (state S.Store conn.old).now)) }
+    ensures leaves { OnlyQueries S.Store conn.old conn.new result }
+{
+    let rows = select(conn, "SELECT count(*) FROM filing", &[])?;
+    Ok(count_in(&rows))
+}
+
+/// How many rows `fact` has, or `None` where it has more than are counted.
+pub(crate) fn count_facts<S: Alter>(conn: &mut Connection<S>) -> Result<Option<u64>, Error>
+    ensures counted { HasCleanDisk (state S.Store conn.new) → HasCommon (state S.Store conn.old).now.schema
+        → IfOk result (λ found. IfSome found (λ count. CountsTo fact_table count (state S.Store conn.old).now)) }
+    ensures leaves { OnlyQueries S.Store conn.old conn.new result }
+{
+    let rows = select(conn, "SELECT count(*) FROM fact", &[])?;
+    Ok(count_in(&rows))
+}

@@ -1,0 +1,103 @@
+//! The SELECTs of whole tables. Each reads one table, in the order of its key.
+
+ghost use Rattle.std.specs.Prelude.{[], IfOk};
+ghost use Rattle.sqlite.specs.Held.{state};
+ghost use Rattle.sqlite.specs.State.{HasCleanDisk, Shown};
+ghost use Rattle.table_rows.specs.Leaving.{OnlyQueries};
+ghost use Rattle.register_rows.specs.Schema.{kept_table, amends_table};
+ghost use Rattle.register_tables.specs.Opening.{all_meta, all_kept, all_findings, all_filings, all_facts, all_migrated};
+ghost use Rattle.register_tables.specs.Opening.{all_amends};
+ghost use Rattle.register_tables.specs.Reads.{Knows, KnowsAll, FailsOnErr, ReadsWhole};
+
+use sqlite::{Alter, Connection, Error, Row};
+use table_rows::select;
+
+/// The rows of `intake_meta`, by `id`.
+pub(crate) fn meta_rows<S: Alter>(conn: &mut Connection<S>) -> Result<Vec<Row>, Error>
+    ensures shown { HasCleanDisk (state S.Store conn.new)
+        → IfOk result (λ rows. Shown all_meta [] (state S.Store conn.old) (state S.Store conn.new) rows.items) }
+    ensures failed { FailsOnErr all_meta (state S.Store conn.old) (state S.Store conn.new) result }
+    ensures leaves { OnlyQueries S.Store conn.old conn.new result }
+{
+    select(
+        conn,
+        "SELECT id, kind, form FROM intake_meta ORDER BY id",
+        &[],
+    )
+}
+
+/// All kept rows, by `seq`.
+pub fn kept_rows<S: Alter>(conn: &mut Connection<S>) -> Result<Vec<Row>, Error>
+    ensures shown { HasCleanDisk (state S.Store conn.new)
+        → IfOk result (λ rows. Shown all_kept [] (state S.Store conn.old) (state S.Store conn.new) rows.items) }
+    ensures failed { FailsOnErr all_kept (state S.Store conn.old) (state S.Store conn.new) result }
+    ensures read { HasCleanDisk (state S.Store conn.new) → Knows (state S.Store conn.old)
+        → IfOk result (λ rows. ReadsWhole kept_table rows.items (state S.Store conn.old) (state S.Store conn.new)) }
+    ensures leaves { OnlyQueries S.Store conn.old conn.new result }
+{
+    select(
+        conn,
+        "SELECT seq, filer, idem, body, number FROM kept ORDER BY seq",
+        &[],
+    )
+}
+
+/// All findings, by `seq` and `pos`.
+pub(crate) fn finding_rows<S: Alter>(conn: &mut Connection<S>) -> Result<Vec<Row>, Error>
+    ensures shown { HasCleanDisk (state S.Store conn.new)
+        → IfOk result (λ rows. Shown all_findings [] (state S.Store conn.old) (state S.Store conn.new) rows.items) }
+    ensures failed { FailsOnErr all_findings (state S.Store conn.old) (state S.Store conn.new) result }
+    ensures leaves { OnlyQueries S.Store conn.old conn.new result }
+{
+    select(
+        conn,
+        "SELECT seq, pos, code, place FROM finding ORDER BY seq, pos",
+        &[],
+    )
+}
+
+/// All filings, by `number`.
+pub(crate) fn filing_rows<S: Alter>(conn: &mut Connection<S>) -> Result<Vec<Row>, Error>
+    ensures shown { HasCleanDisk (state S.Store conn.new)
+        → IfOk result (λ rows. Shown all_filings [] (state S.Store conn.old) (state S.Store conn.new) rows.items) }
+    ensures failed { FailsOnErr all_filings (state S.Store conn.old) (state S.Store conn.new) result }
+    ensures leaves { OnlyQueries S.Store conn.old conn.new result }
+{
+    select(conn, "SELECT number, seq FROM filing ORDER BY number", &[])
+}
+
+/// All facts, by `number` and `pos`.
+pub(crate) fn fact_rows<S: Alter>(conn: &mut Connection<S>) -> Result<Vec<Row>, Error>
+    ensures shown { HasCleanDisk (state S.Store conn.new)
+        → IfOk result (λ rows. Shown all_facts [] (state S.Store conn.old) (state S.Store conn.new) rows.items) }
+    ensures failed { FailsOnErr all_facts (state S.Store conn.old) (state S.Store conn.new) result }
+    ensures leaves { OnlyQueries S.Store conn.old conn.new result }
+{
+    select(
+        conn,
+        "SELECT number, pos, id, concept, dimensions, value, decimals FROM fact ORDER BY number, pos",
+        &[],
+    )
+}
+
+/// The rows of `migrated`, by `id`.
+pub(crate) fn migrated_rows<S: Alter>(conn: &mut Connection<S>) -> Result<Vec<Row>, Error>
+    ensures shown { HasCleanDisk (state S.Store conn.new)
+        → IfOk result (λ rows. Shown all_migrated [] (state S.Store conn.old) (state S.Store conn.new) rows.items) }
+    ensures failed { FailsOnErr all_migrated (state S.Store conn.old) (state S.Store conn.new) result }
+    ensures leaves { OnlyQueries S.Store conn.old conn.new result }
+{
+    select(conn, "SELECT id, last FROM migrated ORDER BY id", &[])
+}
+
+/// The rows of `amends`, by `seq`.
+pub fn amends_rows<S: Alter>(conn: &mut Connection<S>) -> Result<Vec<Row>, Error>
+    ensures shown { HasCleanDisk (state S.Store conn.new)
+        → IfOk result (λ rows. Shown all_amends [] (state S.Store conn.old) (state S.Store conn.new) rows.items) }
+    ensures failed { FailsOnErr all_amends (state S.Store conn.old) (state S.Store conn.new) result }
+    ensures read { HasCleanDisk (state S.Store conn.new) → KnowsAll (state S.Store conn.old)
+        → IfOk result (λ rows. ReadsWhole amends_table rows.items (state S.Store conn.old) (state S.Store conn.new)) }
+    ensures leaves { OnlyQueries S.Store conn.old conn.new result }
+{
+    select(conn, "SELECT seq, target FROM amends ORDER BY seq", &[])
+}
