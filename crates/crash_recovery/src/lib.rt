@@ -51,7 +51,7 @@ ghost use Rattle.table_rows.specs.declared.fault.StoreFault.{StoreFault};
 ghost use Rattle.table_rows.specs.Standing.{CommitsNothing, HasCommitted};
 ghost use Rattle.register_tables.specs.Registers.{IsRegisterOf};
 ghost use Rattle.register_store.specs.declared.outcome.NewRow.{NewRow};
-ghost use Rattle.register_store.specs.declared.outcome.Outcome.{Outcome};
+ghost use Rattle.filing_model.specs.declared.outcome.Outcome.{Outcome};
 ghost use Rattle.register_store.specs.Store.{StoreParts, HasRequests, ForNew};
 ghost use Rattle.register_store.specs.Store as register;
 ghost use Rattle.register_store.specs.Calls.{AddsRequest};

@@ -11,8 +11,8 @@ ghost use Rattle.world_events.specs.Played.{IsSame};
 
 use crate::fault::Fault;
 use event_script::{append_done, append_entry, append_filing};
+use filing_model::Registered;
 use outbox_core::State;
-use register_store::Registered;
 use schedule::{Honest, World};
 use std::alloc::Global;
 

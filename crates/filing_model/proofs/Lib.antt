@@ -1,22 +1,26 @@
-pub mod Lists
-pub mod Firsts
-pub mod Keeping
-pub mod Answers
-pub mod Marks
 pub mod Alike
-pub mod Appending
-pub mod Valid
-pub mod Stopping
 pub mod Answered
+pub mod Answers
+pub mod Appending
 pub mod Bare
-pub mod Styles
+pub mod ContentTexts
 pub mod Contents
-pub mod Sizes
 pub mod Finals
+pub mod Firsts
+pub mod JsonTokens
+pub mod Keeping
+pub mod ListTokens
+mod Listed
+pub mod Lists
+pub mod Marks
+mod Numbering
+pub mod OwnStyles
+mod Owning
 pub mod Posted
 pub mod Replacing
-mod Numbering
-mod Owning
-mod Listed
-mod StopAtZero
 pub mod Serving
+pub mod Sizes
+mod StopAtZero
+pub mod Stopping
+pub mod Styles
+pub mod Valid

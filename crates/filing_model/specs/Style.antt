@@ -15,3 +15,9 @@ abbrev pub HasStyle : Style → Answer → Type 0
 HasStyle style (Registered number repeat) = Unit {0}
 HasStyle style (Refused findings repeat told) = told ≡ style
 HasStyle style (KeyReused told) = told ≡ style
+
+-- the style that an answer carries; a number is told in either style alike
+abbrev pub carried_style : Answer → Style
+carried_style (Registered number repeat) = Problem
+carried_style (Refused findings repeat style) = style
+carried_style (KeyReused style) = style

@@ -1,10 +1,12 @@
--- Answers, lists, requests and states without where they lie in memory.
+-- Answers, outcomes, lists, requests and states without where they lie in memory.
 use Rattle.std.specs.Prelude.{ℕ, List, Option}
 use Rattle.filing_model.specs.declared.listing.FilingRow.{FilingRow as Row}
 use Rattle.filing_model.specs.declared.answer.Answer.{Answer as Given}
 use Rattle.filing_model.specs.declared.answer.Answer.TheVariants as given
+use Rattle.filing_model.specs.declared.outcome.Outcome.{Outcome as Became}
 use Rattle.filing_model.specs.declared.state.State.{State as Stored}
 use Rattle.filing_model.specs.Listing.{Listing}
+use Rattle.filing_model.specs.Register.{Outcome}
 use Rattle.filing_model.specs.Request.{Request}
 use Rattle.filing_model.specs.Answer.{Answer}
 use Rattle.filing_model.specs.Outbox.{State, Open, Confirmed, Refused, Clashed}
@@ -14,6 +16,11 @@ abbrev pub view_answer : Given → Answer
 view_answer (given.Registered number repeat) = Answer.Registered number repeat
 view_answer (given.Refused found repeat style) = Answer.Refused found repeat
 view_answer (given.KeyReused style) = Answer.KeyReused
+
+-- an outcome
+abbrev pub view_outcome : Became → Outcome
+view_outcome (Became.Registered number) = Outcome.Registered number
+view_outcome (Became.Refused findings) = Outcome.Refused findings
 
 -- a filing as it is listed
 abbrev pub view_row : Row → Listing

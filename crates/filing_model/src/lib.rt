@@ -4,14 +4,21 @@
 #![tactic(auto)]
 
 mod answer;
+mod completed;
+mod content;
 pub mod laws;
 mod listing;
+mod outcome;
+mod reply;
 mod served;
 mod state;
 mod target;
 
 pub use answer::Answer;
+pub use completed::{Completed, Registered};
 pub use listing::FilingRow;
+pub use outcome::Outcome;
+pub use reply::{list_reply, reply_of, word_reply};
 pub use served::{Ended, Mark, Style};
 pub use state::State;
 pub use target::is_target;

@@ -8,9 +8,8 @@ ghost use Rattle.filing_model.specs.Text.{completed, completed_at};
 ghost use Rattle.gateway_requests.specs.Route.{view_message};
 
 use crate::route::{Route, route_of};
-use filing_model::Mark;
+use filing_model::{Completed, Mark};
 use http_wire::{Block, HeadFault, Message, find_block, read_head};
-use register_store::Completed;
 use std::alloc::{AllocError, Global};
 
 /// The requests that a connection of these bytes completed, in order: those of its filed requests

@@ -1,3 +1,1 @@
 pub mod CacheLemmas
-pub mod ListTokens
-pub mod Styles

@@ -7,7 +7,7 @@ use Rattle.filing_model.specs.Register.{Kept, kept}
 use Rattle.filing_model.specs.Answer.{kept_for}
 use Rattle.filing_model.specs.Style.{style_of}
 use Rattle.filing_model.specs.Views.{the_request}
-use Rattle.register_store.specs.Outcomes.{view_outcome}
+use Rattle.filing_model.specs.Views.{view_outcome}
 use Rattle.intake_answers.specs.declared.cache.Cache.{Cache}
 use Rattle.intake_answers.specs.declared.cache.Remembered.{Remembered}
 

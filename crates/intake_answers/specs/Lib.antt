@@ -1,4 +1,3 @@
 pub mod Answered
 pub mod Cache
 pub mod Line
-pub mod Listed

@@ -5,15 +5,13 @@ ghost use Rattle.filing_model.specs.declared.served.Style.{Style};
 ghost use Rattle.filing_model.specs.Request.{Request, same_target, has_key};
 ghost use Rattle.filing_model.specs.Answer.{answer_by, answer_from};
 ghost use Rattle.filing_model.specs.Style.{style_of, HasStyle};
-ghost use Rattle.filing_model.specs.Views.{view_answer, the_request};
-ghost use Rattle.register_store.specs.Outcomes.{view_outcome};
+ghost use Rattle.filing_model.specs.Views.{view_answer, view_outcome, the_request};
 ghost use Rattle.intake_answers.specs.Answered.{IsAnswerTo};
 ghost use Rattle.intake_answers.specs.Cache.{kept_of, IsKeptIn, IsNameOf, Remembers};
 
-use filing_model::{Answer, Style};
+use filing_model::{Answer, Outcome, Style};
 use key_string::KeyText;
 use lru::LruCache;
-use register_store::Outcome;
 use std::alloc::{AllocError, Global};
 use std::num::NonZeroUsize;
 

@@ -5,8 +5,6 @@
 
 mod cache;
 mod line;
-mod reply;
 
 pub use cache::{Cache, answer_by, asks_the_same, name_of};
 pub use line::fact_line;
-pub use reply::{list_reply, reply_of, word_reply};

@@ -5,6 +5,5 @@
 mod intake;
 mod memory;
 
-pub use filing_model::{Answer, FilingRow, Style};
+pub use filing_model::{Answer, FilingRow, Style, list_reply, reply_of, word_reply};
 pub use intake::{Intake, Unavailable};
-pub use intake_answers::{list_reply, reply_of, word_reply};

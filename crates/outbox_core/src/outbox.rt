@@ -47,7 +47,8 @@ impl<S: Alter> Model for Outbox<S> {
 
     ghost coded = { parts_code S.code };
 
-    ghost view = { λ o. record { conn = o.conn; filer = string_bytes o.filer; count = o.count; has_failed = o.has_failed } };
+    ghost view = { λ o.
+        record { conn = o.conn; filer = string_bytes o.filer; count = o.count; has_failed = o.has_failed } };
 
     ghost invariant = { λ o. (o.count ≤ 2 ^ 62) × (is_filer (string_bytes o.filer) ≡ true) };
 }

@@ -4,9 +4,8 @@ ghost use Rattle.std.specs.Prelude.{◌≡◌, Some, IfOk};
 ghost use Rattle.filing_model.specs.Request.{Request};
 ghost use Rattle.filing_model.specs.Outbox.{bytes_of, IsSendable};
 
-use filing_model::Mark;
+use filing_model::{Completed, Mark};
 use gateway_requests::completed;
-use register_store::Completed;
 use std::alloc::{AllocError, Global};
 
 /// The request that these bytes file, as an intake reads it; `None` if they don't file one.

@@ -6,9 +6,9 @@ ghost use Rattle.http_messages.specs.Replies.{reply_parts};
 ghost use Rattle.receipts.specs.Text.{digest_text, json_text, target_text, front_part, middle_part, back_part};
 ghost use Rattle.receipts.specs.Text.{receipt_text};
 
+use filing_model::Completed;
 use hex::encode;
 use http_wire::Reply;
-use register_store::Completed;
 use serde_json::json;
 use sha2::{Digest, Sha256};
 use std::alloc::{AllocError, Global};

@@ -1,6 +1,5 @@
 pub mod Adding
 pub mod CatalogueLemmas
-pub mod ContentTexts
 pub mod FactLemmas
 pub mod FiledRows
 pub mod FiledSteps
@@ -8,7 +7,6 @@ pub mod FindLemmas
 pub mod FindReads
 pub mod FindTexts
 pub mod Growing
-pub mod JsonTokens
 pub mod ListLemmas
 pub mod MoreRequests
 pub mod OurGains

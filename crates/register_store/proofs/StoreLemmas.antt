@@ -19,7 +19,7 @@ use Rattle.register_rows.specs.Register.{IsCompleted}
 use Rattle.register_store.specs.Changes.{AddsRows, Adds, AddsTo}
 use Rattle.register_store.specs.Calls.{AddsRequest, KeepsStore}
 use Rattle.register_store.specs.declared.outcome.NewRow.{NewRow}
-use Rattle.register_store.specs.declared.outcome.Outcome.{Outcome as Stored}
+use Rattle.filing_model.specs.declared.outcome.Outcome.{Outcome as Stored}
 use Rattle.table_rows.specs.declared.fault.StoreFault.{StoreFault}
 use Rattle.table_rows.proofs.StepLemmas.{nothing_yet}
 use Rattle.register_tables.specs.Gains.{AddsNothing}

@@ -9,7 +9,7 @@ use Rattle.filing_model.specs.Request.{Request}
 use Rattle.filing_model.specs.Register.{kept, judged}
 use Rattle.filing_model.specs.Answer.{kept_for}
 use Rattle.filing_model.specs.Style.{style_of}
-use Rattle.filing_model.specs.Views.{the_request}
+use Rattle.filing_model.specs.Views.{the_request, view_outcome}
 use Rattle.table_rows.specs.Tables.{no_schema}
 use Rattle.table_rows.specs.Standing.{CommitsNothing}
 use Rattle.register_tables.specs.declared.fault.CreateFault.{CreateFault}
@@ -19,9 +19,9 @@ use Rattle.table_rows.specs.declared.fault.StoreFault.{StoreFault}
 use Rattle.register_tables.specs.declared.migrate.earlier.Earlier.{Earlier}
 use Rattle.register_store.specs.declared.outcome.KeptRow.{KeptRow}
 use Rattle.register_store.specs.declared.outcome.NewRow.{NewRow}
-use Rattle.register_store.specs.declared.outcome.Outcome.{Outcome}
+use Rattle.filing_model.specs.declared.outcome.Outcome.{Outcome}
 use Rattle.register_tables.specs.Earlier.{IsAlone, IsEarlierOf, ForEarlier}
-use Rattle.register_store.specs.Outcomes.{view_outcome, kept_as}
+use Rattle.register_store.specs.Outcomes.{kept_as}
 use Rattle.register_tables.specs.Refusals.{GivesBackMaking, GivesBackMigrating, GivesBackOpening, GivesUpMaking}
 use Rattle.register_tables.specs.Refusals.{GivesUpMigrating, GivesUpOpening}
 use Rattle.register_rows.specs.Schema.{is_taken, IsDeclared}

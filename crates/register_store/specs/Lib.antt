@@ -6,4 +6,3 @@ pub mod Numbered
 pub mod Outcomes
 pub mod Reads
 pub mod Store
-pub mod Writing

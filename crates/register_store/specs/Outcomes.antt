@@ -1,18 +1,12 @@
--- Outcomes and kept rows without where they lie in memory.
+-- Kept rows without where they lie in memory.
 use Rattle.std.specs.Prelude.{ℕ, List, nat_le, if◌then◌else◌}
 use Rattle.filing_model.specs.declared.served.Style.{Style}
 use Rattle.filing_model.specs.declared.served.Style.TheVariants.{Old, Problem}
-use Rattle.filing_model.specs.Register.{Outcome, Kept}
-use Rattle.filing_model.specs.Views.{the_request}
-use Rattle.register_store.specs.declared.outcome.Outcome.{Outcome as Stored}
+use Rattle.filing_model.specs.Register.{Kept}
+use Rattle.filing_model.specs.Views.{the_request, view_outcome}
 use Rattle.register_store.specs.declared.outcome.KeptRow.{KeptRow}
 use Rattle.register_store.specs.declared.outcome.NewRow.{NewRow}
 use Rattle.register_rows.specs.Outcomes.{outcome_of}
-
--- an outcome
-abbrev pub view_outcome : Stored → Outcome
-view_outcome (Stored.Registered number) = Outcome.Registered number
-view_outcome (Stored.Refused findings) = Outcome.Refused findings
 
 -- what is kept of this filer and key
 abbrev pub kept_as : List ℕ → List ℕ → KeptRow → Kept

@@ -4,7 +4,6 @@
 #![tactic(auto)]
 
 mod catalogue;
-mod content;
 mod decode;
 mod kept_body;
 mod outcome;
@@ -13,12 +12,9 @@ mod select;
 mod store;
 mod write;
 
-pub use content::{
-    problem_text, refusal_text, refused_status, refused_text, registered_text, write_number,
-};
-pub use decode::completed::{Completed, Registered};
+pub use filing_model::{Completed, Outcome, Registered};
 pub use kept_body::KeptBody;
-pub use outcome::{KeptRow, NewRow, Outcome};
+pub use outcome::{KeptRow, NewRow};
 pub use register_tables::{
     Counts, CreateFault, Earlier, OpenFault, Unwatched, Watch, make_register, migrate_register,
     read_register,

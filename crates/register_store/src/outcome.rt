@@ -1,23 +1,14 @@
 //! What becomes of the first request of a filer and key, and what is kept of it.
 
 ghost use Rattle.std.specs.Prelude.{◌≡◌, IfOk};
-ghost use Rattle.register_store.specs.Outcomes.{view_outcome};
+ghost use Rattle.filing_model.specs.Views.{view_outcome};
 ghost use Rattle.register_rows.specs.Outcomes.{outcome_of, filings_by};
 
 use crate::kept_body::KeptBody;
-use filing_model::Style;
+use filing_model::{Outcome, Style};
 use key_string::KeyText;
 use std::alloc::{AllocError, Global};
-use xbrl_report::{Findings, Judged};
-
-/// What became of the first request of a filer and key.
-#[derive(Drop)]
-pub enum Outcome {
-    /// Registered under this number, which counts from 1 over all filers.
-    Registered(u64),
-    /// Refused for these findings, of which there is one at least.
-    Refused(Findings),
-}
+use xbrl_report::Judged;
 
 /// What is kept of a filer and key: which filing the request is to replace, if any, the body's bytes, what became of
 /// them, and the style in which these requests are answered.
@@ -40,24 +31,22 @@ pub struct NewRow<'a> {
     pub judged: &'a Judged,
 }
 
-impl Outcome {
-    /// What becomes of a report that was judged so, where the next filing has this number.
-    pub(crate) fn of(alloc: Global, judged: &Judged, number: u64) -> Result<Outcome, AllocError>
-        ensures { IfOk result (λ o. view_outcome o ≡ outcome_of number judged.now) }
-    {
-        match judged {
-            Judged::Valid(_) => Ok(Outcome::Registered(number)),
-            Judged::Refused(findings) => Ok(Outcome::Refused(findings.copied(alloc)?)),
-        }
+/// What becomes of a report that was judged so, if the next filing has this number.
+pub(crate) fn outcome_of(alloc: Global, judged: &Judged, number: u64) -> Result<Outcome, AllocError>
+    ensures { IfOk result (λ o. view_outcome o ≡ outcome_of number judged.now) }
+{
+    match judged {
+        Judged::Valid(_) => Ok(Outcome::Registered(number)),
+        Judged::Refused(findings) => Ok(Outcome::Refused(findings.copied(alloc)?)),
     }
+}
 
-    /// How many filings it is: one, or none.
-    pub(crate) fn filings(&self) -> u64
-        ensures { result ≡ filings_by (view_outcome self.now) }
-    {
-        match self {
-            Outcome::Registered(_) => 1,
-            Outcome::Refused(_) => 0,
-        }
+/// How many filings an outcome is: one, or none.
+pub(crate) fn filings_by(outcome: &Outcome) -> u64
+    ensures { result ≡ filings_by (view_outcome outcome.now) }
+{
+    match outcome {
+        Outcome::Registered(_) => 1,
+        Outcome::Refused(_) => 0,
     }
 }

@@ -12,9 +12,10 @@ ghost use Rattle.table_rows.specs.Standing.{IsAtRest};
 pub(crate) mod files;
 
 use crate::catalogue::note;
-use crate::outcome::{KeptRow, NewRow, Outcome};
+use crate::outcome::{KeptRow, NewRow, filings_by, outcome_of};
 use crate::select::found::find_kept;
 use crate::write::keep;
+use filing_model::Outcome;
 use key_string::KeyText;
 use register_rows::Catalogue;
 use register_tables::{
@@ -227,10 +228,10 @@ impl<S: Alter> Store<S> {
     {
         self.catalogue.reserve()?;
         let number = self.filings + 1;
-        let outcome = Outcome::of(self.alloc, row.judged, number)?;
+        let outcome = outcome_of(self.alloc, row.judged, number)?;
         keep(&mut self.conn, self.kept + 1, number, row)?;
         self.kept += 1;
-        self.filings += outcome.filings();
+        self.filings += filings_by(&outcome);
         note(&mut self.catalogue, self.kept, row);
         Ok(outcome)
     }

@@ -1,7 +1,7 @@
 //! What came of a script, without the world in which it was played.
 
 use drill_commands::{Fault, played, shown};
-use register_store::Registered;
+use filing_model::Registered;
 use schedule::{Honest, Output, World};
 use sqlite_disk::Memory;
 use std::alloc::Global;

@@ -99,7 +99,8 @@ fn play_on<D: Honest>(
         → Keeps (world_of server.old sent.old.items outputs.old.items filers.old.items)
         → AsksOutbox (world_of server.old sent.old.items outputs.old.items filers.old.items) (view_event event.now) }
     ensures reopen { result ≡ Err (Unplayed.Refused Cause.Reopen) → Closes (view_event event.now)
-        × (¬ CannotPlay (world_of server.old sent.old.items outputs.old.items filers.old.items) (view_event event.now)) }
+        × (¬ CannotPlay (world_of server.old sent.old.items outputs.old.items filers.old.items)
+        (view_event event.now)) }
 {
     match event {
         Event::Put {

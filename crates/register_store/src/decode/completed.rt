@@ -1,4 +1,4 @@
-//! Completed requests and filings as they are listed, and how a kept row reads as one.
+//! How a kept row reads as a completed request, and as a filing.
 
 ghost use Rattle.std.specs.Prelude.{◌≡◌, List, map, option_map, IfOk};
 ghost use Rattle.filing_model.specs.Register.{Kept, filings};
@@ -7,64 +7,11 @@ ghost use Rattle.table_rows.specs.Rows.{counted_from};
 ghost use Rattle.register_rows.specs.Register.{kept_row, amends_rows, joined_from};
 ghost use Rattle.register_rows.specs.Columns.{request_in, number_in};
 
+use filing_model::{Completed, Registered};
 use register_rows::target_of;
 use sqlite::Row;
 use std::alloc::Global;
-use std::marker::Model;
 use table_rows::StoreFault;
-
-/// A completed request: who sent it, under which key, which filing it is to replace, if any, and the bytes of the
-/// report.
-#[derive(Drop)]
-pub struct Completed {
-    pub filer: String,
-    pub key: String,
-    pub target: Option<u64>,
-    pub body: Vec<u8>,
-}
-
-impl Model for Completed {
-    ghost use Rattle.std.specs.Prelude.{string_bytes};
-    ghost use Rattle.filing_model.specs.Request.{Request};
-
-    ghost Value = { Request };
-
-    ghost view = { λ r. record {
-      filer = string_bytes r.filer;
-      key = string_bytes r.key;
-      target = r.target;
-      body =
-          r.body.items;
-    } };
-}
-
-/// A registered request under its number, which counts from 1, with the filing that it replaces, if any.
-#[derive(Drop)]
-pub struct Registered {
-    pub number: u64,
-    pub replaces: Option<u64>,
-    pub filer: String,
-    pub key: String,
-    pub body: Vec<u8>,
-}
-
-impl Model for Registered {
-    ghost use Rattle.std.specs.Prelude.{string_bytes};
-    ghost use Rattle.filing_model.specs.Register.{Filing};
-
-    ghost Value = { Filing };
-
-    ghost view = { λ f. record {
-      number = f.number;
-      request = record {
-        filer = string_bytes f.filer;
-        key =
-            string_bytes f.key;
-        target = f.replaces;
-        body = f.body.items;
-      };
-    } };
-}
 
 /// The request of a row with the columns `seq`, `filer`, `idem`, `body` and `number`, where it is to replace this
 /// filing, if any.

@@ -8,10 +8,10 @@ use Rattle.filing_model.specs.Reply.{reply_as, unavailable}
 use Rattle.filing_model.specs.Style.{style_of}
 use Rattle.filing_model.specs.Views.{the_request, view_answer}
 use Rattle.filing_model.proofs.Firsts.{firsts_short}
-use Rattle.intake_answers.specs.Answered.{told_style}
+use Rattle.filing_model.specs.Style.{carried_style}
 use Rattle.intake_core.specs.Held.{limit_of, old_style_in}
 use Rattle.intake_core.proofs.Deciding.{old_style_in-after}
-use Rattle.intake_answers.proofs.Styles.{HasStyle-told}
+use Rattle.filing_model.proofs.OwnStyles.{HasStyle-carried}
 use Rattle.gateway_server.proofs.Statuses.{phrase-reply_as, phrase-parts, phrase-unavailable}
 use Rattle.gateway_server.proofs.Decisions.{Decides-filed_unavailable}
 use Rattle.gateway_server.proofs.decide.file.Goals as goal
@@ -41,9 +41,9 @@ returns-in-Ok-clause-decided g c = λ clean before h.
 
 pub returns-in-Ok-clause-phrase : goal.returns-in-Ok-clause-phrase
 returns-in-Ok-clause-phrase g c =
-    let style = told_style c.in-Ok.answer in
+    let style = carried_style c.in-Ok.answer in
     phrase-parts AllocError c.reply_of.result (reply_as style (view_answer c.in-Ok.answer))
-    (phrase-reply_as style (view_answer c.in-Ok.answer)) (c.reply_of.ensures style (HasStyle-told c.in-Ok.answer))
+    (phrase-reply_as style (view_answer c.in-Ok.answer)) (c.reply_of.ensures style (HasStyle-carried c.in-Ok.answer))
 
 pub returns-in-Err-clause-decided : goal.returns-in-Err-clause-decided
 returns-in-Err-clause-decided g c = λ clean before h.

@@ -10,7 +10,7 @@ use Rattle.filing_model.specs.declared.served.Style.{Style}
 use Rattle.filing_model.specs.declared.served.Style.TheVariants.{Problem}
 use Rattle.filing_model.specs.Views.{the_request}
 use Rattle.filing_model.proofs.Answers.{answer_new}
-use Rattle.register_store.specs.Outcomes.{view_outcome}
+use Rattle.filing_model.specs.Views.{view_outcome}
 use Rattle.register_store.specs.Store.{shows}
 use Rattle.intake_core.specs.Held.{old_style_of, old_style_in}
 use Rattle.intake_core.proofs.Deciding.{IsKeptIn-new, HoldsRequests-more, style_of-new}

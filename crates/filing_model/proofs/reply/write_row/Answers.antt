@@ -7,10 +7,10 @@ use Rattle.serde_json.specs.Data.{no_members}
 use Rattle.serde_json.specs.Written.{outline}
 use Rattle.filing_model.specs.Reply.{listing_data, number_member}
 use Rattle.filing_model.specs.Views.{view_row}
-use Rattle.register_store.proofs.JsonTokens.{behind}
-use Rattle.intake_answers.specs.Listed.{number_tokens}
-use Rattle.intake_answers.proofs.ListTokens.{number_first}
-use Rattle.intake_answers.proofs.reply.write_row.Goals as goal
+use Rattle.filing_model.proofs.JsonTokens.{behind}
+use Rattle.filing_model.specs.Writing.{number_tokens}
+use Rattle.filing_model.proofs.ListTokens.{number_first}
+use Rattle.filing_model.proofs.reply.write_row.Goals as goal
 
 pub returns : goal.returns
 returns c =

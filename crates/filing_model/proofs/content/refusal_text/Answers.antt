@@ -4,8 +4,8 @@ use Rattle.json.specs.Tree.{members_tokens}
 use Rattle.serde_json.specs.Data.{object}
 use Rattle.serde_json.specs.Written.{members_outline}
 use Rattle.filing_model.specs.Reply.{refusal_members}
-use Rattle.register_store.proofs.JsonTokens.{whole_text}
-use Rattle.register_store.proofs.content.refusal_text.Goals as goal
+use Rattle.filing_model.proofs.JsonTokens.{whole_text}
+use Rattle.filing_model.proofs.content.refusal_text.Goals as goal
 
 pub returns : goal.returns
 returns c =

@@ -8,24 +8,24 @@ ghost use Rattle.serde_json.specs.Written.{compact_text, outline};
 ghost use Rattle.filing_model.specs.declared.served.Style.{Style};
 ghost use Rattle.filing_model.specs.Reply.{reply_as, list_reply, word_reply, answer_data, answer_kind, answer_status};
 ghost use Rattle.filing_model.specs.Reply.{refusal_kind, listing_data, listings_data, list_data};
-ghost use Rattle.filing_model.specs.Style.{HasStyle};
+ghost use Rattle.filing_model.specs.Style.{HasStyle, carried_style};
 ghost use Rattle.filing_model.specs.Views.{view_answer, view_row};
-ghost use Rattle.intake_answers.specs.Answered.{told_style};
-ghost use Rattle.intake_answers.specs.Listed.{number_tokens};
-ghost use Rattle.register_store.specs.Writing.{AppendsTokens};
+ghost use Rattle.filing_model.specs.Writing.{AppendsTokens, number_tokens};
 
-use filing_model::{Answer, FilingRow, Style};
-use http_messages::{Kind, Reply};
-use json::Writer;
-use register_store::{
+use crate::answer::Answer;
+use crate::content::{
     problem_text, refusal_text, refused_status, refused_text, registered_text, write_number,
 };
+use crate::listing::FilingRow;
+use crate::served::Style;
+use http_messages::{Kind, Reply};
+use json::Writer;
 use std::alloc::{AllocError, Global};
 
 /// The reply to an answer, as compact JSON: 201 with the number, 400 with the finding that the body is
 /// no JSON text, 422 with other findings, or 422 where the key was reused, in the style of the answer. A repeat gets
 /// the same.
-#[tactic(auto, unfolding(filing_model::specs::Reply::reply_as))]
+#[tactic(auto, unfolding(crate::specs::Reply::reply_as))]
 pub fn reply_of(alloc: Global, answer: &Answer) -> Result<Reply, AllocError>
     ensures { (style : Style) → HasStyle style answer.now
         → IfOk result (λ r. reply_parts r ≡ reply_as style (view_answer answer.now)) }
@@ -39,7 +39,7 @@ pub fn reply_of(alloc: Global, answer: &Answer) -> Result<Reply, AllocError>
 
 /// The reply that lists filings: 200, with the number of each, how many facts it has, and which filing it replaces and
 /// which one replaces it, as compact JSON.
-#[tactic(auto, unfolding(filing_model::specs::Reply::list_reply))]
+#[tactic(auto, unfolding(crate::specs::Reply::list_reply))]
 pub fn list_reply(alloc: Global, rows: &[FilingRow]) -> Result<Reply, AllocError>
     ensures { IfOk result (λ r. reply_parts r ≡ list_reply (map view_row rows.now)) }
 {
@@ -73,7 +73,7 @@ fn answer_status(answer: &Answer) -> u16
 }
 
 fn answer_kind(answer: &Answer) -> Kind
-    ensures { result ≡ answer_kind (told_style answer.now) (view_answer answer.now) }
+    ensures { result ≡ answer_kind (carried_style answer.now) (view_answer answer.now) }
 {
     match answer {
         Answer::Registered { .. } => Kind::Json,
@@ -94,7 +94,7 @@ fn refusal_kind(style: Style) -> Kind
 /// The content of the reply to an answer.
 fn answer_text(alloc: Global, answer: &Answer) -> Result<Vec<u8>, AllocError>
     ensures { IfOk result (λ text.
-        text.items ≡ compact_text (answer_data (told_style answer.now) (view_answer answer.now))) }
+        text.items ≡ compact_text (answer_data (carried_style answer.now) (view_answer answer.now))) }
 {
     match answer {
         Answer::Registered { number, .. } => registered_text(alloc, *number),

@@ -1,5 +1,5 @@
 use Rattle.std.proofs.Common.{refl}
-use Rattle.intake_answers.proofs.reply.refusal_kind.Goals as goal
+use Rattle.filing_model.proofs.reply.refusal_kind.Goals as goal
 
 pub returns-in-Old : goal.returns-in-Old
 returns-in-Old c = rw c.in-Old.is refl

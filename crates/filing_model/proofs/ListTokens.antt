@@ -4,7 +4,7 @@ use Rattle.json.specs.Tree.{members_tokens}
 use Rattle.serde_json.specs.Data.{Members}
 use Rattle.serde_json.specs.Written.{members_outline}
 use Rattle.filing_model.specs.Reply.{number_member}
-use Rattle.intake_answers.specs.Listed.{number_tokens}
+use Rattle.filing_model.specs.Writing.{number_tokens}
 
 -- a member with a number, where there is one, and those behind it
 pub number_first : (name : List ℕ) (number : Option ℕ) (more : Members)

@@ -5,8 +5,8 @@ use Rattle.json.specs.Tree.{json_tokens, members_tokens}
 use Rattle.serde_json.specs.Written.{members_outline, outline}
 use Rattle.filing_model.specs.Answer.{Answer}
 use Rattle.filing_model.specs.Reply.{answer_data, findings_data, refusal_members, refused_status}
-use Rattle.register_store.proofs.JsonTokens.{whole_text}
-use Rattle.register_store.proofs.content.refused_text.Goals as goal
+use Rattle.filing_model.proofs.JsonTokens.{whole_text}
+use Rattle.filing_model.proofs.content.refused_text.Goals as goal
 
 pub returns : goal.returns
 returns c =

@@ -4,7 +4,7 @@ use Rattle.json.specs.Token.{begin_array}
 use Rattle.json.specs.Tree.{json_tokens}
 use Rattle.serde_json.specs.Written.{outline}
 use Rattle.filing_model.specs.Reply.{finding_data}
-use Rattle.register_store.proofs.content.write_findings.Given as goal
+use Rattle.filing_model.proofs.content.write_findings.Given as goal
 
 abbrev pub invariant-loop-finding : goal.invariant-loop-finding
 invariant-loop-finding l = record {

@@ -3,9 +3,9 @@ use Rattle.std.proofs.Common.{refl}
 use Rattle.filing_model.specs.declared.answer.Answer.{Answer as Given}
 use Rattle.filing_model.specs.declared.answer.Answer.TheVariants.{Registered, Refused, KeyReused}
 use Rattle.filing_model.specs.Style.{HasStyle}
-use Rattle.intake_answers.specs.Answered.{told_style}
+use Rattle.filing_model.specs.Style.{carried_style}
 
-pub HasStyle-told : (a : Given) → HasStyle (told_style a) a
-HasStyle-told (Registered number repeat) = tt
-HasStyle-told (Refused findings repeat style) = refl
-HasStyle-told (KeyReused style) = refl
+pub HasStyle-carried : (a : Given) → HasStyle (carried_style a) a
+HasStyle-carried (Registered number repeat) = tt
+HasStyle-carried (Refused findings repeat style) = refl
+HasStyle-carried (KeyReused style) = refl

@@ -3,8 +3,8 @@ use Rattle.std.specs.Prelude.{codes}
 use Rattle.std.proofs.lemmas.Result.{on_ok_weaker}
 use Rattle.http_messages.specs.Reply.{phrase}
 use Rattle.json.specs.Token.{end_object, key, number, string}
-use Rattle.register_store.proofs.JsonTokens.{behind}
-use Rattle.register_store.proofs.content.end_refusal.Goals as goal
+use Rattle.filing_model.proofs.JsonTokens.{behind}
+use Rattle.filing_model.proofs.content.end_refusal.Goals as goal
 
 pub returns-in_ok-write_text-in-Problem-3 : goal.returns-in_ok-write_text-in-Problem-3
 returns-in_ok-write_text-in-Problem-3 c =

@@ -5,8 +5,8 @@ use Rattle.json.specs.Token.{begin_array}
 use Rattle.json.specs.Tree.{json_tokens}
 use Rattle.serde_json.specs.Written.{outline}
 use Rattle.filing_model.specs.Reply.{finding_data}
-use Rattle.register_store.proofs.JsonTokens.{array_whole, item_next}
-use Rattle.register_store.proofs.content.write_findings.Goals as goal
+use Rattle.filing_model.proofs.JsonTokens.{array_whole, item_next}
+use Rattle.filing_model.proofs.content.write_findings.Goals as goal
 
 pub loop-finding-init : goal.loop-finding-init
 loop-finding-init c = record {

@@ -1,7 +1,7 @@
 use Rattle.std.proofs.Common.{ℕ, List, ◌++◌, ap, ap₂, ◌∙◌}
 use Rattle.std.specs.Prelude.{codes}
-use Rattle.register_store.proofs.ContentTexts.{registered_pieces}
-use Rattle.register_store.proofs.content.registered_text.Goals as goal
+use Rattle.filing_model.proofs.ContentTexts.{registered_pieces}
+use Rattle.filing_model.proofs.content.registered_text.Goals as goal
 
 pub returns : goal.returns
 returns c =

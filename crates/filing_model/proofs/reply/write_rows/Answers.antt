@@ -10,9 +10,9 @@ use Rattle.serde_json.specs.Written.{outline}
 use Rattle.filing_model.specs.Reply.{listing_data}
 use Rattle.filing_model.specs.Views.{view_row}
 use Rattle.filing_model.specs.declared.listing.FilingRow.{FilingRow}
-use Rattle.register_store.proofs.JsonTokens.{array_whole, item_next}
-use Rattle.intake_answers.proofs.ListTokens.{map_twice}
-use Rattle.intake_answers.proofs.reply.write_rows.Goals as goal
+use Rattle.filing_model.proofs.JsonTokens.{array_whole, item_next}
+use Rattle.filing_model.proofs.ListTokens.{map_twice}
+use Rattle.filing_model.proofs.reply.write_rows.Goals as goal
 
 pub loop-row-init : goal.loop-row-init
 loop-row-init c = record {

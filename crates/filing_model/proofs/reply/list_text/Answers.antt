@@ -5,8 +5,8 @@ use Rattle.json.specs.Tree.{json_tokens}
 use Rattle.serde_json.specs.Written.{outline}
 use Rattle.filing_model.specs.Reply.{list_data, listings_data}
 use Rattle.filing_model.specs.Views.{view_row}
-use Rattle.register_store.proofs.JsonTokens.{whole_text}
-use Rattle.intake_answers.proofs.reply.list_text.Goals as goal
+use Rattle.filing_model.proofs.JsonTokens.{whole_text}
+use Rattle.filing_model.proofs.reply.list_text.Goals as goal
 
 pub returns : goal.returns
 returns c =

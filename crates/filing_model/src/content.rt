@@ -11,11 +11,11 @@ ghost use Rattle.filing_model.specs.declared.served.Style.TheVariants.{Problem};
 ghost use Rattle.filing_model.specs.Answer.{Answer, answer_by};
 ghost use Rattle.filing_model.specs.Reply.{reply_as, answer_data, refused_status, problem_members, refusal_members};
 ghost use Rattle.filing_model.specs.Reply.{finding_data, findings_data};
-ghost use Rattle.register_store.specs.Outcomes.{view_outcome};
-ghost use Rattle.register_store.specs.Writing.{AppendsTokens};
+ghost use Rattle.filing_model.specs.Views.{view_outcome};
+ghost use Rattle.filing_model.specs.Writing.{AppendsTokens};
 
 use crate::outcome::Outcome;
-use filing_model::Style;
+use crate::served::Style;
 use http_messages::phrase;
 use itoa::Buffer;
 use json::Writer;
@@ -28,7 +28,7 @@ const REGISTERED_ROOM: usize = 53;
 impl Outcome {
     /// The content of the reply to the request in this style, as compact JSON: the number, or the findings. A repeat
     /// gets the same.
-    #[tactic(auto, unfolding(filing_model::specs::Reply::reply_as))]
+    #[tactic(auto, unfolding(crate::specs::Reply::reply_as))]
     pub fn content(&self, alloc: Global, style: Style) -> Result<Vec<u8>, AllocError>
         ensures { (repeat : Bool)
             → IfOk result (λ text. text.items ≡ (reply_as style (answer_by (view_outcome self.now) repeat)).content) }
@@ -43,7 +43,7 @@ impl Outcome {
 /// The compact JSON that says that a report is registered under this number: the same in every style, and to a repeat.
 /// As it is what most requests get, it is written at once, and no value is made of it.
 #[tactic(auto, using(crate::proofs::ContentTexts::registered_pieces))]
-pub fn registered_text(alloc: Global, number: u64) -> Result<Vec<u8>, AllocError>
+pub(crate) fn registered_text(alloc: Global, number: u64) -> Result<Vec<u8>, AllocError>
     ensures { IfOk result (λ text. text.items ≡ compact_text (answer_data Problem (Answer.Registered number false))) }
 {
     let mut text = Vec::with_capacity(alloc, REGISTERED_ROOM)?;
@@ -54,7 +54,11 @@ pub fn registered_text(alloc: Global, number: u64) -> Result<Vec<u8>, AllocError
 }
 
 /// The compact JSON that says that a report is refused, and lists its findings: the same to a repeat.
-pub fn refused_text(alloc: Global, style: Style, findings: &Findings) -> Result<Vec<u8>, AllocError>
+pub(crate) fn refused_text(
+    alloc: Global,
+    style: Style,
+    findings: &Findings,
+) -> Result<Vec<u8>, AllocError>
     ensures { IfOk result (λ text. text.items ≡ compact_text (answer_data style (Answer.Refused findings.now false))) }
 {
     let mut writer = Writer::new(Vec::new(alloc));
@@ -67,7 +71,7 @@ pub fn refused_text(alloc: Global, style: Style, findings: &Findings) -> Result<
 
 /// The status of a refused report: 400 where the body is no JSON text, and else 422 (RFC 9110, sections 15.5.1 and
 /// 15.5.21).
-pub fn refused_status(findings: &Findings) -> u16
+pub(crate) fn refused_status(findings: &Findings) -> u16
     ensures { result ≡ refused_status findings.now }
 {
     match findings.list() {
@@ -77,7 +81,7 @@ pub fn refused_status(findings: &Findings) -> u16
 }
 
 /// The compact JSON that says in this style why something is refused that has no findings.
-pub fn refusal_text(
+pub(crate) fn refusal_text(
     alloc: Global,
     style: Style,
     status: u16,
@@ -93,7 +97,7 @@ pub fn refusal_text(
 
 /// Problem details (RFC 9457, section 3) of this status and reason as compact JSON, the members in the order of their
 /// names.
-pub fn problem_text(alloc: Global, status: u16, reason: &str) -> Result<Vec<u8>, AllocError>
+pub(crate) fn problem_text(alloc: Global, status: u16, reason: &str) -> Result<Vec<u8>, AllocError>
     ensures { IfOk result (λ text. text.items ≡ compact_text (object (problem_members status reason.now))) }
 {
     refusal_text(alloc, Style::Problem, status, reason)
@@ -135,7 +139,7 @@ fn write_text(writer: &mut Writer, name: &str, text: &str) -> Result<(), AllocEr
 }
 
 /// Writes a member of a JSON object whose value is a number.
-pub fn write_number(writer: &mut Writer, name: &str, value: u64) -> Result<(), AllocError>
+pub(crate) fn write_number(writer: &mut Writer, name: &str, value: u64) -> Result<(), AllocError>
     ensures { AppendsTokens writer.old writer.new (key name.now ∷ number (decimal value) ∷ []) result }
 {
     writer.key(name)?;

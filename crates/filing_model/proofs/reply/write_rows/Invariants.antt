@@ -5,7 +5,7 @@ use Rattle.json.specs.Tree.{json_tokens}
 use Rattle.serde_json.specs.Written.{outline}
 use Rattle.filing_model.specs.Reply.{listing_data}
 use Rattle.filing_model.specs.Views.{view_row}
-use Rattle.intake_answers.proofs.reply.write_rows.Given as goal
+use Rattle.filing_model.proofs.reply.write_rows.Given as goal
 
 abbrev pub invariant-loop-row : goal.invariant-loop-row
 invariant-loop-row l = record {
