@@ -1,6 +1,6 @@
-//! What every command line shares: its words and their options, an input of bytes up to a length, a text that is shown,
-//! and why a command is not done, in words and as a status. What may live here: what is one thing for every program. No
-//! database and no command is known here.
+//! What every command line shares: its words and their options, an input of bytes up to a length, the file of a report,
+//! how long a connection may take, a text that is shown, and why a command is not done, in words and as a status. What
+//! may live here: what is one thing for every program. No database and no command is known here.
 #![tactic(auto)]
 
 mod arguments;
@@ -8,6 +8,8 @@ mod bytes;
 mod fault;
 mod options;
 mod output;
+mod patience;
+mod report_file;
 mod word;
 
 pub use arguments::words;
@@ -15,4 +17,6 @@ pub use bytes::{ReadFault, read_up_to, read_whole};
 pub use fault::{CommandFault, DatabaseFault};
 pub use options::{VERSION, database_option, filer_option, option, port_option};
 pub use output::{DONE, show, show_refusal};
+pub use patience::{Deadline, Patient, Waits};
+pub use report_file::{ReportFault, report};
 pub use word::{ToArg, Word, tasks};

@@ -2,8 +2,8 @@
 
 use crate::connection::{FIRST, answered};
 use crate::examples::{KEY_REUSED, REPORT_OF_BETA};
+use crate::fault::VectorFault;
 use crate::history::{History, Part};
-use crate::stop::Stop;
 use example_texts::{REGISTERED, REGISTERED_SECOND, REPORT};
 use gateway_server::Mark;
 use http_wire::append_request;
@@ -28,11 +28,11 @@ const SECOND: Part<'static> = Part::Filing("ACME/1", "k-2", REPORT);
 const THIRD: Part<'static> = Part::Filing("ACME/1", "k-3", REPORT);
 
 /// Vector 26: a filing is replaced once, by a report of its own filer; a number that is none is no path.
-pub(crate) fn amended(alloc: Global) -> Result<bool, Stop> {
+pub(crate) fn amended(alloc: Global) -> Result<bool, VectorFault> {
     Ok(replaced_once(alloc)? && request_length(alloc)? == 539)
 }
 
-fn replaced_once(alloc: Global) -> Result<bool, Stop> {
+fn replaced_once(alloc: Global) -> Result<bool, VectorFault> {
     let other = [Part::Filing("BETA/1", "k-1", REPORT_OF_BETA)];
     let connections = [
         answered(&[FIRST], &[REGISTERED], &[Mark::Done]),
@@ -66,7 +66,7 @@ fn replaced_once(alloc: Global) -> Result<bool, Stop> {
 }
 
 /// How long the request is by which `ACME` files the report to replace filing 1.
-fn request_length(alloc: Global) -> Result<usize, Stop> {
+fn request_length(alloc: Global) -> Result<usize, VectorFault> {
     let mut request = Vec::new(alloc);
     let key = KeyText::new(alloc, "k-1")?;
     append_request("ACME", Some(1), &key, REPORT.as_bytes(), &mut request)?;

@@ -1,8 +1,8 @@
 //! Vectors of connections to an intake.
 
 use crate::examples::{CONTINUE, KEY_REUSED, LENGTH, REPORT_OF_BETA, REQUEST, repeated, report};
+use crate::fault::VectorFault;
 use crate::history::{Connection, History, Part};
-use crate::stop::Stop;
 use example_texts::{
     MALFORMED, NO_FILINGS, NOT_JSON, REGISTERED, REGISTERED_CLOSED, REGISTERED_SECOND, REPORT,
     SMALLEST, UNAVAILABLE,
@@ -41,7 +41,7 @@ fn closed<'a>(given: &'a [Part<'a>], written: &'a [&'a str], marks: &'a [Mark]) 
 pub(crate) const FIRST: Part<'static> = Part::Text(REQUEST);
 
 /// Vector 1: a valid report is registered, listed, and shown by its facts.
-pub fn registered(alloc: Global, limit: u32) -> Result<bool, Stop> {
+pub fn registered(alloc: Global, limit: u32) -> Result<bool, VectorFault> {
     let connections = [
         answered(&[FIRST], &[REGISTERED], &[Mark::Done]),
         answered(
@@ -63,7 +63,7 @@ pub fn registered(alloc: Global, limit: u32) -> Result<bool, Stop> {
 }
 
 /// Whether the fact of the example, and no other, is that of the first filing.
-fn has_fact<S: Alter>(alloc: Global, store: &mut Store<S>) -> Result<bool, Stop> {
+fn has_fact<S: Alter>(alloc: Global, store: &mut Store<S>) -> Result<bool, VectorFault> {
     match first_facts(store)? {
         None => Ok(false),
         Some(facts) => match facts.as_slice() {
@@ -77,12 +77,12 @@ fn has_fact<S: Alter>(alloc: Global, store: &mut Store<S>) -> Result<bool, Stop>
 }
 
 /// The facts of the first filing.
-fn first_facts<S: Alter>(store: &mut Store<S>) -> Result<Option<Vec<Fact>>, Stop> {
+fn first_facts<S: Alter>(store: &mut Store<S>) -> Result<Option<Vec<Fact>>, VectorFault> {
     Ok(store.facts(1)?)
 }
 
 /// Vector 2: repeats get the first reply, and add nothing.
-pub(crate) fn repeated_request(alloc: Global) -> Result<bool, Stop> {
+pub(crate) fn repeated_request(alloc: Global) -> Result<bool, VectorFault> {
     History::of(
         &[answered(&[FIRST; 3], &[REGISTERED; 3], &[Mark::Done; 3])],
         1,
@@ -92,7 +92,7 @@ pub(crate) fn repeated_request(alloc: Global) -> Result<bool, Stop> {
 }
 
 /// Vector 3: another body under a used key.
-pub(crate) fn key_reused(alloc: Global) -> Result<bool, Stop> {
+pub(crate) fn key_reused(alloc: Global) -> Result<bool, VectorFault> {
     let longer = format!(in alloc; "{REPORT} ")?;
     let given = [FIRST, Part::Filing("ACME", "k-1", &longer)];
     let told = answered(&given, &[REGISTERED, KEY_REUSED], &[Mark::Done; 2]);
@@ -100,7 +100,7 @@ pub(crate) fn key_reused(alloc: Global) -> Result<bool, Stop> {
 }
 
 /// Vector 4: the same key of two filers.
-pub(crate) fn two_filers(alloc: Global) -> Result<bool, Stop> {
+pub(crate) fn two_filers(alloc: Global) -> Result<bool, VectorFault> {
     let given = [FIRST, Part::Filing("BETA", "k-1", REPORT_OF_BETA)];
     let told = answered(&given, &[REGISTERED, REGISTERED_SECOND], &[Mark::Done; 2]);
     History::of(&[told], 2, 2).holds(alloc)
@@ -111,7 +111,7 @@ const TWO_FINDINGS: &str =
     "HTTP/1.1 422 Unprocessable Content\r\nContent-Type: application/problem+json\r\nContent-Length: 217\r\n\r\n{\"findings\":[{\"code\":\"period\",\"place\":\"/facts/f1/dimensions/period\"},{\"code\":\"unbound-prefix\",\"place\":\"/facts/f1/dimensions/unit\"}],\"reason\":\"refused\",\"status\":422,\"title\":\"Unprocessable Content\",\"type\":\"about:blank\"}";
 
 /// Vector 5: a refused report is kept with its findings, and takes no number.
-pub(crate) fn refused(alloc: Global) -> Result<bool, Stop> {
+pub(crate) fn refused(alloc: Global) -> Result<bool, VectorFault> {
     let body = report(
         alloc,
         "f1",
@@ -135,7 +135,7 @@ const NO_NUMBER: &str =
     "HTTP/1.1 422 Unprocessable Content\r\nContent-Type: application/problem+json\r\nContent-Length: 148\r\n\r\n{\"findings\":[{\"code\":\"number\",\"place\":\"/facts/a~1b~0c/value\"}],\"reason\":\"refused\",\"status\":422,\"title\":\"Unprocessable Content\",\"type\":\"about:blank\"}";
 
 /// Vector 6: the place of a finding is a JSON Pointer.
-pub(crate) fn escaped_place(alloc: Global) -> Result<bool, Stop> {
+pub(crate) fn escaped_place(alloc: Global) -> Result<bool, VectorFault> {
     let body = report(
         alloc,
         "a/b~c",
@@ -149,7 +149,7 @@ pub(crate) fn escaped_place(alloc: Global) -> Result<bool, Stop> {
 }
 
 /// Vector 7: an empty body is kept; a POST without a length is not.
-pub(crate) fn empty_body(alloc: Global) -> Result<bool, Stop> {
+pub(crate) fn empty_body(alloc: Global) -> Result<bool, VectorFault> {
     let kept = answered(
         &[Part::Filing("ACME", "k-1", ""), FIRST],
         &[NOT_JSON, KEY_REUSED],
@@ -168,7 +168,7 @@ pub(crate) fn empty_body(alloc: Global) -> Result<bool, Stop> {
 }
 
 /// Vector 9: the values of `Content-Length`.
-pub(crate) fn content_lengths(alloc: Global) -> Result<bool, Stop> {
+pub(crate) fn content_lengths(alloc: Global) -> Result<bool, VectorFault> {
     if !is_length(alloc, "Content-Length: 84, 084")? {
         return Ok(false);
     }
@@ -193,29 +193,29 @@ const UNDECLARED: Part<'static> = Part::Text(
 /// The end of a head.
 const END: Part<'static> = Part::Text("\r\n\r\n");
 
-fn is_length(alloc: Global, lines: &str) -> Result<bool, Stop> {
+fn is_length(alloc: Global, lines: &str) -> Result<bool, VectorFault> {
     let given = [UNDECLARED, Part::Text(lines), END, Part::Text(SMALLEST)];
     History::of(&[answered(&given, &[REGISTERED], &[Mark::Done])], 1, 1).holds(alloc)
 }
 
-fn is_no_length(alloc: Global, lines: &str) -> Result<bool, Stop> {
+fn is_no_length(alloc: Global, lines: &str) -> Result<bool, VectorFault> {
     let given = [UNDECLARED, Part::Text(lines), END, Part::Text(SMALLEST)];
     History::of(&[closed(&given, &[MALFORMED], &[Mark::NotFiled])], 0, 0).holds(alloc)
 }
 
 /// Vector 10: the longest body, a longer one, and the interim response.
-pub(crate) fn long_bodies(alloc: Global) -> Result<bool, Stop> {
+pub(crate) fn long_bodies(alloc: Global) -> Result<bool, VectorFault> {
     Ok(longest_body(alloc)? && longer_body(alloc)? && awaited_body(alloc)?)
 }
 
-fn longest_body(alloc: Global) -> Result<bool, Stop> {
+fn longest_body(alloc: Global) -> Result<bool, VectorFault> {
     let spaces = repeated(alloc, ' ', 1_048_492)?;
     let body = format!(in alloc; "{SMALLEST}{spaces}")?;
     let given = [Part::Filing("ACME", "k-1", &body)];
     History::of(&[answered(&given, &[REGISTERED], &[Mark::Done])], 1, 1).holds(alloc)
 }
 
-fn longer_body(alloc: Global) -> Result<bool, Stop> {
+fn longer_body(alloc: Global) -> Result<bool, VectorFault> {
     let refused = closed(
         &[Part::Text(
             "POST /filings/ACME HTTP/1.1\r\nHost: localhost\r\nIdempotency-Key: \"k-1\"\r\nExpect: 100-continue\r\nContent-Length: 1048577\r\n\r\n",
@@ -228,7 +228,7 @@ fn longer_body(alloc: Global) -> Result<bool, Stop> {
     History::of(&[refused], 0, 0).holds(alloc)
 }
 
-fn awaited_body(alloc: Global) -> Result<bool, Stop> {
+fn awaited_body(alloc: Global) -> Result<bool, VectorFault> {
     let awaited = answered(
         &[Part::Text(
             "POST /filings/ACME HTTP/1.1\r\nHost: localhost\r\nIdempotency-Key: \"k-1\"\r\nExpect: 100-continue\r\nContent-Length: 5\r\n\r\nhello",
@@ -244,11 +244,11 @@ const HEAD_TOO_LARGE: &str =
     "HTTP/1.1 431 Request Header Fields Too Large\r\nContent-Type: application/problem+json\r\nContent-Length: 103\r\nConnection: close\r\n\r\n{\"reason\":\"head-too-large\",\"status\":431,\"title\":\"Request Header Fields Too Large\",\"type\":\"about:blank\"}";
 
 /// Vector 11: heads at the limit of their length.
-pub(crate) fn long_heads(alloc: Global) -> Result<bool, Stop> {
+pub(crate) fn long_heads(alloc: Global) -> Result<bool, VectorFault> {
     Ok(heads_without_end(alloc)? && heads_with_end(alloc)?)
 }
 
-fn heads_without_end(alloc: Global) -> Result<bool, Stop> {
+fn heads_without_end(alloc: Global) -> Result<bool, VectorFault> {
     let unfinished = [
         answered(&[Part::Repeated('a', 16_383)], &[], &[]),
         answered(&[Part::Repeated(' ', 16_383)], &[], &[]),
@@ -264,7 +264,7 @@ fn heads_without_end(alloc: Global) -> Result<bool, Stop> {
 /// The beginning of a GET, up to the value of its last field.
 const ASKED: Part<'static> = Part::Text("GET /filings/ACME HTTP/1.1\r\nHost: localhost\r\nX: ");
 
-fn heads_with_end(alloc: Global) -> Result<bool, Stop> {
+fn heads_with_end(alloc: Global) -> Result<bool, VectorFault> {
     let connections = [
         answered(
             &[ASKED, Part::Repeated('a', 16_332), END],
@@ -286,7 +286,7 @@ fn heads_with_end(alloc: Global) -> Result<bool, Stop> {
 }
 
 /// Vector 12: how the bytes come changes nothing, and a body is no request.
-pub(crate) fn byte_by_byte(alloc: Global) -> Result<bool, Stop> {
+pub(crate) fn byte_by_byte(alloc: Global) -> Result<bool, VectorFault> {
     let repeated = [answered(&[FIRST; 3], &[REGISTERED; 3], &[Mark::Done; 3])];
     let bytes = History {
         piece: 1,
@@ -301,7 +301,7 @@ pub(crate) fn byte_by_byte(alloc: Global) -> Result<bool, Stop> {
 }
 
 /// Vector 13: a request that is cut off gets no reply.
-pub(crate) fn cut_off(alloc: Global) -> Result<bool, Stop> {
+pub(crate) fn cut_off(alloc: Global) -> Result<bool, VectorFault> {
     let Some(cut) = REQUEST.strip_suffix('}') else {
         return Ok(false);
     };
@@ -309,7 +309,7 @@ pub(crate) fn cut_off(alloc: Global) -> Result<bool, Stop> {
 }
 
 /// Vector 14: a register that is full answers what it keeps, and no more.
-pub(crate) fn full_register(alloc: Global) -> Result<bool, Stop> {
+pub(crate) fn full_register(alloc: Global) -> Result<bool, VectorFault> {
     let kept = [answered(
         &[FIRST, Part::Filing("ACME", "k-2", REPORT), FIRST],
         &[REGISTERED, UNAVAILABLE, REGISTERED],
@@ -328,12 +328,12 @@ pub(crate) fn full_register(alloc: Global) -> Result<bool, Stop> {
 }
 
 /// Vector 17: requests that file nothing, and other spellings of one that does.
-pub(crate) fn other_requests(alloc: Global) -> Result<bool, Stop> {
+pub(crate) fn other_requests(alloc: Global) -> Result<bool, VectorFault> {
     Ok(refused_heads(alloc)? && told(alloc)? && posts_told(alloc)? && posts_filed(alloc)?)
 }
 
 /// Heads after whose refusal the connection closes.
-fn refused_heads(alloc: Global) -> Result<bool, Stop> {
+fn refused_heads(alloc: Global) -> Result<bool, VectorFault> {
     for (given, written) in [
         ("GET /filings/ACME HTTP/1.1\r\n\r\n", MALFORMED),
         (
@@ -359,7 +359,7 @@ fn refused_heads(alloc: Global) -> Result<bool, Stop> {
 }
 
 /// Messages whose path or method is answered.
-fn told(alloc: Global) -> Result<bool, Stop> {
+fn told(alloc: Global) -> Result<bool, VectorFault> {
     for (given, written) in [
         (
             "GET /other HTTP/1.1\r\nHost: localhost\r\n\r\n",
@@ -383,7 +383,7 @@ fn told(alloc: Global) -> Result<bool, Stop> {
 }
 
 /// Reports whose coding or key is answered.
-fn posts_told(alloc: Global) -> Result<bool, Stop> {
+fn posts_told(alloc: Global) -> Result<bool, VectorFault> {
     for (lines, written) in [
         (
             "Host: localhost\r\nIdempotency-Key: \"k-1\"\r\nContent-Encoding: gzip\r\n",
@@ -412,7 +412,7 @@ fn posts_told(alloc: Global) -> Result<bool, Stop> {
 }
 
 /// Reports that are registered.
-fn posts_filed(alloc: Global) -> Result<bool, Stop> {
+fn posts_filed(alloc: Global) -> Result<bool, VectorFault> {
     for connection in [
         answered(
             &[
@@ -448,7 +448,11 @@ fn posts_filed(alloc: Global) -> Result<bool, Stop> {
 }
 
 /// That a body gets this reply, is kept and not registered.
-pub(crate) fn is_refused_with(alloc: Global, body: &str, written: &str) -> Result<bool, Stop> {
+pub(crate) fn is_refused_with(
+    alloc: Global,
+    body: &str,
+    written: &str,
+) -> Result<bool, VectorFault> {
     let given = [Part::Filing("ACME", "k-1", body)];
     History::of(&[answered(&given, &[written], &[Mark::Done])], 1, 0).holds(alloc)
 }

@@ -1,6 +1,6 @@
 //! The bytes that several vectors share: requests and replies.
 
-use crate::stop::Stop;
+use crate::fault::VectorFault;
 use std::alloc::Global;
 
 /// The request that files the report of one fact for `ACME` under the key `k-1`, 486 bytes.
@@ -29,14 +29,14 @@ pub(crate) fn report(
     entity: &str,
     period: &str,
     unit: &str,
-) -> Result<String, Stop> {
+) -> Result<String, VectorFault> {
     Ok(format!(in alloc;
         "{{\"documentInfo\":{{\"documentType\":\"https://xbrl.org/2021/xbrl-json\",\"namespaces\":{{\"eg\":\"http://example.com/eg\",\"iso4217\":\"http://www.xbrl.org/2003/iso4217\",\"lei\":\"http://standards.iso.org/iso/17442\"}},\"taxonomy\":[\"http://example.com/eg.xsd\"]}},\"facts\":{{\"{fact}\":{{\"value\":\"{value}\",\"decimals\":0,\"dimensions\":{{\"concept\":\"eg:Assets\",\"entity\":\"{entity}\",\"period\":\"{period}\",\"unit\":\"{unit}\"}}}}}}}}"
     )?)
 }
 
 /// A character so many times.
-pub fn repeated(alloc: Global, character: char, count: u32) -> Result<String, Stop> {
+pub fn repeated(alloc: Global, character: char, count: u32) -> Result<String, VectorFault> {
     let mut text = String::new(alloc);
     for _ in 0..count {
         text.push(character)?;

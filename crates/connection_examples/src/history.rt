@@ -1,7 +1,7 @@
 //! Connections to an intake as data, and what runs them.
 
 use crate::examples::repeated;
-use crate::stop::Stop;
+use crate::fault::VectorFault;
 use gateway_server::{Ended, Mark, Served, serve};
 use http_wire::{ConnFault, Device};
 use intake_core::Intake;
@@ -63,7 +63,7 @@ impl<'a> History<'a> {
     }
 
     /// Whether all comes as it is to come.
-    pub(crate) fn holds(&self, alloc: Global) -> Result<bool, Stop> {
+    pub(crate) fn holds(&self, alloc: Global) -> Result<bool, VectorFault> {
         match self.run(alloc)? {
             Some(store) => self.leaves(&store),
             None => Ok(false),
@@ -71,7 +71,7 @@ impl<'a> History<'a> {
     }
 
     /// The register after the connections, if each went as it is to go.
-    pub(crate) fn run(&self, alloc: Global) -> Result<Option<Store<MemStore>>, Stop> {
+    pub(crate) fn run(&self, alloc: Global) -> Result<Option<Store<MemStore>>, VectorFault> {
         let mut intake = empty_intake(alloc, self.limit)?;
         if self.goes(alloc, &mut intake)? {
             Ok(Some(register_of(intake)))
@@ -81,7 +81,7 @@ impl<'a> History<'a> {
     }
 
     /// Whether each connection goes as it is to go.
-    fn goes<S: Alter>(&self, alloc: Global, intake: &mut Intake<S>) -> Result<bool, Stop> {
+    fn goes<S: Alter>(&self, alloc: Global, intake: &mut Intake<S>) -> Result<bool, VectorFault> {
         for connection in self.connections {
             if !connection.goes(alloc, intake, self.piece)? {
                 return Ok(false);
@@ -91,13 +91,13 @@ impl<'a> History<'a> {
     }
 
     /// Whether the register holds as much as expected.
-    pub(crate) fn leaves<S: Alter>(&self, store: &Store<S>) -> Result<bool, Stop> {
+    pub(crate) fn leaves<S: Alter>(&self, store: &Store<S>) -> Result<bool, VectorFault> {
         Ok(store.kept_count()? == self.kept && store.filing_count()? == self.filings)
     }
 }
 
 /// An intake that keeps nothing yet.
-fn empty_intake(alloc: Global, limit: u32) -> Result<Intake<MemStore>, Stop> {
+fn empty_intake(alloc: Global, limit: u32) -> Result<Intake<MemStore>, VectorFault> {
     Ok(Intake::in_memory(alloc, u64::from(limit))?)
 }
 
@@ -113,7 +113,7 @@ impl Connection<'_> {
         alloc: Global,
         intake: &mut Intake<S>,
         piece: usize,
-    ) -> Result<bool, Stop> {
+    ) -> Result<bool, VectorFault> {
         let given = self.text(alloc)?;
         let mut output = Vec::new(alloc);
         let pieces = Pieces {
@@ -125,7 +125,7 @@ impl Connection<'_> {
     }
 
     /// What is given, as one text.
-    pub fn text(&self, alloc: Global) -> Result<String, Stop> {
+    pub fn text(&self, alloc: Global) -> Result<String, VectorFault> {
         let mut text = String::new(alloc);
         for part in self.given {
             append(alloc, &mut text, *part)?;
@@ -134,9 +134,9 @@ impl Connection<'_> {
     }
 
     /// Whether this came of it. A writer in memory fails only if memory runs out.
-    pub fn is_so(&self, served: &Served, output: &[u8]) -> Result<bool, Stop> {
+    pub fn is_so(&self, served: &Served, output: &[u8]) -> Result<bool, VectorFault> {
         match served.ended {
-            Ended::Fault(ConnFault::Memory | ConnFault::Write { .. }) => Err(Stop::Memory),
+            Ended::Fault(ConnFault::Memory | ConnFault::Write { .. }) => Err(VectorFault::Memory),
             ended => Ok(
                 ended == self.ended
                     && served.marks.as_slice() == self.marks
@@ -147,7 +147,7 @@ impl Connection<'_> {
 }
 
 /// Appends a part.
-fn append(alloc: Global, text: &mut String, part: Part<'_>) -> Result<(), Stop> {
+fn append(alloc: Global, text: &mut String, part: Part<'_>) -> Result<(), VectorFault> {
     match part {
         Part::Text(more) => text.push_str(more)?,
         Part::Repeated(character, count) => text.push_str(&repeated(alloc, character, count)?)?,
@@ -157,7 +157,7 @@ fn append(alloc: Global, text: &mut String, part: Part<'_>) -> Result<(), Stop> 
 }
 
 /// The request that files a body under a key.
-fn filing(alloc: Global, path: &str, key: &str, body: &str) -> Result<String, Stop> {
+fn filing(alloc: Global, path: &str, key: &str, body: &str) -> Result<String, VectorFault> {
     let length = body.len();
     Ok(format!(in alloc;
         "POST /filings/{path} HTTP/1.1\r\nHost: localhost\r\nIdempotency-Key: \"{key}\"\r\nContent-Length: {length}\r\n\r\n{body}"

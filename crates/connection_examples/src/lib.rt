@@ -6,15 +6,15 @@
 mod amendments;
 mod connection;
 mod examples;
+mod fault;
 mod history;
 mod keys;
 mod replies;
 mod reports;
 mod rows;
-mod stop;
 
 pub use connection::registered;
 pub use examples::{REQUEST, repeated};
+pub use fault::{VectorFault, refusal};
 pub use history::{Connection, Part};
 pub use rows::run;
-pub use stop::{Stop, refusal};

@@ -2,12 +2,12 @@
 
 use crate::connection::is_refused_with;
 use crate::examples::report;
-use crate::stop::Stop;
+use crate::fault::VectorFault;
 use std::alloc::Global;
 use xbrl_report::{Code, Finding, Judged, Period, judge, read_period, read_unit};
 
 /// Whether a body has these findings, in this order: places and words.
-fn has_findings(alloc: Global, body: &str, findings: &[(&str, &str)]) -> Result<bool, Stop> {
+fn has_findings(alloc: Global, body: &str, findings: &[(&str, &str)]) -> Result<bool, VectorFault> {
     match judge(alloc, "ACME", body.as_bytes())? {
         Judged::Valid(_) => Ok(false),
         Judged::Refused(found) => Ok(are_so(found.list(), findings)),
@@ -27,7 +27,7 @@ fn are_so(found: &[Finding], findings: &[(&str, &str)]) -> bool {
 }
 
 /// Vector 18: all findings of a report, in order.
-pub(crate) fn all_findings(alloc: Global) -> Result<bool, Stop> {
+pub(crate) fn all_findings(alloc: Global) -> Result<bool, VectorFault> {
     has_findings(
         alloc,
         "{\"documentInfo\":{\"documentType\":\"x\"},\"facts\":{\"f1\":7,\"f2\":{\"value\":1,\"decimals\":\"0\",\"dimensions\":{\"entity\":\"lei:BETA\",\"size\":\"s\"}}}}",
@@ -46,7 +46,7 @@ pub(crate) fn all_findings(alloc: Global) -> Result<bool, Stop> {
 }
 
 /// Vector 19: a body that is no object, and as many findings as a reply has at most.
-pub(crate) fn many_findings(alloc: Global) -> Result<bool, Stop> {
+pub(crate) fn many_findings(alloc: Global) -> Result<bool, VectorFault> {
     let too_many = with_facts(alloc, 1001)?;
     Ok(
         has_findings(alloc, "[]", &[("", "not-object")])?
@@ -66,7 +66,7 @@ pub(crate) fn many_findings(alloc: Global) -> Result<bool, Stop> {
 }
 
 /// The smallest report with so many facts that are numbers, under `0`, `1` and so on.
-fn with_facts(alloc: Global, count: u32) -> Result<String, Stop> {
+fn with_facts(alloc: Global, count: u32) -> Result<String, VectorFault> {
     let mut body = String::from_str(
         alloc,
         "{\"documentInfo\":{\"documentType\":\"https://xbrl.org/2021/xbrl-json\",\"taxonomy\":[\"t\"]},\"facts\":{\"0\":1",
@@ -79,7 +79,7 @@ fn with_facts(alloc: Global, count: u32) -> Result<String, Stop> {
 }
 
 /// Whether each of so many facts is found to be none.
-fn are_facts(alloc: Global, count: u32) -> Result<bool, Stop> {
+fn are_facts(alloc: Global, count: u32) -> Result<bool, VectorFault> {
     let body = with_facts(alloc, count)?;
     match judge(alloc, "ACME", body.as_bytes())? {
         Judged::Valid(_) => Ok(false),
@@ -94,11 +94,11 @@ fn are_facts(alloc: Global, count: u32) -> Result<bool, Stop> {
 }
 
 /// Vector 20: units and periods.
-pub(crate) fn units_and_periods(alloc: Global) -> Result<bool, Stop> {
+pub(crate) fn units_and_periods(alloc: Global) -> Result<bool, VectorFault> {
     Ok(units(alloc)? && periods() && equal_ends(alloc)?)
 }
 
-fn units(alloc: Global) -> Result<bool, Stop> {
+fn units(alloc: Global) -> Result<bool, VectorFault> {
     for (text, is_unit) in [
         ("a:x", true),
         ("a:x*b:y", true),
@@ -127,7 +127,7 @@ fn periods() -> bool {
 }
 
 /// A span whose ends are equal is read, and refused in a report.
-fn equal_ends(alloc: Global) -> Result<bool, Stop> {
+fn equal_ends(alloc: Global) -> Result<bool, VectorFault> {
     let body = report(
         alloc,
         "f1",

@@ -1,12 +1,12 @@
 //! The vectors by their numbers.
 
-use crate::stop::Stop;
+use crate::fault::VectorFault;
 use crate::{amendments, connection, history, keys, replies, reports};
 use std::alloc::Global;
 
 /// Runs the vector of this number over an intake of its own in memory, and says whether it passed. A number that is
 /// none of these fails.
-pub fn run(alloc: Global, number: u32) -> Result<bool, Stop> {
+pub fn run(alloc: Global, number: u32) -> Result<bool, VectorFault> {
     match number {
         1 => connection::registered(alloc, history::LIMIT),
         2 => connection::repeated_request(alloc),

@@ -11,7 +11,7 @@ use Rattle.filing_model.specs.Serving.{keeping, IsCutShort}
 use Rattle.filing_model.specs.Stopping.{Crash}
 use Rattle.table_rows.proofs.CleanLemmas.{always_clean}
 use Rattle.intake_core.specs.declared.intake.Intake.{Intake}
-use Rattle.world_ports.specs.Deliveries.{Delivery}
+use Rattle.programs.specs.Deliveries.{Delivery}
 use Rattle.intake_process.specs.declared.begun.Totals.{Totals}
 use Rattle.intake_process.specs.Begun.{HoldsAs, AreTotals, FindsIntake}
 use Rattle.programs.specs.Happenings.{Situation, Serving, Killing}

@@ -7,7 +7,7 @@ use Rattle.filing_model.specs.declared.served.Ended.TheVariants.{Fault}
 use Rattle.filing_model.specs.declared.served.Mark.{Mark}
 use Rattle.filing_world.specs.World.{Sent, numbered}
 use Rattle.gateway_ports.specs.InTurn.{Connection}
-use Rattle.world_ports.specs.Deliveries.{Delivery}
+use Rattle.programs.specs.Deliveries.{Delivery}
 use Rattle.programs.specs.Happenings.{Situation, Happening, Makes}
 use Rattle.crash_recovery.specs.Registers.{HoldRegisterWithLog}
 

@@ -72,7 +72,7 @@ ghost use Rattle.outbox_core.specs.Calls.{PutsEntry, MovesEntry};
 ghost use Rattle.outbox_core.specs.Files.{HoldOutbox};
 ghost use Rattle.database_places.specs.Closing.{IsNotClosed};
 ghost use Rattle.database_places.specs.Opening.{IsFoundIn};
-ghost use Rattle.world_ports.specs.Deliveries.{Delivery};
+ghost use Rattle.programs.specs.Deliveries.{Delivery};
 ghost use Rattle.intake_process.specs.declared.begun.Totals.{Totals};
 ghost use Rattle.intake_process.specs.Begun.{AreTotals, FindsIntake, HoldsAs};
 ghost use Rattle.programs.specs.Happenings.{Killing, Serving, Situation};

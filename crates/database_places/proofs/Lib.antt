@@ -1,1 +1,2 @@
+pub mod Trying
 mod Visits

@@ -3,8 +3,8 @@ use Rattle.std.specs.Prelude.{ℕ}
 use Rattle.command_line.specs.Status.{status_of as command_status}
 use Rattle.event_script.specs.declared.fault.ScriptFault.{ScriptFault}
 use Rattle.event_script.specs.declared.fault.ScriptFault.TheVariants as script
-use Rattle.world_events.specs.declared.fault.Fault.{Fault as WorldFault}
-use Rattle.world_events.specs.declared.fault.Fault.TheVariants as world
+use Rattle.world.specs.declared.fault.Fault.{Fault as WorldFault}
+use Rattle.world.specs.declared.fault.Fault.TheVariants as world
 use Rattle.drill_commands.specs.declared.fault.Fault.{Fault}
 use Rattle.drill_commands.specs.declared.fault.Fault.TheVariants as drill
 

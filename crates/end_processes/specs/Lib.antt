@@ -1,4 +1,3 @@
-pub mod Bytes
 pub mod Causes
 pub mod Durable
 pub mod Listed

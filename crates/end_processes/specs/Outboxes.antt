@@ -14,8 +14,8 @@ use Rattle.filer_client.specs.declared.fault.ExchangeFault.{ExchangeFault}
 use Rattle.filer_client.specs.declared.fault.ExchangeFault.TheVariants.{Write, Reply, Take}
 use Rattle.table_rows.specs.declared.fault.StoreFault.{StoreFault}
 use Rattle.table_rows.specs.declared.fault.StoreFault.TheVariants as store
-use Rattle.end_processes.specs.declared.outboxes.Opening.{Opening}
-use Rattle.end_processes.specs.declared.outboxes.Opening.TheVariants.{Made, Found}
+use Rattle.end_processes.specs.declared.outboxes.Origin.{Origin}
+use Rattle.end_processes.specs.declared.outboxes.Origin.TheVariants.{Made, Found}
 
 -- an outbox that is up
 abbrev pub up_with : List ℕ → List Entry → Outbox
@@ -24,12 +24,12 @@ up_with filer entries = record { filer = filer; entries = entries; up = true }
 -- ---- what it has
 
 -- these are its filer and its entries: none where it is made, and else those that lie in the database
-abbrev pub ComesWith : Opening → Type 0 → Contents → Type 0
+abbrev pub ComesWith : Origin → Type 0 → Contents → Type 0
 ComesWith (Made filer) Lies it = it ≡ empty filer.now
 ComesWith Found Lies it = Lies
 
 -- it is made for a filer, if it is made
-abbrev pub IsForFiler : Opening → Type 0
+abbrev pub IsForFiler : Origin → Type 0
 IsForFiler (Made filer) = is_filer filer.now ≡ true
 IsForFiler Found = Unit {0}
 

@@ -3,7 +3,6 @@
 //! keeps of it, is not known here.
 #![tactic(auto)]
 
-mod bytes;
 mod cause;
 mod durable;
 mod faithful;
@@ -13,7 +12,6 @@ mod opening;
 mod outbox_process;
 mod outboxes;
 
-pub use bytes::{Given, Kept};
 pub use cause::Cause;
 pub use durable::Durable;
 pub use honest::Honest;

@@ -20,7 +20,7 @@ use crate::cause::Cause;
 use crate::honest::Honest;
 use crate::opening::new_files;
 use crate::outboxes::{
-    HearReply, ListStates, Opening, Put, WriteRequest, ask, files_of_outbox, outbox_in,
+    HearReply, ListStates, Origin, Put, WriteRequest, ask, files_of_outbox, outbox_in,
 };
 use key_string::KeyText;
 use outbox_core::{Outbox, State, StoreFault};
@@ -58,7 +58,7 @@ impl<D: Honest> OutboxProcess<D> {
         ensures up { IfOk result (λ process. is_up process ≡ true) }
     {
         let files = new_files(alloc);
-        Ok(OutboxProcess::Up(outbox_in(alloc, files, Opening::Made { filer })?))
+        Ok(OutboxProcess::Up(outbox_in(alloc, files, Origin::Made { filer })?))
     }
 
     /// The files in the place of the outbox. `Reopen` comes if they were not given for another cause than memory, or if
@@ -90,7 +90,7 @@ impl<D: Honest> OutboxProcess<D> {
         match self {
             OutboxProcess::Up(outbox) => Ok(OutboxProcess::Up(outbox)),
             OutboxProcess::Down(files) => {
-                Ok(OutboxProcess::Up(outbox_in(alloc, files, Opening::Found)?))
+                Ok(OutboxProcess::Up(outbox_in(alloc, files, Origin::Found)?))
             }
             OutboxProcess::Gone => Err(Cause::Reopen),
         }

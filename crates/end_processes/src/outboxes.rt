@@ -26,14 +26,13 @@ ghost use Rattle.end_processes.specs.Refusals.{AreRefused, RefusesFiler, IsNotCl
 ghost use Rattle.end_processes.specs.Outboxes.{up_with, after_answer, ComesWith, IsForFiler, why_unheard, state_or};
 ghost use Rattle.end_processes.specs.Outboxes.{entries_after};
 
-use crate::bytes::Given;
 use crate::cause::Cause;
 use crate::faithful::Faithful;
 use crate::honest::Honest;
 use crate::keys::copy_key;
 use crate::opening::{open, without_tables};
 use filer_client::{ExchangeFault, hand_over, request_bytes};
-use http_wire::ReplyFault;
+use http_wire::{MemoryReader, ReplyFault};
 use key_string::KeyText;
 use outbox_core::{Outbox, OutboxFault, PutFault, State, StoreFault, TakeFault};
 use sqlite::{Connection, FileStore, Files};
@@ -72,7 +71,7 @@ fn open_outbox<S: Faithful>(alloc: Global, conn: Connection<S>) -> Result<Outbox
 
 /// How an outbox comes to be in a database.
 #[derive(Clone, Copy)]
-pub(crate) enum Opening<'a> {
+pub(crate) enum Origin<'a> {
     /// Its tables are made, for this filer.
     Made { filer: &'a str },
     /// It lies there.
@@ -83,18 +82,18 @@ pub(crate) enum Opening<'a> {
 fn outbox_over<S: Faithful>(
     alloc: Global,
     conn: Connection<S>,
-    opening: Opening<'_>,
+    origin: Origin<'_>,
 ) -> Result<Outbox<S>, Cause>
-    requires filer { IsForFiler opening }
+    requires filer { IsForFiler origin }
     requires rest { IsAtRest conn }
-    ensures opened { (it : Contents) → ComesWith opening.entry (IsOutboxOf it (state S.Store conn).now) it
+    ensures opened { (it : Contents) → ComesWith origin.entry (IsOutboxOf it (state S.Store conn).now) it
         → IfOk result (λ outbox. HasEntries S.Store outbox it.entries × (outbox.filer ≡ it.filer)) }
-    ensures refused { opening.entry ≡ Opening.Found → IfErr result (RefusesFiler S.Store conn) }
-    ensures store { opening.entry ≡ Opening.Found → result ≢ Err Cause.Store }
+    ensures refused { origin.entry ≡ Origin.Found → IfErr result (RefusesFiler S.Store conn) }
+    ensures store { origin.entry ≡ Origin.Found → result ≢ Err Cause.Store }
 {
-    match opening {
-        Opening::Made { filer } => make_outbox(alloc, conn, filer),
-        Opening::Found => open_outbox(alloc, conn),
+    match origin {
+        Origin::Made { filer } => make_outbox(alloc, conn, filer),
+        Origin::Found => open_outbox(alloc, conn),
     }
 }
 
@@ -102,18 +101,18 @@ fn outbox_over<S: Faithful>(
 pub(crate) fn outbox_in<D: Honest>(
     alloc: Global,
     files: Files<D>,
-    opening: Opening<'_>,
+    origin: Origin<'_>,
 ) -> Result<Outbox<FileStore<D>>, Cause>
-    requires { IsForFiler opening }
-    ensures opened { (it : Contents) → ComesWith opening.entry (HoldOutbox D.Disk files it) it
+    requires { IsForFiler origin }
+    ensures opened { (it : Contents) → ComesWith origin.entry (HoldOutbox D.Disk files it) it
         → IfOk result (λ outbox. HasEntries over_files outbox it.entries × (outbox.filer ≡ it.filer)) }
-    ensures refused { opening.entry ≡ Opening.Found → IfErr result (AreRefused D.Disk files (RefusesFiler over_files)) }
-    ensures store { opening.entry ≡ Opening.Found → result ≢ Err Cause.Store }
+    ensures refused { origin.entry ≡ Origin.Found → IfErr result (AreRefused D.Disk files (RefusesFiler over_files)) }
+    ensures store { origin.entry ≡ Origin.Found → result ≢ Err Cause.Store }
 {
     if !files.may_be_used() {
         return Err(Cause::Reopen);
     }
-    outbox_over(alloc, open(alloc, files)?, opening)
+    outbox_over(alloc, open(alloc, files)?, origin)
 }
 
 /// The files of an outbox.
@@ -273,7 +272,7 @@ impl Call for HearReply<'_> {
         alloc: Global,
         outbox: &mut Outbox<S>,
     ) -> Result<Option<State>, StoreFault> {
-        let mut reader = Given::new(self.bytes);
+        let mut reader = MemoryReader::new(self.bytes);
         match hand_over(alloc, &mut reader, outbox, self.number) {
             Ok(state) => Ok(Some(state)),
             Err(fault) => match why_unheard(fault) {

@@ -1,6 +1,7 @@
-//! What a register is, said of lists, and what a connection is answered. What may live here: the
-//! definitions that the layers above cite, their laws, and the types in which answers, lists, marks,
-//! styles and the states of entries are given, and which numbers a report may name.
+//! What a register is, said of lists, and what a connection is answered. What may live here: the definitions that the
+//! layers above cite, their laws, and the types in which requests, outcomes, answers, lists, marks, styles and the
+//! states of entries are given; the replies to answers and lists, to the byte; and which numbers a report may name. How
+//! a request is decided and where it is kept is not known here.
 #![tactic(auto)]
 
 mod answer;

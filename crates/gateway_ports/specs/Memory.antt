@@ -1,17 +1,8 @@
 -- What contracts see of connections in memory.
-use Rattle.std.specs.Prelude.{ℕ, List, Some, map}
+use Rattle.std.specs.Prelude.{Some, map}
 use Rattle.gateway_ports.specs.declared.memory.Finished.{Finished}
-use Rattle.gateway_ports.specs.declared.memory.Kept.{Kept}
 use Rattle.gateway_ports.specs.declared.memory.Queue.{Queue}
 use Rattle.gateway_ports.specs.Ports.{Output, Traffic}
-
--- what was written
-abbrev pub bytes_kept : Kept → List ℕ
-bytes_kept kept = kept.text.items
-
--- how often memory was refused
-abbrev pub refusals : Kept → ℕ
-refusals kept = kept.refused
 
 -- what a connection came to
 abbrev pub output_of : Finished → Output

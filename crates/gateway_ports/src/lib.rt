@@ -8,7 +8,7 @@ mod port;
 mod serving;
 mod tcp;
 
-pub use memory::{Finished, Kept, Queue};
+pub use memory::{Finished, Queue};
 pub use port::Port;
 pub use serving::{PortFault, serve_each};
 pub use tcp::TcpPort;

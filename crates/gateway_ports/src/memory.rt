@@ -1,36 +1,13 @@
 //! A port in memory, whose connections are given.
 
 ghost use Rattle.std.specs.Prelude.{◌≡◌, [], Some, map};
-ghost use Rattle.gateway_ports.specs.Memory.{bytes_kept, refusals, output_of, traffic_of};
+ghost use Rattle.gateway_ports.specs.Memory.{output_of, traffic_of};
 
 use crate::port::Port;
 use gateway_server::{Ended, Mark, Served};
-use http_wire::{Device, DeviceFailed, Sink};
+use http_wire::{Device, MemoryWriter};
 use std::alloc::{AllocError, Global};
 use std::io;
-
-/// What was written so far. A write fails where memory runs out.
-#[derive(Drop)]
-pub struct Kept {
-    text: Vec<u8>,
-    refused: u64,
-}
-
-impl Sink for Kept {
-    ghost written = { λ kept. Some (bytes_kept kept) };
-
-    ghost write_failures = { refusals };
-
-    fn write(&mut self, text: &[u8]) -> Result<usize, DeviceFailed> {
-        match self.text.extend_from_slice(text) {
-            Ok(()) => Ok(text.len()),
-            Err(_) => {
-                self.refused = self.refused.saturating_add(1);
-                Err(DeviceFailed)
-            }
-        }
-    }
-}
 
 /// What a connection came to that is over.
 #[derive(Drop)]
@@ -72,7 +49,7 @@ impl<'a> Queue<'a> {
 impl<'a> Port for Queue<'a> {
     type Reader = Device<&'a [u8]>;
 
-    type Writer = Kept;
+    type Writer = MemoryWriter;
 
     ghost traffic = { traffic_of };
 
@@ -80,14 +57,11 @@ impl<'a> Port for Queue<'a> {
         Ok(())
     }
 
-    fn accept(&mut self) -> io::Result<Option<(Device<&'a [u8]>, Kept)>> {
+    fn accept(&mut self) -> io::Result<Option<(Device<&'a [u8]>, MemoryWriter)>> {
         match self.coming.split_first() {
             Some((first, more)) => {
                 self.coming = more;
-                let writer = Kept {
-                    text: Vec::new(self.alloc),
-                    refused: 0,
-                };
+                let writer = MemoryWriter::new(self.alloc);
                 Ok(Some((Device::new(first.as_slice()), writer)))
             }
             None => Err(io::ErrorKind::UnexpectedEof.into()),
@@ -97,13 +71,13 @@ impl<'a> Port for Queue<'a> {
     fn end(
         &mut self,
         _reader: Device<&'a [u8]>,
-        writer: Kept,
+        writer: MemoryWriter,
         served: Served,
     ) -> Result<(), AllocError> {
         self.over.push(Finished {
             marks: served.marks,
             ended: served.ended,
-            text: writer.text,
+            text: writer.into_text(),
         })?;
         Ok(())
     }

@@ -5,6 +5,7 @@ pub mod Device
 pub mod Devices
 pub mod Fill
 pub mod Inbox
+pub mod Memory
 pub mod NextArrival
 pub mod Parsed
 pub mod ReadingOn

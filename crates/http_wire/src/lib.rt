@@ -9,6 +9,7 @@ mod conn;
 mod device;
 mod inbox;
 pub mod laws;
+mod memory;
 mod received;
 mod reply_reader;
 mod write;
@@ -21,6 +22,7 @@ pub use http_messages::{
     split_at_first,
 };
 pub use inbox::{Inbox, Message, Next};
+pub use memory::{MemoryReader, MemoryWriter};
 pub use received::MAX_READS;
 pub use reply_reader::read_reply;
 pub use write::{write_all, write_reply};

@@ -1,6 +1,6 @@
-//! The answer of an intake once it is known: remembered for a repeat, and told as a reply. What may live here: which
-//! requests ask for the same, the last answers, and the bytes of replies and of facts. How a request is decided and
-//! where it is kept is not known here.
+//! The answer of an intake once it is known, remembered for a repeat. What may live here: which requests ask for the
+//! same, the last answers, and the line that shows a fact. How a request is decided and where it is kept is not known
+//! here; the bytes of its reply are those of `filing_model`.
 #![tactic(auto)]
 
 mod cache;

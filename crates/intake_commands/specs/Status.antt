@@ -1,9 +1,9 @@
 -- The status that `intake` ends with, and what a fault says of the register.
 use Rattle.std.specs.Prelude.{ℕ, Option, Some, None, Result, Ok, Err}
-use Rattle.command_files.specs.Reports.{report_status}
-use Rattle.command_files.specs.Verdicts.{verdict_of}
-use Rattle.command_files.specs.declared.verdict.Verdict.{Verdict}
-use Rattle.command_files.specs.declared.verdict.Verdict.TheVariants as verdict
+use Rattle.command_line.specs.Reports.{report_status}
+use Rattle.database_places.specs.Verdicts.{verdict_of}
+use Rattle.database_places.specs.declared.verdict.Verdict.{Verdict}
+use Rattle.database_places.specs.declared.verdict.Verdict.TheVariants as verdict
 use Rattle.command_line.specs.declared.fault.CommandFault.TheVariants as command
 use Rattle.command_line.specs.Status as command_line
 use Rattle.register_tables.specs.declared.fault.CreateFault.TheVariants as create

@@ -12,14 +12,14 @@ use Rattle.filing_model.specs.declared.served.Ended.TheVariants as ended
 use Rattle.gateway_ports.specs.Ports.{Traffic}
 use Rattle.gateway_ports.specs.declared.serving.PortFault.TheVariants as network
 use Rattle.command_line.specs.declared.fault.CommandFault.TheVariants as command
-use Rattle.command_files.specs.Verdicts.{verdict_text}
-use Rattle.command_files.specs.declared.verdict.Verdict.{Verdict}
+use Rattle.database_places.specs.Verdicts.{verdict_text}
+use Rattle.database_places.specs.declared.verdict.Verdict.{Verdict}
 use Rattle.intake_tasks.specs.Tasks.{ServesAlone}
 use Rattle.intake_tasks.specs.declared.errand.Errand.{Errand}
 use Rattle.intake_tasks.specs.declared.errand.Errand.TheVariants as asked
-use Rattle.intake_options.specs.declared.options.Serving.{Serving}
-use Rattle.intake_options.specs.declared.options.Task.{Task}
-use Rattle.intake_options.specs.declared.options.Task.TheVariants as task
+use Rattle.intake_commands.specs.declared.options.Serving.{Serving}
+use Rattle.intake_commands.specs.declared.options.Task.{Task}
+use Rattle.intake_commands.specs.declared.options.Task.TheVariants as task
 use Rattle.intake_process.specs.Process.{Parts}
 use Rattle.intake_process.specs.Turns.{ServesRegister}
 use Rattle.intake_process.specs.Visits.{Outputs, VisitsRegister, outputs}

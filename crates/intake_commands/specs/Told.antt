@@ -3,8 +3,8 @@ use Rattle.std.specs.Prelude.{◌≡◌, ℕ, List}
 use Rattle.std.specs.Borrow.{Bor}
 use Rattle.command_line.specs.declared.fault.CommandFault.TheVariants as command
 use Rattle.command_line.specs.declared.fault.DatabaseFault.{DatabaseFault}
-use Rattle.command_files.specs.Verdicts.{IsRefusalOf}
-use Rattle.command_files.specs.declared.holding.Holding.{Holding}
+use Rattle.database_places.specs.Verdicts.{IsRefusalOf}
+use Rattle.database_places.specs.declared.holding.Holding.{Holding}
 use Rattle.register_tables.specs.declared.fault.OpenFault.{OpenFault}
 use Rattle.register_tables.specs.declared.fault.OpenFault.TheVariants as register
 use Rattle.intake_tasks.specs.declared.text.TextFault.TheVariants as text

@@ -3,8 +3,8 @@
 ghost use Rattle.std.specs.Prelude.{◌≡◌};
 
 use crate::folder::PageFault;
-use command_files::{Holding, ReportFault, Verdict};
-use command_line::CommandFault;
+use command_line::{CommandFault, ReportFault};
+use database_places::{Holding, Verdict};
 use http_wire::ConnFault;
 use intake_core::Unavailable;
 use register_store::{CreateFault, OpenFault, StoreFault};

@@ -3,7 +3,7 @@
 ghost use Rattle.std.specs.Prelude.{None};
 
 use crate::fault::ConnectionFault;
-use command_files::{Deadline, Patient};
+use command_line::{Deadline, Patient};
 use gateway_ports::{Port, TcpPort};
 use gateway_server::{Ended, Served};
 use http_wire::Device;

@@ -3,16 +3,15 @@
 use crate::fault::Fault;
 use crate::folder::SystemFolder;
 use crate::log::Logged;
+use crate::options::{Asked, Serving, Task, read};
 use crate::port::{StreamPort, TimedPort};
 use crate::tasks::perform_task;
 use command_line::{CommandFault, show_refusal, words};
-use database_places::SystemPlace;
+use database_places::{SystemPlace, WaitingPlace};
 use http_wire::Device;
-use intake_options::{Asked, Serving, Task};
 use intake_process::IntakeProcess;
 use intake_tasks::Errand;
 use std::io::{IsTerminal, Write};
-use waiting_places::WaitingPlace;
 
 /// What is said if requests are read from a terminal.
 const READING: &str = concat!(
@@ -92,7 +91,7 @@ fn perform_words<'a>(rt: &HostRuntime, words: &'a [String]) -> Result<u8, Fault<
     if asks_for_init(words) {
         return Err(Fault::NoInit);
     }
-    match intake_options::read(rt.alloc(), words) {
+    match read(rt.alloc(), words) {
         Ok(Some(asked)) => Ok(perform(rt, &asked)),
         Ok(None) => Err(CommandFault::NoTask.into()),
         Err(error) => Ok(show_refusal(&error, &mut rt.stdout(), &mut rt.stderr())?),

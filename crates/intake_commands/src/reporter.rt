@@ -2,11 +2,11 @@
 
 use crate::fault::VisitFault;
 use crate::note::Note;
+use crate::options::Serving;
 use crate::pause::Pause;
 use crate::port::StreamPort;
 use crate::room::Room;
 use gateway_server::{Ended, Served};
-use intake_options::Serving;
 use intake_process::{Closed, Observer, Totals, Went};
 use std::io::Write;
 use std::time::Instant;

@@ -7,13 +7,13 @@ ghost use Rattle.intake_commands.specs.Tasks.{Serves, IsServingTold};
 
 use crate::fault::Fault;
 use crate::limit::Limit;
+use crate::options::Serving;
 use crate::port::StreamPort;
 use crate::reporter::Reporter;
 use crate::told::opening_fault;
 use command_line::{CommandFault, DONE};
 use database_places::{Cache, Opening, Place};
 use gateway_ports::PortFault;
-use intake_options::Serving;
 use intake_process::{IntakeProcess, ServingFault, serve_register};
 use sqlite_disk::Disk;
 use std::alloc::Global;

@@ -5,9 +5,8 @@ ghost use Rattle.intake_commands.specs.Told.{IsDatabaseTold, IsErrandTold, IsOpe
 
 use crate::fault::{Fault, Refusal, VisitFault};
 use crate::folder::SiteFolder;
-use command_files::{Holding, refusal};
 use command_line::{CommandFault, DatabaseFault};
-use database_places::Place;
+use database_places::{Holding, Place, refusal};
 use intake_process::{ErrandFault, OpeningFault};
 use intake_tasks::TextFault;
 use register_store::OpenFault;

@@ -34,7 +34,7 @@ use Rattle.register_pages.specs.Site.{WritesPages}
 use Rattle.register_pages.specs.declared.fault.PagesFault.TheVariants as site
 use Rattle.register_pages.specs.declared.fault.WritingFault.{WritingFault}
 use Rattle.register_pages.specs.declared.fault.WritingFault.TheVariants as writing
-use Rattle.command_files.specs.declared.holding.Holding.{Holding}
+use Rattle.database_places.specs.declared.holding.Holding.{Holding}
 use Rattle.intake_core.specs.declared.intake.Intake.{Intake}
 use Rattle.intake_core.specs.Held.{HoldsRequests, store_of}
 use Rattle.intake_tasks.specs.declared.errand.Errand.{Errand}

@@ -9,8 +9,7 @@ ghost use Rattle.intake_core.specs.Held.{store_of, has_stopped};
 ghost use Rattle.intake_process.specs.Begun.{FindsIntake, MakesIntake, IsNotBegun};
 
 use crate::fault::OpeningFault;
-use command_files::held_in;
-use database_places::Opening;
+use database_places::{Opening, held_in};
 use intake_core::Intake;
 use register_store::Store;
 use sqlite::{Alter, Connection};

@@ -7,8 +7,8 @@ ghost use Rattle.table_rows.specs.Standing.{IsAtRest};
 ghost use Rattle.intake_process.specs.Errands.{FillsFolder, RunsErrand, is_refusal};
 ghost use Rattle.intake_process.specs.Outcomes.{listed_as, records_fault, shown_as, printed_as, writing_fault};
 
-use command_files::{Holding, held_in};
 use command_line::DatabaseFault;
+use database_places::{Holding, held_in};
 use fact_records::Form;
 use intake_core::{Intake, Unavailable};
 use intake_tasks::{

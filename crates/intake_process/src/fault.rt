@@ -1,7 +1,7 @@
 //! Why a register is not opened.
 
-use command_files::Holding;
 use command_line::DatabaseFault;
+use database_places::Holding;
 use register_store::{CreateFault, OpenFault};
 
 /// Why a register is not opened.

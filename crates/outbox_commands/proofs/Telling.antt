@@ -6,7 +6,7 @@ use Rattle.command_line.specs.declared.fault.DatabaseFault.TheVariants.{AutoVacu
 use Rattle.command_line.specs.declared.fault.DatabaseFault.TheVariants.{Denied, NotAFile, Linked, Journal, NoFolder}
 use Rattle.command_line.specs.declared.fault.DatabaseFault.TheVariants.{NoName, Descriptors, Full, Disk}
 use Rattle.command_line.specs.Status.{database_status}
-use Rattle.command_files.specs.Verdicts.{goes_by_pages, IsRefusalOf}
+use Rattle.database_places.specs.Verdicts.{goes_by_pages, IsRefusalOf}
 use Rattle.outbox_process.specs.declared.fault.OpeningFault.{OpeningFault}
 use Rattle.outbox_process.specs.declared.fault.OpeningFault.TheVariants.{Files, Taken, Create, Open, IsCurrent, Migrate}
 use Rattle.outbox_commands.specs.Status.{opening_status}

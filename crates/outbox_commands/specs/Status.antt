@@ -11,7 +11,7 @@ use Rattle.filer_client.specs.declared.fault.ExchangeFault.{ExchangeFault}
 use Rattle.filer_client.specs.declared.fault.ExchangeFault.TheVariants as exchange
 use Rattle.command_line.specs.Status.{database_status}
 use Rattle.command_line.specs.Status as command
-use Rattle.command_files.specs.Reports.{report_status}
+use Rattle.command_line.specs.Reports.{report_status}
 use Rattle.outbox_tasks.specs.declared.fault.SendFault.{SendFault}
 use Rattle.outbox_tasks.specs.declared.fault.SendFault.TheVariants as send
 use Rattle.outbox_tasks.specs.declared.fault.TaskFault.{TaskFault}

@@ -7,8 +7,8 @@ use Rattle.sqlite_disk.specs.declared.Disk.{Ghosts}
 use Rattle.sqlite.specs.declared.error.Error.{Error}
 use Rattle.key_string.specs.Filer.{is_filer}
 use Rattle.key_string.specs.Key.{IsTextFault}
-use Rattle.command_files.specs.declared.verdict.Verdict.{Verdict}
-use Rattle.command_files.specs.Verdicts.{verdict_text}
+use Rattle.database_places.specs.declared.verdict.Verdict.{Verdict}
+use Rattle.database_places.specs.Verdicts.{verdict_text}
 use Rattle.command_line.specs.declared.fault.CommandFault.TheVariants as command
 use Rattle.outbox_tasks.specs.Dials.{Traffic}
 use Rattle.outbox_process.specs.declared.begun.Beginning.TheVariants as beginning

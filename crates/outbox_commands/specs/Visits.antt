@@ -2,9 +2,9 @@
 use Rattle.std.specs.Prelude.{◌≡◌, ◌⊎◌, ℕ, List, Option, Some, None, Result, Ok, Err}
 use Rattle.sqlite_disk.specs.declared.Disk.{Ghosts}
 use Rattle.sqlite.specs.declared.error.Error.{Error}
-use Rattle.command_files.specs.declared.verdict.Verdict.{Verdict}
-use Rattle.command_files.specs.declared.verdict.Verdict.TheVariants as verdict
-use Rattle.command_files.specs.Verdicts.{verdict_of, IsRefusalOf}
+use Rattle.database_places.specs.declared.verdict.Verdict.{Verdict}
+use Rattle.database_places.specs.declared.verdict.Verdict.TheVariants as verdict
+use Rattle.database_places.specs.Verdicts.{verdict_of, IsRefusalOf}
 use Rattle.outbox_tables.specs.declared.fault.OutboxFault.{OutboxFault}
 use Rattle.outbox_tables.specs.declared.fault.OutboxFault.TheVariants as made
 use Rattle.outbox_tasks.specs.Dials.{Traffic}

@@ -8,8 +8,7 @@ ghost use Rattle.outbox_commands.specs.Visits.{OpensTold, VisitsOutbox};
 
 use crate::fault::{Fault, VisitFault};
 use crate::network::Network;
-use command_files::refusal;
-use database_places::Place;
+use database_places::{Place, refusal};
 use outbox_core::{Entry, Outbox};
 use outbox_process::{Beginning, Done, Errand, OpeningFault, OutboxProcess};
 use outbox_tasks::{Round, TaskFault};

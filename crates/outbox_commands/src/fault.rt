@@ -6,8 +6,8 @@ ghost use Rattle.outbox_commands.specs.Status.{task_status, visit_status, status
 ghost use Rattle.outbox_commands.specs.Visits.{outbox_verdict, opening_verdict};
 
 use crate::held::{taken, unfit};
-use command_files::{Holding, ReportFault, Verdict};
-use command_line::CommandFault;
+use command_line::{CommandFault, ReportFault};
+use database_places::{Holding, Verdict};
 use filer_client::ExchangeFault;
 use http_wire::ReplyFault;
 use key_string::KeyFault;

@@ -1,6 +1,6 @@
 //! What is said of a file that is no outbox of this version, by what its database holds.
 
-use command_files::Holding;
+use database_places::Holding;
 
 /// Why a database that holds this is no outbox of this version.
 pub fn unfit(held: Holding) -> &'static str {

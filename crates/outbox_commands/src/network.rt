@@ -6,7 +6,7 @@ ghost use Rattle.std.specs.Prelude.{◌≡◌};
 use crate::answer::{MOST_NOTED, Noted, tell_open, tell_refused};
 use crate::fault::{Cause, NoReceipt};
 use crate::options::Peer;
-use command_files::{Deadline, Patient};
+use command_line::{Deadline, Patient};
 use filer_client::ExchangeFault;
 use http_wire::{Device, ReplyFault};
 use jiff::Timestamp;

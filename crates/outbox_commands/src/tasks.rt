@@ -13,9 +13,8 @@ use crate::linting::lint;
 use crate::network::{Network, PeerDial};
 use crate::options;
 use crate::options::{Asked, Task};
-use command_files::{report, show_verdict};
-use command_line::{CommandFault, DONE, show, show_refusal, words};
-use database_places::{Place, SystemPlace};
+use command_line::{CommandFault, DONE, report, show, show_refusal, words};
+use database_places::{Place, SystemPlace, WaitingPlace, show_verdict};
 use key_string::{KeyText, is_filer};
 use outbox_core::key_of;
 use outbox_process::{Beginning, Errand, OpeningFault, OutboxProcess, Target};
@@ -26,7 +25,6 @@ use sqlite_disk::Disk;
 use std::alloc::Global;
 use std::io::Write;
 use uuid::Uuid;
-use waiting_places::WaitingPlace;
 
 /// A version 4 UUID from the system's random bytes.
 fn random_key<'a>(rt: &HostRuntime) -> Result<KeyText, Fault<'a>>

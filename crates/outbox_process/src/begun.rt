@@ -10,7 +10,7 @@ ghost use Rattle.outbox_process.specs.Refusals.{RefusesFinding, RefusesMaking, I
 ghost use Rattle.outbox_process.specs.Refusals.{RefusesOutbox};
 
 use crate::fault::OpeningFault;
-use command_files::held_in;
+use database_places::held_in;
 use outbox_core::{Outbox, OutboxFault};
 use sqlite::{Alter, Connection};
 use sqlite_schema::schema::Schema;

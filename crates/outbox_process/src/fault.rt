@@ -1,7 +1,7 @@
 //! Why an outbox is not opened.
 
-use command_files::Holding;
 use command_line::DatabaseFault;
+use database_places::Holding;
 use outbox_core::OutboxFault;
 
 /// Why an outbox is not opened.

@@ -1,17 +1,8 @@
 -- What contracts see of connections in memory.
-use Rattle.std.specs.Prelude.{ℕ, List, Some, map, option_map, false}
+use Rattle.std.specs.Prelude.{Some, map, option_map, false}
 use Rattle.outbox_tasks.specs.declared.memory.Finished.{Finished}
-use Rattle.outbox_tasks.specs.declared.memory.Kept.{Kept}
 use Rattle.outbox_tasks.specs.declared.memory.Replies.{Replies}
 use Rattle.outbox_tasks.specs.Dials.{Output, Traffic}
-
--- what was written
-abbrev pub bytes_kept : Kept → List ℕ
-bytes_kept kept = kept.text.items
-
--- how often memory was refused
-abbrev pub refusals : Kept → ℕ
-refusals kept = kept.refused
 
 -- what a connection came to
 abbrev pub output_of : Finished → Output

@@ -21,7 +21,7 @@ pub use asking::ask;
 pub use dial::Dial;
 pub use fault::{LineFault, SendFault, TaskFault};
 pub use finding_lines::Form;
-pub use memory::{Finished, Kept, Replies};
+pub use memory::{Finished, Replies};
 pub use putting::put;
 pub use rounds::{Round, send_all};
 pub use sending::{send_entry, send_next};

@@ -1,37 +1,14 @@
 //! A network in memory, on which given replies come.
 
 ghost use Rattle.std.specs.Prelude.{◌≡◌, ◌++◌, ◌∷◌, [], Some, IfSome, map, option_map, false};
-ghost use Rattle.outbox_tasks.specs.Memory.{bytes_kept, refusals, output_of, traffic_of};
+ghost use Rattle.outbox_tasks.specs.Memory.{output_of, traffic_of};
 
 use crate::dial::Dial;
 use filer_client::ExchangeFault;
-use http_wire::{Device, DeviceFailed, Sink};
+use http_wire::{Device, MemoryWriter};
 use outbox_core::State;
 use std::alloc::Global;
 use std::io;
-
-/// What was written so far. A write fails if memory runs out.
-#[derive(Drop)]
-pub struct Kept {
-    text: Vec<u8>,
-    refused: u64,
-}
-
-impl Sink for Kept {
-    ghost written = { λ kept. Some (bytes_kept kept) };
-
-    ghost write_failures = { refusals };
-
-    fn write(&mut self, text: &[u8]) -> Result<usize, DeviceFailed> {
-        match self.text.extend_from_slice(text) {
-            Ok(()) => Ok(text.len()),
-            Err(_) => {
-                self.refused = self.refused.saturating_add(1);
-                Err(DeviceFailed)
-            }
-        }
-    }
-}
 
 /// A connection that is over, and what came of it.
 #[derive(Drop)]
@@ -91,18 +68,15 @@ fn with_one(over: Vec<Finished>, finished: Finished) -> Option<Vec<Finished>>
 impl<'a> Dial for Replies<'a> {
     type Reader = Device<&'a [u8]>;
 
-    type Writer = Kept;
+    type Writer = MemoryWriter;
 
     ghost traffic = { traffic_of };
 
-    fn connect(&mut self) -> io::Result<(Device<&'a [u8]>, Kept)> {
+    fn connect(&mut self) -> io::Result<(Device<&'a [u8]>, MemoryWriter)> {
         match self.coming.split_first() {
             Some((first, more)) => {
                 self.coming = more;
-                let writer = Kept {
-                    text: Vec::new(self.alloc),
-                    refused: 0,
-                };
+                let writer = MemoryWriter::new(self.alloc);
                 Ok((Device::new(first.as_slice()), writer))
             }
             None => Err(io::ErrorKind::ConnectionRefused.into()),
@@ -112,14 +86,14 @@ impl<'a> Dial for Replies<'a> {
     fn end(
         &mut self,
         _reader: Device<&'a [u8]>,
-        writer: Kept,
+        writer: MemoryWriter,
         id: u64,
         came: Result<State, ExchangeFault>,
     ) {
         let finished = Finished {
             id,
             came,
-            text: writer.text,
+            text: writer.into_text(),
         };
         self.over = match self.over.take() {
             Some(over) => with_one(over, finished),

@@ -25,8 +25,8 @@ use Rattle.filer_client.specs.Exchange.{IsOpenRequest}
 use Rattle.gateway_ports.specs.InTurn.{Connection, ServeInTurn}
 use Rattle.intake_process.specs.Turning.{IsTurnedAway}
 use Rattle.intake_process.specs.Turns.{Turn, Served, TurnedAway, connections_of, served_in, AreTurnedAway}
-use Rattle.world_ports.specs.Deliveries.{Delivery, IsOf, AreOf, events_of, AreOutputsOf}
-use Rattle.world_ports.proofs.Delivering.{delivered}
+use Rattle.programs.specs.Deliveries.{Delivery, IsOf, AreOf, events_of, AreOutputsOf}
+use Rattle.programs.proofs.Delivering.{delivered}
 use Rattle.programs.specs.Exchanged.{IsBox, ComesOf}
 use Rattle.programs.specs.Happenings.{Answer, Situation, at_first, Happening, Serving, Killing, TurningAway, Putting}
 use Rattle.programs.specs.Happenings.{Writing, Hearing, HearingRefusal, Stranger, IsServing, IsKilling, IsTurningAway}

@@ -1,4 +1,5 @@
 mod Away
+pub mod Delivering
 mod Exchanging
 mod Happening
 mod Limits

@@ -22,7 +22,7 @@ use Rattle.filer_client.specs.Exchange.{IsOpenRequest}
 use Rattle.gateway_ports.specs.InTurn.{Connection}
 use Rattle.intake_process.specs.Turning.{IsTurnedAway}
 use Rattle.intake_process.specs.Turns.{Turn, Served, TurnedAway}
-use Rattle.world_ports.specs.Deliveries.{Delivery, IsOf}
+use Rattle.programs.specs.Deliveries.{Delivery, IsOf}
 
 -- ---- what is kept
 

@@ -1,20 +1,50 @@
 //! What the programs do, as their contracts say it, and that the headline holds of what they keep. What may live here:
-//! what may happen at the programs, one thing after another, and laws over every list of such things. There is no code.
+//! what a served port is in the world, what may happen at the programs, one thing after another, and laws over every
+//! list of such things. There is no code.
 #![tactic(auto)]
 
-ghost use Rattle.std.specs.Prelude.{◌≡◌, ◌≤◌, ◌^◌, ℕ, List, [], Option, Some};
+ghost use Rattle.std.specs.Prelude.{◌≡◌, ◌≤◌, ◌^◌, ℕ, List, [], Option, Some, true};
 ghost use Rattle.filing_model.specs.Outbox.{State, Open, moved};
-ghost use Rattle.filing_model.specs.Request.{Request};
+ghost use Rattle.filing_model.specs.Request.{Request, firsts};
 ghost use Rattle.filing_model.specs.Serving.{keeping};
-ghost use Rattle.filing_world.specs.World.{World, Outbox};
-ghost use Rattle.filing_world.specs.Headline.{AreFilers};
+ghost use Rattle.filing_world.specs.World.{World, Outbox, Event};
+ghost use Rattle.filing_world.specs.Headline.{AreFilers, start, Holds};
 ghost use Rattle.filer_client.specs.Exchange.{IsOpenRequest, Hears};
-ghost use Rattle.gateway_ports.specs.InTurn.{ServeInTurn};
+ghost use Rattle.gateway_ports.specs.InTurn.{ServeInTurn, Connection, ServesSome};
 ghost use Rattle.intake_process.specs.Turns.{Turn, connections_of, served_in, AreTurnedAway};
-ghost use Rattle.world_ports.specs.Deliveries.{Delivery, AreOf};
+ghost use Rattle.programs.specs.Deliveries.{Delivery, AreOf, GoesOnTo, StandsFor, IsServedIn};
 ghost use Rattle.programs.specs.Exchanged.{IsBox, IsSent, ComesOf, IsMoved};
 ghost use Rattle.programs.specs.Happenings.{Situation, Happening, at_first, Happen, IsReached, AreRegistered};
 ghost use Rattle.programs.specs.Happenings.{TurnsHappen};
+ghost use Rattle.filing_world.specs.Step.{Run};
+ghost use Rattle.intake_core.specs.declared.intake.Intake.{Intake};
+ghost use Rattle.intake_core.specs.Held.{IsClean};
+ghost use Rattle.gateway_ports.specs.Ports.{Traffic};
+
+use sqlite::Alter;
+
+/// Connections that were served in turn after the requests which a world has completed are deliveries: each is a step
+/// of the world, and what is kept then are the first of the requests that the new world has completed. So more
+/// connections go on from there, and where events led to the old world, the headline holds of the new one.
+pub fn connections_are_deliveries()
+    ensures steps { (old : World) (connections : List Connection) (deliveries : List Delivery) (after : List Request)
+        → old.up ≡ true → ServeInTurn (keeping old.limit [] (firsts old.done) after) connections
+        → AreOf old.sent connections deliveries → (new : World)
+        × GoesOnTo old connections deliveries after new }
+    ensures holds { (filers : List (List ℕ)) (limit : ℕ) (events : List Event) (old new : World)
+        (connections : List Connection) (deliveries : List Delivery) (after : List Request) → AreFilers filers
+        → limit ≤ 2 ^ 62 → Run (start filers limit) events old → GoesOnTo old connections deliveries after new
+        → Holds new }
+{}
+
+/// What serving the connections of a port did with an intake that stood for a world. Where the disk is clean at the
+/// end, the connections that came were served in turn, and whatever sent items were read on them, the world goes on by
+/// their deliveries to one that the intake stands for.
+pub fn a_served_port_is_in_the_world<S: Alter>()
+    ensures { (port port' : Traffic) (old new : Intake S) (taken : Option ℕ) (world : World)
+        → ServesSome S.Store port port' old new taken → IsClean S.Store new → StandsFor S.Store old world
+        → world.up ≡ true → IsServedIn S.Store world port port' new taken }
+{}
 
 /// What an exchange writes is sent, and what it hears is handed to its entry, whatever came in between at other ends:
 /// the entry is in the state that the exchange answers.

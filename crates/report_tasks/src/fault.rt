@@ -1,7 +1,6 @@
 //! Why reports are not looked at.
 
-use command_files::ReportFault;
-use command_line::CommandFault;
+use command_line::{CommandFault, ReportFault};
 
 /// Why a report was not looked at.
 #[derive(Debug, Drop)]

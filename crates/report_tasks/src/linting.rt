@@ -4,8 +4,7 @@ ghost use Rattle.std.specs.Prelude.{map};
 ghost use Rattle.report_tasks.specs.Linting.{FindsIn, LintsFile, LintsFiles, LintsReports};
 
 use crate::fault::LintFault;
-use command_files::report;
-use command_line::{CommandFault, DONE, show};
+use command_line::{CommandFault, DONE, report, show};
 use finding_lines::{Form, lines};
 use key_string::is_filer;
 use std::alloc::Global;

@@ -9,7 +9,7 @@ ghost use Rattle.schedule.specs.Ending.{EndsBy};
 use end_processes::Honest;
 use event_script::Event;
 use std::alloc::Global;
-use world_events::{Fault, World};
+use world::{Fault, World};
 
 /// Plays the events on a new world, one after another, up to the first that has a fault.
 pub fn run<D: Honest>(

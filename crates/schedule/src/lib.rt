@@ -1,5 +1,5 @@
 //! The headline: a list of events, played on a new world. What may live here: the run of a list, and why one ended.
-//! What one event does to the world is known by `world_events`.
+//! What one event does to the world is known by `world`.
 #![tactic(auto)]
 
 mod events;
@@ -7,4 +7,4 @@ mod events;
 pub use end_processes::{Durable, Honest};
 pub use event_script::{Crash, Event, Script, ScriptFault, read_script};
 pub use events::run;
-pub use world_events::{Fault, Output, Sent, World};
+pub use world::{Fault, Output, Sent, World};

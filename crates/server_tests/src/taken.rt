@@ -4,7 +4,7 @@ ghost use Rattle.std.specs.Prelude.{None};
 ghost use Rattle.database_places.specs.Places.{Leaves};
 
 use command_line::DatabaseFault;
-use database_places::{Drawer, Place};
+use database_places::{Drawer, Place, WaitingPlace};
 use sqlite::Files;
 use sqlite_disk::Memory;
 use std::alloc::Global;
@@ -13,7 +13,6 @@ use std::io;
 use std::process::Abort;
 use std::test::Fail;
 use std::time::{Clock, Duration};
-use waiting_places::WaitingPlace;
 
 /// A clock that goes on as long as one sleeps, and by this much with each look at it.
 #[derive(Drop)]

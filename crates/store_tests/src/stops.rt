@@ -45,7 +45,7 @@ enum Step {
 }
 
 /// Which file of a disk stops, the log or else the database, and whether a crash loses then what was not synced.
-struct Stop {
+struct DiskStop {
     stops_log: bool,
     crashes: bool,
 }
@@ -114,7 +114,7 @@ fn done_in<T: Trial, D: Disk + Drop>(
 fn stopping<T: Trial>(
     alloc: Global,
     trial: &T,
-    stop: &Stop,
+    stop: &DiskStop,
     calls: u64,
 ) -> Option<Files<Fuse<Memory>>> {
     let files = lasting(new_files(alloc));
@@ -131,7 +131,7 @@ fn stopping<T: Trial>(
 }
 
 /// The files as they are opened again, on a disk that does not stop; `None` if memory is refused.
-fn left(alloc: Global, files: Files<Fuse<Memory>>, stop: &Stop) -> Option<Files<Fuse<Memory>>> {
+fn left(alloc: Global, files: Files<Fuse<Memory>>, stop: &DiskStop) -> Option<Files<Fuse<Memory>>> {
     if stop.crashes {
         Some(crashed(files))
     } else {
@@ -145,7 +145,7 @@ fn is_left<T: Trial>(
     alloc: Global,
     files: Files<Fuse<Memory>>,
     trial: &T,
-    stop: &Stop,
+    stop: &DiskStop,
     answered: bool,
 ) -> Option<bool> {
     let files = left(alloc, files, stop)?;
@@ -158,7 +158,7 @@ fn end_after<T: Trial>(
     alloc: Global,
     files: Files<Fuse<Memory>>,
     trial: &T,
-    stop: &Stop,
+    stop: &DiskStop,
     answered: bool,
 ) -> End {
     match is_left(alloc, files, trial, stop, answered) {
@@ -170,7 +170,7 @@ fn end_after<T: Trial>(
 }
 
 /// What comes of the change if the file stops after so many calls.
-fn end_at<T: Trial>(alloc: Global, trial: &T, stop: &Stop, calls: u64) -> End {
+fn end_at<T: Trial>(alloc: Global, trial: &T, stop: &DiskStop, calls: u64) -> End {
     let Some(files) = stopping(alloc, trial, stop, calls) else {
         return End::NotMade;
     };
@@ -186,7 +186,7 @@ fn end_at<T: Trial>(alloc: Global, trial: &T, stop: &Stop, calls: u64) -> End {
 
 /// Stops the file after 0, 1, 2, .. calls, until the change is answered: a stop is to come before, in the change or, of
 /// the database file, in the opening.
-fn end_of<T: Trial>(alloc: Global, trial: &T, stop: &Stop) -> End {
+fn end_of<T: Trial>(alloc: Global, trial: &T, stop: &DiskStop) -> End {
     let mut is_stopped = false;
     for calls in 0..ENOUGH {
         match end_at(alloc, trial, stop, calls) {
@@ -200,20 +200,20 @@ fn end_of<T: Trial>(alloc: Global, trial: &T, stop: &Stop) -> End {
 }
 
 /// Each file, and with a crash and without.
-static STOPS: [Stop; 4] = [
-    Stop {
+static STOPS: [DiskStop; 4] = [
+    DiskStop {
         stops_log: true,
         crashes: true,
     },
-    Stop {
+    DiskStop {
         stops_log: true,
         crashes: false,
     },
-    Stop {
+    DiskStop {
         stops_log: false,
         crashes: true,
     },
-    Stop {
+    DiskStop {
         stops_log: false,
         crashes: false,
     },

@@ -5,7 +5,7 @@ ghost use Rattle.std.specs.Prelude.{◌≡◌, false, None};
 use crate::files::execute;
 use crate::serving::goes;
 use crate::visits::{Visit, visits};
-use connection_examples::{Part, REQUEST, Stop, refusal};
+use connection_examples::{Part, REQUEST, VectorFault, refusal};
 use example_texts::NOT_JSON;
 use gateway_server::{Ended, Mark};
 use intake_core::Intake;
@@ -22,7 +22,7 @@ const KEY_REUSED_BEFORE: &str =
     "HTTP/1.1 422 Unprocessable Content\r\nContent-Type: application/json\r\nContent-Length: 23\r\n\r\n{\"status\":\"key-reused\"}";
 
 /// Vector 25: a register of an earlier version keeps its replies, and answers new keys with problem details.
-pub(crate) fn migrated(alloc: Global) -> Result<bool, Stop> {
+pub(crate) fn migrated(alloc: Global) -> Result<bool, VectorFault> {
     visits(
         alloc,
         &[
@@ -37,7 +37,7 @@ pub(crate) fn migrated(alloc: Global) -> Result<bool, Stop> {
 /// Makes a register of the second form, in which `ACME` has an empty body under `k-1`.
 pub(crate) fn make_earlier<S: Alter + Drop>(
     mut conn: Connection<S>,
-) -> Result<Option<Connection<S>>, Stop> {
+) -> Result<Option<Connection<S>>, VectorFault> {
     for text in [
         "CREATE TABLE intake_meta (id INTEGER PRIMARY KEY, kind TEXT NOT NULL, form INTEGER NOT NULL) STRICT",
         "CREATE TABLE kept (seq INTEGER PRIMARY KEY, filer TEXT NOT NULL, idem TEXT NOT NULL, body BLOB NOT NULL, number INTEGER, UNIQUE (filer, idem)) STRICT",
@@ -53,7 +53,7 @@ pub(crate) fn make_earlier<S: Alter + Drop>(
 }
 
 /// Puts in the rows of an empty body, which is no JSON text.
-fn keep_empty_body<S: Alter>(conn: &mut Connection<S>) -> Result<(), Stop> {
+fn keep_empty_body<S: Alter>(conn: &mut Connection<S>) -> Result<(), VectorFault> {
     conn.execute(
         "INSERT INTO kept VALUES (1, 'ACME', 'k-1', ?1, NULL)",
         params![b"".as_slice()],
@@ -69,7 +69,7 @@ fn keep_empty_body<S: Alter>(conn: &mut Connection<S>) -> Result<(), Stop> {
 pub(crate) fn migrate<S: Alter + Drop>(
     alloc: Global,
     conn: Connection<S>,
-) -> Result<Option<Connection<S>>, Stop>
+) -> Result<Option<Connection<S>>, VectorFault>
     requires autocommit { conn.in_transaction ≡ false }
     requires unlimited { conn.step_limit ≡ None }
 {
@@ -80,7 +80,7 @@ pub(crate) fn migrate<S: Alter + Drop>(
 pub(crate) fn open<S: Alter + Drop>(
     alloc: Global,
     conn: Connection<S>,
-) -> Result<Option<Connection<S>>, Stop>
+) -> Result<Option<Connection<S>>, VectorFault>
     requires autocommit { conn.in_transaction ≡ false }
     requires unlimited { conn.step_limit ≡ None }
 {
@@ -88,9 +88,12 @@ pub(crate) fn open<S: Alter + Drop>(
 }
 
 /// The connection of a register that answers both keys as expected.
-fn asked<S: Alter + Drop>(alloc: Global, store: Store<S>) -> Result<Option<Connection<S>>, Stop> {
+fn asked<S: Alter + Drop>(
+    alloc: Global,
+    store: Store<S>,
+) -> Result<Option<Connection<S>>, VectorFault> {
     let mut intake = Intake::new(alloc, store, 1_000_000);
-    Stop::unless(tells_both(alloc, &mut intake)?)?;
+    VectorFault::unless(tells_both(alloc, &mut intake)?)?;
     Ok(Some(intake.into_store().into_conn()))
 }
 
@@ -98,11 +101,11 @@ fn asked<S: Alter + Drop>(alloc: Global, store: Store<S>) -> Result<Option<Conne
 pub(crate) fn migrate_again<S: Alter + Drop>(
     alloc: Global,
     conn: Connection<S>,
-) -> Result<Option<Connection<S>>, Stop>
+) -> Result<Option<Connection<S>>, VectorFault>
     requires autocommit { conn.in_transaction ≡ false }
     requires unlimited { conn.step_limit ≡ None }
 {
-    Stop::unless(migrate_fault(alloc, conn)? == Some(OpenFault::NotOurs))?;
+    VectorFault::unless(migrate_fault(alloc, conn)? == Some(OpenFault::NotOurs))?;
     Ok(None)
 }
 
@@ -110,7 +113,7 @@ pub(crate) fn migrate_again<S: Alter + Drop>(
 fn migrate_fault<S: Alter + Drop>(
     alloc: Global,
     conn: Connection<S>,
-) -> Result<Option<OpenFault>, Stop>
+) -> Result<Option<OpenFault>, VectorFault>
     requires autocommit { conn.in_transaction ≡ false }
     requires unlimited { conn.step_limit ≡ None }
 {
@@ -118,7 +121,7 @@ fn migrate_fault<S: Alter + Drop>(
 }
 
 /// Whether the old key is answered as before, and a new one with problem details.
-fn tells_both<S: Alter>(alloc: Global, intake: &mut Intake<S>) -> Result<bool, Stop> {
+fn tells_both<S: Alter>(alloc: Global, intake: &mut Intake<S>) -> Result<bool, VectorFault> {
     let expected = connection_examples::Connection {
         given: &[
             Part::Filing("ACME", "k-1", ""),

@@ -3,7 +3,7 @@
 ghost use Rattle.std.specs.Prelude.{◌≡◌, false, None, IfOk};
 
 use crate::visits::{Visit, visits};
-use connection_examples::{Stop, refusal, repeated};
+use connection_examples::{VectorFault, refusal, repeated};
 use example_texts::{REGISTERED_CLOSED, REPORT, SMALLEST, front};
 use filer_client::{ExchangeFault, exchange};
 use http_wire::{Device, Kind, MAX_BODY_LEN, Reply, ReplyFault, append_request};
@@ -14,7 +14,7 @@ use std::alloc::Global;
 use uuid::Uuid;
 
 /// Vector 22: an outbox keeps its entries, and a reply moves one once.
-pub(crate) fn entries(alloc: Global) -> Result<bool, Stop> {
+pub(crate) fn entries(alloc: Global) -> Result<bool, VectorFault> {
     let mut outbox = empty_outbox(alloc)?;
     Ok(
         puts(alloc, &mut outbox)?
@@ -29,19 +29,19 @@ pub(crate) fn entries(alloc: Global) -> Result<bool, Stop> {
 }
 
 /// The outbox of `ACME`, without entries.
-fn empty_outbox(alloc: Global) -> Result<Outbox<MemStore>, Stop> {
+fn empty_outbox(alloc: Global) -> Result<Outbox<MemStore>, VectorFault> {
     created(alloc, connect_in_memory(alloc)?)
 }
 
 /// A connection to a database in memory that is new.
-fn connect_in_memory(alloc: Global) -> Result<Connection<MemStore>, Stop>
+fn connect_in_memory(alloc: Global) -> Result<Connection<MemStore>, VectorFault>
     ensures { IfOk result (λ conn. (conn.in_transaction ≡ false) × (conn.step_limit ≡ None)) }
 {
     Ok(Connection::open_in_memory(alloc)?)
 }
 
 /// The outbox of `ACME`, made in this database.
-fn created<S: Alter + Drop>(alloc: Global, conn: Connection<S>) -> Result<Outbox<S>, Stop>
+fn created<S: Alter + Drop>(alloc: Global, conn: Connection<S>) -> Result<Outbox<S>, VectorFault>
     requires autocommit { conn.in_transaction ≡ false }
     requires unlimited { conn.step_limit ≡ None }
 {
@@ -53,7 +53,7 @@ fn create_fault<S: Alter + Drop>(
     alloc: Global,
     conn: Connection<S>,
     filer: &str,
-) -> Result<Option<OutboxFault>, Stop>
+) -> Result<Option<OutboxFault>, VectorFault>
     requires autocommit { conn.in_transaction ≡ false }
     requires unlimited { conn.step_limit ≡ None }
 {
@@ -61,7 +61,7 @@ fn create_fault<S: Alter + Drop>(
 }
 
 /// The outbox with the report under the key `k-1`.
-fn outbox_with_report(alloc: Global) -> Result<Outbox<MemStore>, Stop> {
+fn outbox_with_report(alloc: Global) -> Result<Outbox<MemStore>, VectorFault> {
     let mut outbox = empty_outbox(alloc)?;
     put(alloc, &mut outbox, "k-1", REPORT)??;
     Ok(outbox)
@@ -73,14 +73,14 @@ fn put<S: Alter>(
     outbox: &mut Outbox<S>,
     key: &str,
     body: &str,
-) -> Result<Result<u64, PutFault>, Stop> {
+) -> Result<Result<u64, PutFault>, VectorFault> {
     let key = KeyText::new(alloc, key)?;
     let body = body.as_bytes().to_vec(alloc)?;
     Ok(outbox.put(key, None, body))
 }
 
 /// Whether the first body is put, and no other under its key, nor one that is too large.
-fn puts<S: Alter>(alloc: Global, outbox: &mut Outbox<S>) -> Result<bool, Stop> {
+fn puts<S: Alter>(alloc: Global, outbox: &mut Outbox<S>) -> Result<bool, VectorFault> {
     let first = put(alloc, outbox, "k-1", REPORT)??;
     let again = refusal(put(alloc, outbox, "k-1", SMALLEST)?)?;
     let large = repeated(alloc, ' ', 1_048_577)?;
@@ -93,19 +93,19 @@ fn puts<S: Alter>(alloc: Global, outbox: &mut Outbox<S>) -> Result<bool, Stop> {
 }
 
 /// Whether entry 1 is there, and the next that is open.
-fn is_open<S: Alter>(outbox: &mut Outbox<S>) -> Result<bool, Stop> {
+fn is_open<S: Alter>(outbox: &mut Outbox<S>) -> Result<bool, VectorFault> {
     let next = next_open(outbox)?;
     let entry = first_entry(outbox)?;
     Ok(is_first(&next) && is_first(&entry))
 }
 
 /// The next entry that is open.
-fn next_open<S: Alter>(outbox: &mut Outbox<S>) -> Result<Option<Entry>, Stop> {
+fn next_open<S: Alter>(outbox: &mut Outbox<S>) -> Result<Option<Entry>, VectorFault> {
     Ok(outbox.next_open()?)
 }
 
 /// Entry 1.
-fn first_entry<S: Alter>(outbox: &mut Outbox<S>) -> Result<Option<Entry>, Stop> {
+fn first_entry<S: Alter>(outbox: &mut Outbox<S>) -> Result<Option<Entry>, VectorFault> {
     Ok(outbox.entry(1)?)
 }
 
@@ -122,7 +122,7 @@ fn is_first(entry: &Option<Entry>) -> bool {
 }
 
 /// Whether replies move entry 1 as they are to, one after another, and there is no entry 2.
-fn moves<S: Alter>(alloc: Global, outbox: &mut Outbox<S>) -> Result<bool, Stop> {
+fn moves<S: Alter>(alloc: Global, outbox: &mut Outbox<S>) -> Result<bool, VectorFault> {
     for (status, content, state) in [
         (503, "{\"status\":\"unavailable\"}", State::Open),
         (
@@ -146,7 +146,7 @@ fn take<S: Alter>(outbox: &mut Outbox<S>, id: u64, reply: &Reply) -> Result<Stat
     outbox.take(id, reply)
 }
 
-fn reply(alloc: Global, status: u16, content: &str) -> Result<Reply, Stop> {
+fn reply(alloc: Global, status: u16, content: &str) -> Result<Reply, VectorFault> {
     Ok(Reply {
         status,
         content: content.as_bytes().to_vec(alloc)?,
@@ -155,25 +155,25 @@ fn reply(alloc: Global, status: u16, content: &str) -> Result<Reply, Stop> {
 }
 
 /// Whether entry 1 is confirmed, and nothing else is there.
-fn is_confirmed<S: Alter>(outbox: &mut Outbox<S>) -> Result<bool, Stop> {
+fn is_confirmed<S: Alter>(outbox: &mut Outbox<S>) -> Result<bool, VectorFault> {
     let next = next_open(outbox)?;
     let states = states(outbox)?;
     Ok(next.is_none() && states.as_slice() == [(1, State::Confirmed(1))].as_slice())
 }
 
 /// The entries and their states.
-fn states<S: Alter>(outbox: &mut Outbox<S>) -> Result<Vec<(u64, State)>, Stop> {
+fn states<S: Alter>(outbox: &mut Outbox<S>) -> Result<Vec<(u64, State)>, VectorFault> {
     Ok(outbox.states()?)
 }
 
 /// Whether an outbox of no filer is refused.
-fn bad_filer(alloc: Global) -> Result<bool, Stop> {
+fn bad_filer(alloc: Global) -> Result<bool, VectorFault> {
     let conn = connect_in_memory(alloc)?;
     Ok(create_fault(alloc, conn, "a b")? == Some(OutboxFault::BadFiler))
 }
 
 /// Whether a second outbox in a database is refused.
-fn taken(alloc: Global) -> Result<bool, Stop> {
+fn taken(alloc: Global) -> Result<bool, VectorFault> {
     visits(alloc, &[Visit::MakeOutbox, Visit::MakeSecondOutbox])
 }
 
@@ -181,7 +181,7 @@ fn taken(alloc: Global) -> Result<bool, Stop> {
 pub(crate) fn make<S: Alter + Drop>(
     alloc: Global,
     conn: Connection<S>,
-) -> Result<Option<Connection<S>>, Stop>
+) -> Result<Option<Connection<S>>, VectorFault>
     requires autocommit { conn.in_transaction ≡ false }
     requires unlimited { conn.step_limit ≡ None }
 {
@@ -192,21 +192,21 @@ pub(crate) fn make<S: Alter + Drop>(
 pub(crate) fn make_second<S: Alter + Drop>(
     alloc: Global,
     conn: Connection<S>,
-) -> Result<Option<Connection<S>>, Stop>
+) -> Result<Option<Connection<S>>, VectorFault>
     requires autocommit { conn.in_transaction ≡ false }
     requires unlimited { conn.step_limit ≡ None }
 {
-    Stop::unless(create_fault(alloc, conn, "ACME")? == Some(OutboxFault::Taken))?;
+    VectorFault::unless(create_fault(alloc, conn, "ACME")? == Some(OutboxFault::Taken))?;
     Ok(None)
 }
 
-fn is_key_of_nil(alloc: Global) -> Result<bool, Stop> {
+fn is_key_of_nil(alloc: Global) -> Result<bool, VectorFault> {
     let key = key_of(alloc, Uuid::nil())?;
     Ok(key.as_str() == "00000000-0000-0000-0000-000000000000")
 }
 
 /// Whether the requests of entry 1, and of the smallest report in its place, are as long as they are to be.
-fn requests(alloc: Global) -> Result<bool, Stop> {
+fn requests(alloc: Global) -> Result<bool, VectorFault> {
     let mut outbox = outbox_with_report(alloc)?;
     match first_entry(&mut outbox)? {
         None => Ok(false),
@@ -218,7 +218,7 @@ fn requests(alloc: Global) -> Result<bool, Stop> {
 }
 
 /// How long the request is that files a body for `ACME`; `None` if the body is too large.
-fn request_length(alloc: Global, key: &KeyText, body: &[u8]) -> Result<Option<usize>, Stop> {
+fn request_length(alloc: Global, key: &KeyText, body: &[u8]) -> Result<Option<usize>, VectorFault> {
     let filer = "ACME";
     if !is_filer(filer) || body.len() > MAX_BODY_LEN {
         return Ok(None);
@@ -229,11 +229,11 @@ fn request_length(alloc: Global, key: &KeyText, body: &[u8]) -> Result<Option<us
 }
 
 /// Vector 24: an exchange moves an entry by a whole reply alone.
-pub(crate) fn exchanges(alloc: Global) -> Result<bool, Stop> {
+pub(crate) fn exchanges(alloc: Global) -> Result<bool, VectorFault> {
     Ok(whole_exchange(alloc)? && cut_exchange(alloc)?)
 }
 
-fn whole_exchange(alloc: Global) -> Result<bool, Stop> {
+fn whole_exchange(alloc: Global) -> Result<bool, VectorFault> {
     let mut outbox = outbox_with_report(alloc)?;
     let mut written = Vec::new(alloc);
     let result = exchanged(
@@ -248,7 +248,7 @@ fn whole_exchange(alloc: Global) -> Result<bool, Stop> {
     }
 }
 
-fn cut_exchange(alloc: Global) -> Result<bool, Stop> {
+fn cut_exchange(alloc: Global) -> Result<bool, VectorFault> {
     let mut outbox = outbox_with_report(alloc)?;
     let mut written = Vec::new(alloc);
     let result = exchanged(
@@ -277,14 +277,14 @@ fn exchanged<S: Alter>(
 }
 
 /// How an exchange was refused, if it was. A writer in memory fails only if memory runs out.
-fn fault_of(outcome: Result<State, ExchangeFault>) -> Result<Option<ExchangeFault>, Stop> {
+fn fault_of(outcome: Result<State, ExchangeFault>) -> Result<Option<ExchangeFault>, VectorFault> {
     match outcome {
         Ok(_) => Ok(None),
         Err(
             ExchangeFault::Write { .. }
             | ExchangeFault::Reply(ReplyFault::Memory)
             | ExchangeFault::Take(TakeFault::Memory),
-        ) => Err(Stop::Memory),
+        ) => Err(VectorFault::Memory),
         Err(fault) => Ok(Some(fault)),
     }
 }

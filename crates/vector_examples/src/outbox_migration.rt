@@ -4,7 +4,7 @@ ghost use Rattle.std.specs.Prelude.{◌≡◌, false, None};
 
 use crate::files::execute;
 use crate::visits::{Visit, visits};
-use connection_examples::{Stop, refusal};
+use connection_examples::{VectorFault, refusal};
 use example_texts::REPORT;
 use outbox_core::{Entry, Outbox, OutboxFault, State};
 use sqlite::{Alter, Connection, params};
@@ -12,7 +12,7 @@ use std::alloc::Global;
 
 /// The end of vector 27: an outbox of an earlier version keeps its entry, which replaces nothing, and has this version
 /// then.
-pub(crate) fn migrated(alloc: Global) -> Result<bool, Stop> {
+pub(crate) fn migrated(alloc: Global) -> Result<bool, VectorFault> {
     visits(
         alloc,
         &[
@@ -26,7 +26,7 @@ pub(crate) fn migrated(alloc: Global) -> Result<bool, Stop> {
 /// Makes `ACME`'s outbox of the first form, in which the report under `k-1` was confirmed as filing 1.
 pub(crate) fn make_earlier<S: Alter + Drop>(
     mut conn: Connection<S>,
-) -> Result<Option<Connection<S>>, Stop> {
+) -> Result<Option<Connection<S>>, VectorFault> {
     for text in [
         "CREATE TABLE outbox_meta (id INTEGER PRIMARY KEY, kind TEXT NOT NULL, form INTEGER NOT NULL, filer TEXT NOT NULL) STRICT",
         "CREATE TABLE entry (id INTEGER PRIMARY KEY, idem TEXT NOT NULL UNIQUE, body BLOB NOT NULL, state INTEGER NOT NULL, number INTEGER) STRICT",
@@ -39,7 +39,7 @@ pub(crate) fn make_earlier<S: Alter + Drop>(
 }
 
 /// Puts in the row of the entry.
-fn put_confirmed<S: Alter>(conn: &mut Connection<S>) -> Result<(), Stop> {
+fn put_confirmed<S: Alter>(conn: &mut Connection<S>) -> Result<(), VectorFault> {
     conn.execute(
         "INSERT INTO entry VALUES (1, 'k-1', ?1, 1, 1)",
         params![REPORT.as_bytes()],
@@ -51,12 +51,12 @@ fn put_confirmed<S: Alter>(conn: &mut Connection<S>) -> Result<(), Stop> {
 pub(crate) fn migrate<S: Alter + Drop>(
     alloc: Global,
     conn: Connection<S>,
-) -> Result<Option<Connection<S>>, Stop>
+) -> Result<Option<Connection<S>>, VectorFault>
     requires autocommit { conn.in_transaction ≡ false }
     requires unlimited { conn.step_limit ≡ None }
 {
     let mut outbox = Outbox::migrate(alloc, conn)?;
-    Stop::unless(is_kept(&mut outbox)?)?;
+    VectorFault::unless(is_kept(&mut outbox)?)?;
     Ok(Some(outbox.into_conn()))
 }
 
@@ -64,11 +64,11 @@ pub(crate) fn migrate<S: Alter + Drop>(
 pub(crate) fn migrate_again<S: Alter + Drop>(
     alloc: Global,
     conn: Connection<S>,
-) -> Result<Option<Connection<S>>, Stop>
+) -> Result<Option<Connection<S>>, VectorFault>
     requires autocommit { conn.in_transaction ≡ false }
     requires unlimited { conn.step_limit ≡ None }
 {
-    Stop::unless(migrate_fault(alloc, conn)? == Some(OutboxFault::NotOurs))?;
+    VectorFault::unless(migrate_fault(alloc, conn)? == Some(OutboxFault::NotOurs))?;
     Ok(None)
 }
 
@@ -76,7 +76,7 @@ pub(crate) fn migrate_again<S: Alter + Drop>(
 fn migrate_fault<S: Alter + Drop>(
     alloc: Global,
     conn: Connection<S>,
-) -> Result<Option<OutboxFault>, Stop>
+) -> Result<Option<OutboxFault>, VectorFault>
     requires autocommit { conn.in_transaction ≡ false }
     requires unlimited { conn.step_limit ≡ None }
 {
@@ -84,19 +84,19 @@ fn migrate_fault<S: Alter + Drop>(
 }
 
 /// Whether the outbox has the entry as it was, and no other.
-fn is_kept<S: Alter>(outbox: &mut Outbox<S>) -> Result<bool, Stop> {
+fn is_kept<S: Alter>(outbox: &mut Outbox<S>) -> Result<bool, VectorFault> {
     let states = states(outbox)?;
     let entry = first_entry(outbox)?;
     Ok(states.as_slice() == [(1, State::Confirmed(1))].as_slice() && is_confirmed(&entry))
 }
 
 /// The entries and their states.
-fn states<S: Alter>(outbox: &mut Outbox<S>) -> Result<Vec<(u64, State)>, Stop> {
+fn states<S: Alter>(outbox: &mut Outbox<S>) -> Result<Vec<(u64, State)>, VectorFault> {
     Ok(outbox.states()?)
 }
 
 /// Entry 1.
-fn first_entry<S: Alter>(outbox: &mut Outbox<S>) -> Result<Option<Entry>, Stop> {
+fn first_entry<S: Alter>(outbox: &mut Outbox<S>) -> Result<Option<Entry>, VectorFault> {
     Ok(outbox.entry(1)?)
 }
 

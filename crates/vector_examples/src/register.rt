@@ -4,7 +4,7 @@ ghost use Rattle.std.specs.Prelude.{◌≡◌, false, None};
 
 use crate::serving::goes;
 use crate::visits::{Visit, visits};
-use connection_examples::{Part, REQUEST, Stop, refusal};
+use connection_examples::{Part, REQUEST, VectorFault, refusal};
 use example_texts::{REGISTERED, REPORT, SMALLEST};
 use gateway_server::{Ended, Mark};
 use intake_core::Intake;
@@ -14,17 +14,17 @@ use sqlite::{Alter, Connection, params};
 use std::alloc::Global;
 
 /// Vector 23: a register is found as it was left, and damage to it is reported.
-pub(crate) fn reopened(alloc: Global) -> Result<bool, Stop> {
+pub(crate) fn reopened(alloc: Global) -> Result<bool, VectorFault> {
     Ok(found(alloc)? && damaged(alloc)? && not_ours(alloc)? && taken(alloc)?)
 }
 
 /// Whether an opening finds the one request, and no other.
-fn found(alloc: Global) -> Result<bool, Stop> {
+fn found(alloc: Global) -> Result<bool, VectorFault> {
     visits(alloc, &[Visit::FillRegister, Visit::FindRequest])
 }
 
 /// Whether another body in the kept row is reported.
-fn damaged(alloc: Global) -> Result<bool, Stop> {
+fn damaged(alloc: Global) -> Result<bool, VectorFault> {
     visits(
         alloc,
         &[Visit::FillRegister, Visit::ChangeBody, Visit::OpenDamaged],
@@ -32,12 +32,12 @@ fn damaged(alloc: Global) -> Result<bool, Stop> {
 }
 
 /// Whether a database without tables is reported.
-fn not_ours(alloc: Global) -> Result<bool, Stop> {
+fn not_ours(alloc: Global) -> Result<bool, VectorFault> {
     visits(alloc, &[Visit::OpenNone])
 }
 
 /// Whether a second register in a database is refused.
-fn taken(alloc: Global) -> Result<bool, Stop> {
+fn taken(alloc: Global) -> Result<bool, VectorFault> {
     visits(alloc, &[Visit::FillRegister, Visit::MakeSecondRegister])
 }
 
@@ -45,17 +45,20 @@ fn taken(alloc: Global) -> Result<bool, Stop> {
 pub(crate) fn fill<S: Alter + Drop>(
     alloc: Global,
     conn: Connection<S>,
-) -> Result<Option<Connection<S>>, Stop>
+) -> Result<Option<Connection<S>>, VectorFault>
     requires autocommit { conn.in_transaction ≡ false }
     requires unlimited { conn.step_limit ≡ None }
 {
     let mut intake = empty_intake(alloc, conn)?;
-    Stop::unless(takes_once(alloc, &mut intake)?)?;
+    VectorFault::unless(takes_once(alloc, &mut intake)?)?;
     Ok(Some(intake.into_store().into_conn()))
 }
 
 /// An intake over a new register in this database.
-fn empty_intake<S: Alter + Drop>(alloc: Global, conn: Connection<S>) -> Result<Intake<S>, Stop>
+fn empty_intake<S: Alter + Drop>(
+    alloc: Global,
+    conn: Connection<S>,
+) -> Result<Intake<S>, VectorFault>
     requires autocommit { conn.in_transaction ≡ false }
     requires unlimited { conn.step_limit ≡ None }
 {
@@ -63,7 +66,7 @@ fn empty_intake<S: Alter + Drop>(alloc: Global, conn: Connection<S>) -> Result<I
 }
 
 /// Whether a request that comes three times is answered three times that it is registered.
-fn takes_once<S: Alter>(alloc: Global, intake: &mut Intake<S>) -> Result<bool, Stop> {
+fn takes_once<S: Alter>(alloc: Global, intake: &mut Intake<S>) -> Result<bool, VectorFault> {
     let expected = connection_examples::Connection {
         given: &[Part::Text(REQUEST); 3],
         written: &[REGISTERED; 3],
@@ -77,19 +80,19 @@ fn takes_once<S: Alter>(alloc: Global, intake: &mut Intake<S>) -> Result<bool, S
 pub(crate) fn find<S: Alter + Drop>(
     alloc: Global,
     conn: Connection<S>,
-) -> Result<Option<Connection<S>>, Stop>
+) -> Result<Option<Connection<S>>, VectorFault>
     requires autocommit { conn.in_transaction ≡ false }
     requires unlimited { conn.step_limit ≡ None }
 {
     let mut store = opened(alloc, conn)?;
-    Stop::unless(has_first(alloc, &mut store)?)?;
-    Stop::unless(has_no_second(alloc, &mut store)?)?;
-    Stop::unless(has_one_request(&mut store)?)?;
+    VectorFault::unless(has_first(alloc, &mut store)?)?;
+    VectorFault::unless(has_no_second(alloc, &mut store)?)?;
+    VectorFault::unless(has_one_request(&mut store)?)?;
     Ok(Some(store.into_conn()))
 }
 
 /// The register that is in this database.
-fn opened<S: Alter + Drop>(alloc: Global, conn: Connection<S>) -> Result<Store<S>, Stop>
+fn opened<S: Alter + Drop>(alloc: Global, conn: Connection<S>) -> Result<Store<S>, VectorFault>
     requires autocommit { conn.in_transaction ≡ false }
     requires unlimited { conn.step_limit ≡ None }
 {
@@ -97,12 +100,16 @@ fn opened<S: Alter + Drop>(alloc: Global, conn: Connection<S>) -> Result<Store<S
 }
 
 /// What is kept of `ACME` under a key.
-fn kept<S: Alter>(alloc: Global, store: &mut Store<S>, key: &str) -> Result<Option<KeptRow>, Stop> {
+fn kept<S: Alter>(
+    alloc: Global,
+    store: &mut Store<S>,
+    key: &str,
+) -> Result<Option<KeptRow>, VectorFault> {
     let key = KeyText::new(alloc, key)?;
     Ok(store.find("ACME", &key)?)
 }
 
-fn has_first<S: Alter>(alloc: Global, store: &mut Store<S>) -> Result<bool, Stop> {
+fn has_first<S: Alter>(alloc: Global, store: &mut Store<S>) -> Result<bool, VectorFault> {
     match kept(alloc, store, "k-1")? {
         None => Ok(false),
         Some(row) => Ok(
@@ -112,11 +119,11 @@ fn has_first<S: Alter>(alloc: Global, store: &mut Store<S>) -> Result<bool, Stop
     }
 }
 
-fn has_no_second<S: Alter>(alloc: Global, store: &mut Store<S>) -> Result<bool, Stop> {
+fn has_no_second<S: Alter>(alloc: Global, store: &mut Store<S>) -> Result<bool, VectorFault> {
     Ok(kept(alloc, store, "k-2")?.is_none())
 }
 
-fn has_one_request<S: Alter>(store: &mut Store<S>) -> Result<bool, Stop> {
+fn has_one_request<S: Alter>(store: &mut Store<S>) -> Result<bool, VectorFault> {
     match store.requests()?.as_slice() {
         [request] => Ok(
             request.filer.as_str() == "ACME"
@@ -130,7 +137,7 @@ fn has_one_request<S: Alter>(store: &mut Store<S>) -> Result<bool, Stop> {
 /// Puts another body into the kept row.
 pub(crate) fn change_body<S: Alter + Drop>(
     mut conn: Connection<S>,
-) -> Result<Option<Connection<S>>, Stop> {
+) -> Result<Option<Connection<S>>, VectorFault> {
     conn.execute(
         "UPDATE kept SET body = ?1 WHERE seq = 1",
         params![SMALLEST.as_bytes()],
@@ -142,11 +149,11 @@ pub(crate) fn change_body<S: Alter + Drop>(
 pub(crate) fn open_damaged<S: Alter + Drop>(
     alloc: Global,
     conn: Connection<S>,
-) -> Result<Option<Connection<S>>, Stop>
+) -> Result<Option<Connection<S>>, VectorFault>
     requires autocommit { conn.in_transaction ≡ false }
     requires unlimited { conn.step_limit ≡ None }
 {
-    Stop::unless(open_fault(alloc, conn)? == Some(OpenFault::Damaged { row: 1 }))?;
+    VectorFault::unless(open_fault(alloc, conn)? == Some(OpenFault::Damaged { row: 1 }))?;
     Ok(None)
 }
 
@@ -154,11 +161,11 @@ pub(crate) fn open_damaged<S: Alter + Drop>(
 pub(crate) fn open_none<S: Alter + Drop>(
     alloc: Global,
     conn: Connection<S>,
-) -> Result<Option<Connection<S>>, Stop>
+) -> Result<Option<Connection<S>>, VectorFault>
     requires autocommit { conn.in_transaction ≡ false }
     requires unlimited { conn.step_limit ≡ None }
 {
-    Stop::unless(open_fault(alloc, conn)? == Some(OpenFault::NotOurs))?;
+    VectorFault::unless(open_fault(alloc, conn)? == Some(OpenFault::NotOurs))?;
     Ok(None)
 }
 
@@ -166,7 +173,7 @@ pub(crate) fn open_none<S: Alter + Drop>(
 fn open_fault<S: Alter + Drop>(
     alloc: Global,
     conn: Connection<S>,
-) -> Result<Option<OpenFault>, Stop>
+) -> Result<Option<OpenFault>, VectorFault>
     requires autocommit { conn.in_transaction ≡ false }
     requires unlimited { conn.step_limit ≡ None }
 {
@@ -177,11 +184,11 @@ fn open_fault<S: Alter + Drop>(
 pub(crate) fn make_second<S: Alter + Drop>(
     alloc: Global,
     conn: Connection<S>,
-) -> Result<Option<Connection<S>>, Stop>
+) -> Result<Option<Connection<S>>, VectorFault>
     requires autocommit { conn.in_transaction ≡ false }
     requires unlimited { conn.step_limit ≡ None }
 {
-    Stop::unless(create_fault(alloc, conn)? == Some(CreateFault::Taken))?;
+    VectorFault::unless(create_fault(alloc, conn)? == Some(CreateFault::Taken))?;
     Ok(None)
 }
 
@@ -189,7 +196,7 @@ pub(crate) fn make_second<S: Alter + Drop>(
 fn create_fault<S: Alter + Drop>(
     alloc: Global,
     conn: Connection<S>,
-) -> Result<Option<CreateFault>, Stop>
+) -> Result<Option<CreateFault>, VectorFault>
     requires autocommit { conn.in_transaction ≡ false }
     requires unlimited { conn.step_limit ≡ None }
 {

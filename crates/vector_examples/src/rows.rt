@@ -1,21 +1,21 @@
 //! The vectors by their numbers.
 
 use crate::{migration, outbox, outbox_migration, register};
-use connection_examples::Stop;
+use connection_examples::VectorFault;
 use std::alloc::{AllocError, Global};
 
 /// Runs the vector of this number over databases of its own in memory, and says whether it passed. An unknown
 /// number fails. If memory was refused, it answers that.
 pub fn run(alloc: Global, number: u32) -> Result<bool, AllocError> {
-    Stop::settle(run_row(alloc, number))
+    VectorFault::settle(run_row(alloc, number))
 }
 
 /// Runs the first vector over an intake that keeps at most so many keys. With none it fails.
 pub fn first_over(alloc: Global, limit: u32) -> Result<bool, AllocError> {
-    Stop::settle(connection_examples::registered(alloc, limit))
+    VectorFault::settle(connection_examples::registered(alloc, limit))
 }
 
-fn run_row(alloc: Global, number: u32) -> Result<bool, Stop> {
+fn run_row(alloc: Global, number: u32) -> Result<bool, VectorFault> {
     match number {
         22 => outbox::entries(alloc),
         23 => register::reopened(alloc),

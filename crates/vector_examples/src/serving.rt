@@ -1,6 +1,6 @@
 //! A connection to an intake over any store.
 
-use connection_examples::{Connection, Stop};
+use connection_examples::{Connection, VectorFault};
 use gateway_server::serve;
 use http_wire::Device;
 use intake_core::Intake;
@@ -12,7 +12,7 @@ pub(crate) fn goes<S: Alter>(
     alloc: Global,
     intake: &mut Intake<S>,
     connection: &Connection<'_>,
-) -> Result<bool, Stop> {
+) -> Result<bool, VectorFault> {
     let given = connection.text(alloc)?;
     let mut output = Vec::new(alloc);
     let mut reader = Device::new(given.as_bytes());

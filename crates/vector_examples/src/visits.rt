@@ -4,7 +4,7 @@ ghost use Rattle.std.specs.Prelude.{◌≡◌, false, None, IfOk, IfSome, IsTrue
 
 use crate::files::{close, connect, new_files};
 use crate::{migration, outbox, outbox_migration, register};
-use connection_examples::Stop;
+use connection_examples::VectorFault;
 use sqlite::{Alter, Connection, Files};
 use sqlite_disk::Disk;
 use std::alloc::Global;
@@ -47,7 +47,7 @@ pub(crate) enum Visit {
 
 /// Whether these visits to a database that is new go as they are to go, one after another. After each the files are
 /// closed, and they are opened again for the next. None can follow one that gives the database up.
-pub(crate) fn visits(alloc: Global, visits: &[Visit]) -> Result<bool, Stop> {
+pub(crate) fn visits(alloc: Global, visits: &[Visit]) -> Result<bool, VectorFault> {
     let mut left = Some(new_files(alloc));
     for visit in visits {
         left = files_after(alloc, left, *visit)?;
@@ -60,13 +60,13 @@ fn files_after<D: Disk + Drop>(
     alloc: Global,
     files: Option<Files<D>>,
     visit: Visit,
-) -> Result<Option<Files<D>>, Stop>
+) -> Result<Option<Files<D>>, VectorFault>
     requires { IfSome files (λ files. IsTrue (D.Disk.is_usable files.log) × IsTrue (D.Disk.is_usable files.db)) }
     ensures { IfOk result (λ left.
         IfSome left (λ files. IsTrue (D.Disk.is_usable files.log) × IsTrue (D.Disk.is_usable files.db))) }
 {
     match files {
-        None => Err(Stop::Refused),
+        None => Err(VectorFault::Refused),
         Some(files) => match visited(alloc, connect(alloc, files)?, visit)? {
             None => Ok(None),
             Some(conn) => Ok(Some(close(conn)?)),
@@ -79,7 +79,7 @@ fn visited<S: Alter + Drop>(
     alloc: Global,
     conn: Connection<S>,
     visit: Visit,
-) -> Result<Option<Connection<S>>, Stop>
+) -> Result<Option<Connection<S>>, VectorFault>
     requires autocommit { conn.in_transaction ≡ false }
     requires unlimited { conn.step_limit ≡ None }
 {

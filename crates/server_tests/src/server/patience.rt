@@ -3,7 +3,7 @@
 use super::LIMIT;
 use crate::examples::LIST;
 use crate::stores::Fresh;
-use command_files::{Deadline, Patient, Waits};
+use command_line::{Deadline, Patient, Waits};
 use example_texts::NO_FILINGS;
 use gateway_server::{Ended, serve};
 use http_wire::{ConnFault, Device};

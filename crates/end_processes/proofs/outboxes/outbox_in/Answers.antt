@@ -6,7 +6,7 @@ use Rattle.end_processes.proofs.outboxes.outbox_in.Goals as goal
 
 pub returns-clause-opened : goal.returns-clause-opened
 returns-clause-opened g c = λ it comes.
-    c.outbox_over.ensures.opened it (outbox_lies c.args.opening it
+    c.outbox_over.ensures.opened it (outbox_lies c.args.origin it
     (λ holds. subst (IsOutboxOf it) (sym (c.in_ok-open.ensures.found holds.db holds.held)) holds.outbox) comes)
 
 pub returns-clause-refused : goal.returns-clause-refused

@@ -1,6 +1,6 @@
 use Rattle.std.proofs.Common.{None, refl}
 use Rattle.filing_model.specs.Views.{view_state}
-use Rattle.end_processes.specs.Bytes.{bytes_left}
+use Rattle.http_wire.specs.Memory.{bytes_left}
 use Rattle.end_processes.proofs.Hearing.{moves_as_heard, hears_none}
 use Rattle.end_processes.proofs.outboxes.HearReplyCall.on.Goals as goal
 

@@ -1,5 +1,0 @@
-use Rattle.waiting_places.proofs.Trying.{Stays}
-use Rattle.waiting_places.proofs.waiting.WaitingPlacePlace.take.Given as goal
-
-abbrev pub invariant-loop : goal.invariant-loop
-invariant-loop g l = Stays (g.P.Place.lying l.fn.self.place) (g.P.Place.lying l.self.place)

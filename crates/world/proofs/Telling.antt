@@ -1,0 +1,54 @@
+-- As what fault it is reported that an event was not played.
+use Rattle.std.proofs.Common.{◌≡◌, ◌≢◌, ℕ, refl}
+use Rattle.table_rows.specs.declared.fault.StoreFault.{StoreFault}
+use Rattle.table_rows.specs.declared.fault.StoreFault.TheVariants as store
+use Rattle.end_processes.specs.Causes.{store_cause}
+use Rattle.end_processes.specs.declared.cause.Cause.{Cause}
+use Rattle.end_processes.specs.declared.cause.Cause.TheVariants as cause
+use Rattle.world.specs.declared.fault.Fault.TheVariants.{NoSuch, Store, Reopen}
+use Rattle.world.specs.declared.fault.Unplayed.{Unplayed}
+use Rattle.world.specs.declared.fault.Unplayed.TheVariants as why
+use Rattle.world.specs.Faults.{fault_at, refused_at}
+use Rattle.world.specs.Played.{Tells}
+
+-- what is reported as NoSuch was it
+pub no_such_why : (event n : ℕ) (w : Unplayed) → fault_at event w ≡ NoSuch n → w ≡ why.NoSuch
+no_such_why event n why.NoSuch is = refl
+no_such_why event n (why.Refused cause.Memory) is = absurd (cc)
+no_such_why event n (why.Refused cause.Store) is = absurd (cc)
+no_such_why event n (why.Refused cause.Reopen) is = absurd (cc)
+
+-- what is reported as Store was it
+pub store_why : (event n : ℕ) (w : Unplayed) → fault_at event w ≡ Store n → w ≡ why.Refused cause.Store
+store_why event n why.NoSuch is = absurd (cc)
+store_why event n (why.Refused cause.Memory) is = absurd (cc)
+store_why event n (why.Refused cause.Store) is = refl
+store_why event n (why.Refused cause.Reopen) is = absurd (cc)
+
+-- what is reported as Reopen was it
+pub reopen_why : (event n : ℕ) (w : Unplayed) → fault_at event w ≡ Reopen n → w ≡ why.Refused cause.Reopen
+reopen_why event n why.NoSuch is = absurd (cc)
+reopen_why event n (why.Refused cause.Memory) is = absurd (cc)
+reopen_why event n (why.Refused cause.Store) is = absurd (cc)
+reopen_why event n (why.Refused cause.Reopen) is = refl
+
+-- no refused call on a store is one of an end that was not opened
+pub not_reopened : (fault : StoreFault) → store_cause fault ≢ cause.Reopen
+not_reopened store.Memory is = cc
+not_reopened store.Store is = cc
+
+-- no refusal of an end is reported as NoSuch
+pub refused_there : (event n : ℕ) (c : Cause) → refused_at event c ≢ NoSuch n
+refused_there event n cause.Memory is = cc
+refused_there event n cause.Store is = cc
+refused_there event n cause.Reopen is = cc
+
+-- the fault at an event tells that event
+pub refused_tells_own : (event : ℕ) (c : Cause) → Tells event (refused_at event c)
+refused_tells_own event cause.Memory = tt
+refused_tells_own event cause.Store = refl
+refused_tells_own event cause.Reopen = refl
+
+pub tells_own : (event : ℕ) (w : Unplayed) → Tells event (fault_at event w)
+tells_own event why.NoSuch = refl
+tells_own event (why.Refused cause) = refused_tells_own event cause

@@ -1,0 +1,39 @@
+use Rattle.std.proofs.Common.{◌∙◌, ap, Some, None, refl}
+use Rattle.std.specs.String.{string_bytes}
+use Rattle.filing_world.specs.World.{Outbox}
+use Rattle.end_processes.specs.OutboxProcess.{is_up}
+use Rattle.world.specs.Filers.{FilerParts}
+use Rattle.world.proofs.Entries.{box_heard}
+use Rattle.world.proofs.filer.Filer.hear.Goals as goal
+
+pub returns-in-Some : goal.returns-in-Some
+returns-in-Some g c =
+    let inside = c.self.inside in
+    let box : Outbox =
+    record { filer = string_bytes inside.code; entries = inside.entries.items; up = is_up inside.process } in
+    let still = c.hear.ensures.up ∙ ap (λ (f : FilerParts). f.box.up) c.self.view_is ∙ c.requires in
+    rw (← c.self.view_is)
+    (λ what here.
+    let heard =
+    c.in_ok-state.ensures.heard (string_bytes inside.code) inside.entries.items c.self.invariant what here in (
+      heard.0,
+      heard.1,
+      box_heard box c.args.entry what (Some c.in-Some.state) c.set_state.new.reports.items
+          (is_up c.hear.new.self) heard.0 here (rw c.in-Some.is at heard.2) c.set_state.ensures still,
+    ))
+
+pub returns-in_default : goal.returns-in_default
+returns-in_default g c =
+    let inside = c.self.inside in
+    let box : Outbox =
+    record { filer = string_bytes inside.code; entries = inside.entries.items; up = is_up inside.process } in
+    let still = c.hear.ensures.up ∙ ap (λ (f : FilerParts). f.box.up) c.self.view_is ∙ c.requires in
+    rw (← c.self.view_is)
+    (λ what here.
+    let heard =
+    c.in_ok-state.ensures.heard (string_bytes inside.code) inside.entries.items c.self.invariant what here in (
+      heard.0,
+      heard.1,
+      box_heard box c.args.entry what None inside.entries.items (is_up c.hear.new.self) heard.0 here
+          (rw c.in_default.is at heard.2) refl still,
+    ))

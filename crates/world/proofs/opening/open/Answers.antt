@@ -1,0 +1,17 @@
+use Rattle.std.proofs.Common.{refl, sym, ◌∙◌}
+use Rattle.world.specs.Processes.{lying_in}
+use Rattle.world.proofs.Serving.{found_not}
+use Rattle.world.proofs.opening.open.Goals as goal
+
+pub returns-in-Ok-clause-kept : goal.returns-in-Ok-clause-kept
+returns-in-Ok-clause-kept g c = λ requests keeps.
+    let certain = c.in-Ok.ensures.certain ∙ keeps.0 in
+    (certain, (c.in-Ok.ensures.leaves g.met.D.Honest.honest refl).kept 0 requests (λ _. keeps.1) certain)
+
+pub returns-in-Err-clause-refused : goal.returns-in-Err-clause-refused
+returns-in-Err-clause-refused g c = (c.in-Err.fault, c.in-Err.ensures.why, c.from.ensures)
+
+pub returns-in-Err-clause-store : goal.returns-in-Err-clause-store
+returns-in-Err-clause-store g c = λ e.
+    found_not g.D.Disk (lying_in c.args.process.now.place) (lying_in c.open.new.self.place) c.in-Err.fault
+    c.in-Err.ensures.why (sym c.from.ensures ∙ (cc e))

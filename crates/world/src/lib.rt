@@ -1,0 +1,26 @@
+//! The intake, the outboxes of its filers and the network between them, on which events are played. What may live here:
+//! the two ends as a world sees them, up or down, with what was completed and kept; the world that they are in; and
+//! what one event does to it. How the databases of an outbox are made, stopped and opened again is known by
+//! `end_processes`, those of the intake by `intake_process`. What an event may do is said by `filing_world`; that the
+//! world does no other is the contract of `World::play`.
+#![tactic(auto)]
+
+mod deliver;
+mod delivery;
+mod element;
+mod fault;
+mod filer;
+mod hand;
+mod listing;
+mod lists;
+mod opening;
+mod put;
+mod report;
+mod restart;
+mod send;
+mod server;
+mod world;
+
+pub use fault::Fault;
+pub use lists::{Output, Sent};
+pub use world::World;

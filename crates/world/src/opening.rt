@@ -1,0 +1,81 @@
+//! The process of an intake is opened in its drawer, asked, and closed.
+
+ghost use Rattle.std.specs.Prelude.{◌≡◌, ◌≢◌, ◌≤◌, ◌^◌, ◌↔◌, ℕ, [], List, true, None, is_some, IfOk, IfErr, OnOk, Err};
+ghost use Rattle.filing_model.specs.Request.{Request};
+ghost use Rattle.filing_model.specs.Register.{register};
+ghost use Rattle.world.specs.Processes.{KeepsSurely, IsNotStarted, IsNotStopped, is_asleep, lying_in};
+
+use database_places::{Cache, Drawer, Opening};
+use end_processes::{Cause, Honest};
+use intake_core::Unavailable;
+use intake_process::{Closed, IntakeProcess};
+use register_store::Registered;
+use std::alloc::Global;
+
+/// The process of an intake that is open, over an empty register, which keeps at most `limit` keys.
+pub(crate) fn make<D: Honest>(
+    alloc: Global,
+    limit: u64,
+) -> Result<IntakeProcess<D, Drawer<D>>, Cause>
+    requires { limit ≤ 2 ^ 62 }
+    ensures kept { IfOk result (λ process. KeepsSurely process limit []) }
+    ensures up { IfOk result (λ process. is_some process.intake ≡ true) }
+{
+    let mut process = IntakeProcess::new(Drawer::new(alloc));
+    process.open(alloc, Opening::Made(Cache::OfTheFile), limit)?;
+    Ok(process)
+}
+
+/// Opens the register that lies in the drawer of a process.
+pub(crate) fn open<D: Honest>(
+    alloc: Global,
+    process: &mut IntakeProcess<D, Drawer<D>>,
+    limit: u64,
+) -> Result<(), Cause>
+    requires { limit ≤ 2 ^ 62 }
+    ensures kept { (requests : List Request) → KeepsSurely process.old limit requests
+        → OnOk result (KeepsSurely process.new limit requests) }
+    ensures up { OnOk result (is_some process.new.intake ≡ true) }
+    ensures refused { IfErr result
+        (IsNotStarted D.Disk true (lying_in process.old.place) (lying_in process.new.place)) }
+    ensures store { result ≢ Err Cause.Store }
+{
+    match process.open(alloc, Opening::Found(Cache::OfTheFile), limit) {
+        Ok(_) => Ok(()),
+        Err(fault) => Err(Cause::from(fault)),
+    }
+}
+
+/// Closes the register of a process, if it is open.
+pub(crate) fn close<D: Honest>(process: &mut IntakeProcess<D, Drawer<D>>) -> Result<(), Cause>
+    ensures kept { (limit : ℕ) (requests : List Request) → KeepsSurely process.old limit requests
+        → OnOk result (KeepsSurely process.new limit requests) }
+    ensures closed { process.new.intake ≡ None }
+    ensures refused { IfErr result (IsNotStopped process.old.intake (lying_in process.new.place)) }
+    ensures store { result ≢ Err Cause.Store }
+{
+    let Closed { kept: _, outcome } = process.close();
+    match outcome {
+        Ok(()) => Ok(()),
+        Err(error) => Err(Cause::of_close(error)),
+    }
+}
+
+/// The registered requests under their numbers, ascending. `Down` comes if the process is closed, or its database
+/// refused a call before, and only then; `Full` never comes.
+pub(crate) fn registered<D: Honest>(
+    process: &mut IntakeProcess<D, Drawer<D>>,
+) -> Result<Vec<Registered>, Unavailable>
+    ensures list { (limit : ℕ) (requests : List Request) → KeepsSurely process.old limit requests
+        → IfOk result (λ rows. rows.items ≡ register requests) }
+    ensures kept { (limit : ℕ) (requests : List Request) → KeepsSurely process.old limit requests
+        → KeepsSurely process.new limit requests }
+    ensures up { is_some process.new.intake ≡ is_some process.old.intake }
+    ensures down { (result ≡ Err Unavailable.Down) ↔ (is_asleep process.old.intake ≡ true) }
+    ensures room { (k : ℕ) → result ≢ Err (Unavailable.Full k) }
+{
+    match process.intake_mut() {
+        Some(intake) => intake.register(),
+        None => Err(Unavailable::Down),
+    }
+}

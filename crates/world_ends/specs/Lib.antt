@@ -1,4 +1,0 @@
-pub mod Filers
-pub mod Served
-pub mod Delivery
-pub mod Processes

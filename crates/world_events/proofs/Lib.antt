@@ -1,4 +1,0 @@
-pub mod GoingThrough
-pub mod Lending
-pub mod Steps
-pub mod Telling

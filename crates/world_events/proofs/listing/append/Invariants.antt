@@ -1,9 +1,0 @@
-use Rattle.std.proofs.Common.{◌≡◌, ◌++◌, map, take}
-use Rattle.end_processes.specs.Listed.{listed}
-use Rattle.world_events.specs.Listed.{view_listed}
-use Rattle.world_events.proofs.listing.append.Given as goal
-
-abbrev pub invariant-loop-entry : goal.invariant-loop-entry
-invariant-loop-entry l =
-    map view_listed l.list.items ≡ map view_listed l.fn.list.items
-    ++ map (listed l.outbox) (take l.entry-index l.states)

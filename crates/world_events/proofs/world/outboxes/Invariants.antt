@@ -1,7 +1,0 @@
-use Rattle.std.proofs.Common.{◌≡◌, map, take}
-use Rattle.filing_world.specs.World.{new_outbox}
-use Rattle.world_ends.specs.Filers.{boxes}
-use Rattle.world_events.proofs.world.outboxes.Given as goal
-
-abbrev pub invariant-loop-code : goal.invariant-loop-code
-invariant-loop-code g l = boxes l.list.items ≡ map new_outbox (map (λ f. f.now) (take l.code-index l.filers))

@@ -1,4 +1,0 @@
-pub mod Faults
-pub mod Listed
-pub mod Played
-pub mod Playing

@@ -1,5 +1,0 @@
-use Rattle.world_ports.proofs.Delivering.{served_in}
-use Rattle.world_ports.proofs.a_served_port_is_in_the_world.Goals as goal
-
-pub returns : goal.returns
-returns g c = served_in g.S.Store
