@@ -1,5 +1,5 @@
--- What reading up to a length does, and why it fails. Own rules, over those of a reader. First comes what contracts see
--- of it: the bytes that it has left, and how many of its reads have failed.
+-- What reading up to a length does, and why it fails. Own rules, over those of a reader. The first arguments are what
+-- contracts see of the reader: the bytes that it has left, and how many of its reads have failed.
 use Rattle.std.specs.Prelude.{◌≡◌, ℕ, zero, suc, ◌+◌, ◌<◌, ◌≤◌, List, length, Option}
 use Rattle.std.specs.Io.KnownBytes.{Consumes, IsAtEnd}
 use Rattle.http_messages.specs.Reads.{max_reads}
@@ -15,7 +15,7 @@ pub record GivesBytes {R : Type 0} (left : R → Option (List ℕ)) (failures : 
   pub few : length bytes ≤ 16384
   pub fine : failures after ≡ failures before
 
--- so many such reads, one after another, and none besides
+-- this many reads, each of which gave bytes, one after another, and no others
 unfoldable pub ReadsGive : {R : Type 0} → (R → Option (List ℕ)) → (R → ℕ) → ℕ → R → R → Type 0
 ReadsGive left failures zero before after = after ≡ before
 ReadsGive {R} left failures (suc count) before after =
@@ -31,25 +31,25 @@ pub record IsReadTooOften {R : Type 0} (left : R → Option (List ℕ)) (failure
   pub many : max_reads ≤ length bytes
   pub fewer : length bytes < wanted
 
--- why not all that is wanted was read: a read failed; or none did, and all reads were made, or there was no memory
+-- why less was read than is wanted: a read failed; or none failed, and all reads were made, or memory ran out
 abbrev pub IsReadFailure : {R : Type 0} → (R → Option (List ℕ)) → (R → ℕ) → ℕ → R → R → ReadFault → Type 0
 IsReadFailure left failures wanted before after Read = HasFailed (failures before) (failures after)
 IsReadFailure left failures wanted before after ReadLimit = IsReadTooOften left failures wanted before after
 IsReadFailure left failures wanted before after Memory = failures after ≡ failures before
 
--- why one more read gave nothing; where so many were made that it may not be made, it is not
+-- why one more read gave nothing; it is not made if as many were made as there may be
 abbrev pub IsNoRead : {R : Type 0} → (R → ℕ) → ℕ → R → R → ReadFault → Type 0
 IsNoRead failures made before after Read = HasFailed (failures before) (failures after)
 IsNoRead failures made before after ReadLimit = (made ≡ max_reads) × (after ≡ before)
 IsNoRead failures made before after Memory = failures after ≡ failures before
 
--- these are all bytes that were left, and at most so many
+-- these are all the bytes that were left, and at most this many
 pub record IsWhole (before after : Option (List ℕ)) (most : ℕ) (bytes : List ℕ) : Type 0 where
   pub given : Consumes before after bytes
   pub end : IsAtEnd after
   pub bound : length bytes ≤ most
 
--- more bytes than so many were left
+-- more than this many bytes were left
 pub record IsLonger (before after : Option (List ℕ)) (most : ℕ) : Type 0 where
   pub bytes : List ℕ
   pub given : Consumes before after bytes

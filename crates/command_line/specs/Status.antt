@@ -1,11 +1,11 @@
--- The status that a program ends with where a command is not done.
+-- The status of a program whose command is not done.
 use Rattle.std.specs.Prelude.{ℕ}
 use Rattle.command_line.specs.declared.fault.DatabaseFault.{DatabaseFault}
 use Rattle.command_line.specs.declared.fault.DatabaseFault.TheVariants as database
 use Rattle.command_line.specs.declared.fault.CommandFault.{CommandFault}
 use Rattle.command_line.specs.declared.fault.CommandFault.TheVariants as command
 
--- 1 if the file is not there or is no sound database of the program's, and else 3
+-- 1 if the file is not there or is no sound database of the program's, and otherwise 3
 abbrev pub database_status : DatabaseFault → ℕ
 database_status database.Missing = 1
 database_status database.Empty = 1
@@ -26,7 +26,7 @@ database_status database.Descriptors = 3
 database_status database.Full = 3
 database_status database.Disk = 3
 
--- 2 where the command line is at fault
+-- 2 if the command line is at fault
 abbrev pub status_of : CommandFault → ℕ
 status_of command.NotText = 2
 status_of command.NoTask = 2

@@ -20,7 +20,7 @@ struct Reads {
 }
 
 impl Reads {
-    /// Counts one read more. `ReadLimit` comes exactly where the most reads are made.
+    /// Counts one more read. Answers `ReadLimit` exactly if all reads are made.
     fn count(&mut self) -> Result<(), ReadFault>
         ensures counted { OnOk result (self.new.made ≡ self.old.made + 1) }
         ensures limit { IfErr result (λ fault. (fault ≡ ReadLimit) × (self.old.made ≡ MAX_READS)) }
@@ -80,8 +80,8 @@ pub fn read_whole<R: Source>(
     })
 }
 
-/// The bytes of a reader up to its end, or the first `most` of them. At most 4,194,304 reads are made,
-/// each of one byte at least. `ReadLimit` comes only after as many, and with fewer than `most` bytes.
+/// The bytes of a reader up to its end, or the first `most` of them. At most 4,194,304 reads are made, each of one byte
+/// at least. It answers `ReadLimit` only after as many reads, and with fewer than `most` bytes.
 pub fn read_up_to<R: Source>(
     alloc: Global,
     reader: &mut R,
@@ -113,9 +113,9 @@ fn room(alloc: Global) -> Result<Vec<u8>, AllocError>
     Ok(room)
 }
 
-/// Makes one read, counts it, and appends what it gave, up to `most` bytes in all. The answer is the
-/// count of these bytes, which is 0 only at the end of the input. If the most reads are made already,
-/// `ReadLimit` comes, and only then, and nothing is read.
+/// Makes one read, counts it, and appends what it gave, up to `most` bytes in all. The answer is the count of these
+/// bytes, which is 0 only at the end of the input. It answers `ReadLimit` exactly if all reads are made already, and
+/// then reads nothing.
 fn read_more<R: Source>(
     reader: &mut R,
     reads: &mut Reads,

@@ -67,7 +67,7 @@ impl DatabaseFault {
     ghost use Rattle.command_line.specs.Status.{database_status};
 
     /// The status that a program ends with: 1 for a file that is not there or is no sound database of the program's,
-    /// and else 3.
+    /// and otherwise 3.
     pub fn status(self) -> u8
         ensures { result ≡ database_status self }
     {
@@ -126,8 +126,8 @@ impl CommandFault<'_> {
     ghost use Rattle.std.specs.Prelude.{◌≡◌};
     ghost use Rattle.command_line.specs.Status.{status_of};
 
-    /// The status that a program ends with: 1 for a database file that is not there or is none, 2
-    /// for the command line, 3 for a fault of memory, the disk or the output.
+    /// The status that a program ends with: 1 for a database file that is not there or is no database, 2 for the
+    /// command line, 3 for a fault of memory, the disk or the output.
     pub fn status(&self) -> u8
         ensures { result ≡ status_of self.now }
     {

@@ -6,7 +6,7 @@ ghost use Rattle.clap.specs.declared.builder.value_parser.ValueParser.TheVariant
 use clap::{Arg, ArgAction, value_parser};
 use std::alloc::Global;
 
-/// The version of the programs, which they tell by `--version`.
+/// The version of the programs, which `--version` prints.
 pub const VERSION: &str = "0.1.0";
 
 /// A required option with one value, which may begin with a hyphen, as a filer's code or a key may.

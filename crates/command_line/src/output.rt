@@ -11,7 +11,7 @@ use clap::Error;
 use clap::error::ErrorKind;
 use std::io::Write;
 
-/// The status where a command is done.
+/// The status of a command that is done.
 pub const DONE: u8 = 0;
 
 /// Writes a text whole.
@@ -25,8 +25,8 @@ pub fn show<'a, O: Write>(output: &mut O, text: &[u8]) -> Result<(), CommandFaul
     Ok(())
 }
 
-/// Shows what the reader of the command line says, and answers the status: help and the version are
-/// what was asked for, and all else is a fault of the words or of memory.
+/// Shows what the reader of the command line says, and answers the status: help and the version are what was asked for;
+/// anything else is a fault of the words or of memory.
 pub fn show_refusal<'a, O: Write, E: Write>(
     error: &Error,
     output: &mut O,
@@ -42,7 +42,7 @@ pub fn show_refusal<'a, O: Write, E: Write>(
         return Err(CommandFault::Memory);
     }
     if error.use_stderr() {
-        // Nothing is left to be done where this text can't be written either.
+        // If this text can't be written either, nothing is left to do.
         let _ = write!(errors, "{error}");
         return Ok(CommandFault::NoTask.status());
     }

@@ -24,7 +24,7 @@ impl Waits for &TcpStream {
     }
 }
 
-/// A time that ends, from its start on.
+/// A span of time: its start, and how long it is.
 #[derive(Clone, Copy)]
 struct Span {
     start: Instant,

@@ -6,13 +6,13 @@ ghost use Rattle.command_line.specs.Words.{name_of};
 use clap::{Arg, Command};
 use std::alloc::{AllocError, Global};
 
-/// What a task is given on the command line.
+/// An argument of a task on the command line.
 pub trait ToArg: Copy {
     /// The argument as `clap` reads it.
     fn to_arg<'a>(self, alloc: Global) -> Result<Arg<'a>, AllocError>;
 }
 
-/// A word that asks for a task, with its help and what the task is given.
+/// A word that asks for a task, with its help and its arguments.
 pub struct Word<A: 'static> {
     pub name: &'static str,
     pub about: &'static str,
@@ -45,7 +45,7 @@ fn task_of<'a, A: ToArg>(alloc: Global, word: &Word<A>) -> Result<Command<'a>, A
         .args(arguments)
 }
 
-/// What a task is given, in this order.
+/// The arguments of a task, in this order.
 fn arguments_of<'a, A: ToArg>(alloc: Global, list: &[A]) -> Result<Vec<Arg<'a>>, AllocError> {
     let mut arguments = Vec::new(alloc);
     for &argument in list {

@@ -14,11 +14,11 @@ use std::alloc::Global;
 const BOTH: &str =
     "HTTP/1.1 200 OK\r\nContent-Type: application/json\r\nContent-Length: 88\r\n\r\n{\"filings\":[{\"facts\":1,\"number\":1,\"replaced_by\":2},{\"facts\":1,\"number\":2,\"replaces\":1}]}";
 
-/// The reply if the filing cannot be replaced: 137 bytes.
+/// The reply to a report whose filing cannot be replaced: 137 bytes.
 const NOT_REPLACEABLE: &str =
     "HTTP/1.1 422 Unprocessable Content\r\nContent-Type: application/problem+json\r\nContent-Length: 137\r\n\r\n{\"findings\":[{\"code\":\"not-replaceable\",\"place\":\"\"}],\"reason\":\"refused\",\"status\":422,\"title\":\"Unprocessable Content\",\"type\":\"about:blank\"}";
 
-/// The reply if the path names no filings.
+/// The reply to a path that names no filings.
 const NO_PATH: &str =
     "HTTP/1.1 404 Not Found\r\nContent-Type: application/problem+json\r\nContent-Length: 74\r\n\r\n{\"reason\":\"no-path\",\"status\":404,\"title\":\"Not Found\",\"type\":\"about:blank\"}";
 
@@ -27,7 +27,7 @@ const SECOND: Part<'static> = Part::Filing("ACME/1", "k-2", REPORT);
 
 const THIRD: Part<'static> = Part::Filing("ACME/1", "k-3", REPORT);
 
-/// Vector 26: a filing is replaced once, by a report of its own filer; a number that is none is no path.
+/// Vector 26: a filing is replaced once, by a report of its own filer; what is no number of a filing is no path.
 pub(crate) fn amended(alloc: Global) -> Result<bool, VectorFault> {
     Ok(replaced_once(alloc)? && request_length(alloc)? == 539)
 }

@@ -13,7 +13,7 @@ use sqlite::Alter;
 use std::alloc::Global;
 use xbrl_report::Fact;
 
-/// A connection whose input ends after what is answered.
+/// A connection whose input ends after its requests are answered.
 pub(crate) fn answered<'a>(
     given: &'a [Part<'a>],
     written: &'a [&'a str],
@@ -106,7 +106,7 @@ pub(crate) fn two_filers(alloc: Global) -> Result<bool, VectorFault> {
     History::of(&[told], 2, 2).holds(alloc)
 }
 
-/// The reply with a date that is none and a prefix that is not bound.
+/// The reply to an impossible date and a prefix that is not bound.
 const TWO_FINDINGS: &str =
     "HTTP/1.1 422 Unprocessable Content\r\nContent-Type: application/problem+json\r\nContent-Length: 217\r\n\r\n{\"findings\":[{\"code\":\"period\",\"place\":\"/facts/f1/dimensions/period\"},{\"code\":\"unbound-prefix\",\"place\":\"/facts/f1/dimensions/unit\"}],\"reason\":\"refused\",\"status\":422,\"title\":\"Unprocessable Content\",\"type\":\"about:blank\"}";
 
@@ -130,7 +130,7 @@ pub(crate) fn refused(alloc: Global) -> Result<bool, VectorFault> {
     History::of(&[told], 2, 1).holds(alloc)
 }
 
-/// The reply with a value that is no number, in a fact whose name is escaped.
+/// The reply to a value that is no number, in a fact whose name is escaped.
 const NO_NUMBER: &str =
     "HTTP/1.1 422 Unprocessable Content\r\nContent-Type: application/problem+json\r\nContent-Length: 148\r\n\r\n{\"findings\":[{\"code\":\"number\",\"place\":\"/facts/a~1b~0c/value\"}],\"reason\":\"refused\",\"status\":422,\"title\":\"Unprocessable Content\",\"type\":\"about:blank\"}";
 
@@ -358,7 +358,7 @@ fn refused_heads(alloc: Global) -> Result<bool, VectorFault> {
     Ok(true)
 }
 
-/// Messages whose path or method is answered.
+/// Messages that are refused for their path or method.
 fn told(alloc: Global) -> Result<bool, VectorFault> {
     for (given, written) in [
         (
@@ -382,7 +382,7 @@ fn told(alloc: Global) -> Result<bool, VectorFault> {
     Ok(true)
 }
 
-/// Reports whose coding or key is answered.
+/// Reports that are refused for their coding or key.
 fn posts_told(alloc: Global) -> Result<bool, VectorFault> {
     for (lines, written) in [
         (

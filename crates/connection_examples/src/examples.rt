@@ -11,7 +11,7 @@ pub const REQUEST: &str =
 pub(crate) const REPORT_OF_BETA: &str =
     "{\"documentInfo\":{\"documentType\":\"https://xbrl.org/2021/xbrl-json\",\"namespaces\":{\"eg\":\"http://example.com/eg\",\"iso4217\":\"http://www.xbrl.org/2003/iso4217\",\"lei\":\"http://standards.iso.org/iso/17442\"},\"taxonomy\":[\"http://example.com/eg.xsd\"]},\"facts\":{\"f1\":{\"value\":\"100\",\"decimals\":0,\"dimensions\":{\"concept\":\"eg:Assets\",\"entity\":\"lei:BETA\",\"period\":\"2024-12-31T00:00:00\",\"unit\":\"iso4217:EUR\"}}}}";
 
-/// The reply if the key was used for another body.
+/// The reply to a key that was used for another body.
 pub(crate) const KEY_REUSED: &str =
     "HTTP/1.1 422 Unprocessable Content\r\nContent-Type: application/problem+json\r\nContent-Length: 89\r\n\r\n{\"reason\":\"key-reused\",\"status\":422,\"title\":\"Unprocessable Content\",\"type\":\"about:blank\"}";
 
@@ -21,7 +21,7 @@ pub(crate) const LENGTH: &str = "Content-Length: 393\r\n\r\n";
 /// The interim response, 25 bytes.
 pub(crate) const CONTINUE: &str = "HTTP/1.1 100 Continue\r\n\r\n";
 
-/// The report of one fact but for these parts.
+/// The report of one fact with these parts in place of its own.
 pub(crate) fn report(
     alloc: Global,
     fact: &str,

@@ -1,4 +1,4 @@
-//! Why a vector comes to no answer.
+//! Why a vector ended without an answer.
 
 use http_wire::ReplyFault;
 use key_string::KeyFault;
@@ -25,7 +25,7 @@ impl VectorFault {
         }
     }
 
-    /// What a vector comes to.
+    /// The answer of a vector.
     pub fn settle(outcome: Result<bool, VectorFault>) -> Result<bool, AllocError> {
         match outcome {
             Ok(passed) => Ok(passed),

@@ -51,7 +51,7 @@ pub(crate) const LIMIT: u32 = 1_000_000;
 const PIECE: usize = 4096;
 
 impl<'a> History<'a> {
-    /// Connections that leave this much, under no special limits.
+    /// Connections that leave this many requests and filings, under the usual limits.
     pub(crate) fn of(connections: &'a [Connection<'a>], kept: u64, filings: u64) -> History<'a> {
         History {
             limit: LIMIT,
@@ -62,7 +62,7 @@ impl<'a> History<'a> {
         }
     }
 
-    /// Whether all comes as it is to come.
+    /// Whether every reply is the expected one, and the register holds as much as expected.
     pub(crate) fn holds(&self, alloc: Global) -> Result<bool, VectorFault> {
         match self.run(alloc)? {
             Some(store) => self.leaves(&store),
@@ -70,7 +70,7 @@ impl<'a> History<'a> {
         }
     }
 
-    /// The register after the connections, if each went as it is to go.
+    /// The register after the connections, if each went as expected.
     pub(crate) fn run(&self, alloc: Global) -> Result<Option<Store<MemStore>>, VectorFault> {
         let mut intake = empty_intake(alloc, self.limit)?;
         if self.goes(alloc, &mut intake)? {
@@ -80,7 +80,7 @@ impl<'a> History<'a> {
         }
     }
 
-    /// Whether each connection goes as it is to go.
+    /// Whether each connection goes as expected.
     fn goes<S: Alter>(&self, alloc: Global, intake: &mut Intake<S>) -> Result<bool, VectorFault> {
         for connection in self.connections {
             if !connection.goes(alloc, intake, self.piece)? {
@@ -133,7 +133,7 @@ impl Connection<'_> {
         Ok(text)
     }
 
-    /// Whether this came of it. A writer in memory fails only if memory runs out.
+    /// Whether the connection had this result. A writer in memory fails only if memory runs out.
     pub fn is_so(&self, served: &Served, output: &[u8]) -> Result<bool, VectorFault> {
         match served.ended {
             Ended::Fault(ConnFault::Memory | ConnFault::Write { .. }) => Err(VectorFault::Memory),
@@ -176,7 +176,7 @@ fn is_joined(bytes: &[u8], texts: &[&str]) -> bool {
     rest.is_empty()
 }
 
-/// Gives an intake what this reader has on one connection, and has what it writes written.
+/// Serves what this reader gives as one connection, and writes what the intake answers.
 fn served<R: Read + Drop, W: Write + Drop, S: Alter>(
     alloc: Global,
     intake: &mut Intake<S>,

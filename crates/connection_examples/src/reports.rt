@@ -78,7 +78,7 @@ fn with_facts(alloc: Global, count: u32) -> Result<String, VectorFault> {
     Ok(body)
 }
 
-/// Whether each of so many facts is found to be none.
+/// Whether each of this many facts is found to be no fact.
 fn are_facts(alloc: Global, count: u32) -> Result<bool, VectorFault> {
     let body = with_facts(alloc, count)?;
     match judge(alloc, "ACME", body.as_bytes())? {

@@ -4,8 +4,8 @@ use crate::fault::VectorFault;
 use crate::{amendments, connection, history, keys, replies, reports};
 use std::alloc::Global;
 
-/// Runs the vector of this number over an intake of its own in memory, and says whether it passed. A number that is
-/// none of these fails.
+/// Runs the vector of this number over an intake of its own in memory, and says whether it passed. An unknown number
+/// fails.
 pub fn run(alloc: Global, number: u32) -> Result<bool, VectorFault> {
     match number {
         1 => connection::registered(alloc, history::LIMIT),

@@ -25,20 +25,20 @@ pub record IsDeciding (requests : Keeping) (bytes : List ℕ) (marks : List Mark
   pub written : out ≡ text_with requests.old_style requests.before (arrivals ++ Read message ∷ []) Ending.Closed marks
   pub kept : requests.after ≡ kept_by requests.before (completed arrivals marks)
 
--- it is a repeat, or one more may be kept
+-- the request is a repeat, or one more key may be kept
 abbrev pub HasRoom : ℕ → List Request → Request → Type 0
 HasRoom limit requests r = (has_key requests r ≡ true) ⊎ (length requests < limit)
 
 module _ {D : Type 0} (g : Ghosts D) (files : Files D) (old_style : ℕ) where
-  -- What was read and written on a connection is what the model has that is stopped so, and the files hold what is kept
+  -- What was read and written on a connection is that of the model with this stop, and the files hold what is kept
   -- then.
   pub record StopsIn (requests : Keeping) (bytes : List ℕ) (crash : Crash) (marks : List Mark) (out : List ℕ)
       : Type 0 where
     pub stopped : IsStopped requests bytes crash marks out
     pub held : HoldRegisterWithLog g files old_style requests.after
 
-  -- It is stopped before the request is decided, which is the next one to be marked, or after that, where it is kept
-  -- and nothing of its reply was written.
+  -- The connection is stopped before the next request is decided; or after that, and then the request is kept and
+  -- nothing of its reply was written.
   abbrev pub StopsAtRequest : Keeping → List ℕ → List Mark → List ℕ → Request → Type 0
   StopsAtRequest requests bytes marks out r =
       StopsIn requests bytes (Before (length marks + 1)) marks out

@@ -11,7 +11,7 @@ use Rattle.programs.specs.Deliveries.{Delivery}
 use Rattle.programs.specs.Happenings.{Situation, Happening, Makes}
 use Rattle.crash_recovery.specs.Registers.{HoldRegisterWithLog}
 
--- First bytes of an item come on a connection, to an intake that keeps at most so many keys.
+-- The first bytes of an item come on a connection, to an intake that keeps at most this many keys.
 pub record ComesOn (limit : ℕ) (old : Situation) (delivery : Delivery) : Type 0 where
   pub from : Sent
   pub here : numbered old.sent delivery.item ≡ Some from
@@ -21,7 +21,7 @@ pub record ComesOn (limit : ℕ) (old : Situation) (delivery : Delivery) : Type 
 abbrev pub read_on : {limit : ℕ} {old : Situation} {delivery : Delivery} → ComesOn limit old delivery → List ℕ
 read_on {delivery = delivery} on = take delivery.given on.from.bytes
 
--- a connection that was cut off is told as one for which memory ran out
+-- a connection that was cut off, as one for which memory ran out
 abbrev pub cut_off : List ℕ → List Mark → List ℕ → Connection
 cut_off read marks written =
     record { read = read; output = record { marks = marks; ended = Fault Memory; bytes = written } }

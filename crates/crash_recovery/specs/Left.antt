@@ -1,4 +1,4 @@
--- What a store leaves in its two files where its process ends before it is closed; own rules.
+-- What a store leaves in its two files if its process ends before it is closed; own rules.
 use Rattle.std.specs.Prelude.{◌≡◌, ◌⊎◌, true, IsTrue}
 use Rattle.sqlite_disk.specs.declared.Disk.{Ghosts}
 use Rattle.sqlite_disk.specs.declared.Files.{Files}
@@ -24,8 +24,8 @@ module _ {D : Type 0} {g : Ghosts D} where
     pub log : g.seen files.log ≡ g.seen (store.files it).0
     pub db : g.seen files.db ≡ g.seen (store.files it).1
 
-  -- The machine stopped: each file has contents that the disk may have then, whatever the other has. What was written
-  -- since the file's last sync may be there in part, and the end of the log may be torn.
+  -- The machine stopped: each file has contents that its disk may have then, whatever the other file has. What was
+  -- written since the file's last sync may be there in part, and the end of the log may be torn.
   pub record AreLeftByStop (it : FileStore D g) (files : Files D) : Type 0 where
     pub log : g.may_leave (store.files it).0 (g.seen files.log)
     pub db : g.may_leave (store.files it).1 (g.seen files.db)

@@ -21,11 +21,11 @@ pub record HoldOutboxWithLog {D : Type 0} (g : Ghosts D) (files : Files D) (it :
   pub outbox : IsOutboxOf it db
   pub held : ∥ HoldsDatabase (image_of g files) db.trees ∥₁
 
--- that of these contents, or that of those
+-- the files hold the outbox of these contents, or that of those
 abbrev pub HoldEitherOutbox : {D : Type 0} → Ghosts D → Files D → Contents → Contents → Type 0
 HoldEitherOutbox g files before after = HoldOutboxWithLog g files before ⊎ HoldOutboxWithLog g files after
 
--- the id names an entry, and it is the outbox after the move of that entry by the reply
+-- the id names an entry, and the files hold the outbox after that entry moved by the reply
 abbrev pub HoldMovedOutbox : {D : Type 0} → Ghosts D → Files D → Contents → ℕ → ReplyParts → Type 0
 HoldMovedOutbox g files before id reply =
     (e : Entry) × (entry_at before.entries id ≡ Some e)

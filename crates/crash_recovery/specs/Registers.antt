@@ -20,7 +20,7 @@ pub record HoldRegisterWithLog {D : Type 0} (g : Ghosts D) (files : Files D) (ol
   pub register : IsRegisterOf old_style requests db
   pub held : ∥ HoldsDatabase (image_of g files) db.trees ∥₁
 
--- that of these requests, or that of those
+-- the files hold the register of these requests, or that of those
 abbrev pub HoldEitherRegister : {D : Type 0} → Ghosts D → Files D → ℕ → List Request → List Request → Type 0
 HoldEitherRegister g files old_style before after =
     HoldRegisterWithLog g files old_style before ⊎ HoldRegisterWithLog g files old_style after

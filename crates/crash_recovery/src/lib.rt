@@ -7,8 +7,8 @@
 //! - A register or an outbox that is open, and between two calls, leaves files that hold its requests or entries, no
 //!   more and no fewer: by the log and the database file together, so also if a commit was never copied into the
 //!   database file. The next opening finds them, and fails for memory, for the disk or for a limit of the format alone.
-//! - One that ends inside a call that adds a request, puts an entry in or moves one leaves those of before, or those
-//!   with that one change, and after an answer those with the change.
+//! - One that ends inside a call that adds a request, puts an entry in or moves one leaves what was there before, or
+//!   that with this one change, and after an answer that with the change.
 //! - A request that was being decided on a connection leaves, by the bytes that came, the marks and what was written,
 //!   what the model of serving has that is stopped before this request or after it.
 //! - So a run of `intake serve` that is killed is among what programs do, of which the headline holds, and what the
@@ -21,14 +21,14 @@
 //!
 //! What is not proved:
 //!
-//! - The clauses on crashes speak of the state in which a call ends. That a process which is killed inside a call is
-//!   one whose disk refuses each call from then on, so that the call ends in that state, is said here in words.
+//! - The clauses on crashes speak of the state in which a call ends. A process that is killed inside a call is one
+//!   whose disk refuses each call from then on, so that the call ends in that state: this is said here in words alone.
 //! - That the database of a register is open is asked of it. It is known after an opening and after each call that was
 //!   answered; the contract of serving a whole connection does not say it.
 //! - That a system keeps what a killed process wrote, and that a disk keeps what it synced, is asked of them.
-//! - A register or an outbox that is being made or migrated is not spoken of here, nor are a program's lines and
+//! - Nothing is said here of a register or an outbox that is being made or migrated, nor of a program's lines and
 //!   status.
-//! - Of disks that gave back anything else nothing is said.
+//! - Nothing is said of disks that gave back anything else.
 #![tactic(auto)]
 
 ghost use Rattle.std.specs.Prelude.{◌≡◌, ◌⊎◌, ◌++◌, ◌∷◌, ℕ, List, [], Option, Result, IsTrue};
@@ -145,8 +145,7 @@ pub fn a_register_outlives_an_addition<D: Disk + Drop>()
         HoldEitherRegister D.Disk files old.old_style requests (requests ++ r ∷ [])) }
 {}
 
-/// A register that was open as `Intake::submit` began leaves the requests of before, or those with the one that was
-/// decided.
+/// A register that was open as `Intake::submit` began leaves its requests, or these and the one that was decided.
 pub fn a_register_outlives_a_decision<D: Disk + Drop>()
     ensures { IsHonest D.Disk → (r : Request) (old new : Intake (Stored D D.Disk))
         (result : Result Answer Unavailable) (requests : List Request) (files : Files D)

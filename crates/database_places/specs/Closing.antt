@@ -14,7 +14,7 @@ use Rattle.sqlite.specs.Files.{file_state, IsClosed, FailsToClose}
 use Rattle.sqlite.specs.declared.error.Error.{Error}
 use Rattle.table_rows.specs.Files.{HoldsDatabase, AreUsable}
 
--- The files can be opened. Where the disk gave back what was written, the connection was open, and they hold what it
+-- The files can be opened. If the disk gave back what was written, the connection was open, and they hold what it
 -- had committed, the database file alone as well.
 pub record IsClosedIn {D : Type 0} (g : Ghosts D) (conn : Held (FileStore D g)) (files : Files D) : Type 0 where
   pub usable : AreUsable g files
@@ -29,7 +29,8 @@ module _ {D : Type 0} {g : Ghosts D} where
     pub same : store.files last ≡ (files.log, files.db)
     pub closed : IsClosed conn last
 
-  -- The same, and the last commit was not copied into the database file: the error says why.
+  -- These are the files as the connection left them, and the last commit was not copied into the database file: the
+  -- error says why.
   pub record IsNotClosed (conn : Held (FileStore D g)) (files : Files D) (error : Error) : Type 0 where
     pub last : FileStore D g
     pub same : store.files last ≡ (files.log, files.db)

@@ -21,31 +21,31 @@ abbrev pub is_found : Opening → Bool
 is_found (Found cache) = true
 is_found (Made cache) = false
 
--- there are no files, where that is known
+-- there are no files, if that is known
 abbrev pub LacksFiles : {D : Type 0} → Option (Option (Files D)) → Type 0
 LacksFiles None = ⊤
 LacksFiles (Some there) = there ≡ None
 
--- the database file, where it is known, has no bytes
+-- the database file, if it is known, has no bytes
 abbrev pub LacksBytes : {D : Type 0} → Ghosts D → Option (Option (Files D)) → Type 0
 LacksBytes g (Some (Some files)) = g.seen files.db ≡ []
 LacksBytes g _ = ⊤
 
 module _ {D : Type 0} {g : Ghosts D} where
-  -- where the disk gave back what was written, the connection is open, and shows what these files held
+  -- if the disk gave back what was written, the connection is open, and shows what these files held
   abbrev pub IsFoundIn : Files D → Held (FileStore D g) → Type 0
   IsFoundIn files conn = HasCleanDisk (file_state conn) → Finds files conn × IsOpened conn
 
-  -- The files that lay there are out, and the connection is to these; where there were none, it is to new ones, which
-  -- hold nothing. Of an unknown place is said that the connection is open.
+  -- The files that lay there are taken out, and the connection is to them; if there were none, it is to new files,
+  -- which hold nothing. Of an unknown place only this is known: the connection is open.
   abbrev pub ComesFrom : Option (Option (Files D)) → Option (Option (Files D)) → Held (FileStore D g) → Type 0
   ComesFrom None new conn = HasCleanDisk (file_state conn) → IsOpened conn
   ComesFrom (Some None) new conn =
       (new ≡ Some None) × (files : Files D) × IsNothing (image_of g files) × IsFoundIn files conn
   ComesFrom (Some (Some files)) new conn = (new ≡ Some None) × IsFoundIn files conn
 
--- The database of these files was not opened, the fault says why, and what was left of them is these. Where the disk
--- gave back what was written, the database that they held, if they held one, is in them still.
+-- The database of these files was not opened, the fault says why, and these files are left. If the disk gave back what
+-- was written, they still have the database that they held, if they held one.
 pub record IsRefused {D : Type 0} (g : Ghosts D) (files there : Files D) (fault : DatabaseFault) : Type 0 where
   pub error : Error
   pub told : fault ≡ database_fault error
@@ -54,7 +54,7 @@ pub record IsRefused {D : Type 0} (g : Ghosts D) (files there : Files D) (fault 
   pub failed : IsCleanLeft left → FailsToOpenFiles files left error
   pub unharmed : IsCleanLeft left → LeavesFiles files left
 
--- nothing was taken out, or what a refused opening left lies there again
+-- no files were taken out, or those that a refused opening left lie there again
 abbrev pub StaysIn : {D : Type 0} → Ghosts D → Option (Option (Files D)) → Option (Option (Files D)) → DatabaseFault
     → Type 0
 StaysIn g None new fault = ⊤
@@ -70,8 +70,9 @@ pub record OpensPlace {D : Type 0} (g : Ghosts D) (has_to_be_there : Bool) (old 
     (result : Result (Held (FileStore D g)) DatabaseFault) : Type 0 where
   pub comes : IfOk result (ComesFrom old new)
   pub refused : IfErr result (StaysIn g old new)
-  -- Missing comes if nothing lies there and it has to be there, and only then. So does Empty, for a file without bytes,
-  -- but an opening may find out otherwise that there are none.
+  -- If the database has to be there, and no file lies there, the fault is Missing, and it is Missing only then. Empty
+  -- comes only for a file without bytes that has to have a database; an opening may report such a file by another
+  -- fault.
   pub absent : has_to_be_there ≡ true → old ≡ Some None → result ≡ Err Missing
   pub missing : result ≡ Err Missing → (has_to_be_there ≡ true) × LacksFiles old
   pub empty : result ≡ Err Empty → (has_to_be_there ≡ true) × LacksBytes g old

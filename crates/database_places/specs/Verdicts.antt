@@ -1,4 +1,4 @@
--- What is said of a database that is to be a register or an outbox, and is none that can be used.
+-- The verdict on a database that a command expects to be a register or an outbox, and that cannot be used as one.
 use Rattle.std.specs.Prelude.{◌≡◌, ℕ, Bool, true, false, List, ◌++◌, codes, Option, Some, None}
 use Rattle.std.specs.Fmt.{decimal}
 use Rattle.command_line.specs.declared.fault.DatabaseFault.{DatabaseFault}
@@ -7,8 +7,7 @@ use Rattle.command_line.specs.declared.fault.DatabaseFault.TheVariants.{AutoVacu
 use Rattle.database_places.specs.declared.verdict.Verdict.{Verdict}
 use Rattle.database_places.specs.declared.verdict.Verdict.TheVariants as verdict
 
--- what a file is that was not opened for this cause, if that says so: pages that are wrong are damage before the first
--- row
+-- the verdict on a file that was not opened for this cause, if the cause gives one: wrong pages are damage at row 0
 abbrev pub verdict_of : DatabaseFault → Option Verdict
 verdict_of Missing = Some verdict.NotOurs
 verdict_of Empty = Some verdict.NotOurs
@@ -19,12 +18,12 @@ verdict_of Damaged = Some (verdict.Damaged 0)
 verdict_of Unsummed = Some (verdict.Damaged 0)
 verdict_of _ = None
 
--- the line that is printed of what is to be such a thing
+-- the line of a verdict on a database that is expected to be this thing
 abbrev pub verdict_text : Verdict → List ℕ → List ℕ
 verdict_text verdict.NotOurs thing = codes "not " ++ thing ++ codes "\n"
 verdict_text (verdict.Damaged row) thing = codes "damaged at row " ++ decimal row ++ codes "\n"
 
--- the fault of an opening goes by the pages of the file
+-- whether the fault of an opening depends on the pages of the file
 abbrev pub goes_by_pages : DatabaseFault → Bool
 goes_by_pages NotADatabase = true
 goes_by_pages Foreign = true
@@ -33,7 +32,8 @@ goes_by_pages Damaged = true
 goes_by_pages Unsummed = true
 goes_by_pages _ = false
 
--- this is told in the place of such a fault: another that goes by the pages, or else the same
+-- this fault is reported instead of that of an opening: another that depends on the pages, if that did, and otherwise
+-- the same
 pub record IsRefusalOf (fault told : DatabaseFault) : Type 0 where
   pub pages : goes_by_pages told ≡ goes_by_pages fault
   pub others : goes_by_pages fault ≡ false → told ≡ fault

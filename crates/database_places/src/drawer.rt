@@ -9,7 +9,7 @@ use sqlite::Files;
 use sqlite_disk::{Disk, Memory};
 use std::alloc::Global;
 
-/// By this number is hashed what is read in memory.
+/// The number by which what is read in memory is hashed.
 const SEED: u64 = 1;
 
 /// A disk on which a file can be made.
@@ -64,7 +64,7 @@ impl<D: Blank> Place<D> for Drawer<D> {
         0
     }
 
-    // Both files lie there or none, and an empty log harms nobody.
+    // Both files lie there or none, and an empty log does no harm.
     fn has_log(&self) -> bool {
         true
     }

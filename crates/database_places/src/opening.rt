@@ -16,8 +16,8 @@ use std::alloc::Global;
 /// 100,000 small reports takes 4,400 pages.
 const MOST_PAGES: u64 = 8_192;
 
-/// The same for a command that ends at once: 8 MiB. It goes through the tables in the order of their keys, and so needs
-/// most pages once.
+/// How many pages a command that ends at once keeps at most: 8 MiB. It goes through the tables in the order of their
+/// keys, and so needs most pages once.
 const MOST_PAGES_ONCE: u64 = 2_048;
 
 /// Pages that are kept beside those that a file has: a report of 1 MiB takes 256 of them, and its facts as many.
@@ -46,8 +46,8 @@ pub enum Opening {
 }
 
 /// Opens the database that lies in a place. A file that is not there, or is empty, gets a database without tables if
-/// one is to be made; else it is not made, or stays empty. A refusal leaves the files in the place, and beside a file
-/// that is no database no log that was not there. Its fault does not go by the bytes of the file.
+/// one is to be made; otherwise it is not made, or stays empty. A refusal leaves the files in the place, and beside a
+/// file that is no database it leaves no new log. Its fault does not depend on the bytes of the file.
 pub fn open<D: Disk + Drop, P: Place<D>>(
     alloc: Global,
     place: &mut P,
@@ -104,8 +104,8 @@ fn make<D: Disk + Drop, P: Place<D>>(
     }
 }
 
-/// Removes the log that an opening made, in which nothing is, so that nothing lies beside a file that is not ours,
-/// unless there was a log before. The files are taken for that, so that no other program has them.
+/// Removes the empty log that an opening made beside a file that is not ours, unless there was a log before. The files
+/// are taken for that, so that no other program has them.
 pub fn remove_new_log<D: Disk + Drop, P: Place<D>>(place: &mut P, had_log: bool)
     ensures { KeepsLying (P.lying place.old) (P.lying place.new) }
 {

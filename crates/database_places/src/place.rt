@@ -13,7 +13,7 @@ use std::alloc::Global;
 /// A place in which the files of one database lie: the database file, and the log beside it. What opens and closes
 /// databases is written over any such place, so that it is proved once, and not for the files of the system.
 pub trait Place<D: Disk + Drop> {
-    // The files that lie there, if there are some, where that is known.
+    // If it is known what lies there: the files, if there are some.
     ghost lying: { Self → Option (Option (Files D)) };
 
     /// A number by which what is read there is hashed, or None if the system gives none. It is drawn at random, so that

@@ -15,8 +15,8 @@ const MAGIC: &[u8] = b"SQLite format 3\0";
 /// How many bytes at the end of each page are reserved if it has a sum there.
 const SUM_LEN: u8 = 8;
 
-/// Why the database of this place is refused. If the refusal goes by its pages, the first page says more. Call it once
-/// the files are left there.
+/// Why the database of this place is refused. If the refusal depends on its pages, the first page says more. Call it
+/// once the files are left there.
 pub fn refusal<D: Disk + Drop, P: Place<D>>(
     alloc: Global,
     place: &P,

@@ -80,7 +80,7 @@ impl Place<File> for SystemPlace<'_, '_> {
     }
 
     fn remove_empty_log(&self) {
-        // An empty file more does no harm where it can't be removed.
+        // If it can't be removed, one more empty file does no harm.
         let _ = remove_if_empty(self.rt, self.name);
     }
 
@@ -133,7 +133,7 @@ fn remove_if_empty(rt: &HostRuntime, name: &str) -> io::Result<()> {
     Ok(())
 }
 
-/// What is wrong with a name whose file is none that a database may lie in.
+/// What is wrong with a name whose file cannot have a database.
 fn fault_of_name(rt: &HostRuntime, name: &str) -> DatabaseFault
     ensures { is_absence result ≡ false }
 {

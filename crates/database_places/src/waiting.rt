@@ -17,14 +17,14 @@ const PAUSE: u64 = 50;
 /// How many tries are made in a second at most.
 const TRIES: u64 = 20;
 
-/// A place whose files are taken as soon as no other program has them, if that is before a moment.
+/// A place whose files are waited for: they are taken as soon as no other program has them, up to a deadline.
 #[derive(Drop)]
 pub struct WaitingPlace<'r, P, C> {
     pub place: P,
     clock: &'r C,
     /// How often the files are tried again at most.
     tries: u64,
-    /// The moment until which they are. None if the clock cannot be read: they are not tried again then.
+    /// The moment until which they are tried. `None` if the clock cannot be read: then they are not tried again.
     deadline: Option<Deadline<'r, C>>,
 }
 
@@ -42,7 +42,7 @@ impl<'r, P, C: Clock> WaitingPlace<'r, P, C> {
         }
     }
 
-    /// Whether the moment is not over until which files are tried again.
+    /// Whether the files may be tried again.
     fn has_time(&self) -> bool {
         match &self.deadline {
             Some(deadline) => !deadline.is_over(),

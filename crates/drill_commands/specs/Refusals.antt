@@ -13,8 +13,8 @@ use Rattle.schedule.specs.Ending.{EndsBy}
 use Rattle.drill_commands.specs.declared.fault.Fault.{Fault}
 use Rattle.drill_commands.specs.declared.fault.Fault.TheVariants as fault
 
--- The reader of a script, of which contracts see the bytes that it has left and its failures, had more bytes than a
--- script may have; or so many and one more, by which that is seen, were not read.
+-- The reader of a script had more bytes than a script may have; or reading failed before one byte more than that was
+-- read. The first arguments are what contracts see of the reader: the bytes that it has left, and its failures.
 abbrev pub IsNotRead : {R : Type 0} → (R → Option (List ℕ)) → (R → ℕ) → R → R → Fault → Type 0
 IsNotRead left failures before after (fault.Read why) = IsReadFailure left failures 8388609 before after why
 IsNotRead left failures before after fault.TooLong = IsLonger (left before) (left after) 8388608

@@ -1,4 +1,4 @@
--- The lines that tell what came of a world.
+-- The lines that show what became of a world.
 use Rattle.std.specs.Prelude.{◌≡◌, ℕ, List, ◌++◌, length, Ok}
 use Rattle.std.specs.List.{flat_map}
 use Rattle.event_script.specs.Restarts.{restarted}
@@ -14,7 +14,7 @@ use Rattle.filing_world.specs.Step.{Run}
 abbrev pub filing_shown : Filing → List ℕ
 filing_shown f = filing_line f.number f.request.filer f.request.key f.request.target
 
--- the line of an entry: the number of its outbox, its own, and its state
+-- the line of an entry: the number of its outbox, its own number, and its state
 abbrev pub entry_shown : ℕ × ℕ × State → List ℕ
 entry_shown (outbox, number, state) = entry_line outbox number state
 

@@ -1,4 +1,4 @@
--- The status that the program ends with where nothing is shown.
+-- The status of a program that shows nothing.
 use Rattle.std.specs.Prelude.{ℕ}
 use Rattle.command_line.specs.Status.{status_of as command_status}
 use Rattle.event_script.specs.declared.fault.ScriptFault.{ScriptFault}
@@ -8,12 +8,12 @@ use Rattle.world.specs.declared.fault.Fault.TheVariants as world
 use Rattle.drill_commands.specs.declared.fault.Fault.{Fault}
 use Rattle.drill_commands.specs.declared.fault.Fault.TheVariants as drill
 
--- 2 for a line that says nothing, and 3 where memory ran out
+-- 2 for a line that says nothing, and 3 if memory ran out
 abbrev pub script_status : ScriptFault → ℕ
 script_status (script.Unreadable line) = 2
 script_status script.Memory = 3
 
--- 1 for an event that names nothing, and else 3
+-- 1 for an event that names nothing, and otherwise 3
 abbrev pub world_status : WorldFault → ℕ
 world_status (world.NoSuch event) = 1
 world_status world.Memory = 3

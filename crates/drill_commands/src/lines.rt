@@ -45,8 +45,8 @@ fn append_entries(entries: &[(u64, u64, State)], text: &mut Vec<u8>) -> Result<(
     Ok(())
 }
 
-/// A line for each filing and for each entry, and one that counts the completed requests. `Register` comes if the
-/// intake is down, and nothing is shown if an outbox is.
+/// A line for each filing and for each entry, and one that counts the completed requests. The fault is `Register` if
+/// the intake is down; nothing is shown if an outbox is down.
 pub fn shown<D: Honest>(alloc: Global, world: &mut World<D>) -> Result<Vec<u8>, Fault>
     ensures lines { IfOk result (λ text. text.items ≡ world_shown world.old.world) }
     ensures refusal { IfErr result (IsNotShown world.old.world) }

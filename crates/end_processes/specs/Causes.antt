@@ -1,4 +1,5 @@
--- The causes by which an end tells the refusals below it. Want of memory is told as that alone.
+-- The causes by which an end reports the refusals below it. Lack of memory is reported as `Memory`, and nothing else
+-- is.
 use Rattle.sqlite.specs.declared.error.Error.{Error}
 use Rattle.table_rows.specs.declared.cause.Cause.{Cause as Refusal}
 use Rattle.table_rows.specs.declared.cause.Cause.TheVariants as refusal
@@ -23,12 +24,12 @@ reopen_cause_by refusal.Memory = cause.Memory
 reopen_cause_by refusal.Disk = cause.Reopen
 reopen_cause_by refusal.Other = cause.Reopen
 
--- of a call on a store
+-- the cause if a call on a store was refused
 abbrev pub store_cause : StoreFault → Cause
 store_cause store.Memory = cause.Memory
 store_cause store.Store = cause.Store
 
--- of a database that was not opened
+-- the cause if a database was not opened
 abbrev pub reopen_cause : Error → Cause
 reopen_cause error = reopen_cause_by (cause_of error)
 
@@ -39,25 +40,25 @@ register_cause (register.Damaged row) = cause.Reopen
 register_cause register.Memory = cause.Memory
 register_cause register.Disk = cause.Reopen
 
--- of a place that gave no database
+-- the cause if a place gave no database
 abbrev pub files_cause : DatabaseFault → Cause
 files_cause database.Memory = cause.Memory
 files_cause _ = cause.Reopen
 
--- of a register that was not made
+-- the cause if a register was not made
 abbrev pub making_cause : CreateFault → Cause
 making_cause making.Taken = cause.Store
 making_cause making.Memory = cause.Memory
 making_cause making.Disk = cause.Store
 
--- of a register that was not opened, or not made, in the place where it lies
+-- the cause if a register was not opened, or not made, in its place
 abbrev pub opening_cause : OpeningFault → Cause
 opening_cause (opening.Files fault) = files_cause fault
 opening_cause (opening.Taken holding) = cause.Reopen
 opening_cause (opening.Create fault) = making_cause fault
 opening_cause (opening.Open fault holding) = register_cause fault
 
--- of an outbox that was not opened
+-- the cause if an outbox was not opened
 abbrev pub outbox_cause : OutboxFault → Cause
 outbox_cause outbox.BadFiler = cause.Reopen
 outbox_cause outbox.Taken = cause.Reopen
@@ -66,11 +67,11 @@ outbox_cause (outbox.Damaged row) = cause.Reopen
 outbox_cause outbox.Memory = cause.Memory
 outbox_cause outbox.Disk = cause.Reopen
 
--- of a store that did not give its files back
+-- the cause if a store did not give its files back
 abbrev pub closing_cause : StoreFault → Cause
 closing_cause store.Memory = cause.Memory
 closing_cause store.Store = cause.Reopen
 
--- of a database that was not closed
+-- the cause if a database was not closed
 abbrev pub close_cause : Error → Cause
 close_cause error = closing_cause (store_fault error)

@@ -24,7 +24,7 @@ is_down (Up outbox) = false
 is_down (Down files) = true
 is_down Gone = false
 
--- whether its database cannot be asked: it is not up, or the database refused a call
+-- whether the outbox gives no answer: it is not up, or its database refused a call
 abbrev pub is_asleep : {D : Type 0} {g : Ghosts D} → OutboxProcess D g → Bool
 is_asleep (Up outbox) = outbox.has_failed
 is_asleep (Down files) = true
@@ -44,7 +44,7 @@ IsNotStarted Gone why = why ≡ Reopen
 
 -- ---- what it keeps
 
--- The outbox, open or in files, is this filer's and has these entries. What a fault took says nothing.
+-- The outbox, open or in files, is this filer's and has these entries. Nothing is said of one that a fault took.
 abbrev pub Keeps : {D : Type 0} {g : Ghosts D} → OutboxProcess D g → List ℕ → List Entry → Type 0
 Keeps (Up outbox) filer entries = HasEntries over_files outbox entries × (outbox.filer ≡ filer)
 Keeps {D} {g} (Down files) filer entries = HoldOutbox g files (contents_of filer entries)

@@ -23,24 +23,25 @@ up_with filer entries = record { filer = filer; entries = entries; up = true }
 
 -- ---- what it has
 
--- these are its filer and its entries: none where it is made, and else those that lie in the database
+-- the filer and the entries with which it begins: no entries if it is made, otherwise those in the database
 abbrev pub ComesWith : Origin → Type 0 → Contents → Type 0
 ComesWith (Made filer) Lies it = it ≡ empty filer.now
 ComesWith Found Lies it = Lies
 
--- it is made for a filer, if it is made
+-- if it is made, the code of its filer is one
 abbrev pub IsForFiler : Origin → Type 0
 IsForFiler (Made filer) = is_filer filer.now ≡ true
 IsForFiler Found = Unit {0}
 
--- what there is after a call that answered so, or what there was, where it was refused
+-- what is there after a call: what the answer leaves, or, after a refusal, what was there
 abbrev pub after_answer : {A E X : Type 0} → Result A E → X → (A → X) → X
 after_answer (Ok answer) old left = left answer
 after_answer (Err fault) old left = old
 
--- ---- what is heard
+-- ---- replies
 
--- A reply that cannot be read is none, and moves nothing. Else memory ran out, or the outbox did not take the reply.
+-- Why a reply was not taken, if a store refused it or memory ran out. Bytes that give no reply move nothing, and that
+-- is no fault.
 abbrev pub why_unheard : ExchangeFault → Option StoreFault
 why_unheard (Reply Cut) = None
 why_unheard (Reply Malformed) = None
@@ -59,7 +60,7 @@ abbrev pub state_or : State → Option Stored → State
 state_or own None = own
 state_or own (Some to) = view_state to
 
--- the entries, with the one of this number in the state that it came to
+-- the entries, with that of this number in the state to which it came
 abbrev pub entries_after : List Entry → ℕ → Option Stored → List Entry
 entries_after entries number None = entries
 entries_after entries number (Some to) = set_state entries number (view_state to)

@@ -20,14 +20,15 @@ use Rattle.end_processes.specs.declared.cause.Cause.TheVariants.{Reopen}
 
 -- ---- the files of an end
 
--- Their database was not opened, and the error says why.
+-- The database of these files was not opened, and the error says why.
 pub record FailToOpen {D : Type 0} (g : disk.Ghosts D) (files : Files D) (why : Cause) : Type 0 where
   pub error : Error
   pub left : Leftover D g
   pub failed : IsCleanLeft left → FailsToOpenFiles files left error
   pub told : why ≡ reopen_cause error
 
--- A sync of one of them failed, or their database was not opened, or a connection to it was refused so.
+-- A sync of one of these files failed, or their database was not opened, or a connection to it was refused for this
+-- cause.
 abbrev pub AreRefused : {D : Type 0} (g : disk.Ghosts D) → Files D → (Held (FileStore D g) → Cause → Type 0) → Cause
     → Type 0
 AreRefused {D} g files Refuses why =
@@ -36,7 +37,7 @@ AreRefused {D} g files Refuses why =
 
 -- ---- an outbox
 
--- it was not opened, for this fault
+-- an outbox over this connection was not opened, for a fault of this cause
 abbrev pub RefusesFiler : {S : Type 0} → Ghosts S → Held S → Cause → Type 0
 RefusesFiler g conn why = (fault : OutboxFault) × RefusesOutbox g conn fault × (why ≡ outbox_cause fault)
 

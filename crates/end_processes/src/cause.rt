@@ -93,7 +93,7 @@ impl Cause {
         Cause::of_closing(StoreFault::from(error))
     }
 
-    /// The cause where a database was not opened.
+    /// The cause if a database was not opened.
     pub(crate) fn of_opening(error: DatabaseError) -> Cause
         ensures { result ≡ reopen_cause error }
     {

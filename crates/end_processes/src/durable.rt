@@ -9,7 +9,7 @@ use std::alloc::{AllocError, Global};
 use std::io;
 
 /// A file in memory. There is nothing behind it that could lag: a stop leaves what was written, and a sync has nothing
-/// to do, where the kit's `Memory` copies the whole file.
+/// to do, while that of the kit's `Memory` copies the whole file.
 #[derive(Drop)]
 pub struct Durable {
     bytes: Vec<u8>,
@@ -56,7 +56,7 @@ impl Disk for Durable {
         false
     }
 
-    // It tells no lie, so it needs no secret.
+    // The file gives back what was written, so a hash of it needs no secret.
     fn key(&self) -> u64 {
         0
     }
@@ -107,7 +107,7 @@ impl Disk for Durable {
     }
 }
 
-/// Counts a refusal of memory, and tells it as an error of a file.
+/// Counts a refusal of memory, and reports it as an error of a file.
 fn count(outcome: Result<(), AllocError>, faults: &mut u64) -> io::Result<()>
     ensures variant { is_ok result ≡ is_ok outcome }
     ensures kind { finds_no_room result ≡ false }
@@ -120,7 +120,7 @@ fn count(outcome: Result<(), AllocError>, faults: &mut u64) -> io::Result<()>
     Ok(())
 }
 
-/// Puts these bytes over those from this place on. The file grows where they end behind it.
+/// Puts these bytes over those from this place on. The file grows if they end behind it.
 fn overwrite(file: &mut Vec<u8>, at: usize, bytes: &[u8]) -> Result<(), AllocError>
     ensures written { OnOk result (Holds file.new.items at bytes.now) }
     ensures others { Torn at (length bytes.now) file.old.items file.new.items }

@@ -8,7 +8,7 @@ use crate::honest::Honest;
 use sqlite::{Alter, FileStore};
 
 /// A store of which each read gives what was written. What a call does to a register or an outbox is proved over any
-/// such store: to prove it of files costs the prover many times as much.
+/// such store: a proof of it for files costs the prover many times as much.
 pub(crate) trait Faithful: Alter + Drop {
     // No connection over it ever read anything else.
     ghost faithful: { (conn : Held Self) → HasCleanDisk (state Self.Store conn) };

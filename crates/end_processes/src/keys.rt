@@ -6,7 +6,7 @@ ghost use Rattle.key_string.specs.Key.{IsKey};
 use key_string::{KeyFault, KeyText};
 use std::alloc::{AllocError, Global};
 
-/// Another key of the same text.
+/// A copy of a key.
 pub fn copy_key(alloc: Global, key: &KeyText) -> Result<KeyText, AllocError>
     ensures same { IfOk result (λ copy. copy ≡ key.now) }
     ensures key { IsKey key.now }

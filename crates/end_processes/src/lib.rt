@@ -1,4 +1,4 @@
-//! What the ends of a world stand on: disks that give back what was written, how a world tells the refusals of an end,
+//! What the ends of a world need: disks that give back what was written, how a world reports the refusals of an end,
 //! and how an outbox is made in files, called, closed and opened again. Which events come to an end, and what a world
 //! keeps of it, is not known here.
 #![tactic(auto)]

@@ -23,7 +23,7 @@ fn is_empty(schema: &Schema) -> bool
     schema.tables.is_empty() && schema.indexes.is_empty() && schema.views.is_empty()
 }
 
-/// The connection, where its database has no tables, and else `Reopen`.
+/// The connection, if its database has no tables, and otherwise `Reopen`.
 pub(crate) fn without_tables<S: Faithful>(conn: Connection<S>) -> Result<Connection<S>, Cause>
     ensures same { IfOk result (λ it. it ≡ conn) }
     ensures empty { IfOk result (λ it. (state S.Store it).now.schema ≡ no_schema) }
@@ -46,8 +46,8 @@ pub(crate) fn new_files<D: Honest>(alloc: Global) -> Files<D>
     }
 }
 
-/// A connection to the database that lies in these files. `Reopen` comes where they were not opened for another cause
-/// than memory. A refusal gives the files up.
+/// A connection to the database that lies in these files. If they were not opened for another cause than memory, the
+/// cause is `Reopen`. A refusal gives the files up.
 pub(crate) fn open<D: Honest>(
     alloc: Global,
     files: Files<D>,

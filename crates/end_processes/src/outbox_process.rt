@@ -34,12 +34,12 @@ pub enum OutboxProcess<D: Disk + Drop> {
     Up(Outbox<FileStore<D>>),
     /// The files that it lies in.
     Down(Files<D>),
-    /// A fault took it, after which nothing is played.
+    /// A fault took the outbox. After that no event is played.
     Gone,
 }
 
 impl<D: Disk + Drop> Drop for OutboxProcess<D> {
-    // Its database is closed, as it is where the process stops.
+    // Its database is closed, as when the process stops.
     fn drop(self) {
         match self {
             OutboxProcess::Up(outbox) => drop(outbox.into_files()),
@@ -50,8 +50,8 @@ impl<D: Disk + Drop> Drop for OutboxProcess<D> {
 }
 
 impl<D: Honest> OutboxProcess<D> {
-    /// An outbox of this filer, without entries. `Reopen` comes where its files were not opened, and `Store` where
-    /// its tables were not made, for another cause than memory.
+    /// An outbox of this filer, without entries. Answers `Reopen` if its files were not opened, and `Store` if its
+    /// tables were not made, for another cause than memory.
     pub fn new(alloc: Global, filer: &str) -> Result<OutboxProcess<D>, Cause>
         requires { is_filer filer.now ≡ true }
         ensures kept { IfOk result (λ process. Keeps process filer.now []) }
@@ -61,8 +61,8 @@ impl<D: Honest> OutboxProcess<D> {
         Ok(OutboxProcess::Up(outbox_in(alloc, files, Origin::Made { filer })?))
     }
 
-    /// The files in the place of the outbox. `Reopen` comes if they were not given for another cause than memory, or if
-    /// a fault took it before.
+    /// The files in the place of the outbox. Answers `Reopen` if they were not given for another cause than memory, or
+    /// if a fault took it before.
     pub fn stopped(self) -> Result<OutboxProcess<D>, Cause>
         ensures kept { (filer : List ℕ) (entries : List Item) → Keeps self filer entries
             → IfOk result (λ process. Keeps process filer entries) }
@@ -78,8 +78,8 @@ impl<D: Honest> OutboxProcess<D> {
         }
     }
 
-    /// The outbox in the place of its files. `Reopen` comes if it was not opened for another cause than memory, or if a
-    /// fault took it before.
+    /// The outbox in the place of its files. Answers `Reopen` if it was not opened for another cause than memory, or if
+    /// a fault took it before.
     pub fn started(self, alloc: Global) -> Result<OutboxProcess<D>, Cause>
         ensures kept { (filer : List ℕ) (entries : List Item) → Keeps self filer entries
             → IfOk result (λ process. Keeps process filer entries) }
@@ -96,8 +96,8 @@ impl<D: Honest> OutboxProcess<D> {
         }
     }
 
-    /// Copies of a key and a body are put into it, to replace the filing of this number, if there is one. It answers
-    /// whether they were taken: not where the body is too long or the key is used. `Store` comes where it is down, or
+    /// Puts copies of a key and a body into the outbox, to replace the filing of this number, if one is given. Answers
+    /// whether they were taken: not if the body is too long or the key is used. Answers `Store` if it is down, or
     /// refused for another cause than memory.
     pub fn put(
         &mut self,
@@ -121,7 +121,7 @@ impl<D: Honest> OutboxProcess<D> {
     }
 
     /// The bytes of the request of the entry of this number, whatever its state, or `None` if there is no such entry.
-    /// `Store` comes if the outbox is down, or refused for another cause than memory.
+    /// Answers `Store` if the outbox is down, or refused for another cause than memory.
     pub fn request(&mut self, alloc: Global, number: u64) -> Result<Option<Vec<u8>>, StoreFault>
         ensures bytes { (filer : List ℕ) (entries : List Item) → Keeps self.old filer entries
             → IfOk result (λ text. option_map (λ t. t.items) text ≡ request_at filer entries number) }
@@ -136,9 +136,9 @@ impl<D: Honest> OutboxProcess<D> {
         }
     }
 
-    /// It hears these bytes as the reply to the entry of this number, and answers the state that the entry came to,
-    /// or `None` where the bytes give no reply. `Store` comes where it is down, or did not take the reply for another
-    /// cause than memory.
+    /// Reads these bytes as the reply to the entry of this number, and answers the state to which the entry came, or
+    /// `None` if the bytes give no reply. Answers `Store` if it is down, or did not take the reply for another cause
+    /// than memory.
     pub fn hear(
         &mut self,
         alloc: Global,
@@ -159,8 +159,8 @@ impl<D: Honest> OutboxProcess<D> {
         }
     }
 
-    /// The number and the state of each entry, in the order of the numbers. `Store` comes if it is down, and else only
-    /// if its database refused.
+    /// The number and the state of each entry, in the order of the numbers. Answers `Store` if it is down, and
+    /// otherwise only if its database refused.
     pub fn states(&mut self, alloc: Global) -> Result<Vec<(u64, State)>, StoreFault>
         ensures list { (filer : List ℕ) (entries : List Item) → Keeps self.old filer entries
             → IfOk result (λ s. (number : ℕ) → map (listed number) s.items ≡ states_of number 1 entries) }

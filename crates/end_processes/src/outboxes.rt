@@ -38,7 +38,7 @@ use outbox_core::{Outbox, OutboxFault, PutFault, State, StoreFault, TakeFault};
 use sqlite::{Connection, FileStore, Files};
 use std::alloc::Global;
 
-/// An outbox of this filer without entries. `Reopen` comes where the database has tables.
+/// An outbox of this filer without entries. Answers `Reopen` if the database has tables.
 fn make_outbox<S: Faithful>(
     alloc: Global,
     conn: Connection<S>,
@@ -69,7 +69,7 @@ fn open_outbox<S: Faithful>(alloc: Global, conn: Connection<S>) -> Result<Outbox
     }
 }
 
-/// How an outbox comes to be in a database.
+/// How an outbox begins in a database.
 #[derive(Clone, Copy)]
 pub(crate) enum Origin<'a> {
     /// Its tables are made, for this filer.
@@ -130,7 +130,7 @@ pub(crate) fn files_of_outbox<D: Honest>(outbox: Outbox<FileStore<D>>) -> Result
 
 /// A call on an outbox.
 pub(crate) trait Call {
-    /// What it answers.
+    /// What the call answers.
     type Answer;
 
     // Whether it may be made.
@@ -139,13 +139,13 @@ pub(crate) trait Call {
     // Whether this outbox may answer so.
     ghost answers: { Self → Ours → Self.Answer → Type 0 };
 
-    // Whatever it has, an outbox may answer so whose database refused a call by then, or did not.
+    // Whether an outbox may answer so, whatever it has, if its database refused a call up to then, or did not.
     ghost may_answer: { Self → Bool → Self.Answer → Type 0 } = { λ _ _ _. Unit {0} };
 
-    // The entries after such an answer, of those before.
+    // The entries after an answer, by those before it.
     ghost leaves: { Self → List Item → Self.Answer → List Item };
 
-    /// Makes it.
+    /// Makes the call.
     fn on<S: Faithful>(self, alloc: Global, outbox: &mut Outbox<S>) -> Self::Answer
         requires { may_be_made self }
         ensures answer { (entries : List Item) → HasEntries S.Store outbox.old entries
@@ -173,8 +173,8 @@ pub(crate) fn ask<D: Honest, C: Call>(
     call.on(alloc, outbox)
 }
 
-/// Copies of a key and a body are put into it, to replace the filing of this number, if there is one. It answers
-/// whether they were taken: not where the body is too long or the key is used.
+/// Puts copies of a key and a body into an outbox, to replace the filing of this number, if one is given. Answers
+/// whether they were taken: not if the body is too long or the key is used.
 #[derive(Drop)]
 pub(crate) struct Put<'a> {
     pub(crate) key: &'a KeyText,
@@ -207,7 +207,7 @@ impl Call for Put<'_> {
     }
 }
 
-/// The bytes of the request of the entry of this number are made, whatever its state, if there is such an entry.
+/// Makes the bytes of the request of the entry of this number, whatever its state, if there is such an entry.
 #[derive(Drop)]
 pub(crate) struct WriteRequest {
     pub(crate) number: u64,
@@ -247,8 +247,8 @@ fn why_unheard(fault: ExchangeFault) -> Option<StoreFault>
     }
 }
 
-/// It hears these bytes as the reply to the entry of this number, and answers the state that the entry came to, or
-/// `None` where the bytes give no reply.
+/// Reads these bytes as the reply to the entry of this number, and answers the state to which the entry came, or `None`
+/// if the bytes give no reply.
 #[derive(Drop)]
 pub(crate) struct HearReply<'a> {
     pub(crate) number: u64,
@@ -283,7 +283,7 @@ impl Call for HearReply<'_> {
     }
 }
 
-/// The number and the state of each entry are listed, in the order of the numbers.
+/// Lists the number and the state of each entry, in the order of the numbers.
 #[derive(Drop)]
 pub(crate) struct ListStates;
 

@@ -37,7 +37,7 @@ pub const NOT_JSON: &str =
 pub const MALFORMED: &str =
     "HTTP/1.1 400 Bad Request\r\nContent-Type: application/problem+json\r\nContent-Length: 78\r\nConnection: close\r\n\r\n{\"reason\":\"malformed\",\"status\":400,\"title\":\"Bad Request\",\"type\":\"about:blank\"}";
 
-/// The reply if a request cannot be decided now.
+/// The reply to a request that cannot be decided now.
 pub const UNAVAILABLE: &str =
     "HTTP/1.1 503 Service Unavailable\r\nContent-Type: application/problem+json\r\nContent-Length: 88\r\n\r\n{\"reason\":\"unavailable\",\"status\":503,\"title\":\"Service Unavailable\",\"type\":\"about:blank\"}";
 

@@ -14,7 +14,7 @@ use Rattle.fact_records.specs.declared.record.Head.{Head as Given}
 
 -- ---- what a record says
 
--- of the filing of a fact: its number, who filed it, under which key, and which filing replaces it
+-- what a record says of the filing of a fact: its number, who filed it, under which key, and which filing replaces it
 pub record Head : Type 0 where
   pub number : ℕ
   pub filer : List ℕ
@@ -25,7 +25,7 @@ pub record Head : Type 0 where
 abbrev pub member_text : Data → List ℕ → Option (List ℕ)
 member_text tree name = option_and_then as_str (get name tree)
 
--- the same of dimensions, which are a JSON text
+-- the text of the member of this name, of dimensions as a JSON text
 abbrev pub dimension : List ℕ → List ℕ → Option (List ℕ)
 dimension dimensions name = option_and_then (λ tree. member_text tree name) (read dimensions)
 
@@ -48,7 +48,7 @@ abbrev pub absent : Form → List ℕ
 absent Csv = []
 absent JsonLines = codes "null"
 
--- a value, written so, if there is one
+-- a value, written by this function, if there is one
 abbrev pub field_or_absent : {X : Type 0} → Form → (X → List ℕ) → Option X → List ℕ
 field_or_absent form written None = absent form
 field_or_absent form written (Some x) = written x

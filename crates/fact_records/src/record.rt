@@ -42,7 +42,7 @@ pub(crate) struct Fields {
     replaced_by: Vec<u8>,
 }
 
-/// What stands before the first record.
+/// What is written before the first record.
 pub fn first_line(form: Form) -> &'static str
     ensures { result.now ≡ first_line form }
 {
@@ -89,7 +89,7 @@ fn fields_of(alloc: Global, form: Form, head: &Head<'_>, fact: &Fact) -> Result<
     })
 }
 
-/// Appends a field with what stands before it.
+/// Appends a field with what separates it from the one before.
 fn append(line: &mut Vec<u8>, before: &str, field: &[u8]) -> Result<(), AllocError>
     ensures { OnOk result (line.new.items ≡ line.old.items ++ before.now ++ field.now) }
 {

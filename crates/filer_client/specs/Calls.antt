@@ -1,4 +1,4 @@
--- What the calls promise. What is said of entries holds where the outbox's disk is clean as the call ends.
+-- What the calls promise. Clauses on entries hold if the outbox's disk is clean as the call ends.
 use Rattle.std.specs.Prelude.{◌≡◌, ◌⊎◌, ◌↔◌, ℕ, false, List, Some, None, Result, IsTrue, IfOk, IfErr, OnOk, Err}
 use Rattle.sqlite.specs.Store.{Ghosts}
 use Rattle.sqlite.specs.State.{HasCleanDisk}
@@ -19,14 +19,14 @@ use Rattle.filer_client.specs.declared.fault.ExchangeFault.{ExchangeFault}
 use Rattle.filer_client.specs.declared.fault.ExchangeFault.TheVariants.{Reply, Take}
 use Rattle.filer_client.specs.Exchange.{HearsFrom, moved_at, IsExchanged, WritesBefore, IsFaultOf, IsDurableOnOk}
 
--- Of the entry of an id something was asked: an answer is such as this says of the entries, and NoEntry comes where
--- none has the id.
+-- A call asked about the entry of an id: `Is` holds of the entries and the answer, and NoEntry comes if no entry has
+-- the id.
 pub record AnswersOf {S X : Type 0} (g : Ghosts S) (old new : OutboxParts S) (id : ℕ) (Is : List Entry → X
     → Type 0) (result : Result X TakeFault) : Type 0 where
   pub built : ForEntries g old new (λ entries. IfOk result (Is entries))
   pub no_entry : ForEntries g old new (λ entries. result ≡ Err NoEntry → entry_at entries id ≡ None)
-  -- The entries are those of before, whatever the answer is, and a crash leaves what it could leave before; after Ok
-  -- these alone.
+  -- Whatever the answer is, the entries stay as they were, and a crash leaves what it could leave before the call;
+  -- after Ok these entries alone.
   pub kept : ForEntries g old new (HasEntries g new)
   pub stopped : IsTrue old.has_failed → (result ≡ Err Store) × (new ≡ old)
   pub stops : IsTrue new.has_failed ↔ (result ≡ Err Store)
@@ -35,7 +35,7 @@ pub record AnswersOf {S X : Type 0} (g : Ghosts S) (old new : OutboxParts S) (id
   pub crash : CommitsNothing (shows g old) (shows g new)
   pub durable : IsDurableOnOk g old new result
 
--- A whole reply was read, and the entry of an id moved by it; or it was refused.
+-- A whole reply was read, and the entry of an id moved by it; or the call was refused.
 pub record HandsOver {S R : Type 0} (g : Ghosts S) (r : Reads R) (old new : OutboxParts S) (id : ℕ) (reader reader' : R)
     (result : Result State ExchangeFault) : Type 0 where
   pub moved :
@@ -50,14 +50,15 @@ pub record HandsOver {S R : Type 0} (g : Ghosts S) (r : Reads R) (old new : Outb
       → ((result ≡ Err (Take Store)) ⊎ ((fault : ReplyFault) × (result ≡ Err (Reply fault)))) × (new ≡ old)
   pub stops : old.has_failed ≡ false → (IsTrue new.has_failed ↔ (result ≡ Err (Take Store)))
   pub filer : new.filer ≡ old.filer
-  -- A crash leaves what one before the call could leave, or, where the id names an entry, the entries after its move by
+  -- A crash leaves what one before the call could leave, or, if the id names an entry, the entries after its move by
   -- the reply that was read, and after Ok these alone.
   pub crash : SurvivesAs g old new (λ entries trees. HearsFrom r reader reader'
       (λ reply. LeavesMoved (contents old entries) id reply trees))
   pub durable : ForEntries g old new (λ entries. IfOk result
       (λ to. IsDurableAs g new (contents new (set_state entries id (view_state to)))))
 
--- The entry of an id was sent, where it is open, a whole reply was read, and the entry moved by it; or it was refused.
+-- The entry of an id was sent if it is open, a whole reply was read, and the entry moved by it; or the call was
+-- refused.
 pub record Exchanges {S R W : Type 0} (g : Ghosts S) (r : Reads R) (w : Writes W) (old new : OutboxParts S) (id : ℕ)
     (reader reader' : R) (writer writer' : W) (result : Result State ExchangeFault) : Type 0 where
   pub moved :
@@ -76,7 +77,7 @@ pub record Exchanges {S R W : Type 0} (g : Ghosts S) (r : Reads R) (w : Writes W
   pub stops : IsTrue new.has_failed ↔ (result ≡ Err (Take Store))
   pub filer : new.filer ≡ old.filer
   pub clean : HasCleanDisk (shows g new) → HasCleanDisk (shows g old)
-  -- A crash leaves what one before the call could leave, or, where the id names an entry, the entries after its move by
+  -- A crash leaves what one before the call could leave, or, if the id names an entry, the entries after its move by
   -- the reply that was read, and after Ok these alone.
   pub crash : SurvivesAs g old new (λ entries trees. HearsFrom r reader reader'
       (λ reply. LeavesMoved (contents old entries) id reply trees))

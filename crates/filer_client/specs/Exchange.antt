@@ -49,18 +49,18 @@ IsToSend filer entries id (Settled state) = IsSettled entries id (view_state sta
 abbrev pub Hears : Option (List ℕ) → Option (List ℕ) → (ReplyParts → Type 0) → Type 0
 Hears before after P = (reply : ReplyParts) × HasGiven before after (λ bytes. GivesReply bytes reply) × P reply
 
--- so it is of what this reader gave
+-- what this reader gave is a reply of which this holds
 abbrev pub HearsFrom : {R : Type 0} → Reads R → R → R → (ReplyParts → Type 0) → Type 0
 HearsFrom g old new P = Hears (g.left old) (g.left new) P
 
--- where a reply moves the entry of an id
+-- the state to which a reply moves the entry of an id
 abbrev pub moved_at : List Entry → ℕ → ReplyParts → Option State
 moved_at entries id reply = option_map (λ e. moved e.state reply) (entry_at entries id)
 
 -- ---- the whole exchange, over what was written and what is left to read, before and after
 
--- An entry that is not open is told as it is: nothing is written or read. Of an open one the whole request is written,
--- and it moves by the reply that is read.
+-- Of an entry that is not open the state is answered: nothing is written or read. Of an open one the whole request is
+-- written, and it moves by the reply that is read.
 abbrev pub IsExchanged : List ℕ → List Entry → ℕ → Option (List ℕ) → Option (List ℕ) → Option (List ℕ) → Option (List ℕ)
     → State → Type 0
 IsExchanged filer entries id written written' left left' to =
@@ -73,8 +73,8 @@ abbrev pub WritesRequest : List ℕ → List Entry → ℕ → Option (List ℕ)
 WritesRequest filer entries id written written' =
     (text : List ℕ) × IsOpenRequest filer entries id text × Appends written written' text
 
--- What was written where it failed: the first `sent` bytes of an open entry's request; all of it; nothing, where there
--- is no entry; or else all of it or nothing.
+-- What was written before each fault: the first `sent` bytes of an open entry's request after a failed write; the whole
+-- request if no reply was read; nothing if there is no entry; and otherwise the whole request or nothing.
 abbrev pub WritesBefore : List ℕ → List Entry → ℕ → Option (List ℕ) → Option (List ℕ) → ExchangeFault → Type 0
 WritesBefore filer entries id written written' (Write sent) =
     (text : List ℕ) × IsOpenRequest filer entries id text × (sent ≤ length text)
@@ -87,22 +87,22 @@ WritesBefore filer entries id written written' (Take Memory) =
 WritesBefore filer entries id written written' (Take Store) =
     Appends written written' [] ⊎ WritesRequest filer entries id written written'
 
--- Why it failed, as far as the reader and the writer tell, by how many of their calls had failed before and after: a
--- device fails only where its failure is told.
+-- Why the exchange failed, by how many calls of the reader and of the writer had failed before and after it: a fault of
+-- a device comes only if that device failed.
 abbrev pub IsFault : Option (List ℕ) → Option (List ℕ) → ℕ → ℕ → ℕ → ℕ → ExchangeFault → Type 0
 IsFault left left' reads reads' writes writes' (Write sent) = HasFailed writes writes' × (reads' ≡ reads)
 IsFault left left' reads reads' writes writes' (Reply fault) =
     IsReplyFailure left left' reads reads' fault × (writes' ≡ writes)
 IsFault left left' reads reads' writes writes' (Take fault) = (reads' ≡ reads) × (writes' ≡ writes)
 
--- so it is where this is the reader
+-- why the exchange failed that read from this reader
 abbrev pub IsFaultOf : {R : Type 0} → Reads R → R → R → ℕ → ℕ → ExchangeFault → Type 0
 IsFaultOf g old new writes writes' fault =
     IsFault (g.left old) (g.left new) (g.read_failures old) (g.read_failures new) writes writes' fault
 
--- ---- what stands after a crash
+-- ---- what a crash leaves
 
--- where it is answered, a crash leaves the entries of before alone
+-- after an answer a crash leaves these entries alone
 abbrev pub IsDurableOnOk : {S X E : Type 0} → Ghosts S → OutboxParts S → OutboxParts S → Result X E → Type 0
 IsDurableOnOk g old new result =
     ForEntries g old new (λ entries. OnOk result (IsDurableAs g new (contents new entries)))

@@ -9,8 +9,8 @@ use outbox_core::{Outbox, State, TakeFault};
 use sqlite::Alter;
 use std::alloc::Global;
 
-/// Reads a whole reply, and moves the entry by it; answers its state. `Reply` comes where no reply is
-/// read, and `Take` where the entry is not moved; then no entry has changed.
+/// Reads a whole reply, and moves the entry by it; answers its state. Answers `Reply` if no reply is read, and `Take`
+/// if the entry is not moved; then no entry has changed.
 pub fn hand_over<R: Source, S: Alter>(
     alloc: Global,
     reader: &mut R,

@@ -1,10 +1,10 @@
-//! Why an exchange came to nothing.
+//! Why an exchange failed.
 
 use http_wire::ReplyFault;
 use outbox_core::TakeFault;
 use thiserror::Error;
 
-/// Why an entry was not moved. It is as it was.
+/// Why an entry was not moved. The entry is unchanged.
 #[derive(Clone, Copy, Debug, PartialEq, Eq, Error)]
 pub enum ExchangeFault {
     /// The writer failed after so many bytes of the request.

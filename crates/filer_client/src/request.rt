@@ -24,8 +24,8 @@ pub enum ToSend {
     Settled(State),
 }
 
-/// The bytes of the request of an entry, whatever its state: a POST of its body under its key to the
-/// path of the filer. `NoEntry` comes where no entry has the id, and `Store` where the outbox stopped.
+/// The bytes of the request of an entry, whatever its state: a POST of its body under its key to the path of the filer.
+/// Answers `NoEntry` if no entry has the id, and `Store` if the outbox stopped.
 pub fn request_bytes<S: Alter>(
     alloc: Global,
     outbox: &mut Outbox<S>,
@@ -38,8 +38,8 @@ pub fn request_bytes<S: Alter>(
     request_of(alloc, outbox.filer(), &entry)
 }
 
-/// What an entry has to send: the bytes of its request where it is open, and nothing where it is
-/// not. `NoEntry` comes where no entry has the id, and `Store` where the outbox stopped.
+/// What an entry has to send: the bytes of its request if it is open, and otherwise nothing. Answers `NoEntry` if no
+/// entry has the id, and `Store` if the outbox stopped.
 pub fn open_request<S: Alter>(
     alloc: Global,
     outbox: &mut Outbox<S>,

@@ -23,8 +23,8 @@ abbrev pub is_nothing : List Pair → Bool
 is_nothing [] = true
 is_nothing (f ∷ found) = false
 
--- whether the request, which comes after these, is the first of its filer and key, and nothing is found in it where the
--- register is theirs
+-- whether the request, which comes after these, is the first of its filer and key, and nothing is found in its report,
+-- given their register
 abbrev pub is_valid_first : List Request → Request → Bool
 is_valid_first before r = not (has_key before r) && is_nothing (verdict (register before) r)
 
@@ -44,7 +44,7 @@ pub record RepeatChangesNothing (requests : List Request) (r : Request) : Type 0
   pub same_firsts : firsts (requests ++ r ∷ []) ≡ firsts requests
   pub same_register : register (requests ++ r ∷ []) ≡ register requests
 
--- whatever comes, the register stays as it is, and new filings stand behind it
+-- whatever comes, the register stays as it is, and new filings are added behind it
 abbrev pub RegisterGrows : List Request → List Request → Type 0
 RegisterGrows requests more = IsPrefixOf (register requests) (register (requests ++ more))
 
@@ -80,7 +80,7 @@ pub record RepeatGetsTheFirst (requests : List Request) (r : Request) (more : Li
   pub replied : (style : Style) → reply_as style (answer ((requests ++ r ∷ []) ++ more) r)
       ≡ reply_as style (answer requests r)
 
--- whatever comes later, the request stands in the register under this number alone
+-- whatever comes later, the request is in the register under this number alone
 abbrev pub StaysRegistered : List Request → Request → ℕ → Type 0
 StaysRegistered requests r number = (more : List Request)
     → numbers_of r (register ((requests ++ r ∷ []) ++ more)) ≡ number ∷ []
@@ -100,6 +100,6 @@ pub record StopAlike (one other : Crash) : Type 0 where
       (ended : Option Ended) (out : List ℕ)
       → ServesUntil limit done bytes one arrivals marks ended out ↔ ServesUntil limit done bytes other arrivals marks
       ended out
-  -- the same, said of the bytes that were read and of what is kept
+  -- serving some bytes after what is kept may stop or end alike at both
   pub stops : (requests : Keeping) (bytes : List ℕ) (marks : List Mark) (ended : Option Ended) (out : List ℕ)
       → StopsOrServes requests bytes one marks ended out ↔ StopsOrServes requests bytes other marks ended out

@@ -17,6 +17,6 @@ abbrev pub changed : {X : Type 0} → (X → X) → List X → ℕ → List X
 changed change xs zero = xs
 changed change xs (suc k) = changed_at change xs k
 
--- the list with x in the place of that element
+-- the list with x instead of the element of this number
 abbrev pub renewed : {X : Type 0} → List X → ℕ → X → List X
 renewed xs number x = changed (λ old. x) xs number

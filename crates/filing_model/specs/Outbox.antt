@@ -13,7 +13,7 @@ use Rattle.http_messages.specs.Posting.{IsTarget, render_post}
 use Rattle.http_messages.specs.Reply.{ReplyParts}
 use Rattle.filing_model.specs.Request.{Request}
 
--- what is known of a report: nothing yet; its number in the register; that it was refused; or that its key stands for
+-- what is known of a report: nothing yet; its number in the register; that it was refused; or that its key was used for
 -- another body
 pub data State : Type 0 where
   Open : State
@@ -42,7 +42,7 @@ has_status word d = has_word (codes "status") word d
 abbrev pub refuses : List ℕ → Data → Bool
 refuses word d = has_status word d || has_word (codes "reason") word d
 
--- the member `number`, where it is a whole number that is not below zero
+-- the member `number`, if it is a whole number that is not below zero
 abbrev pub number_told : Data → Option ℕ
 number_told d = option_and_then as_u64 (option_and_then as_number (get (codes "number") d))
 
@@ -58,7 +58,7 @@ state_by status d =
     else (if ((status == 422) || (status == 400)) && refuses (codes "refused") d then Refused
     else (if (status == 422) && refuses (codes "key-reused") d then Clashed else Open))
 
--- the same, where the content need be no JSON
+-- what the status and a content say of a report, if the content may be no JSON
 abbrev pub state_told : ℕ → Option Data → State
 state_told status None = Open
 state_told status (Some d) = state_by status d

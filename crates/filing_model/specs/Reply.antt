@@ -26,7 +26,7 @@ finding_data f =
 abbrev pub findings_data : List Pair → Data
 findings_data findings = array (items_of (map finding_data findings))
 
--- a body that is no JSON is a bad request; code 1 stands alone
+-- 400 for a body that is no JSON, whose one finding has code 1, and otherwise 422
 abbrev pub refused_status : List Pair → ℕ
 refused_status [] = 422
 refused_status (f ∷ fs) = if nat_eq (number_of f.code) 1 then 400 else 422
@@ -51,7 +51,7 @@ abbrev pub refusal_members : Style → ℕ → List ℕ → Members
 refusal_members Old status word = status_member word
 refusal_members Problem status word = problem_members status word
 
--- what a content with them is
+-- the kind of a content with these members
 abbrev pub refusal_kind : Style → Kind
 refusal_kind Old = Json
 refusal_kind Problem = Kind.Problem
@@ -65,7 +65,7 @@ answer_data style (Answer.Refused findings repeat) =
     (refusal_members style (refused_status findings) (codes "refused")))
 answer_data style Answer.KeyReused = object (refusal_members style 422 (codes "key-reused"))
 
--- what that content is
+-- the kind of the content of an answer
 abbrev pub answer_kind : Style → Answer → Kind
 answer_kind style (Answer.Registered n repeat) = Json
 answer_kind style (Answer.Refused findings repeat) = refusal_kind style
@@ -80,7 +80,7 @@ reply_as style a =
 abbrev pub reply_of : Answer → ReplyParts
 reply_of a = reply_as Problem a
 
--- a member with a number, where there is one, before others
+-- a member with a number, if there is one, before others
 abbrev pub number_member : List ℕ → Option ℕ → Members → Members
 number_member name None more = more
 number_member name (Some n) more = member name (number (unsigned n)) more
@@ -108,6 +108,6 @@ abbrev pub word_reply : ℕ → List ℕ → ReplyParts
 word_reply status word =
     record { status = status; content = compact_text (object (problem_members status word)); kind = Kind.Problem }
 
--- where a request could not be decided now (RFC 9110, section 15.6.4)
+-- the reply to a request that could not be decided now (RFC 9110, section 15.6.4)
 abbrev pub unavailable : ReplyParts
 unavailable = word_reply 503 (codes "unavailable")

@@ -24,13 +24,13 @@ pub record AreMarked (limit : ℕ) (before : List Request) (arrivals : List Arri
   pub all : length marks ≡ length arrivals
   pub fit : MarksFit limit before arrivals marks
 
--- how serving ends where the arrivals end so
+-- how serving ends after arrivals with this ending
 abbrev pub end_of : Ending → Ended
 end_of Ending.Closed = Closed
 end_of (Rest asks) = InputEnded
 
--- The first request of each filer and key, those before first. Where these are the first of theirs already, it is
--- `firsts (before ++ completed)` throughout.
+-- What was kept before if nothing was completed, and otherwise the first request of each filer and key among both. If
+-- those before are such firsts already, this is `firsts (before ++ completed)` in either case.
 abbrev pub kept_by : List Request → List Request → List Request
 kept_by before [] = before
 kept_by before (r ∷ requests) = firsts (before ++ r ∷ requests)
@@ -46,7 +46,7 @@ pub record IsServed (requests : Keeping) (bytes : List ℕ) (marks : List Mark) 
   pub kept : requests.after ≡ kept_by requests.before (completed arrivals marks)
   pub end : ended ≡ end_of ending
 
--- whatever follows, it asks for an interim response where the ending says so
+-- the rest asks for an interim response, whatever follows it, if the ending says so
 abbrev pub AnyFollows : List ℕ → Ending → Type 0
 AnyFollows bytes Ending.Closed = Unit {0}
 AnyFollows bytes (Rest true) = Asks bytes true

@@ -1,4 +1,4 @@
--- Answers, outcomes, lists, requests and states without where they lie in memory.
+-- Answers, outcomes, lists, requests and states as values, without their places in memory.
 use Rattle.std.specs.Prelude.{ℕ, List, Option}
 use Rattle.filing_model.specs.declared.listing.FilingRow.{FilingRow as Row}
 use Rattle.filing_model.specs.declared.answer.Answer.{Answer as Given}
@@ -26,7 +26,7 @@ view_outcome (Became.Refused findings) = Outcome.Refused findings
 abbrev pub view_row : Row → Listing
 view_row r = record { number = r.number; facts = r.facts; replaced_by = r.replaced_by; replaces = r.replaces }
 
--- the request of this filer and key with this body, which is to replace the filing of this number, if any
+-- the request of this filer and key with this body, which replaces the filing of this number, if any
 abbrev pub the_request : List ℕ → List ℕ → Option ℕ → List ℕ → Request
 the_request filer key target body = record { filer = filer; key = key; target = target; body = body }
 

@@ -3,7 +3,7 @@ use Rattle.std.specs.Prelude.{◌≡◌, ◌++◌, ℕ, List, [], ◌∷◌, Opt
 use Rattle.json.specs.Token.{Token, key, number}
 use Rattle.json.specs.Written.{Written}
 
--- these tokens were appended, and what stood before them stays
+-- these tokens were appended behind what was written before
 pub record AppendsTokens {E : Type 0} (old new : Written) (tokens : List Token) (result : Result (Unit {0}) E)
     : Type 0 where
   pub more : OnOk result (new.tokens ≡ old.tokens ++ tokens)

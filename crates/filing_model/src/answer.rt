@@ -4,7 +4,7 @@ use crate::served::Style;
 use xbrl_report::Findings;
 
 /// The answer to a request. `repeat` says that the same filer, key and body came before, and `style` how the reply
-/// tells what is refused.
+/// writes a refusal.
 #[derive(Drop)]
 pub enum Answer {
     /// The report is registered under this number, which counts from 1.

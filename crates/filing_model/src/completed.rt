@@ -2,8 +2,7 @@
 
 use std::marker::Model;
 
-/// A completed request: who sent it, under which key, which filing it is to replace, if any, and the bytes of the
-/// report.
+/// A completed request: who sent it, under which key, which filing it replaces, if any, and the bytes of the report.
 #[derive(Drop)]
 pub struct Completed {
     pub filer: String,

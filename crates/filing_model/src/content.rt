@@ -1,5 +1,5 @@
 //! The contents of the replies to those who file, as compact JSON texts. Their forms are own rules; those of refusals
-//! are problem details (RFC 9457, section 3), or what stood there before them.
+//! are problem details (RFC 9457, section 3), or what earlier versions wrote.
 
 ghost use Rattle.std.specs.Prelude.{◌≡◌, [], ◌∷◌, Bool, false, decimal, unwrap_or, IfOk};
 ghost use Rattle.json.specs.Token.{key, number, string};
@@ -69,7 +69,7 @@ pub(crate) fn refused_text(
     Ok(writer.into_inner())
 }
 
-/// The status of a refused report: 400 where the body is no JSON text, and else 422 (RFC 9110, sections 15.5.1 and
+/// The status of a refused report: 400 if the body is no JSON text, and otherwise 422 (RFC 9110, sections 15.5.1 and
 /// 15.5.21).
 pub(crate) fn refused_status(findings: &Findings) -> u16
     ensures { result ≡ refused_status findings.now }

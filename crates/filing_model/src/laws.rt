@@ -67,28 +67,27 @@ pub fn a_list_has_the_filers_filings()
         → ListsTheFilers filer asked (register requests) }
 {}
 
-/// The first answer stands: whatever comes between and after, the same request gets the same status
-/// and the same content again.
+/// The first answer is kept: whatever comes between and after, the same request gets the same status and the same
+/// content again.
 pub fn repeat_gets_the_first()
     ensures { (requests : List Request) (r : Request) (more : List Request) → RepeatGetsTheFirst requests r more }
 {}
 
-/// A request that was answered as registered stands in the register exactly once, under the number
-/// that it was told, for good.
+/// A request that was answered as registered is in the register exactly once, under the number of the answer, for good.
 pub fn registered_for_good()
     ensures { (requests : List Request) (r : Request) (number : ℕ) (repeat : Bool)
         → answer requests r ≡ Registered number repeat → StaysRegistered requests r number }
 {}
 
 /// Each reply to a request that files is one that a client reads: a final status with a phrase, and a
-/// content of 1 to 8,388,608 bytes, in either style. So is the reply where the request could not be decided.
+/// content of 1 to 8,388,608 bytes, in either style. So is the reply if the request could not be decided.
 pub fn every_reply_is_read()
     ensures answered { (style : Style) (requests : List Request) (r : Request) → length (firsts requests) ≤ 2 ^ 62
         → IsReadable (reply_as style (answer requests r)) }
     ensures undecided { IsReadable unavailable }
 {}
 
-/// A number is heard as it was told, in either style: the reply that tells it moves an open entry to it, and to no
+/// A number is read as it was written, in either style: the reply with it moves an open entry to this number, and to no
 /// other.
 pub fn a_number_is_heard_as_told()
     ensures confirms { (style : Style) (m : ℕ) (repeat : Bool) → 1 ≤ m → m < 2 ^ 63
@@ -97,13 +96,12 @@ pub fn a_number_is_heard_as_told()
         → moved Open (reply_as style (Registered m repeat)) ≡ Confirmed n → m ≡ n }
 {}
 
-/// That a key stands for another body is heard in either style.
+/// The reply to a used key marks an open entry as a clash, in either style.
 pub fn a_used_key_is_heard()
     ensures { (style : Style) → moved Open (reply_as style KeyReused) ≡ Clashed }
 {}
 
-/// A filer's key is answered in the old style exactly where it is among those that were kept before
-/// there were problem details.
+/// A filer's key is answered in the old style exactly if it is that of an old-style request.
 pub fn old_requests_are_answered_in_the_old_style()
     ensures { (old_style : List Request) (r : Request) → (style_of old_style r ≡ Old) ↔ (has_key old_style r ≡ true) }
 {}
@@ -119,8 +117,8 @@ pub fn serves_as_the_model_says()
         (Some ended) out × (after ≡ firsts (done ++ completed arrivals marks)) }
 {}
 
-/// So it is where serving may stop at an arrival. What was stopped tells no end, and the arrivals that it
-/// tells are the first ones, up to the one where it stopped.
+/// What was served up to a stop, of the bytes that were read, is what may be served of all that were given. Serving
+/// that stopped has no end, and its arrivals are the first ones, up to the one at which it stopped.
 pub fn serves_until_as_the_model_says()
     ensures { (limit : ℕ) (done before after : List Request) (read more : List ℕ) (crash : Crash) (marks : List Mark)
         (ended : Option Ended) (out : List ℕ)
@@ -136,7 +134,7 @@ pub fn a_stop_at_0_is_one_at_1()
     ensures after { StopAlike (After 0) (After 1) }
 {}
 
-/// Where a connection ended by itself, neither by a fault nor by a stop, each of its arrivals has its
+/// If a connection ended by itself, neither by a fault nor by a stop, each of its arrivals has its
 /// mark and its whole text was written. Only a fault leaves less.
 pub fn serves_all_without_a_fault()
     ensures { (limit : ℕ) (done : List Request) (bytes : List ℕ) (crash : Crash) (arrivals : List Arrival)
@@ -146,8 +144,8 @@ pub fn serves_all_without_a_fault()
         → IsAnswered done bytes arrivals marks ended out }
 {}
 
-/// The reply to a HEAD has no content (RFC 9110, section 9.3.2), whatever its path, and so whatever
-/// mark its arrival may have. It is a refusal, and has the kind of one.
+/// The reply to a HEAD has no content (RFC 9110, section 9.3.2), whatever its path and the mark of its arrival. It is a
+/// refusal, and has the kind of one.
 pub fn head_is_answered_without_content()
     ensures reply { (old_style requests : List Request) (m : Message) → m.head.method ≡ codes "HEAD"
         → (reply_with old_style requests m).content ≡ [] }

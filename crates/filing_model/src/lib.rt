@@ -1,7 +1,6 @@
-//! What a register is, said of lists, and what a connection is answered. What may live here: the definitions that the
-//! layers above cite, their laws, and the types in which requests, outcomes, answers, lists, marks, styles and the
-//! states of entries are given; the replies to answers and lists, to the byte; and which numbers a report may name. How
-//! a request is decided and where it is kept is not known here.
+//! What a register is, as a function of a list of requests, and what is answered on a connection. What may live here:
+//! the definitions that the layers above cite, their laws, the types of requests, outcomes, answers, lists, marks,
+//! styles and the states of entries, the statuses and contents of replies, and which numbers a report may name.
 #![tactic(auto)]
 
 mod answer;

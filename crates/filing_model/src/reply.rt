@@ -23,7 +23,7 @@ use json::Writer;
 use std::alloc::{AllocError, Global};
 
 /// The reply to an answer, as compact JSON: 201 with the number, 400 with the finding that the body is
-/// no JSON text, 422 with other findings, or 422 where the key was reused, in the style of the answer. A repeat gets
+/// no JSON text, 422 with other findings, or 422 if the key was reused, in the style of the answer. A repeat gets
 /// the same.
 #[tactic(auto, unfolding(crate::specs::Reply::reply_as))]
 pub fn reply_of(alloc: Global, answer: &Answer) -> Result<Reply, AllocError>
@@ -50,8 +50,8 @@ pub fn list_reply(alloc: Global, rows: &[FilingRow]) -> Result<Reply, AllocError
     })
 }
 
-/// The reply that refuses a request for this reason, under `status`, which is to be a status code of three digits:
-/// problem details (RFC 9457).
+/// The reply that refuses a request for this reason, under `status`, a status code of three digits: problem details
+/// (RFC 9457).
 pub fn word_reply(alloc: Global, status: u16, word: &str) -> Result<Reply, AllocError>
     ensures { IfOk result (λ r. reply_parts r ≡ word_reply status word.now) }
 {
@@ -81,7 +81,7 @@ fn answer_kind(answer: &Answer) -> Kind
     }
 }
 
-/// What the content is that says why something is refused, in this style.
+/// The kind of the content of a refusal in this style.
 fn refusal_kind(style: Style) -> Kind
     ensures { result ≡ refusal_kind style }
 {

@@ -11,7 +11,7 @@ pub enum State {
     Confirmed(u64),
     /// Its report was refused.
     Refused,
-    /// Its key stands for another body.
+    /// Its key was used for another body.
     Clashed,
 }
 

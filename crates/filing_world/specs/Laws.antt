@@ -12,7 +12,7 @@ use Rattle.filing_world.specs.World.{Outbox, Sent, Output, World, Put, Send, Str
 use Rattle.filing_world.specs.World.{RestartOutbox, numbered}
 use Rattle.filing_world.specs.Step.{Step, CannotPlay}
 
--- under its numbers the entry is still there, with its key and body, and with its state where that was settled
+-- under its numbers the entry is still there, with its key and body, and with its state if that was settled
 pub record Remains (world : World) (outbox number : ℕ) (filer : List ℕ) (entry : Entry) : Type 0 where
   pub box : Outbox
   pub here : numbered world.outboxes outbox ≡ Some box
@@ -24,13 +24,13 @@ pub record Remains (world : World) (outbox number : ℕ) (filer : List ℕ) (ent
   pub body : still.body ≡ entry.body
   pub settled : entry.state ≢ Open → still.state ≡ entry.state
 
--- behind the completed requests stand at most n more
+-- at most n requests were completed since
 pub record AddsAtMost (n : ℕ) (old new : World) : Type 0 where
   pub more : List Request
   pub adds : new.done ≡ old.done ++ more
   pub few : length more ≤ n
 
--- The output is added, and tells its delivery: of which item, how many bytes of it came, after how many completed
+-- The output is added, and describes its delivery: of which item, how many bytes of it came, after how many completed
 -- requests, and what serving these bytes marked, wrote and ended with. What it marked as completed is added, and
 -- nothing else.
 pub record IsDelivered (old : World) (item given : ℕ) (crash : Crash) (from : Sent) (output : Output)
@@ -58,7 +58,7 @@ pub record IsDown (world : World) (outbox : ℕ) : Type 0 where
   pub hands : (output given number : ℕ) (crash : Crash) (from : Output) → IsAnswerTo world output from outbox number
       → CannotPlay world (Hand output given crash)
 
--- What can be played in a world, where its end is up.
+-- What can be played in a world if the end that it needs is up.
 pub record CanPlay (old : World) : Type 0 where
   -- a key, a target and a body are put
   pub puts : (outbox : ℕ) (box : Outbox) (key : List ℕ) (target : Option ℕ) (body : List ℕ)
@@ -88,25 +88,25 @@ pub record CompletesAtMost (old new : World) (item given : ℕ) : Type 0 where
   pub of_an_entry : (crash : Crash) (from : Sent) (r : Request) → numbered old.sent item ≡ Some from → IsSendable r
       → from.bytes ≡ bytes_of r → Step old (Deliver item given crash) new
       → (new.done ≡ old.done) ⊎ (new.done ≡ old.done ++ r ∷ [])
-  -- and nothing where it is cut before its last byte
+  -- and nothing if it is cut before its last byte
   pub of_a_cut : (crash : Crash) (from : Sent) (r : Request) → numbered old.sent item ≡ Some from → IsSendable r
       → from.bytes ≡ bytes_of r → given < length from.bytes → Step old (Deliver item given crash) new
       → new.done ≡ old.done
-  -- of any bytes nothing, where the intake stops before the first arrival
+  -- of any bytes nothing, if the intake stops before the first arrival
   pub before_the_first : (j : ℕ) → j ≤ 1 → Step old (Deliver item given (Before j)) new → new.done ≡ old.done
   -- at most the arrivals before the one that it stops before
   pub before : (j : ℕ) → Step old (Deliver item given (Before j)) new → AddsAtMost (j - 1) old new
-  -- and at most one more where it stops after one
+  -- and at most one more if it stops after one
   pub after : (j : ℕ) → Step old (Deliver item given (After j)) new → AddsAtMost (max 1 j) old new
 
 -- Which end is up after it was given so many bytes, and what it takes while it is down.
 pub record IsUpUnlessStopped (old new : World) (given : ℕ) (crash : Crash) : Type 0 where
-  -- the intake is up exactly where it was not stopped
+  -- the intake is up exactly if it was not stopped
   pub intake : (item : ℕ) → Step old (Deliver item given crash) new → (new.up ≡ true) ↔ (crash ≡ No)
   -- while it is down it takes no delivery
   pub delivers : (item : ℕ) → Step old (Deliver item given crash) new → crash ≢ No → (another more : ℕ) (again : Crash)
       → CannotPlay new (Deliver another more again)
-  -- and so is an outbox that was handed a reply
+  -- an outbox that was handed a reply is up exactly if it was not stopped
   pub outbox : (output outbox number : ℕ) (from : Output) (box : Outbox) → IsAnswerTo old output from outbox number
       → Step old (Hand output given crash) new → numbered new.outboxes outbox ≡ Some box
       → (box.up ≡ true) ↔ (crash ≡ No)

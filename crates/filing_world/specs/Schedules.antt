@@ -28,7 +28,7 @@ small = record {
       codes "{\"documentInfo\":{\"documentType\":\"https://xbrl.org/2021/xbrl-json\",\"taxonomy\":[\"t\"]}}";
 }
 
--- the filing of a report, where it is the first
+-- the filing that a report becomes if it is the first
 abbrev pub filing_of : Request → Filing
 filing_of r = record { number = 1; request = r }
 
@@ -36,7 +36,7 @@ filing_of r = record { number = 1; request = r }
 abbrev pub registered_bytes : List ℕ
 registered_bytes = render (reply_of (Answer.Registered 1 false)) true
 
--- and those of the reply to a used key
+-- the bytes of the reply to a used key, on a connection that closes
 abbrev pub clash_bytes : List ℕ
 clash_bytes = render (reply_of Answer.KeyReused) true
 
@@ -91,7 +91,7 @@ stopped_before r all = sent_once r (Deliver 1 all (Before 1) ∷ RestartServer �
 abbrev pub stopped_after : Request → ℕ → List Event
 stopped_after r all = sent_once r (Deliver 1 all (After 1) ∷ [])
 
--- the outbox stops before or after it has heard the whole reply, is restarted, and the reply is handed over again
+-- the outbox stops before or after it has read the whole reply, is restarted, and the reply is handed over again
 abbrev pub stopped_hearing : Request → ℕ → Crash → List Event
 stopped_hearing r all crash = sent_once r (Deliver 1 all No ∷ Hand 1 all crash ∷ RestartOutbox 1 ∷ Hand 1 all No ∷ [])
 

@@ -29,7 +29,7 @@ is_no (After j) = false
 abbrev pub takes : Outbox → Entry → Bool
 takes box entry = nat_le (length entry.body) max_body_len && not (list_any (λ e. bytes_eq e.key entry.key) box.entries)
 
--- an entry more, where it is taken
+-- the outbox with this entry added, if it takes it
 abbrev pub with_entry : Outbox → Entry → Outbox
 with_entry box entry = if takes box entry then record box { entries = box.entries ++ entry ∷ [] } else box
 
@@ -87,7 +87,7 @@ pub record Delivers (old : World) (item given : ℕ) (crash : Crash) (new : Worl
 
 -- ---- a reply handed over
 
--- what an outbox hears: nothing where it stops before, or where the bytes give no reply or are too many to read
+-- what an outbox reads as a reply: nothing if it stops before, or if the bytes give no reply or are too many to read
 abbrev pub Hears : List ℕ → Crash → Option ReplyParts → Type 0
 Hears bytes No (Some reply) = GivesReply bytes reply
 Hears bytes (After j) (Some reply) = GivesReply bytes reply
@@ -96,12 +96,12 @@ Hears bytes No None = ((reply : ReplyParts) → ¬ GivesReply bytes reply) ⊎ (
 Hears bytes (After j) None = ((reply : ReplyParts) → ¬ GivesReply bytes reply) ⊎ (max_reads ≤ length bytes)
 Hears bytes (Before j) None = Unit {0}
 
--- the state after that
+-- the state of an entry after what was read
 abbrev pub heard_by : State → Option ReplyParts → State
 heard_by state None = state
 heard_by state (Some reply) = moved state reply
 
--- the outbox after that, which is up unless it stopped
+-- the outbox after what was read for an entry; it is up unless it stopped
 abbrev pub box_after : Outbox → ℕ → Entry → Option ReplyParts → Crash → Outbox
 box_after box number entry heard crash =
     record box {

@@ -39,7 +39,7 @@ pub record World : Type 0 where
   pub up : Bool
 
 -- Outboxes, entries, items and outputs are named by their numbers, from 1 on. A delivery and a reply that is handed
--- over give so many bytes, or all where there are fewer.
+-- over give so many bytes, or all if there are fewer.
 pub data Event : Type 0 where
   Put : (outbox : ℕ) (key : List ℕ) (target : Option ℕ) (body : List ℕ) → Event
   Send : (outbox entry : ℕ) → Event

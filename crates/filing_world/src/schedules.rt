@@ -1,6 +1,6 @@
-//! Worked schedules. What may live here: functions that do nothing, each with a law about one schedule
-//! as its contract: that it is a run, and what it leaves; or that no run goes so. The reports are any
-//! reports in which nothing is found, and `all` is as many bytes as anything has.
+//! Worked schedules. What may live here: functions that do nothing, each with a law about one schedule as its contract:
+//! that it is a run, and what it leaves; or that there is no such run. The reports are any reports in which nothing is
+//! found, and `all` is as many bytes as anything has.
 
 ghost use Rattle.std.specs.Prelude.{◌≡◌, ◌<◌, ℕ, Bool, List, [], ◌∷◌, ◌++◌, length, take, codes, slice_get, Some};
 ghost use Rattle.http_messages.specs.Reply.{ReplyParts, render};
@@ -41,8 +41,8 @@ pub fn shares_a_filing()
         (registered_bytes ∷ registered_bytes ∷ []) ((1, 1, Confirmed 1) ∷ (2, 1, Confirmed 1) ∷ []) }
 {}
 
-/// Two outboxes of one filer file two reports under one key. The one that is completed first is
-/// registered, and the other is told that its key was used.
+/// Two outboxes of one filer file two reports under one key. The one that is completed first is registered, and the
+/// other gets the reply that its key was used.
 pub fn clashes_with_another_body()
     ensures { (one two : Request) (limit all : ℕ) → IsSendable one → IsGood two → AreRivals one two → 0 < limit
         → IsAll all one → IsAll all two
@@ -78,15 +78,15 @@ pub fn completes_nothing_before_a_stop()
         ((1, 1, Confirmed 1) ∷ []) }
 {}
 
-/// The intake stops after the request is completed. The report is registered, though nobody was told.
+/// The intake stops after the request is completed. The report is registered, though no reply was written.
 pub fn registers_before_a_stop()
     ensures { (r : Request) (limit all : ℕ) → IsGood r → 0 < limit → IsAll all r
         → MayLeave (start (r.filer ∷ []) limit) (stopped_after r all) 1 (filing_of r ∷ []) ([] ∷ [])
         ((1, 1, Open) ∷ []) }
 {}
 
-/// The outbox stops before it hears the reply, and is restarted. The entry is open until the reply is
-/// handed over again.
+/// The outbox stops before it reads the reply, and is restarted. The entry is open until the reply is handed over
+/// again.
 pub fn confirms_after_a_stop_before_the_reply()
     ensures open_before { (r : Request) (limit all : ℕ) → IsGood r → 0 < limit → IsAll all r
         → MayLeave (start (r.filer ∷ []) limit) (take 5 (stopped_hearing r all (Before 1))) 1 (filing_of r ∷ [])
@@ -96,8 +96,8 @@ pub fn confirms_after_a_stop_before_the_reply()
         (registered_bytes ∷ []) ((1, 1, Confirmed 1) ∷ []) }
 {}
 
-/// It stops after it has heard the reply. The entry is confirmed at once, and the same reply handed
-/// over again changes nothing.
+/// The outbox stops after it has read the reply. The entry is confirmed at once, and the same reply handed over again
+/// changes nothing.
 pub fn stays_confirmed_after_a_stop()
     ensures at_once { (r : Request) (limit all : ℕ) → IsGood r → 0 < limit → IsAll all r
         → MayLeave (start (r.filer ∷ []) limit) (take 4 (stopped_hearing r all (After 1))) 1 (filing_of r ∷ [])
@@ -149,7 +149,7 @@ pub fn gives_no_number_twice()
         → IsConfirmed world s n → r ≡ s }
 {}
 
-/// An entry's request that is told that it could not be decided is not completed.
+/// An entry's request that was answered 503 is not completed.
 pub fn completes_nothing_by_an_undecided_request()
     ensures { (old new : World) (item given : ℕ) (crash : Crash) (from : Sent) (r : Request) (output : Output)
         (close : Bool)

@@ -13,14 +13,13 @@ ghost use Rattle.filing_world.specs.Step.{Step};
 ghost use Rattle.filing_world.specs.Headline.{HasEntry, states};
 ghost use Rattle.filing_world.specs.Laws.{IsDelivered, IsAnswerTo, CanPlay, CompletesAtMost, IsUpUnlessStopped};
 
-/// What can be played where its end is up: a key, a target and a body are put, a request is sent for any entry,
-/// whatever its state, and a stranger sends any bytes. An end that is down, or up, is restarted.
+/// What can be played if the end that it needs is up: a key, a target and a body are put, a request is sent for any
+/// entry, whatever its state, and a stranger sends any bytes. An end that is down, or up, is restarted.
 pub fn can_be_played()
     ensures { (world : World) → CanPlay world }
 {}
 
-/// A report that is put stands behind the entries of its outbox, and is open, unless its body is too
-/// long or its key is used.
+/// A report that is put is the last entry of its outbox, and open, unless its body is too long or its key is used.
 pub fn adds_what_is_put()
     ensures { (old new : World) (outbox : ℕ) (box : Outbox) (key : List ℕ) (target : Option ℕ) (body : List ℕ)
         → numbered old.outboxes outbox ≡ Some box → length body ≤ max_body_len
@@ -33,22 +32,22 @@ pub fn adds_what_is_put()
 {}
 
 /// What a delivery completes. Of an entry's request it is that one request or nothing, and nothing
-/// where the delivery is cut before its last byte. Of any bytes, a stop before the first arrival lets
+/// if the delivery is cut before its last byte. Of any bytes, a stop before the first arrival lets
 /// nothing be completed, one before another arrival at most the arrivals before it, and one after an arrival
 /// at most that one besides.
 pub fn completes_no_more_than_came()
     ensures { (old new : World) (item given : ℕ) → CompletesAtMost old new item given }
 {}
 
-/// A delivery adds one output, which tells what was served: of which item, how many bytes of it came,
-/// as many as were to be given, or all where there are fewer, and what became of them.
+/// A delivery adds one output, which says what was served: of which item; how many bytes of it came, as many as the
+/// event gives, or all if there are fewer; and what became of them.
 pub fn tells_what_came()
     ensures { (old new : World) (item given : ℕ) (crash : Crash) (from : Sent)
         → numbered old.sent item ≡ Some from → Step old (Deliver item given crash) new
         → (output : Output) × IsDelivered old item given crash from output new }
 {}
 
-/// An outbox that stops before it has heard a reply leaves every entry in its state.
+/// An outbox that stops before it has read a reply leaves every entry in its state.
 pub fn hears_nothing_before_a_stop()
     ensures { (old new : World) (output given j : ℕ) → Step old (Hand output given (Before j)) new
         → states new ≡ states old }
@@ -64,7 +63,7 @@ pub fn moves_by_a_whole_reply()
         → Step old (Hand output given crash) new → HasEntry new outbox number (moved state reply) }
 {}
 
-/// An end is up after its event exactly where it was not stopped. While it is down the intake takes no
+/// An end is up after its event exactly if it was not stopped. While it is down the intake takes no
 /// delivery, and nothing is put into an outbox, sent from it or handed to it.
 pub fn is_down_after_a_stop()
     ensures { (old new : World) (given : ℕ) (crash : Crash) → IsUpUnlessStopped old new given crash }

@@ -1,4 +1,4 @@
-//! The lines that tell of findings.
+//! The lines of findings.
 
 use crate::rows::hold;
 use finding_lines::{Form, lines};

@@ -24,7 +24,7 @@ fn ends_of_blocks(rt: HostRuntime) {
     hold(&rt, rt.alloc(), BLOCKS, block);
 }
 
-/// The same of a text of a line end, many letters and this end.
+/// What is found of a block in a text of a line end, many letters and this end.
 fn long_block(alloc: Global, end: &str) -> Result<String, AllocError> {
     let letters = "a".repeat(alloc, 16_380)?;
     let text = format!(in alloc; "\r\n{letters}{end}")?;

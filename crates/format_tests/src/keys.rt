@@ -48,7 +48,7 @@ fn long_keys(rt: HostRuntime) {
     );
 }
 
-/// The field that spells a text as a key, or why the text is none.
+/// The field that spells a text as a key, or why the text is no key.
 fn spelled(alloc: Global, text: &str) -> Result<String, AllocError> {
     match KeyText::new(alloc, text) {
         Ok(key) => spelling(alloc, &key),

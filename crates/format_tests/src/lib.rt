@@ -1,7 +1,7 @@
 //! Tests of what is read and written as bytes or as a text: keys, heads, messages, replies, reports, the places of
 //! values in them, lines of findings, and scripts, through the public calls of the crates below. What may live here:
-//! tests alone, over no table and no file. They stand together, since tests prove the crate that they stand in once
-//! more, and this one has nothing else.
+//! tests alone, over no table and no file. They are together, since tests prove the crate that they are in once more,
+//! and this one has nothing else.
 #![tactic(auto)]
 
 #[cfg(test)]

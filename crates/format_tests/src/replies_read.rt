@@ -14,7 +14,7 @@ fn shown(alloc: Global, reply: &Reply) -> Result<String, AllocError> {
     format!(in alloc; "{status} {content}")
 }
 
-/// The reply that is read, or why none is.
+/// The reply that is read, or why no reply is read.
 fn told<R: Source>(alloc: Global, reader: &mut R) -> Result<String, AllocError> {
     match read_reply(alloc, reader) {
         Ok(reply) => shown(alloc, &reply),
@@ -144,7 +144,7 @@ fn read_again(alloc: Global, content: Vec<u8>) -> Result<String, AllocError> {
     told(alloc, &mut in_pieces(&bytes, 20_000))
 }
 
-/// A usual length, and one of more bytes than a connection is read times.
+/// A usual length, and one of more bytes than a connection may have reads.
 const LENGTHS: &[usize] = &[100_000, 5_000_000];
 
 #[test]

@@ -33,12 +33,12 @@ fn listed(alloc: Global, findings: &[Finding]) -> Result<String, AllocError> {
     Ok(text)
 }
 
-/// What is said of a body of ACME: how many facts it has, or what is found in it.
+/// What judging a body of ACME gives: how many facts it has, or what is found in it.
 fn told(alloc: Global, body: &str) -> Result<String, AllocError> {
     said_of(alloc, &judge(alloc, "ACME", body.as_bytes())?)
 }
 
-/// The same of one that is to replace a filing, which is free to be replaced or not.
+/// What judging a body of ACME gives that replaces a filing, which may be replaced or not.
 fn told_if(alloc: Global, (body, free): (&str, bool)) -> Result<String, AllocError> {
     said_of(
         alloc,
@@ -53,7 +53,7 @@ fn said_of(alloc: Global, judged: &Judged) -> Result<String, AllocError> {
     }
 }
 
-/// A fact as one line, with `-` for what it has not.
+/// A fact as one line, with `-` for each part that it lacks.
 fn line_of(alloc: Global, fact: &Fact) -> Result<String, AllocError> {
     let id = fact.id.as_str();
     let concept = fact.concept.as_str();

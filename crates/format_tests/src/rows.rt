@@ -3,7 +3,7 @@
 use std::alloc::{AllocError, Global};
 use std::process::Abort;
 
-/// Asserts that each row gives this.
+/// Asserts that each row gives its expected text.
 pub fn hold<R: Copy, F: Copy + FnOnce(Global, R) -> Result<String, AllocError>>(
     rt: &impl Abort,
     alloc: Global,

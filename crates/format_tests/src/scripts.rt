@@ -5,7 +5,7 @@ use event_script::read_script;
 use std::alloc::{AllocError, Global};
 use std::process::Abort;
 
-/// Whether a text is a script, or why it is none.
+/// Whether a text is a script, or why it is no script.
 fn told(alloc: Global, text: &str) -> Result<String, AllocError> {
     match read_script(alloc, text) {
         Ok(_script) => String::from_str(alloc, "a script"),
@@ -13,12 +13,12 @@ fn told(alloc: Global, text: &str) -> Result<String, AllocError> {
     }
 }
 
-/// The same of a text of one outbox and this line.
+/// Whether a text of one outbox and this line is a script, or why it is no script.
 fn told_of_line(alloc: Global, line: &str) -> Result<String, AllocError> {
     told(alloc, &format!(in alloc; "outbox ACME\n{line}\n")?)
 }
 
-/// Asserts that each line gives this.
+/// Asserts that each line gives this text.
 fn all_are(rt: &impl Abort, alloc: Global, lines: &[&str], text: &str) {
     for line in lines {
         let said = told_of_line(alloc, line).expect(rt, "no memory");
@@ -49,7 +49,7 @@ const UNREADABLE: &[&str] = &[
     "put 01 \"k-1\" x",
     "put -1 \"k-1\" x",
     "put 9223372036854775808 \"k-1\" x",
-    // Reports that are to replace filings.
+    // Reports that replace filings.
     "amend",
     "amend 1",
     "amend 1 1",

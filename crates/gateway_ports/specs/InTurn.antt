@@ -26,15 +26,15 @@ ServeInTurn requests (connection ∷ connections) =
     connection.output.ended connection.output.bytes
     × ServeInTurn (record requests { before = between }) connections
 
--- Of these bytes the first were read: all of them where the input ended, and so many as the limit has reads where that
--- ended it.
+-- The first of these bytes were read: all of them if the input ended, and at least as many as there may be reads if the
+-- limit of reads ended the connection.
 pub record IsReadOf (bytes : List ℕ) (connection : Connection) : Type 0 where
   pub more : List ℕ
   pub splits : bytes ≡ connection.read ++ more
   pub at_end : connection.output.ended ≡ InputEnded → more ≡ []
   pub limited : connection.output.ended ≡ Fault fault.ReadLimit → max_reads ≤ length connection.read
 
--- these are the first of the connections that were to come, where those are known, and the others are to come now
+-- if the coming connections are known, these were the first of them, and the others come next
 abbrev pub Came : Option (List (List ℕ)) → Option (List (List ℕ)) → List Connection → Type 0
 Came None after connections = Unit {0}
 Came (Some coming) after [] = after ≡ Some coming
@@ -42,7 +42,7 @@ Came (Some []) after (connection ∷ connections) = ⊥
 Came (Some (bytes ∷ coming)) after (connection ∷ connections) =
     IsReadOf bytes connection × Came (Some coming) after connections
 
--- So many came: these, and, where it is not known which come, perhaps some that their peers gave up before.
+-- How many connections came: these, and, if the coming ones are not known, perhaps some that their peers gave up first.
 abbrev pub AreCounted : Option (List (List ℕ)) → List Connection → ℕ → Type 0
 AreCounted None connections count = length connections ≤ count
 AreCounted (Some coming) connections count = length connections ≡ count
@@ -52,15 +52,15 @@ pub record AreServed (requests : Keeping) (old new : Traffic) (connections : Lis
     : Type 0 where
   pub in_turn : ServeInTurn requests connections
   pub came : Came old.coming new.coming connections
-  -- where it is answered how many were taken, these are so many, and the port was told what each came to
+  -- if the answer says how many were taken, these are as many, and the port got what became of each
   pub counted : IfSome taken (AreCounted old.coming connections)
   pub told : IfSome taken (λ _. Grows old.over new.over (outputs_of connections))
 
--- What serving some connections of a port does with it and with an intake. `taken` says how many came, where that is
--- answered.
+-- What serving some connections of a port does with it and with an intake. `taken` says how many came, if the answer
+-- has it.
 pub record ServesSome {S : Type 0} (g : Ghosts S) (port port' : Traffic) (old new : Intake S) (taken : Option ℕ)
     : Type 0 where
-  -- where the disk is clean at the end, some connections were served, the first after the requests that were kept
+  -- if the disk is clean at the end, some connections were served, the first after the requests that were kept
   -- before
   pub serves : IsTransition g old new (λ old_style before after. (connections : List Connection)
       × AreServed (keeping (limit_of old) old_style before after) port port' connections taken)

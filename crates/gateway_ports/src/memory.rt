@@ -9,7 +9,7 @@ use http_wire::{Device, MemoryWriter};
 use std::alloc::{AllocError, Global};
 use std::io;
 
-/// What a connection came to that is over.
+/// What became of a connection that is over.
 #[derive(Drop)]
 pub struct Finished {
     pub marks: Vec<Mark>,
@@ -38,7 +38,7 @@ impl<'a> Queue<'a> {
         }
     }
 
-    /// What the connections came to that are over, in the order in which they came.
+    /// What became of the connections that are over, in the order in which they came.
     pub fn finished(&self) -> &[Finished]
         ensures { (traffic_of self.now).over ≡ Some (map output_of result.now) }
     {

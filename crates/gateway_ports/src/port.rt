@@ -17,7 +17,7 @@ pub trait Port {
     /// What writes on it.
     type Writer: Sink + Drop;
 
-    // What comes from here on, and what the connections came to that are over, where these are known.
+    // What comes from here on, and what became of the connections that are over, if that is known.
     ghost traffic: { Self → Traffic };
 
     /// Begins to listen. No connection comes on a port that isn't listened on. A port whose connections are known
@@ -26,11 +26,11 @@ pub trait Port {
         ensures same { traffic self.new ≡ traffic self.old }
         ensures refused { IfErr result (λ _. (traffic self.old).coming ≡ None) };
 
-    /// Waits for the next connection. None is one that its peer gave up before.
+    /// Waits for the next connection; `None` if its peer gave it up first.
     fn accept(&mut self) -> io::Result<Option<(Self::Reader, Self::Writer)>>
         ensures { Comes (wire Self.Reader.Source Self.Writer.Sink) (traffic self.old) (traffic self.new) result };
 
-    /// Takes a connection back that is over, and what it came to.
+    /// Takes back a connection that is over, and what became of it.
     fn end(
         &mut self,
         reader: Self::Reader,

@@ -19,7 +19,7 @@ pub enum PortFault {
     /// The port gives none.
     #[error("{0}")]
     Network(#[from] io::Error),
-    /// No memory was left to keep what one came to.
+    /// No memory was left to keep what became of one.
     #[error("out of memory")]
     Memory,
 }
@@ -31,8 +31,8 @@ impl From<AllocError> for PortFault {
 }
 
 /// Serves the connections that come on a port, each after the requests that the one before it left, until so many came
-/// or the database refuses a call. It answers how many came. One that ends in a fault, or that its peer gave up before,
-/// counts as well. None is taken if the database refused a call before.
+/// or the database refuses a call. It answers how many came. One that ends in a fault, or that its peer gave up first,
+/// counts as well. None is taken if the database refused an earlier call.
 pub fn serve_each<P: Port, S: Alter>(
     alloc: Global,
     port: &mut P,

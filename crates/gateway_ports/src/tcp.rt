@@ -14,12 +14,12 @@ use std::net::{TcpListener, TcpStream};
 pub struct TcpPort<'r> {
     rt: &'r HostRuntime,
     number: u16,
-    /// None until it is listened on.
+    /// `None` until it listens.
     listener: Option<TcpListener>,
 }
 
 impl<'r> TcpPort<'r> {
-    /// The port of this number, which nobody listens on yet.
+    /// The port of this number, which does not listen yet.
     pub fn new(rt: &'r HostRuntime, number: u16) -> TcpPort<'r> {
         TcpPort {
             rt,
@@ -28,14 +28,14 @@ impl<'r> TcpPort<'r> {
         }
     }
 
-    /// Waits for the next connection. None is one that its peer gave up before.
+    /// Waits for the next connection; `None` if its peer gave it up first.
     pub fn next_stream(&self) -> io::Result<Option<TcpStream>> {
         let Some(listener) = &self.listener else {
             return Err(io::ErrorKind::NotConnected.into());
         };
         match listener.accept() {
             Ok((stream, _)) => {
-                // Replies are written whole, and without this each may wait for the peer to tell of the one before.
+                // Replies are written whole, and without this each may wait until the peer acknowledges the one before.
                 let _ = stream.set_nodelay(true);
                 Ok(Some(stream))
             }

@@ -4,7 +4,7 @@ use Rattle.std.specs.Char.{is_ascii_digit}
 use Rattle.std.specs.List.{list_all}
 use Rattle.gateway_requests.specs.declared.path.FilingsPath.{FilingsPath}
 
--- the filer, and the number where there is one
+-- the filer, and the number if there is one
 abbrev pub view_path : FilingsPath → List ℕ × Option ℕ
 view_path named = (named.filer.now, named.number)
 

@@ -54,7 +54,7 @@ key_field = codes "idempotency-key"
 abbrev pub IsKeyOf : List (List ℕ) → List ℕ → Type 0
 IsKeyOf values key = (value : List ℕ) × (values ≡ value ∷ []) × (key_of_field value ≡ Some key)
 
--- there is no value; there are several, or the one spells no key; where memory runs out nothing is said of them
+-- there is no value; there are several, or the only one spells no key; of lack of memory nothing is said
 abbrev pub NoKeyOf : List (List ℕ) → NoKey → Type 0
 NoKeyOf values Missing = values ≡ []
 NoKeyOf values Bad =

@@ -12,10 +12,9 @@ use filing_model::{Completed, Mark};
 use http_wire::{Block, HeadFault, Message, find_block, read_head};
 use std::alloc::{AllocError, Global};
 
-/// The requests that a connection of these bytes completed, in order: those of its filed requests
-/// that are marked Done. The marks are those of the first requests, and of what was refused in the
-/// place of one; nothing is completed by a mark beyond the last of these. The bytes are all that were
-/// given to the connection, or the first of them.
+/// The requests that a connection of these bytes completed, in order: those of its filed requests that are marked Done.
+/// The marks are those of the first requests, and of what was refused in the place of one; a mark beyond the last of
+/// these completes nothing. The bytes are all that were given to the connection, or the first of them.
 pub fn completed(alloc: Global, bytes: &[u8], marks: &[Mark]) -> Result<Vec<Completed>, AllocError>
     ensures all { IfOk result (λ list. (arrivals : List Arrival) (ending : Ending)
         → HasArrivals bytes.now arrivals ending → list.items ≡ completed arrivals marks.now) }

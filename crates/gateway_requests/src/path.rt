@@ -16,7 +16,7 @@ const FILINGS: &[u8] = b"/filings/";
 /// The greatest number that a filing may have.
 const MAX_NUMBER: u64 = (1 << 63) - 1;
 
-/// What stands behind `/filings/` in a path: a filer's code, and the number of a filing where there is one.
+/// What a path has behind `/filings/`: a filer's code, and the number of a filing if there is one.
 #[derive(Clone, Copy)]
 pub(crate) struct FilingsPath<'a> {
     pub(crate) filer: &'a str,

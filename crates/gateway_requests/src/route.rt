@@ -24,7 +24,7 @@ pub enum Rejection {
     ContentCoding,
     /// There is no `Idempotency-Key`.
     KeyMissing,
-    /// There are several, or the one spells no key.
+    /// There are several, or the only one spells no key.
     KeyBad,
 }
 
@@ -41,7 +41,7 @@ impl Rejection {
         }
     }
 
-    /// The word by which the reply tells it (own rule).
+    /// The word of the reply for it (own rule).
     pub fn word(self) -> &'static str
         ensures { result.now ≡ rejection_word self }
     {

@@ -21,7 +21,7 @@ abbrev pub closes_after : Arrival → Bool
 closes_after (Read message) = closes message.head
 closes_after (Refused refusal) = true
 
--- the arrival has a mark more, and what is kept follows from it
+-- the arrival got a mark, and what is kept follows from it
 pub record IsMarked (limit : ℕ) (before after : List Request) (arrival : Arrival) (old new : List Mark) : Type 0 where
   pub mark : Mark
   pub marks : new ≡ old ++ mark ∷ []
@@ -42,7 +42,7 @@ Marks limit old_style before after arrival old new result =
     MatchResult result (λ d. IsDecided limit old_style before after arrival old new d) (λ _. (after ≡ before)
     × (new ≡ old))
 
--- what of a text was written before a fault: as many bytes as it says, or nothing where memory ran out
+-- what of a text was written before a fault: as many bytes as a failed write says, or nothing if memory ran out
 abbrev pub WritesPart : Option (List ℕ) → Option (List ℕ) → List ℕ → ConnFault → Type 0
 WritesPart from to text ReadFault = ⊥
 WritesPart from to text (Write sent) = (sent ≤ length text) × Appends from to (take sent text)
@@ -53,7 +53,7 @@ WritesPart from to text Memory = Appends from to []
 abbrev pub WritesText : Option (List ℕ) → Option (List ℕ) → List ℕ → Result (Unit {0}) ConnFault → Type 0
 WritesText from to text result = MatchResult result (λ _. Appends from to text) (WritesPart from to text)
 
--- a reply fails by the writer, or because memory runs out where the writer didn't fail: its failures before and after
+-- why a reply failed, by the writer's failures before and after: the writer failed, or memory ran out and it did not
 abbrev pub IsReplyFault : ℕ → ℕ → ConnFault → Type 0
 IsReplyFault failures failures' ReadFault = ⊥
 IsReplyFault failures failures' (Write sent) = HasFailed failures failures'

@@ -40,9 +40,9 @@ pub record HasServed (requests : Keeping) (bytes rest : List ℕ) (marks : List 
   pub written : out ≡ text_with requests.old_style requests.before (map Read messages) Ending.Closed marks
   pub kept : requests.after ≡ kept_by requests.before (completed (map Read messages) marks)
 
--- The text that is written next, where a rest follows what was served, after the old-style requests and those that are
--- kept now: with no mark more, the interim response that the rest asks for; with one more, the reply to the arrival
--- with which the rest begins, behind what leads it.
+-- The text that is written next if `rest` follows what was served, after the old-style requests and those that are kept
+-- now. With no further mark it is the interim response that the rest asks for; with one further mark, the reply to the
+-- arrival with which the rest begins, behind its interim response.
 abbrev pub IsNextText : List Request → List Request → List ℕ → List Mark → List ℕ → List ℕ → Type 0
 IsNextText old_style now rest [] lead text = Asks rest true × (lead ≡ []) × (text ≡ interim)
 IsNextText old_style now rest (mark ∷ []) lead text =
@@ -85,14 +85,14 @@ IsEndedByFault old new (fault.Write sent) = WriterFailed old new
 IsEndedByFault old new fault.ReadLimit = NoneFailed old new
 IsEndedByFault old new fault.Memory = NoneFailed old new
 
--- why it ended: where it was not by a fault, neither failed
+-- why a connection ended; without a fault neither the reader nor the writer failed
 abbrev pub IsEndedBy : Wire → Wire → Ended → Type 0
 IsEndedBy old new Closed = NoneFailed old new
 IsEndedBy old new InputEnded = NoneFailed old new
 IsEndedBy old new (Fault fault) = IsEndedByFault old new fault
 
--- The limit of reads is said by bytes, since a reader names its bytes and not its reads: so many reads gave at least a
--- byte each.
+-- The limit of reads is stated in bytes, since a reader names its bytes and not its reads: each of so many reads gave
+-- at least one byte.
 abbrev pub IsLimited : Wire → Wire → Ended → Type 0
 IsLimited old new ended = ended ≡ Fault fault.ReadLimit
     → (bytes : List ℕ) × Consumes old.left new.left bytes × (max_reads ≤ length bytes)
@@ -100,7 +100,7 @@ IsLimited old new ended = ended ≡ Fault fault.ReadLimit
 -- What serving a connection to its end does with its wire and an intake, and what it came to.
 pub record ServesToEnd {S : Type 0} (g : Ghosts S) (from to : Wire) (old new : Intake S) (result
     : Served) : Type 0 where
-  -- where the disk is clean at the end, all that was read and written, marked and kept is what serving these bytes does
+  -- if the disk is clean at the end, all that was read and written, marked and kept is what serving these bytes does
   pub serves : IsTransition g old new (λ old_style before after. ServesConnection
       (keeping (limit_of old) old_style before after) from to result.marks.items result.ended)
   -- as many keys may be kept as before, and a disk that is clean at the end was clean before
@@ -113,7 +113,7 @@ pub record ServesToEnd {S : Type 0} (g : Ghosts S) (from to : Wire) (old new : I
 
 -- ---- of a part of a connection, with its inbox; no public clause cites what follows
 
--- Since the connection began, so much was read and written, and so far that is served. Each read that is counted gave a
+-- What was read and written since the connection began, and how far that is served. Each read that is counted gave a
 -- byte.
 pub record GoesOn (requests : Keeping) (old new : Wire) (inbox : Inbox) (marks : List Mark) : Type 0 where
   pub got : List ℕ
@@ -124,7 +124,8 @@ pub record GoesOn (requests : Keeping) (old new : Wire) (inbox : Inbox) (marks :
   pub served : HasServed requests got (unread inbox) marks sent
   pub more : is_over inbox ≡ false
 
--- The same, where a message is lent that is neither answered nor marked. Its interim response was written.
+-- What was read, written and served if a message is lent that is neither answered nor marked. Its interim response was
+-- written.
 pub record HasMessage (requests : Keeping) (old new : Wire) (inbox : Inbox) (marks : List Mark) : Type 0 where
   pub got : List ℕ
   pub sent : List ℕ
@@ -134,7 +135,7 @@ pub record HasMessage (requests : Keeping) (old new : Wire) (inbox : Inbox) (mar
   pub served : HasServed requests got (held inbox) marks sent
   pub lends : LendsFirst inbox
 
--- the same, where the bytes that are held begin with what is refused
+-- what was read, written and served if the bytes that are held begin with what is refused
 pub record HasRefusal (requests : Keeping) (old new : Wire) (inbox : Inbox) (refusal : Refusal)
     (marks : List Mark) : Type 0 where
   pub got : List ℕ
@@ -144,11 +145,11 @@ pub record HasRefusal (requests : Keeping) (old new : Wire) (inbox : Inbox) (ref
   pub served : HasServed requests got (held inbox) marks sent
   pub refused : IsRefused (held inbox) refusal
 
--- the same but for what is written
+-- the wire with another record of what was written
 abbrev pub with_written : Wire → Option (List ℕ) → Wire
 with_written wire written = record wire { written = written }
 
--- how an answer ends it: the writer's failures before and after
+-- how an answer ends a connection, by the writer's failures before and after it
 abbrev pub IsEndedByReply : ℕ → ℕ → Ended → Type 0
 IsEndedByReply failures failures' Closed = failures' ≡ failures
 IsEndedByReply failures failures' InputEnded = ⊥
@@ -158,8 +159,8 @@ IsEndedByReply failures failures' (Fault fault) = IsReplyFault failures failures
 abbrev pub ReadsSome : Option (List ℕ) → Option (List ℕ) → Inbox → Inbox → Type 0
 ReadsSome left left' old new = (bytes : List ℕ) × Consumes left left' bytes × (reads new ≤ reads old + length bytes)
 
--- which fault ended it: the limit, where all reads were made that may give bytes, and one more was wanted; and memory
--- only where fewer were made, or no end of a block is waited for
+-- Which fault ended a connection. The limit comes if all reads that may give bytes were made and one more was wanted;
+-- memory only if fewer were made, or the inbox does not wait for the end of a block.
 abbrev pub TellsLimit : Inbox → Ended → Type 0
 TellsLimit inbox Closed = Unit {0}
 TellsLimit inbox InputEnded = Unit {0}

@@ -1,4 +1,4 @@
--- What serving a connection does that may be stopped at one of its requests.
+-- What serving a connection does if it may be stopped at one of its requests.
 use Rattle.std.specs.Prelude.{◌≡◌, ℕ, suc, ◌≤◌, max, Bool, true, false, List, length, Option, Some, None, IsSome}
 use Rattle.std.specs.Prelude.{IfSome}
 use Rattle.std.specs.Io.KnownBytes.{Consumes, Appends, IsAtEnd}
@@ -43,19 +43,19 @@ pub record ServesConnectionUntil (requests : Keeping) (old new : Wire) (crash : 
   pub limited : ended ≡ Some (how.Fault fault.ReadLimit) → max_reads ≤ length got
   pub failed : (n : ℕ) → ended ≡ Some (how.Fault (fault.Write n)) → FailsWithin requests got marks sent n
 
--- So many marks there are where it was stopped: those of the requests before the one to stop at, and where it stopped
--- after that, its mark too.
+-- How many marks there are after a stop: those of the requests before the one to stop at, and one more if it stopped
+-- after that one.
 abbrev pub IsCountAtStop : Crash → ℕ → Type 0
 IsCountAtStop No count = ⊥
 IsCountAtStop (Before j) count = suc count ≡ max 1 j
 IsCountAtStop (After j) count = count ≡ max 1 j
 
--- So many marks there are where it was stopped, or where it ended before the request to stop at.
+-- How many marks there are after a stop, or after an end before the request to stop at.
 abbrev pub IsCountUntil : Crash → ℕ → Option Ended → Type 0
 IsCountUntil crash count None = IsCountAtStop crash count
 IsCountUntil crash count (Some ended) = ComeBefore crash count
 
--- why it ended; where it was stopped, neither the reader nor the writer failed
+-- why serving ended; if it was stopped, neither the reader nor the writer failed
 abbrev pub IsEndedOrStoppedBy : Wire → Wire → Option Ended → Type 0
 IsEndedOrStoppedBy old new None = NoneFailed old new
 IsEndedOrStoppedBy old new (Some ended) = IsEndedBy old new ended
@@ -63,7 +63,7 @@ IsEndedOrStoppedBy old new (Some ended) = IsEndedBy old new ended
 -- What serving a connection up to its end or to a stop does with its wire and an intake, and what it came to.
 pub record ServesUpTo {S : Type 0} (g : Ghosts S) (from to : Wire) (old new : Intake S) (at : Stop)
     (result : Partly) : Type 0 where
-  -- where the disk is clean at the end, all that was read and written, marked and kept is what serving these bytes up
+  -- if the disk is clean at the end, all that was read and written, marked and kept is what serving these bytes up
   -- to the stop does
   pub serves : IsTransition g old new (λ old_style before after. ServesConnectionUntil
       (keeping (limit_of old) old_style before after) from to (view_stop at) result.marks.items result.ended)
@@ -74,7 +74,7 @@ pub record ServesUpTo {S : Type 0} (g : Ghosts S) (from to : Wire) (old new : In
   pub limited : IfSome result.ended (IsLimited from to)
   -- what went out, whatever the disk did
   pub texts : WritesTexts from.written to.written result.ended
-  -- so many marks there are, whatever the disk did; and where no stop is asked for, it ended
+  -- how many marks there are, whatever the disk did; if no stop is asked for, the connection ended
   pub counted : IsCountUntil (view_stop at) (length result.marks.items) result.ended
   pub never : at ≡ stop.Never → IsSome result.ended
 
@@ -106,49 +106,49 @@ end_of On = None
 end_of Stopped = None
 end_of (Ends ended) = Some ended
 
--- it goes on, or was stopped, or has ended so
+-- the connection goes on, was stopped, or has ended
 abbrev pub Continues : Keeping → Wire → Wire → Inbox → Crash → List Mark → Turn → Type 0
 Continues requests old new inbox crash marks On = GoesOn requests old new inbox marks
 Continues requests old new inbox crash marks Stopped = StopsConnection requests old new crash marks
 Continues requests old new inbox crash marks (Ends ended) = ServesConnection requests old new marks ended
 
--- it was stopped, or has ended so
+-- the connection was stopped, or has ended
 abbrev pub StopsOrEnds : Keeping → Wire → Wire → Crash → List Mark → Option Ended → Type 0
 StopsOrEnds requests old new crash marks None = StopsConnection requests old new crash marks
 StopsOrEnds requests old new crash marks (Some ended) = ServesConnection requests old new marks ended
 
--- so many marks there are after it
+-- how many marks there are after an arrival
 abbrev pub IsCountAt : Crash → ℕ → Turn → Type 0
 IsCountAt crash count On = ComeBefore crash count
 IsCountAt crash count Stopped = IsCountAtStop crash count
 IsCountAt crash count (Ends ended) = ComeBefore crash count
 
--- neither the reader nor the writer failed, unless it ended so
+-- neither the reader nor the writer failed, unless that ended the connection
 abbrev pub IsTurnBy : Wire → Wire → Turn → Type 0
 IsTurnBy old new On = NoneFailed old new
 IsTurnBy old new Stopped = NoneFailed old new
 IsTurnBy old new (Ends ended) = IsEndedBy old new ended
 
--- the same of an answer, by the failures of the writer
+-- the writer did not fail at an answer, unless that ended the connection
 abbrev pub IsTurnByReply : ℕ → ℕ → Turn → Type 0
 IsTurnByReply failures failures' On = failures' ≡ failures
 IsTurnByReply failures failures' Stopped = failures' ≡ failures
 IsTurnByReply failures failures' (Ends ended) = IsEndedByReply failures failures' ended
 
--- which fault ended it, if one did
+-- which fault ended the connection, if one did
 abbrev pub TellsTurn : Inbox → Turn → Type 0
 TellsTurn inbox On = Unit {0}
 TellsTurn inbox Stopped = Unit {0}
 TellsTurn inbox (Ends ended) = TellsLimit inbox ended
 
--- it was stopped where the stop is after the request of this number, and only there
+-- the connection was stopped exactly if the stop is after the request of this number
 abbrev pub IsStoppedAfter : Crash → ℕ → Turn → Type 0
 IsStoppedAfter crash number On = ¬ (IsAfter crash number)
 IsStoppedAfter crash number Stopped = IsAfter crash number
 IsStoppedAfter crash number (Ends ended) = ¬ (IsAfter crash number)
 
--- A reply of this text was written, and the connection goes on or closes; or nothing of it; or a fault came after the
--- part that it says.
+-- A reply of this text was written, and the connection goes on or closes; or it was stopped, and nothing was written;
+-- or a fault came after a part of the text, as long as the fault says.
 abbrev pub Replies : Option (List ℕ) → Option (List ℕ) → List ℕ → Bool → Turn → Type 0
 Replies from to text close On = Appends from to text × (close ≡ false)
 Replies from to text close Stopped = to ≡ from

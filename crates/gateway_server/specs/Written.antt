@@ -12,14 +12,14 @@ use Rattle.filing_model.specs.declared.served.Ended.TheVariants.{Fault}
 abbrev pub IsText : List ℕ → Type 0
 IsText text = (text ≡ interim) ⊎ ((reply : ReplyParts) × (close : Bool) × (text ≡ render reply close))
 
--- what went out of a text that isn't whole: where a write failed, its first bytes, as many as that says; otherwise
--- there is none
+-- the part of a further text that went out: its first bytes after a failed write, as many as the fault says, and
+-- otherwise nothing
 abbrev pub IsPart : Option Ended → List ℕ → Type 0
 IsPart (Some (Fault (fault.Write sent))) part =
     (text : List ℕ) × IsText text × (sent ≤ length text) × (part ≡ take sent text)
 IsPart _ part = part ≡ []
 
--- Whole texts went out, and behind them a part of one more where a write failed. Nothing else did.
+-- Whole texts went out, and behind them a part of one more if a write failed. Nothing else did.
 pub record WritesTexts (before after : Option (List ℕ)) (ended : Option Ended) : Type 0 where
   pub texts : List (List ℕ)
   pub are_texts : All IsText texts

@@ -21,7 +21,7 @@ use intake_core::{Intake, word_reply};
 use sqlite::Alter;
 use std::alloc::{AllocError, Global};
 
-/// Decides a message and marks it. Where memory runs out before it is decided, it has no mark.
+/// Decides a message and marks it. If memory runs out before it is decided, it has no mark.
 pub(crate) fn mark<S: Alter>(
     alloc: Global,
     message: &Message,
@@ -42,7 +42,7 @@ pub(crate) fn mark<S: Alter>(
     Ok(mark_route(alloc, message, asked, intake, marks))
 }
 
-/// Decides and marks a message that asks for this.
+/// Decides and marks a message with this route.
 fn mark_route<S: Alter>(
     alloc: Global,
     message: &Message,

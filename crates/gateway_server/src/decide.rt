@@ -28,7 +28,7 @@ pub(crate) struct Decided {
     pub(crate) reply: Result<Reply, AllocError>,
 }
 
-/// Answers a message with this body that asks for this.
+/// Answers a message with this body and this route.
 pub(crate) fn decide<S: Alter>(
     alloc: Global,
     intake: &mut Intake<S>,

@@ -40,23 +40,22 @@ pub struct Served {
 pub struct Partly {
     /// A mark for each request that was decided, and for what was refused in the place of one.
     pub marks: Vec<Mark>,
-    /// How the connection ended; nothing where it was stopped.
+    /// How the connection ended; `None` if it was stopped.
     pub ended: Option<Ended>,
 }
 
-/// What one arrival came to.
+/// What became of one arrival.
 #[derive(Drop)]
 enum Turn {
     /// The connection goes on.
     On,
-    /// It was stopped at this arrival.
+    /// The connection was stopped at this arrival.
     Stopped,
     Ended(Ended),
 }
 
-/// Serves a connection up to its end: reads its requests one after another, decides each on the
-/// intake, and writes the replies. A failed write is told with how many bytes it took of the reply, or
-/// of the interim response, in which it failed.
+/// Serves a connection up to its end: reads its requests one after another, decides each on the intake, and writes the
+/// replies. A failed write says how many bytes it took of the reply, or of the interim response, in which it failed.
 pub fn serve<R: Source, W: Sink, S: Alter>(
     alloc: Global,
     reader: &mut R,
@@ -135,7 +134,7 @@ fn serve_arrivals<R: Source, W: Sink, S: Alter>(
     }
 }
 
-/// Serves the next arrival. Where the connection goes on, there is one mark more.
+/// Serves the next arrival. If the connection goes on, one mark was added.
 fn serve_arrival<R: Source, W: Sink, S: Alter>(
     alloc: Global,
     inbox: &mut Inbox,

@@ -20,7 +20,7 @@ const REQUEST: Text = &[
     (REPORT, 1),
 ];
 
-/// The first line of the request of an entry that is to replace filing 1, 31 bytes.
+/// The first line of the request of an entry that replaces filing 1: 31 bytes.
 const AMENDMENT: &str = "POST /filings/ACME/1 HTTP/1.1\r\n";
 
 /// The outbox of a filer with one entry, which is open; `None` if memory is refused.
@@ -205,7 +205,7 @@ static EXCHANGES: [Exchange; 12] = [
     ),
 ];
 
-/// Whether an exchange goes as it is to go.
+/// Whether an exchange goes as expected.
 fn goes<S: Alter>(
     alloc: Global,
     outbox: &mut Outbox<S>,
@@ -226,7 +226,7 @@ fn goes<S: Alter>(
     given == answer && output.as_slice() == front(request, sent) && state_of(outbox) == Some(state)
 }
 
-/// Asserts it of each.
+/// Asserts that each exchange goes as expected.
 fn hold<S: Fresh>(rt: &impl Abort, alloc: Global) -> Result<(), Fail> {
     let request = bytes_of(alloc, REQUEST)?;
     let mut outbox: Outbox<S> = with_entry(alloc).ok_or("the outbox is not made")?;
@@ -278,7 +278,7 @@ fn each_front_of_a_reply_is_cut(rt: HostRuntime) -> Result<(), Fail> {
     fronts_are_cut::<MemStore>(&rt, rt.alloc())
 }
 
-/// Asserts that the request of an entry that is to replace a filing says so in its path.
+/// Asserts that the request of an entry that replaces a filing says so in its path.
 fn path_has_the_number<S: Fresh>(rt: &impl Abort, alloc: Global) -> Result<(), Fail> {
     let mut outbox: Outbox<S> = S::outbox(alloc).ok_or("the outbox is not made")?;
     put_amendment(alloc, &mut outbox).ok_or("the report is not put")?;

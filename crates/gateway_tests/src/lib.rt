@@ -1,6 +1,6 @@
 //! Tests of what goes between both ends, through the public calls of the crates below: the worked examples, and the
-//! exchanges of an outbox. What may live here: tests alone. They stand together, since tests prove the crate that they
-//! stand in once more, and this one has nothing else.
+//! exchanges of an outbox. What may live here: tests alone. They are together, since tests prove the crate that they
+//! are in once more, and this one has nothing else.
 #![tactic(auto)]
 
 #[cfg(test)]

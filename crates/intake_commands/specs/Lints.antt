@@ -8,7 +8,7 @@ use Rattle.report_tasks.specs.declared.fault.LintFault.TheVariants as lint
 use Rattle.intake_commands.specs.declared.fault.Fault.{Fault}
 use Rattle.intake_commands.specs.declared.fault.Fault.TheVariants as fault
 
--- the status is answered, or the fault is told as it is
+-- the status is answered, or the fault is reported as it is
 abbrev pub IsLintTold : Result ℕ LintFault → Result ℕ Fault → Type 0
 IsLintTold (Ok status) result = result ≡ Ok status
 IsLintTold (Err (lint.Report why)) result = result ≡ Err (fault.Report why)

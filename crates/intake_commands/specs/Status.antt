@@ -1,4 +1,4 @@
--- The status that `intake` ends with, and what a fault says of the register.
+-- The exit status of `intake`, and what a fault says of the register.
 use Rattle.std.specs.Prelude.{ℕ, Option, Some, None, Result, Ok, Err}
 use Rattle.command_line.specs.Reports.{report_status}
 use Rattle.database_places.specs.Verdicts.{verdict_of}
@@ -16,14 +16,14 @@ use Rattle.intake_commands.specs.declared.fault.VisitFault.TheVariants as visit
 
 -- ---- statuses
 
--- 1 if the database is no sound register, and else 3
+-- 1 if the database is no sound register, and otherwise 3
 abbrev pub opening_status : OpenFault → ℕ
 opening_status opening.NotOurs = 1
 opening_status (opening.Damaged row) = 1
 opening_status opening.Memory = 3
 opening_status opening.Disk = 3
 
--- 1 also if it cannot become one, and 4 if a filing is missing
+-- the status is 1 also if the database cannot become a register, and 4 if a filing is missing
 abbrev pub visit_status : VisitFault → ℕ
 visit_status (visit.Taken holding) = 1
 visit_status (visit.Create create.Taken) = 1
@@ -37,7 +37,7 @@ visit_status (visit.NotClosed error) = 3
 visit_status (visit.List why) = 3
 visit_status (visit.NoFiling number) = 4
 
--- 2 where the command line is at fault, and 3 for memory, the disk, a folder and the network
+-- 2 if the command line is at fault, and 3 for memory, the disk, a folder and the network
 abbrev pub fault_status : Fault → ℕ
 fault_status (fault.Command why) = command_line.status_of why
 fault_status fault.NoInit = 2
@@ -49,7 +49,7 @@ fault_status (fault.Connection why) = 3
 fault_status (fault.Network port error) = 3
 fault_status (fault.Page why) = 3
 
--- the status of a task that came out so
+-- the status of a task, by its result
 abbrev pub status_of : Result ℕ Fault → ℕ
 status_of (Ok status) = status
 status_of (Err why) = fault_status why

@@ -33,8 +33,8 @@ use Rattle.intake_commands.specs.Lints.{Lints}
 use Rattle.intake_commands.specs.Status.{status_of, fault_verdict}
 use Rattle.intake_commands.specs.Told.{IsErrandTold, IsOpeningTold}
 
--- What contracts see of what a task works with, where it is known: the connection on standard input and output, what
--- else the output has, which pages the folder has, the port, and the process of the register.
+-- What contracts see of what a task works with, as far as it is known: the connection on standard input and output,
+-- what else the output has, which pages the folder has, the port, and the process of the register.
 pub record Means {D : Type 0} (g : Ghosts D) : Type 0 where
   pub wire : Wire
   pub out : Option (List ℕ)
@@ -49,7 +49,7 @@ means wire out pages port process = record { wire = wire; out = out; pages = pag
 
 -- ---- run: one connection is served on a register in memory
 
--- it did not end by a fault
+-- the connection did not end by a fault
 abbrev pub IsOver : Ended → Type 0
 IsOver ended.Closed = Unit {0}
 IsOver ended.InputEnded = Unit {0}
@@ -64,7 +64,7 @@ Runs limit from to (Err other) = ⊥
 
 -- ---- serve: connections of a port are served on the register of a file
 
--- how it came out is the status, or the fault that is told of it
+-- the status is 0 if the port was served; otherwise a fault is reported, by why it was not
 abbrev pub IsServingTold : Serving → Result (Unit {0}) ServingFault → Result ℕ Fault → Type 0
 IsServingTold task (Ok done) result = result ≡ Ok 0
 IsServingTold task (Err (refused.Register why)) result =
@@ -72,7 +72,7 @@ IsServingTold task (Err (refused.Register why)) result =
 IsServingTold task (Err (refused.Port (network.Network error))) result = result ≡ Err (fault.Network task.port error)
 IsServingTold task (Err (refused.Port network.Memory)) result = result ≡ Err (fault.Command command.Memory)
 
--- with the task's limit, its number of connections, and a register that is new or not
+-- the port is served with the task's limit and number of connections, on a register that is new or not
 abbrev pub Serves : {D : Type 0} {g : Ghosts D} → Serving → Traffic → Traffic → Parts g → Parts g → Result ℕ Fault
     → Type 0
 Serves task port port' old new result =
@@ -83,13 +83,13 @@ Serves task port port' old new result =
 
 -- ---- list, show, check, migrate, export and pages: the register of a file is visited
 
--- a filer's code is one
+-- whether the filer's code of an errand, if it has one, is the code of a filer
 abbrev pub is_wanted : Errand → Bool
 is_wanted (asked.List filer) = is_filer filer.now
 is_wanted (asked.Export form (Some filer)) = is_filer filer.now
 is_wanted other = true
 
--- what is printed of a fault beside the text on standard error: of a check and a migration the verdict on the register
+-- the verdict that is printed, beside the text of a fault on standard error: that of a check or a migration
 abbrev pub shown_verdict : Errand → Fault → Option Verdict
 shown_verdict asked.Check why = fault_verdict why
 shown_verdict asked.Migrate why = fault_verdict why
@@ -102,7 +102,7 @@ EndsWith (Some verdict) told out out' result =
     ((result ≡ Err told) × Appends out out' (verdict_text verdict (codes "a register")))
     ⊎ ((result ≡ Err (fault.Command command.Output)) ⊎ ((result ≡ Err (fault.Command command.Memory)) × (out' ≡ out)))
 
--- the status is 0 if the errand is done, and else that of the fault that is told
+-- the status is 0 if the errand is done; otherwise a fault is reported, by why it is not
 abbrev pub IsVisitTold : Bor (List ℕ) → Errand → Result (Unit {0}) ErrandFault → Option (List ℕ) → Option (List ℕ)
     → Result ℕ Fault → Type 0
 IsVisitTold name errand (Ok done) out out' result = (result ≡ Ok 0) × (out' ≡ out)
@@ -118,11 +118,11 @@ Visits name errand out out' old new result =
 
 -- ---- a task
 
--- that a filer's code is none is told, and nothing is done
+-- the fault that a code is no filer's is reported, and nothing is done
 abbrev pub IsNoFiler : {D : Type 0} {g : Ghosts D} → Means g → Means g → Result ℕ Fault → Type 0
 IsNoFiler old new result = (new ≡ old) × (result ≡ Err (fault.Command command.Filer))
 
--- nothing but what is named changes
+-- what each task does; nothing changes but what is named
 abbrev pub Does : {D : Type 0} {g : Ghosts D} → Task → Means g → Means g → Result ℕ Fault → Type 0
 Does (task.Run limit) old new result = (new ≡ record old { wire = new.wire }) × Runs limit old.wire new.wire result
 Does (task.Serve serving) old new result =
@@ -135,6 +135,6 @@ Does (task.Visit name errand) old new result =
 Does (task.Lint filer form files) old new result =
     (new ≡ record old { out = new.out }) × Lints form filer.now files.items old.out new.out result
 
--- What performing a task does, and the status.
+-- What performing a task does, and which status it answers.
 abbrev pub Performs : {D : Type 0} {g : Ghosts D} → Task → Means g → Means g → ℕ → Type 0
 Performs task old new status = (result : Result ℕ Fault) × Does task old new result × (status ≡ status_of result)

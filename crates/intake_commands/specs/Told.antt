@@ -1,4 +1,4 @@
--- Which fault is told of what went wrong with a register.
+-- Which fault is reported of what went wrong with a register.
 use Rattle.std.specs.Prelude.{◌≡◌, ℕ, List}
 use Rattle.std.specs.Borrow.{Bor}
 use Rattle.command_line.specs.declared.fault.CommandFault.TheVariants as command
@@ -18,17 +18,18 @@ use Rattle.intake_commands.specs.declared.fault.VisitFault.{VisitFault}
 use Rattle.intake_commands.specs.declared.folder.PageFault.{PageFault}
 use Rattle.intake_commands.specs.declared.fault.VisitFault.TheVariants as visit
 
--- the files with this name gave no database, and why is told by their first page, where the refusal goes by that
+-- the files with this name gave no database, and the fault says why, by their first page if the refusal depends on the
+-- pages
 abbrev pub IsDatabaseTold : Bor (List ℕ) → DatabaseFault → Fault → Type 0
 IsDatabaseTold name why told =
     (shown : DatabaseFault) × IsRefusalOf why shown × (told ≡ fault.Command (command.Database name shown))
 
--- the database holds no register of an earlier version, or that is not migrated
+-- why a database was not migrated: it holds no register of an earlier version, or the migration failed
 abbrev pub not_migrated : OpenFault → Holding → VisitFault
 not_migrated register.NotOurs holding = visit.NotMigrated holding
 not_migrated why holding = visit.Migrate (record { fault = why; holding = holding })
 
--- of an errand to the register in the file with this name
+-- the fault of an errand to the register in the file with this name
 abbrev pub IsErrandTold : Bor (List ℕ) → ErrandFault → Fault → Type 0
 IsErrandTold name (errand.Files why) told = IsDatabaseTold name why told
 IsErrandTold name (errand.Open why holding) told =
@@ -41,7 +42,7 @@ IsErrandTold name (errand.Text text.Memory) told = told ≡ fault.Command comman
 IsErrandTold name (errand.Text text.Output) told = told ≡ fault.Command command.Output
 IsErrandTold name errand.Folder told = (why : PageFault) × (told ≡ fault.Page why)
 
--- of the register of that file that was to be opened and served
+-- the fault of opening the register in the file with this name to serve it
 abbrev pub IsOpeningTold : Bor (List ℕ) → OpeningFault → Fault → Type 0
 IsOpeningTold name (opening.Files why) told = IsDatabaseTold name why told
 IsOpeningTold name (opening.Taken holding) told = told ≡ fault.Register name (visit.Taken holding)

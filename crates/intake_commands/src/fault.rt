@@ -24,7 +24,7 @@ pub struct Refusal {
 impl Refusal {
     ghost use Rattle.intake_commands.specs.Status.{opening_status, opening_verdict};
 
-    /// What this says of the database, if it says something.
+    /// The verdict of this refusal on the database, if it has one.
     fn verdict(self) -> Option<Verdict>
         ensures { result ≡ opening_verdict self.fault }
     {
@@ -57,10 +57,10 @@ impl fmt::Display for Refusal {
     }
 }
 
-/// What is said if the database refused a call and gave no reason.
+/// The text if the database refused a call and gave no reason.
 const DISK: &str = "the disk failed, or is full";
 
-/// What is said of a database that is no register of this version.
+/// The text for a database that is no register of this version.
 fn not_a_register(holding: Holding) -> &'static str {
     match holding {
         Holding::Nothing =>
@@ -73,7 +73,7 @@ fn not_a_register(holding: Holding) -> &'static str {
     }
 }
 
-/// What is said of a database that cannot become a register of this version.
+/// The text for a database that cannot become a register of this version.
 fn not_migrated(holding: Holding) -> &'static str {
     match holding {
         Holding::Register => "it has this version already",
@@ -82,7 +82,7 @@ fn not_migrated(holding: Holding) -> &'static str {
     }
 }
 
-/// What is said of a database with tables if a register is to be made in it.
+/// The text for a database with tables, in which no register is made.
 fn has_tables(holding: Holding) -> &'static str {
     match holding {
         Holding::Register | Holding::EarlierRegister => "it is a register already: leave out --new",
@@ -108,7 +108,7 @@ fn not_read(fault: StoreFault) -> &'static str {
     }
 }
 
-/// What is said of an error of the database.
+/// The text for an error of the database.
 fn error_text(error: DatabaseError) -> &'static str {
     match error {
         DatabaseError::SqliteFailure(ErrorCode::DiskFull) => "the disk is full",
@@ -120,7 +120,7 @@ fn error_text(error: DatabaseError) -> &'static str {
 /// What went wrong in a visit to the register of a file.
 #[derive(Clone, Copy, Debug, Error)]
 pub enum VisitFault {
-    /// A register was to be made in a database that holds this.
+    /// No register is made in a database that holds this.
     #[error("{text}", text = has_tables(*.0))]
     Taken(Holding),
     #[error("{text}", text = not_made(*.0))]
@@ -130,7 +130,7 @@ pub enum VisitFault {
     /// A register was to be migrated.
     #[error("{0}")]
     Migrate(Refusal),
-    /// A register was to be migrated, and the database is not one of an earlier version.
+    /// The database that should be migrated is no register of an earlier version.
     #[error("{text}", text = not_migrated(*.0))]
     NotMigrated(Holding),
     #[error("{text}", text = not_read(*.0))]
@@ -172,7 +172,7 @@ impl VisitFault {
         }
     }
 
-    /// What it says of the register, if it says something.
+    /// The verdict of this fault on the register, if it has one.
     fn verdict(self) -> Option<Verdict>
         ensures { result ≡ visit_verdict self }
     {
@@ -244,7 +244,7 @@ impl Fault<'_> {
         }
     }
 
-    /// What the fault says of the register, if it says something.
+    /// The verdict of the fault on the register, if it has one.
     pub fn verdict(&self) -> Option<Verdict>
         ensures { result ≡ fault_verdict self.now }
     {

@@ -61,7 +61,7 @@ impl<R: Source> Source for Noted<R> {
 #[derive(Drop)]
 pub struct Statuses<W> {
     inner: W,
-    /// The statuses of the replies that were begun. Interim responses are none.
+    /// The statuses of the replies that were begun, without interim responses.
     statuses: Vec<u16>,
     is_within: bool,
 }
@@ -131,7 +131,7 @@ impl<P, O> Logged<P, O> {
     }
 }
 
-/// Prints the line of a connection that was served so, of which these bytes and statuses were noted.
+/// Prints the line of a connection with this end, of which these bytes and statuses were noted.
 fn show_line<O: Write>(
     alloc: Global,
     output: &mut O,

@@ -3,7 +3,7 @@
 use std::fmt;
 use std::io::Write;
 
-/// What is said of a register whose database refused a call.
+/// The text for a register whose database refused a call.
 const DOWN: &str = concat!(
     "the database failed, as on a full disk: what was answered is kept; ",
     "it is opened again before the next connection, and until it is open a request gets 503",
@@ -25,7 +25,7 @@ pub enum Note {
     },
     /// The database refused a call.
     Down,
-    /// It failed again, and is left alone for so long.
+    /// The register failed again, and is left alone for so long.
     Paused {
         seconds: u64,
     },
@@ -35,7 +35,7 @@ pub enum Note {
     },
     /// It was opened again.
     OpenAgain,
-    /// So many connections were served, which are all.
+    /// All connections were served; this is their number.
     Served {
         connections: u32,
     },

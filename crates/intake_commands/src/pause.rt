@@ -12,7 +12,7 @@ const LONGEST: u64 = 60;
 #[derive(Clone, Copy)]
 pub struct Pause {
     seconds: u64,
-    /// None if the clock could not be read: the pause is over then.
+    /// `None` if the clock could not be read: then the pause is over.
     start: Option<Instant>,
 }
 
@@ -37,7 +37,7 @@ impl Pause {
         self.seconds
     }
 
-    /// Whether it is over.
+    /// Whether the pause is over.
     pub fn is_over<C: Clock>(self, clock: &C) -> bool {
         let Some(start) = self.start else {
             return true;

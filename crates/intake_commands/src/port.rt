@@ -43,7 +43,7 @@ pub struct TimedPort<'r> {
 }
 
 impl<'r> TimedPort<'r> {
-    /// The port of this number, which nobody listens on yet.
+    /// The port of this number, which does not listen yet.
     pub fn new(rt: &'r HostRuntime, number: u16, patience: Option<u32>) -> TimedPort<'r> {
         TimedPort {
             rt,

@@ -13,7 +13,7 @@ use intake_process::IntakeProcess;
 use intake_tasks::Errand;
 use std::io::{IsTerminal, Write};
 
-/// What is said if requests are read from a terminal.
+/// The text if requests are read from a terminal.
 const READING: &str = concat!(
     "reading HTTP requests from this terminal, for a register in memory; ",
     "Ctrl-D ends it, and intake --help lists the other commands",

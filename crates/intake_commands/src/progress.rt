@@ -4,7 +4,7 @@ use intake_tasks::Progress;
 use register_store::Watch;
 use std::io::{IsTerminal, Write};
 
-/// Fewer requests are checked at once.
+/// Fewer requests are checked in a moment, so nothing is shown.
 const MANY: u64 = 10_000;
 
 /// Shows on standard error how far the check of many requests is, a hundred times at most, if that is a terminal.

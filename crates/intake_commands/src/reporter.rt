@@ -18,20 +18,20 @@ pub struct Reporter<'r, 'a, 'o, E> {
     rt: &'r HostRuntime,
     serving: Serving<'a>,
     errors: &'o mut E,
-    /// When the register began to be opened; none if the system has no clock.
+    /// When the opening of the register began; `None` if the system has no clock.
     start: Option<Instant>,
-    /// The room of the register; none while it is closed.
+    /// The room of the register; `None` while it is closed.
     room: Option<Room>,
-    /// What the connection came to that was served last, and the room after it.
+    /// How the connection that was served last ended, and the room after it.
     last: Option<(Ended, Option<Room>)>,
-    /// How many requests the register kept when it was opened again; none before that.
+    /// How many requests the register kept when it was opened again; `None` before that.
     kept: Option<u64>,
     /// How long the register is left alone once it is closed.
     pause: Pause,
 }
 
 impl<'r, 'a, 'o, E: Write> Reporter<'r, 'a, 'o, E> {
-    /// Reports on these errors. The register begins to be opened.
+    /// A reporter on this standard error. The opening of the register begins now.
     pub fn new(
         rt: &'r HostRuntime,
         serving: Serving<'a>,
@@ -66,8 +66,8 @@ impl<'r, 'a, 'o, E: Write> Reporter<'r, 'a, 'o, E> {
         }
     }
 
-    /// Reports what failed of the connection that was taken last, beside the fault in which it ended. Whether something
-    /// did.
+    /// Reports what failed of the connection that was taken last, beside the fault in which it ended, and answers
+    /// whether something did.
     fn tell_failure<P: StreamPort>(&mut self, port: &P) -> bool {
         match port.failure() {
             Some(fault) => {

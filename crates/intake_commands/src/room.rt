@@ -35,7 +35,7 @@ impl Room {
         }
     }
 
-    /// The limit, if the register was found full, and that is news.
+    /// The limit, if the register was found full and that was not answered before.
     pub fn newly_full(&mut self) -> Option<u64> {
         if self.is_full && !self.is_told {
             self.is_told = true;

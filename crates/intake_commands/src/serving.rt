@@ -53,7 +53,7 @@ pub fn serve<'a, D: Disk + Drop, P: Place<D> + Drop, L: StreamPort, E: Write>(
     }
 }
 
-/// How a register comes to be open that is new or not.
+/// How a register is opened that is new or not.
 fn opening(is_new: bool) -> Opening
     ensures { is_found result ≡ not is_new }
 {

@@ -104,7 +104,7 @@ fn do_task<
     }
 }
 
-/// Whether a filer's code that an errand has is one.
+/// Whether the filer's code of an errand, if it has one, is the code of a filer.
 fn is_wanted(errand: Errand<'_>) -> bool
     ensures { result ≡ is_wanted errand.entry }
 {

@@ -18,7 +18,7 @@ use sqlite_disk::Disk;
 use std::alloc::Global;
 use std::io::Write;
 
-/// Does an errand to the register of this process, which lies in the file with this name. What came of it stays whether
+/// Does an errand to the register of this process, which lies in the file with this name. What was done stays whether
 /// or not the files are then closed; if they are not, that is reported. If the errand judges the register, the output
 /// says what is wrong with it, too.
 pub fn visit<'a, D: Disk + Drop, P: Place<D> + Drop, F: SiteFolder, O: Write, E: Write>(
@@ -55,7 +55,7 @@ fn tell_close<E: Write>(closed: Result<(), Error>, name: &str, errors: &mut E) {
     }
 }
 
-/// What is printed of a fault of an errand beside its text: of a check and a migration the verdict on the register.
+/// The verdict that is printed beside the text of a fault: that of a check or a migration on the register.
 fn shown_verdict(errand: Errand<'_>, fault: &Fault<'_>) -> Option<Verdict>
     ensures { result ≡ shown_verdict errand.entry fault.now }
 {

@@ -13,31 +13,30 @@ use Rattle.intake_process.specs.declared.begun.Totals.{Totals}
 use Rattle.intake_process.specs.declared.fault.OpeningFault.{OpeningFault}
 use Rattle.intake_process.specs.declared.fault.OpeningFault.TheVariants.{Files, Taken, Create, Open}
 
--- The intake holds these requests and keeps at most `limit`, and so many of them were kept before there were problem
--- details.
+-- The intake holds these requests and keeps at most `limit` keys, and this many of the requests are old-style.
 pub record HoldsAs {S : Type 0} (g : Ghosts S) (limit old_style : ℕ) (requests : List Request)
     (intake : Intake S) : Type 0 where
   pub holds : HoldsRequests g intake requests
   pub limit_is : limit_of intake ≡ limit
   pub old_style_is : old_style_of intake ≡ old_style
 
--- so many requests are kept and registered
+-- how many requests are kept, and how many of them are filings
 abbrev pub AreTotals : List Request → Totals → Type 0
 AreTotals requests totals = (totals.kept ≡ length requests) × (totals.filings ≡ length (register requests))
 
--- Where the disk is clean, the intake holds the requests that the database's rows stand for, which the totals count.
+-- If the disk is clean, the intake holds the requests that the database's rows stand for, which the totals count.
 abbrev pub FindsIntake : {S : Type 0} → Ghosts S → Held S → ℕ → Intake S → Totals → Type 0
 FindsIntake g conn limit intake totals =
     IsClean g intake → (old_style : ℕ) (requests : List Request) → firsts requests ≡ requests
     → IsRegisterOf old_style requests (state g conn).now
     → HoldsAs g limit old_style requests intake × AreTotals requests totals
 
--- where the disk is clean, the intake holds no request yet
+-- if the disk is clean, the intake holds no request yet
 abbrev pub MakesIntake : {S : Type 0} → Ghosts S → ℕ → Intake S → Totals → Type 0
 MakesIntake g limit intake totals = IsClean g intake → HoldsAs g limit 0 [] intake × AreTotals [] totals
 
--- No intake began over the register that had to be in this database, or was to be made there, and the connection came
--- back so. A register is made only where nothing was declared.
+-- No intake began over the register that had to be in this database, or had to be made there, and this connection came
+-- back. A register is made only in a database in which nothing is declared.
 abbrev pub IsNotBegun : {S : Type 0} → Ghosts S → Bool → Held S → OpeningFault → Held S → Type 0
 IsNotBegun g has_to_be_there conn (Files fault) back = ⊥
 IsNotBegun g has_to_be_there conn (Taken holding) back =

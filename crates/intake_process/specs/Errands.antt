@@ -1,5 +1,5 @@
 -- Errands to a register: what they print of it, and what becomes of it. `out` and `out'` are what the output has before
--- and after, where that is known.
+-- and after, if that is known.
 use Rattle.std.specs.Prelude.{◌≡◌, ℕ, Bool, true, false, List, [], length, Option, Some, None, option_map, Result, Ok}
 use Rattle.std.specs.Prelude.{Err, IsSome, IfErr, OnOk}
 use Rattle.std.specs.Io.KnownBytes.{Appends}
@@ -31,7 +31,7 @@ use Rattle.intake_process.specs.declared.errand.ErrandFault.TheVariants as fault
 
 -- ---- an errand to a register
 
--- what is printed of a register that keeps these requests; none, if no filing has the number that is to be shown
+-- what is printed of a register that keeps these requests; `None` if no filing has the number that is asked for
 abbrev pub text_of : Errand → List Request → Option (List ℕ)
 text_of (asked.List filer) requests = Some (list_line filer.now (register requests))
 text_of (asked.Show number) requests = option_map fact_lines (facts_numbered number (register requests))
@@ -41,7 +41,7 @@ text_of (asked.Export form filer) requests = Some (export_text form (option_map 
 text_of (asked.Pages folder) requests = Some []
 
 -- the database is a register of these requests in the version that the errand is for: an earlier one to be migrated,
--- and else this one
+-- and otherwise this one
 abbrev pub IsRegisterFor : Errand → ℕ → List Request → Database → Type 0
 IsRegisterFor (asked.List filer) old_style requests db = IsRegisterOf old_style requests db
 IsRegisterFor (asked.Show number) old_style requests db = IsRegisterOf old_style requests db
@@ -61,7 +61,7 @@ HasTablesFor (asked.Pages folder) schema = IsDeclared schema
 HasTablesFor asked.Migrate schema = (form : Earlier) × IsAlone form schema
 
 -- Why an errand to such a register is not done: no filing has the number, or memory, the disk, the output or the folder
--- failed. What the files say that gave no database is said of their place.
+-- failed. If the files gave no database, the fault of that is left to the contract of their place.
 abbrev pub MayFail : Errand → List Request → ErrandFault → Type 0
 MayFail asked.Migrate requests (fault.Open why holding) = ⊥
 MayFail asked.Migrate requests (fault.Migrate why holding) = IsFailure why
@@ -84,13 +84,13 @@ is_refusal (fault.Open why holding) = true
 is_refusal (fault.Migrate why holding) = true
 is_refusal other = false
 
--- Nothing was printed, unless the output failed. An export is printed filing by filing: nothing of it was, if it was
--- refused.
+-- Nothing was printed, unless the output failed. An export is printed filing by filing; if the register was refused,
+-- none of it was printed.
 abbrev pub IsQuiet : Errand → Option (List ℕ) → Option (List ℕ) → ErrandFault → Type 0
 IsQuiet (asked.Export form filer) out out' why = is_refusal why ≡ true → out' ≡ out
 IsQuiet errand out out' why = PrintsNothing (fault.Text Output) out out' why
 
--- what comes of it: its text is printed, or it failed, and nothing was
+-- what comes of an errand: its text is printed, or it failed, and nothing was printed
 abbrev pub Tells : {X : Type 0} → Errand → List Request → Option (List ℕ) → Option (List ℕ) → Result X ErrandFault
     → Type 0
 Tells errand requests out out' (Ok done) =
@@ -103,8 +103,8 @@ abbrev pub is_refused : {X : Type 0} → Result X ErrandFault → Bool
 is_refused (Ok done) = false
 is_refused (Err why) = is_refusal why
 
--- What a fault says of a database. A refusal says why it gave no register, and that nothing was written to it; a crash
--- in a migration leaves all of it or nothing.
+-- What a fault says of a database. A refusal says why the database gave no register, and nothing was written to it; a
+-- crash in a migration leaves all of it or nothing.
 abbrev pub Says : {S : Type 0} → Ghosts S → Errand → Held S → Held S → ErrandFault → Type 0
 Says g asked.Migrate old new (fault.Open why holding) = ⊥
 Says g asked.Migrate old new (fault.Migrate why holding) =
@@ -120,7 +120,7 @@ Says g (asked.Show number) old new (fault.NoFiling missing) = missing ≡ number
 Says g errand old new (fault.Text why) = Unit {0}
 Says g errand old new other = ⊥
 
--- What an errand does with a connection to a database. What is said of rows holds where the disk is clean at the end.
+-- What an errand does with a connection to a database. Clauses on rows hold if the disk is clean at the end.
 pub record RunsErrand {S X : Type 0} (g : Ghosts S) (errand : Errand) (out out' : Option (List ℕ)) (old new : Held S)
     (result : Result X ErrandFault) : Type 0 where
   -- Of a register of these requests its text is printed, and they are committed afterwards as a register of this

@@ -1,4 +1,4 @@
--- What comes of an errand whose task came out so.
+-- What an errand answers, by the result of its task.
 use Rattle.std.specs.Prelude.{ℕ, Result, Ok, Err}
 use Rattle.intake_tasks.specs.declared.listing.ListFault.{ListFault}
 use Rattle.intake_tasks.specs.declared.listing.ListFault.TheVariants as listing

@@ -29,8 +29,8 @@ use Rattle.intake_process.specs.declared.process.Outcome.TheVariants as outcome
 use Rattle.intake_process.specs.Begun.{HoldsAs, AreTotals, IsNotBegun}
 use Rattle.intake_process.specs.Turning.{TurnsAway}
 
--- What contracts see of it: the intake, if it is open; the files that lie in its place, if there are some, where that
--- is known; whether no close and no opening failed; and how many calls its database refused, as far as a u64 counts.
+-- What contracts see of it: the intake, if it is open; if that is known, the files that lie in its place, if there are
+-- some; whether no close and no opening failed; and how many calls its database refused, as far as a u64 counts.
 pub record Parts {D : Type 0} (g : Ghosts D) : Type 0 where
   pub intake : Option (Intake (FileStore D g))
   pub lying : Option (Option (Files D))
@@ -59,12 +59,13 @@ KeepsBy (Some intake) lying limit old_style requests =
 KeepsBy {D} {g} None lying limit old_style requests =
     (firsts requests ≡ requests) × Lie lying (λ files. HoldRegister g files old_style requests)
 
--- the same, as long as no close and no opening failed
+-- the process keeps these requests, as long as no close and no opening failed
 abbrev pub Keeps : {D : Type 0} {g : Ghosts D} → Parts g → ℕ → ℕ → List Request → Type 0
 Keeps process limit old_style requests = process.is_certain ≡ true
     → KeepsBy process.intake process.lying limit old_style requests
 
--- What a call leaves that answers no request: the requests of before. What is certain after it was certain before.
+-- What a call leaves that answers no request: the requests that were kept before it. If the process is certain after
+-- the call, it was certain before.
 pub record Leaves {D : Type 0} {g : Ghosts D} (limit : ℕ) (old new : Parts g) : Type 0 where
   pub kept : (old_style : ℕ) (requests : List Request) → Keeps old limit old_style requests
       → Keeps new limit old_style requests
@@ -96,14 +97,14 @@ pub record StaysUp {D : Type 0} {g : Ghosts D} (old new : Parts g) : Type 0 wher
 
 -- ---- it is opened
 
--- the files lie in the place, where that is known, as the connection left them that was given up
+-- the files lie in the place, if that is known, as the connection that was given up left them
 abbrev pub LieGivenUp : {D : Type 0} {g : Ghosts D} → Option (Option (Files D)) → Option (Option (Files D))
     → Held (FileStore D g) → Type 0
 LieGivenUp None new conn = Unit {0}
 LieGivenUp (Some there) new conn = (files : Files _) × (new ≡ Some (Some files)) × IsGivenUp conn files
 
--- Why it was not opened: the place gave no database; or the one that lay there, or was made, came with this connection,
--- over which no intake began, and was given up.
+-- Why the process was not opened: the place gave no database; or no intake began over this connection to the database
+-- that lay there or was made, and the connection was given up.
 abbrev pub IsNotOpened : {D : Type 0} → Ghosts D → Bool → Option (Option (Files D)) → Option (Option (Files D))
     → OpeningFault → Type 0
 IsNotOpened g has_to_be_there old new (fault.Files why) = OpensPlace g has_to_be_there old new (Err why)
@@ -111,10 +112,10 @@ IsNotOpened {D} g has_to_be_there old new why =
     (conn : Held (FileStore D g)) × (back : Held (FileStore D g)) × ComesFrom old (Some None) conn
     × IsNotBegun over_files has_to_be_there conn why back × LieGivenUp old new back
 
--- What opening it does, if its register has to be there, or is to be made.
+-- What opening the process does, whether its register has to be there or is made.
 pub record OpensProcess {D : Type 0} (g : Ghosts D) (has_to_be_there : Bool) (limit : ℕ) (old new : Parts g)
     (result : Result (Option Totals) OpeningFault) : Type 0 where
-  -- the requests of before are kept, and counted
+  -- the requests that lay there are kept, and counted
   pub leaves : IsHonest g → has_to_be_there ≡ true → Leaves limit old new
   pub counted : IsHonest g → has_to_be_there ≡ true → old.is_certain ≡ true → (old_style : ℕ) (requests : List Request)
       → Keeps old limit old_style requests
@@ -127,8 +128,8 @@ pub record OpensProcess {D : Type 0} (g : Ghosts D) (has_to_be_there : Bool) (li
   pub up : old.intake ≡ None → OnOk result (IsUp new.intake)
   pub already : IsSome old.intake → (new ≡ old) × (result ≡ Ok None)
   pub calls : new.refused_calls ≡ old.refused_calls
-  -- a refusal says why, and after it it is closed, and files that lay in the place lie there still, or what an opening
-  -- left of them
+  -- a refusal says why; after it the process is closed, and the files that lay in the place still lie there, as the
+  -- opening left them
   pub why : IfErr result (IsNotOpened g has_to_be_there old.lying new.lying)
   pub refused : IfErr result (λ _. new.intake ≡ None)
   pub back : IfErr result (λ _. (there : Files D) → old.lying ≡ Some (Some there)
@@ -142,7 +143,7 @@ pub record ServesBy {S : Type 0} (g : database.Ghosts S) (from to : Wire) (old n
   pub serves : ServesToEnd g from to old new answered.served
   pub failed : (answered.outcome ≡ outcome.Failed) ↔ (has_stopped new ≡ true)
 
--- while it is open the intake serves the connection, and else it is turned away
+-- while the process is open the intake serves the connection; otherwise it is turned away
 abbrev pub AnswersBy : {D : Type 0} {g : Ghosts D} → Wire → Wire → Option (Intake (FileStore D g))
     → Option (Intake (FileStore D g)) → Answered → Type 0
 AnswersBy from to (Some old) new answered =
@@ -156,7 +157,7 @@ CountsRefusal outcome.Failed old new = (new ≡ old + 1) ⊎ ((new ≡ old) × (
 CountsRefusal outcome.Served old new = new ≡ old
 CountsRefusal outcome.TurnedAway old new = new ≡ old
 
--- the same, a refusal is counted, and nothing else changes
+-- what answering a connection by an intake does; a refusal of the database is counted, and nothing else changes
 abbrev pub AnswersWire : {D : Type 0} {g : Ghosts D} → Wire → Wire → Parts g → Parts g → Answered → Type 0
 AnswersWire from to old new answered =
     AnswersBy from to old.intake new.intake answered × (new.lying ≡ old.lying) × (new.is_certain ≡ old.is_certain)
@@ -169,7 +170,7 @@ abbrev pub IsLeftBy : {D : Type 0} (g : Ghosts D) → Held (FileStore D g) → F
 IsLeftBy g conn files (Ok done) = IsClosedIn g conn files
 IsLeftBy g conn files (Err error) = IsNotClosed conn files error
 
--- What closing it does: the requests of before are kept, and, if it was open, counted.
+-- What closing the process does: its requests are kept, and counted if it was open.
 pub record ClosesProcess {D : Type 0} (g : Ghosts D) (old new : Parts g) (closed : Closed) : Type 0 where
   pub leaves : IsHonest g → (limit : ℕ) → Leaves limit old new
   pub counted : IsHonest g → IsSome old.intake → old.is_certain ≡ true → (limit old_style : ℕ) (requests : List Request)

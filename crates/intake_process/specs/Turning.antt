@@ -61,7 +61,7 @@ IsTurnedAway bytes [] ended out = IsUnanswered bytes ended out
 IsTurnedAway bytes (mark ∷ []) ended out = AnswersAway bytes mark ended out
 IsTurnedAway bytes (mark ∷ another ∷ marks) ended out = ⊥
 
--- What turning a connection away does with its wire, and what it came to.
+-- What turning a connection away does with its wire, and what becomes of the connection.
 pub record TurnsAway (old new : Wire) (served : Served) : Type 0 where
   pub got : List ℕ
   pub sent : List ℕ

@@ -47,12 +47,12 @@ pub record AreAnswered (requests : Keeping) (old new : Traffic) (turns : List Tu
   pub in_turn : ServeInTurn requests (served_in turns)
   pub away : AreTurnedAway turns
   pub came : Came old.coming new.coming (connections_of turns)
-  -- where it is answered how many were taken, these are so many, and the port was told what each came to
+  -- if the answer says how many were taken, these are as many, and the port got what became of each
   pub counted : IfSome taken (AreCounted old.coming (connections_of turns))
   pub told : IfSome taken (λ _. Grows old.over new.over (outputs_of (connections_of turns)))
 
 -- What answering some connections of a port does with it and with the process of an intake. `taken` says how many came,
--- where that is answered.
+-- if the answer has it.
 pub record AnswersSome {D : Type 0} {g : Ghosts D} (limit : ℕ) (port port' : Traffic) (old new : Parts g)
     (taken : Option ℕ) : Type 0 where
   -- As long as no close and no opening failed, some connections were answered, the first after the requests that were
@@ -78,7 +78,7 @@ pub record IsServed {D : Type 0} {g : Ghosts D} (has_to_be_there : Bool) (limit 
   pub stays : StaysUp opened last
   pub closes : ClosesProcess g last new closed
 
--- the same, as long as the port did not fail; or it was not opened, and no connection was accepted
+-- the process served the port, as long as the port did not fail; or it was not opened, and no connection was accepted
 abbrev pub IsServedOrRefused : {D : Type 0} {g : Ghosts D} → Bool → ℕ → ℕ → Traffic → Traffic → Parts g → Parts g
     → Result (Unit {0}) ServingFault → Type 0
 IsServedOrRefused has_to_be_there limit most port port' old new (Ok done) =
@@ -92,10 +92,10 @@ IsServedOrRefused {D} {g} has_to_be_there limit most port port' old new (Err (Re
 -- made, serves the port, and is closed.
 pub record ServesRegister {D : Type 0} {g : Ghosts D} (has_to_be_there : Bool) (limit most : ℕ) (port port' : Traffic)
     (old new : Parts g) (result : Result (Unit {0}) ServingFault) : Type 0 where
-  -- from the requests that lay there
+  -- the requests that lay there are those at the beginning
   pub found : IsHonest g → has_to_be_there ≡ true
       → AnswersSome limit port port' old new (option_map (λ _. most) (result_ok result))
-  -- from none
+  -- a register that is made begins without requests
   pub made : IsHonest g → has_to_be_there ≡ false → old.intake ≡ None → IsSome old.lying
       → OnOk result ((opened : Parts g) × Keeps opened limit 0 [] × AnswersSome limit port port' opened new (Some most))
   pub closed : new.intake ≡ None

@@ -1,5 +1,5 @@
 -- What a visit to the register that lies in a place does: it is opened, an errand to it is done, and it is closed.
--- `out` and `out'` are what the output and the folder have before and after, where that is known.
+-- `out` and `out'` are what the output and the folder have before and after, if that is known.
 use Rattle.std.specs.Prelude.{◌≡◌, ℕ, Bool, true, false, List, Option, None, Result, Ok, Err, OnOk, is_err, ◌||◌}
 use Rattle.sqlite_disk.specs.declared.Disk.{Ghosts}
 use Rattle.sqlite_disk.specs.declared.Files.{Files}
@@ -23,7 +23,7 @@ use Rattle.intake_process.specs.declared.visiting.Visited.{Visited}
 use Rattle.intake_process.specs.Errands.{FillsFolder, IsRegisterFor, RunsErrand, Tells, is_for_pages, is_refused}
 use Rattle.intake_process.specs.Process.{Parts, IsHonest, KeepsBy}
 
--- what an output has, and which pages were written into a folder, where that is known
+-- what an output has, and which pages were written into a folder, if that is known
 pub record Outputs : Type 0 where
   pub text : Option (List ℕ)
   pub pages : Option (List (List ℕ))
@@ -39,7 +39,7 @@ pub record HoldFor {D : Type 0} (g : Ghosts D) (errand : Errand) (files : Files 
   pub held : HoldsDatabase g files db
   pub usable : AreUsable g files
 
--- it lies there
+-- the register of these requests lies there
 abbrev pub LiesFor : {D : Type 0} → Ghosts D → Errand → Option (Option (Files D)) → ℕ → List Request → Type 0
 LiesFor g errand lying old_style requests =
     (firsts requests ≡ requests) × Lie lying (λ files. HoldFor g errand files old_style requests)
@@ -51,14 +51,14 @@ is_doubtful visited = is_refused visited.done || is_err visited.closed
 -- ---- whatever lies there
 
 module _ {D : Type 0} {g : Ghosts D} where
-  -- the files are as a refused errand gave them up; else the connection is closed in them, or the error says why its
-  -- last commit isn't all in the database file
+  -- after a refused errand the files are as they were given up; otherwise the connection is closed, or the error says
+  -- why its last commit is not all in the database file
   abbrev pub IsLeftIn : Bool → Held (FileStore D g) → Files D → Result (Unit {0}) Error → Type 0
   IsLeftIn true conn files closed = IsGivenUp conn files × (closed ≡ Ok tt)
   IsLeftIn false conn files (Ok done) = IsClosedIn g conn files
   IsLeftIn false conn files (Err error) = IsNotClosed conn files error
 
-  -- The database was not opened, and nothing is done; or the errand is done with the connection to it, and its files
+  -- The database was not opened, and nothing was done; or the errand was done with the connection to it, and its files
   -- lie there again.
   abbrev pub GoesOn : Errand → Outputs → Outputs → Option (Option (Files D)) → Option (Option (Files D))
       → Result (Held (FileStore D g)) DatabaseFault → Visited → Type 0
@@ -80,9 +80,9 @@ pub record VisitsPlace {D : Type 0} (g : Ghosts D) (errand : Errand) (out out' :
 
 -- ---- a register
 
--- What a visit does with a process that is closed. A register of the version that the errand is for is told as it is,
--- and, as long as no close and no opening failed, its requests are kept as a register of this version. Its pages are
--- written if the errand is for them, and else none.
+-- What a visit does with a process that is closed. What is printed of a register of the version that the errand is for
+-- is the text of its requests, and they are kept as a register of this version as long as no close and no opening
+-- failed. Its pages are written if the errand is for them, and otherwise none.
 pub record VisitsRegister {D : Type 0} {g : Ghosts D} (errand : Errand) (out out' : Outputs) (old new : Parts g)
     (visited : Visited) : Type 0 where
   pub told : IsHonest g → (old_style : ℕ) (requests : List Request) → LiesFor g errand old.lying old_style requests

@@ -28,7 +28,7 @@ const NO_MORE: u64 = 0;
 /// Why an errand to a register is not done.
 #[derive(Clone, Copy, Debug)]
 pub enum ErrandFault {
-    /// The files gave no database. The fault does not go by the bytes of the file.
+    /// The files gave no database. The fault does not depend on the bytes of the file.
     Files(DatabaseFault),
     /// The database gave no register, and this is what it holds.
     Open(OpenFault, Holding),
@@ -68,7 +68,7 @@ impl ErrandFault {
     }
 }
 
-/// What comes of an errand whose list came out like this.
+/// What an errand to list filings answers, by the result of the list.
 fn listed_as(listed: Result<(), ListFault>) -> Result<(), ErrandFault>
     ensures { result ≡ listed_as listed }
 {
@@ -79,7 +79,7 @@ fn listed_as(listed: Result<(), ListFault>) -> Result<(), ErrandFault>
     }
 }
 
-/// What comes of an errand to show the filing of this number that came out like this.
+/// What an errand to show the filing of this number answers, by the result of showing it.
 fn shown_as(number: u64, shown: Result<(), ShowFault>) -> Result<(), ErrandFault>
     ensures { result ≡ shown_as number shown }
 {
@@ -91,7 +91,7 @@ fn shown_as(number: u64, shown: Result<(), ShowFault>) -> Result<(), ErrandFault
     }
 }
 
-/// What comes of an errand whose text was printed like this.
+/// What an errand answers, by the result of printing its text.
 fn printed_as(printed: Result<(), TextFault>) -> Result<(), ErrandFault>
     ensures { result ≡ printed_as printed }
 {

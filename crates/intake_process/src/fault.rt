@@ -7,7 +7,7 @@ use register_store::{CreateFault, OpenFault};
 /// Why a register is not opened.
 #[derive(Clone, Copy, Debug)]
 pub enum OpeningFault {
-    /// The files gave no database. The fault does not go by the bytes of the file.
+    /// The files gave no database. The fault does not depend on the bytes of the file.
     Files(DatabaseFault),
     /// A register was to be made in a database that isn't empty.
     Taken(Holding),

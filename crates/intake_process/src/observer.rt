@@ -1,4 +1,4 @@
-//! What the caller does beside the serving of a port.
+//! What the caller sees and decides while a port is served.
 
 use crate::begun::Totals;
 use crate::fault::OpeningFault;
@@ -18,13 +18,13 @@ pub enum Went {
     NotOpened(OpeningFault),
 }
 
-/// Who sees what happens while a port of this kind is served, and says when a register that is closed may be opened
-/// again.
+/// An observer sees what happens while a port of this kind is served, and says when a register that is closed may be
+/// opened again.
 pub trait Observer<L> {
     /// The port is open, and the register that serves it holds this much.
     fn ready(&mut self, totals: Totals);
 
-    /// A connection came on the port: one to be answered, or one that its peer gave up or the system refused.
+    /// A connection came on the port: one that is answered next, or one that its peer gave up or the system refused.
     fn accepted(&mut self, port: &L);
 
     /// Whether the register, which is closed, may be opened for a connection that came.

@@ -34,7 +34,7 @@ pub enum Outcome {
     Served,
     /// The intake, whose database refused a call.
     Failed,
-    /// Nobody: the register is closed.
+    /// No intake: the register is closed.
     TurnedAway,
 }
 
@@ -64,7 +64,7 @@ fn serve_by<R: Source, W: Sink, S: Alter>(
     Answered { served, outcome }
 }
 
-/// How many calls were refused, with one more if this came of a connection.
+/// How many calls were refused, with one more if the database refused one for this connection.
 fn refused_with(outcome: Outcome, refused_calls: u64) -> u64
     ensures { CountsRefusal outcome refused_calls result }
 {
@@ -79,7 +79,7 @@ fn refused_with(outcome: Outcome, refused_calls: u64) -> u64
 #[derive(Drop)]
 pub struct IntakeProcess<D: Disk + Drop, P: Place<D> + Drop> {
     pub(crate) place: P,
-    /// None while it is closed.
+    /// `None` while the process is closed.
     intake: Option<Intake<FileStore<D>>>,
     /// Whether no close and no opening failed. After one that did, what lies in the place may be what a crash leaves.
     pub(crate) is_certain: bool,
@@ -127,7 +127,7 @@ impl<D: Disk + Drop, P: Place<D> + Drop> IntakeProcess<D, P> {
         }
     }
 
-    /// The intake, if it is open, to be called.
+    /// The intake, if it is open, for calls.
     pub fn intake_mut(&mut self) -> Option<&mut Intake<FileStore<D>>>
         ensures* writes_back { sem 𝓛 (LendsIntake D.row P.row D.Disk self.entry result) }
         ensures value { option_copied_mut result ≡ self.old.intake }

@@ -76,7 +76,7 @@ fn listen_and_serve<D: Disk + Drop, P: Place<D> + Drop, L: Port, O: Observer<L>>
 
 /// Answers the next `most` connections that come on a port, each by the register as the one before it left it. If the
 /// database refuses a call the register is closed. It is opened again for a connection that comes later, if the
-/// observer lets it, and until it is open connections are turned away. One that its peer gave up before counts as well.
+/// observer lets it, and until it is open connections are turned away. One that its peer gave up first counts as well.
 pub fn serve_port<D: Disk + Drop, P: Place<D> + Drop, L: Port, O: Observer<L>>(
     alloc: Global,
     port: &mut L,

@@ -19,10 +19,10 @@ list_line filer filings = line (list_reply (listings filer None filings)).conten
 abbrev pub fact_lines : List FactRecord → List ℕ
 fact_lines facts = flat_map (λ fact. line (fact_line fact)) facts
 
--- that a register is sound in which so many requests are kept, and so many of them are filings
+-- the line that says that a register is sound, how many requests it keeps and how many of them are filings
 abbrev pub sound_line : ℕ → ℕ → List ℕ
 sound_line kept filings = codes "sound: " ++ decimal kept ++ codes " kept, " ++ decimal filings ++ codes " filings\n"
 
--- that a register was migrated
+-- the line that says that a register was migrated
 abbrev pub migrated_line : List ℕ
 migrated_line = codes "migrated\n"

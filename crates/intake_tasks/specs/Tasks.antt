@@ -1,4 +1,4 @@
--- What the tasks do, and what they print. `out` and `out'` are what the output has before and after a task, where that
+-- What the tasks do, and what they print. `out` and `out'` are what the output has before and after a task, if that
 -- is known.
 use Rattle.std.specs.Prelude.{◌≡◌, ◌⊎◌, ◌↔◌, ℕ, true, false, List, [], length, Option, Some, None, Result, Ok, Err}
 use Rattle.std.specs.Prelude.{IfOk, IfErr, OnOk, OnErr}
@@ -39,7 +39,7 @@ use Rattle.intake_tasks.specs.declared.checking.CheckFault.TheVariants as checki
 use Rattle.intake_tasks.specs.declared.migrating.Migrated.{Migrated}
 use Rattle.intake_tasks.specs.Lines.{list_line, fact_lines, sound_line, migrated_line}
 
--- where it isn't the output that failed, nothing was printed
+-- unless the output failed, nothing was printed
 abbrev pub PrintsNothing : {E : Type 0} → E → Option (List ℕ) → Option (List ℕ) → E → Type 0
 PrintsNothing failed out out' fault = (fault ≡ failed) ⊎ (out' ≡ out)
 
@@ -50,11 +50,11 @@ pub record ListsFilings {S X : Type 0} (g : Ghosts S) (filer : List ℕ) (out ou
   pub refused : IfErr result (PrintsNothing (listing.Text Output) out out')
   pub kept : ForRequests g old new (HoldsRequests g new)
   pub setting : KeepsSetting g old new
-  -- The database is blamed only where it refused this call or one before.
+  -- The database is blamed only if it refused this call or an earlier one.
   pub stops : (has_stopped new ≡ true) ↔ ((has_stopped old ≡ true) ⊎ (result ≡ Err (listing.Intake Store)))
   pub up : result ≡ Err (listing.Intake Down) → has_stopped old ≡ true
 
--- What `show` prints: the facts of the filing of this number in the register, which stays. It is missing exactly where
+-- What `show` prints: the facts of the filing of this number in the register, which stays. It is missing exactly if
 -- the register has none.
 pub record ShowsFiling {S X : Type 0} (g : Ghosts S) (number : ℕ) (out out' : Option (List ℕ))
     (old new : store.StoreParts S) (result : Result X ShowFault) : Type 0 where
@@ -69,12 +69,13 @@ pub record ShowsFiling {S X : Type 0} (g : Ghosts S) (number : ℕ) (out out' : 
   pub refused : IfErr result (PrintsNothing (showing.Text Output) out out')
   pub keeps : KeepsStore g old new
 
--- this holds of the fault of an opening; nothing is said where the register is sound, and that is not printed
+-- this holds of the fault by which an opening was refused; nothing is said if the register is sound and that was not
+-- printed
 abbrev pub IfOpen : (OpenFault → Type 0) → CheckFault → Type 0
 IfOpen Holds (checking.Open why) = Holds why
 IfOpen Holds (checking.Text why) = Unit {0}
 
--- this holds, unless the register is refused: it is sound, and that may not be printed
+-- this holds unless the register is refused: also if it is sound, and that was not printed
 abbrev pub UnlessRefused : {X : Type 0} → Result X CheckFault → Type 0 → Type 0
 UnlessRefused (Ok done) Holds = Holds
 UnlessRefused (Err (checking.Text why)) Holds = Holds
@@ -91,14 +92,15 @@ pub record ChecksRegister {S X : Type 0} (g : Ghosts S) (out out' : Option (List
   pub only : HasCleanDisk (state g new)
       → OnOk result (ForRows g old (λ _ requests. Appends out out'
       (sound_line (length requests) (length (register requests)))))
-  -- Unless it is refused, the tables of a register are a register, and what its rows stand for is committed still.
+  -- Unless it is refused, a database with the tables of a register is one, and what its rows stand for is still
+  -- committed.
   pub found : HasCleanDisk (state g new) → IsDeclared (state g old).now.schema
       → UnlessRefused result ((old_style : ℕ) × (requests : List Request)
       × IsRegisterOf old_style requests (state g old).now)
   pub kept : HasCleanDisk (state g new)
       → UnlessRefused result (ForRows g old (λ old_style requests. HasCommitted (IsRegisterOf old_style requests)
       (state g new)))
-  -- A refusal says why. Where the rows stand for requests, it is by memory or disk.
+  -- A refusal says why. If the rows stand for requests, memory or the disk refused.
   pub refused : HasCleanDisk (state g new) → IfErr result (IfOpen (λ why. IsRefused g why old new))
   pub failed : HasCleanDisk (state g new) → IfErr result (IfOpen (λ why. ForRows g old (λ _ _. IsFailure why)))
   pub quiet : IfErr result (PrintsNothing (checking.Text Output) out out')
@@ -112,7 +114,7 @@ pub record ChecksRegister {S X : Type 0} (g : Ghosts S) (out out' : Option (List
 abbrev pub register_of : {S E : Type 0} → Result (Migrated S) E → Result (store.StoreParts S) E
 register_of = result_map_both (λ migrated. migrated.register) (λ refusal. refusal)
 
--- What `migrate` does, and that it prints so exactly where it was done.
+-- What `migrate` does. It prints that the register was migrated exactly if it was.
 pub record MigratesRegister {S : Type 0} (g : Ghosts S) (out out' : Option (List ℕ)) (conn : Held S)
     (result : Result (Migrated S) (OpenFault × Held S)) : Type 0 where
   pub migrates : MigratesOrGivesBack g conn (register_of result)

@@ -1,5 +1,5 @@
 -- What HTML reads as text (HTML living standard, sections 13.1.4 and 13.2.5), between tags and in a quoted value. It
--- takes out no tag where there is no `<`, ends no value where there is no quote, and takes only `&` as the beginning of
+-- takes out no tag if there is no `<`, ends no value if there is no quote, and takes only `&` as the beginning of
 -- a reference. Before that it makes LF of CR.
 use Rattle.std.specs.Prelude.{◌≡◌, ℕ, ◌==◌, ◌||◌, Bool, false, List, [], ◌∷◌, ◌++◌, codes}
 

@@ -1,4 +1,4 @@
--- The status that `outbox` ends with.
+-- The exit status of `outbox`.
 use Rattle.std.specs.Prelude.{ℕ, zero, suc, Result, Ok, Err}
 use Rattle.key_string.specs.declared.fault.KeyFault.{KeyFault}
 use Rattle.key_string.specs.declared.fault.KeyFault.TheVariants as key
@@ -27,8 +27,8 @@ use Rattle.outbox_commands.specs.declared.fault.Fault.TheVariants as fault
 
 -- ---- of what went wrong in the libraries
 
--- 1 if the database is no outbox of this version or cannot become one, 2 if the filer is none, and 3 if memory or the
--- disk failed
+-- 1 if the database is no outbox of this version or cannot become one, 2 if the code is no filer's, and 3 if memory or
+-- the disk failed
 abbrev pub outbox_status : OutboxFault → ℕ
 outbox_status made.BadFiler = 2
 outbox_status made.Taken = 1
@@ -128,7 +128,7 @@ abbrev pub status_by : {X : Type 0} → Result X Fault → ℕ
 status_by (Ok done) = 0
 status_by (Err why) = status_of why
 
--- 3 if a receipt was not written, and else 0
+-- 3 if a receipt was not written, and otherwise 0
 abbrev pub receipt_status : ℕ → ℕ
 receipt_status zero = 0
 receipt_status (suc lost) = 3

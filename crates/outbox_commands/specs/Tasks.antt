@@ -41,14 +41,14 @@ abbrev pub IsKeyFor : Option (Bor (List ℕ)) → List ℕ → Type 0
 IsKeyFor (Some text) key = key ≡ text.now
 IsKeyFor None key = Unit {0}
 
--- why there is no key: the text that was given is none; or none was given, and the system or memory failed
+-- why there is no key: the text that was given is no key; or no text was given, and the system or memory failed
 abbrev pub IsNoKeyFor : Option (Bor (List ℕ)) → Fault → Type 0
 IsNoKeyFor (Some text) (fault.Key why) = IsTextFault text.now why
 IsNoKeyFor None (fault.Random error) = Unit {0}
 IsNoKeyFor None (fault.Command why) = why ≡ command.Memory
 IsNoKeyFor _ _ = ⊥
 
--- some report is put in under such a key, to replace the filing that was named
+-- the errand puts a report in under such a key, to replace the filing that was named
 abbrev pub PutsUnder : Option (Bor (List ℕ)) → Target → Errand → Type 0
 PutsUnder text target (errand.Put key own body) = IsKeyFor text key × (own ≡ target)
 PutsUnder text target _ = ⊥
@@ -69,7 +69,7 @@ PutsReport g text target net net' out out' old new result =
 abbrev pub migrated_line : List ℕ
 migrated_line = codes "migrated\n"
 
--- a text was printed, and the status is this; or the output or memory failed
+-- a text was printed, and the status is `done`; or the output or memory failed
 abbrev pub IsPrinted : Option (List ℕ) → Option (List ℕ) → List ℕ → ℕ → ℕ → Type 0
 IsPrinted out out' text done status = ((status ≡ done) × Appends out out' text) ⊎ (status ≡ 3)
 
@@ -78,8 +78,8 @@ abbrev pub IsJudged : Option Verdict → Option (List ℕ) → Option (List ℕ)
 IsJudged (Some verdict) out out' done status = IsPrinted out out' (verdict_text verdict (codes "an outbox")) done status
 IsJudged None out out' done status = (status ≡ done) × (out' ≡ out)
 
--- An outbox of the version before was brought into this one, that was printed, and it was closed; or it was refused,
--- and that was told.
+-- An outbox of the version before was upgraded to this one, that was printed, and the outbox was closed; or it was
+-- refused, and the verdict on it was printed.
 abbrev pub MigratesOutbox : {D : Type 0} (g : Ghosts D) → Option (List ℕ) → Option (List ℕ) → Parts g → Parts g → ℕ
     → Type 0
 MigratesOutbox g out out' old new status =

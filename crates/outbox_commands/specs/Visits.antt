@@ -20,7 +20,7 @@ use Rattle.outbox_commands.specs.Status.{opening_status, done_status}
 
 -- ---- it is opened
 
--- a refusal is told as it is, or, if it goes by the pages of the file, as the first of them says
+-- a refusal is reported as it is, or, if it depends on the pages of the file, as the first page says
 abbrev pub IsToldAs : OpeningFault → OpeningFault → Type 0
 IsToldAs (fault.Files why) (fault.Files told) = IsRefusalOf why told
 IsToldAs (fault.Files why) _ = ⊥
@@ -30,7 +30,7 @@ abbrev pub IsTold : Result (Unit {0}) OpeningFault → Result (Unit {0}) Opening
 IsTold (Ok done) result = result ≡ Ok tt
 IsTold (Err why) result = (told : OpeningFault) × (result ≡ Err told) × IsToldAs why told
 
--- it was opened so, or was refused, and that is told
+-- the process was opened, or the refusal is reported
 abbrev pub OpensTold : {D : Type 0} (g : Ghosts D) → Beginning → Parts g → Parts g → Result (Unit {0}) OpeningFault
     → Type 0
 OpensTold g beginning old new result =
@@ -38,7 +38,7 @@ OpensTold g beginning old new result =
 
 -- ---- an errand
 
--- The outbox that lay there was opened, the errand was done on it, perhaps its entries were looked at again, and it was
+-- The outbox that lay there was opened, the errand was done on it, its entries may have been read again, and it was
 -- closed. The status says whether all was done.
 pub record DoesOn {D : Type 0} (g : Ghosts D) (errand : Errand) (net net' : Traffic) (out out' : Option (List ℕ))
     (old new : Parts g) (status : ℕ) : Type 0 where
@@ -53,19 +53,19 @@ pub record DoesOn {D : Type 0} (g : Ghosts D) (errand : Errand) (net net' : Traf
   pub closes : ClosesProcess g looked new closed
   pub says : status ≡ done_status came
 
--- It was not opened, the status says why, and nothing was done.
+-- The outbox was not opened, the status says why, and nothing was done.
 pub record IsRefused {D : Type 0} (g : Ghosts D) (beginning : Beginning) (old new : Parts g) (status : ℕ) : Type 0 where
   pub why : OpeningFault
   pub opens : OpensProcess g beginning old new (Err why)
   pub says : status ≡ opening_status why
 
--- one of the two
+-- the errand was done, or the outbox was refused
 abbrev pub VisitsOutbox : {D : Type 0} (g : Ghosts D) → Errand → Traffic → Traffic → Option (List ℕ) → Option (List ℕ)
     → Parts g → Parts g → ℕ → Type 0
 VisitsOutbox g errand net net' out out' old new status =
     DoesOn g errand net net' out out' old new status ⊎ (IsRefused g Found old new status × (net' ≡ net) × (out' ≡ out))
 
--- ---- what is said of a database that is not migrated
+-- ---- the verdict on a database that is not migrated
 
 abbrev pub outbox_verdict : OutboxFault → Option Verdict
 outbox_verdict made.BadFiler = None
@@ -75,7 +75,7 @@ outbox_verdict (made.Damaged row) = Some (verdict.Damaged row)
 outbox_verdict made.Memory = None
 outbox_verdict made.Disk = None
 
--- whether it is no outbox that can be migrated, or a damaged one
+-- the verdict on the database: no outbox that can be migrated, or a damaged one
 abbrev pub opening_verdict : OpeningFault → Option Verdict
 opening_verdict (fault.Files why) = verdict_of why
 opening_verdict (fault.Taken holding) = None

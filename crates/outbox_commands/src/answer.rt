@@ -86,7 +86,7 @@ impl<W: Sink> Sink for Noted<W> {
 #[derive(Clone, Copy)]
 struct Shown<'a>(&'a [u8]);
 
-/// The character that is shown for a byte: it if it is printable ASCII.
+/// The character that is shown for a byte: the byte itself if it is printable ASCII.
 fn character_of(byte: u8) -> char
     ensures { (32 ≤ result) × (result ≤ 126) }
 {

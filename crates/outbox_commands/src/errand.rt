@@ -20,7 +20,7 @@ use std::io::Write;
 /// How many entries before a new one are compared with it.
 const MOST_COMPARED: u64 = 16;
 
-/// Opens an outbox that begins like this. If a refusal goes by the pages of the file, the first page says more.
+/// Opens an outbox that begins like this. If a refusal depends on the pages of the file, the first page says more.
 pub fn open<D: Disk + Drop, P: Place<D> + Drop>(
     alloc: Global,
     process: &mut OutboxProcess<D, P>,
@@ -80,8 +80,8 @@ pub fn run_errand<'a, D: Disk + Drop, P: Place<D> + Drop, N: Network, O: Write, 
     done
 }
 
-/// What came of an errand on the outbox of the file with this name. What the network has to report of it is reported,
-/// unless it ended by a fault.
+/// The result of an errand on the outbox of the file with this name. The network reports what it has to report, unless
+/// the errand ended by a fault.
 fn answer<'a, N: Network>(
     network: &mut N,
     came: Result<Done, TaskFault>,
@@ -99,7 +99,7 @@ fn answer<'a, N: Network>(
     }
 }
 
-/// Lets the network report what is left to be said. Of a question the reply itself is printed, and says it.
+/// Lets the network report why an entry is not confirmed. The reply to a question is printed, and says that itself.
 fn tell_outcome<N: Network>(network: &mut N, done: Done)
     ensures { N.traffic network.new ≡ N.traffic network.old }
 {

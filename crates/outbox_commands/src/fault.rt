@@ -238,7 +238,7 @@ impl From<LineFault> for Fault<'_> {
     }
 }
 
-/// What a fault says of a database to be migrated, if it says something.
+/// The verdict of a fault on a database that should be migrated, if it has one.
 pub fn verdict_on(fault: OpeningFault) -> Option<Verdict>
     ensures { result ≡ opening_verdict fault }
 {
@@ -281,8 +281,8 @@ impl<'a> Fault<'a> {
         }
     }
 
-    /// Why a task was not done on the outbox of the file with this name, which has a peer at this port, if it has one.
-    /// So many seconds of patience with it are over, if its last exchange failed by that.
+    /// Why a task was not done on the outbox of the file with this name, which sends to this port, if it sends. `late`
+    /// is how many seconds of patience are over, if the last exchange failed by that.
     pub fn of_task(fault: TaskFault, name: &'a str, port: u16, late: Option<u64>) -> Fault<'a>
         ensures { status_of result ≡ task_status fault }
     {

@@ -1,4 +1,4 @@
-//! What is said of a file that is no outbox of this version, by what its database holds.
+//! Texts for a file that is no outbox of this version, by what its database holds.
 
 use database_places::Holding;
 

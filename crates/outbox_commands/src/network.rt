@@ -47,9 +47,9 @@ pub struct PeerDial<'r, E> {
     port: u16,
     patience: Option<u64>,
     deadline: Option<Deadline<'r, HostRuntime>>,
-    /// Whether the time of the last exchange was over, and so it failed.
+    /// Whether the last exchange failed since its time was over.
     is_late: bool,
-    /// What is to be reported of the last exchange, once the line of its entry is printed.
+    /// What has to be reported of the last exchange, once the line of its entry is printed.
     untold: Option<Exchanged>,
     /// Where receipts are kept, if they are.
     receipts: Option<Folder<'r, HostRuntime>>,

@@ -43,7 +43,7 @@ pub enum Task<'a> {
         key: Option<&'a str>,
         target: Target,
     },
-    /// Make an outbox of an earlier version one of this version.
+    /// Upgrade an outbox of an earlier version.
     Migrate {
         database: &'a str,
     },
@@ -85,7 +85,7 @@ impl<'a> Task<'a> {
         }
     }
 
-    /// The intake to which it sends; one that is never called, if it sends nothing.
+    /// The intake to which the task sends; one that is never called if it sends nothing.
     pub fn peer(&self) -> Peer<'a> {
         match *self {
             Task::Send { peer, .. } | Task::Ask { peer, .. } => peer,
@@ -231,7 +231,7 @@ enum Argument {
     Receipts,
     /// The id of an entry, with this help.
     Entry(&'static str),
-    /// The same, which has to be given.
+    /// The id of an entry, which has to be given, with this help.
     ThisEntry(&'static str),
     All,
     Wait,

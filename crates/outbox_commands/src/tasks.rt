@@ -130,7 +130,8 @@ fn show_refused<'a, O: Write>(
     }
 }
 
-/// Upgrades an outbox of an earlier version, and prints that; or prints why it is none.
+/// Upgrades an outbox of an earlier version, and prints that; or prints the verdict on a database that is no such
+/// outbox.
 fn migrate<'a, D: Disk + Drop, P: Place<D> + Drop, O: Write, E: Write>(
     alloc: Global,
     process: &mut OutboxProcess<D, P>,
@@ -226,7 +227,7 @@ fn receipt_folder<'r, 'a: 'r>(
     }
 }
 
-/// The task is done, unless so many receipts are missing.
+/// The result of a task of which this many receipts are missing: it is done if none is.
 fn done_but_for<'a>(lost: u64) -> Result<u8, Fault<'a>>
     ensures { status_by result ≡ receipt_status lost }
 {

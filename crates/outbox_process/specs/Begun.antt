@@ -1,4 +1,4 @@
--- An outbox that begins over a database. What is said of its entries holds where the disk is clean.
+-- An outbox that begins over a database. Clauses on its entries hold if the disk is clean.
 use Rattle.std.specs.Prelude.{◌≡◌, ℕ, List}
 use Rattle.sqlite.specs.Store.{Ghosts}
 use Rattle.sqlite.specs.Held.{Held, state}
@@ -10,25 +10,25 @@ use Rattle.outbox_core.specs.OutboxParts.{OutboxParts, shows, HasEntries}
 use Rattle.outbox_process.specs.declared.begun.Beginning.{Beginning}
 use Rattle.outbox_process.specs.declared.begun.Beginning.TheVariants.{Found, Made, Migrated}
 
--- it is this filer's and has these entries
+-- the outbox has this filer and these entries
 abbrev pub HasContents : {S : Type 0} → Ghosts S → OutboxParts S → Contents → Type 0
 HasContents g outbox it = HasEntries g outbox it.entries × (outbox.filer ≡ it.filer)
 
--- it is the outbox of the database's rows
+-- the outbox has the filer and the entries of the database's rows
 abbrev pub FindsOutbox : {S : Type 0} → Ghosts S → Held S → OutboxParts S → Type 0
 FindsOutbox g conn outbox = HasCleanDisk (shows g outbox) → (it : Contents) → IsOutboxOf it (state g conn).now
     → HasContents g outbox it
 
--- it has no entry yet
+-- the outbox is this filer's, and has no entry yet
 abbrev pub MakesOutbox : {S : Type 0} → Ghosts S → List ℕ → OutboxParts S → Type 0
 MakesOutbox g filer outbox = HasCleanDisk (shows g outbox) → HasContents g outbox (empty filer)
 
--- it has what the rows had in the version before, which stood alone in the database
+-- the outbox has what the rows of the version before had, if their tables were alone in the database
 abbrev pub MigratesEarlier : {S : Type 0} → Ghosts S → Held S → OutboxParts S → Type 0
 MigratesEarlier g conn outbox = HasCleanDisk (shows g outbox)
     → HasCleanDisk (state g conn) × ForEarlier (state g conn) (HasContents g outbox)
 
--- so it is, and the rows were no outbox of this version
+-- the outbox has what the rows of the version before had, and the rows were no outbox of this version
 abbrev pub MigratesOutbox : {S : Type 0} → Ghosts S → Held S → OutboxParts S → Type 0
 MigratesOutbox g conn outbox =
     HasCleanDisk (shows g outbox) → ForEarlier (state g conn) (HasContents g outbox)

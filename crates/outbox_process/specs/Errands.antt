@@ -18,15 +18,15 @@ use Rattle.outbox_process.specs.declared.errand.Errand.TheVariants.{Put, Send, A
 use Rattle.outbox_process.specs.declared.errand.Which.{Which}
 use Rattle.outbox_process.specs.declared.errand.Which.TheVariants.{Next, Entry, All}
 
--- the answer to this, of what came
+-- the answer of an errand, by the result of its call
 abbrev pub answer : {A : Type 0} → (A → Done) → Result A TaskFault → Result Done TaskFault
 answer done came = result_map_both done (λ fault. fault) came
 
--- this came of a call, and is answered so
+-- the errand answers the result of a call, of which this holds
 abbrev pub Answers : {A : Type 0} → (A → Done) → Result Done TaskFault → (Result A TaskFault → Type 0) → Type 0
 Answers {A} done result Came = (came : Result A TaskFault) × Came came × (result ≡ answer done came)
 
--- the open entry with the least id, the one of this id, or each that is open
+-- the open entry with the least id was sent, or that of this id, or each open entry
 abbrev pub Sends : {S : Type 0} → Ghosts S → Which → Traffic → Traffic → OutboxParts S → OutboxParts S → Option (List ℕ)
     → Option (List ℕ) → Result Done TaskFault → Type 0
 Sends g Next net net' box box' out out' result =
@@ -35,7 +35,7 @@ Sends g (Entry id) net net' box box' out out' result =
     Answers (λ _. done.Sent) result (SendsEntry g id net net' box box' out out')
 Sends g All net net' box box' out out' result = Answers done.Round result (SendsAll g net net' box box' out out')
 
--- no connection is made but to send and to ask
+-- What an errand does. Only to send and to ask are connections made.
 abbrev pub DoesErrand : {S : Type 0} → Ghosts S → Errand → Traffic → Traffic → OutboxParts S → OutboxParts S
     → Option (List ℕ) → Option (List ℕ) → Result Done TaskFault → Type 0
 DoesErrand g (Put key target body) net net' box box' out out' result =

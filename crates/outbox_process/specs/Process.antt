@@ -29,8 +29,8 @@ use Rattle.outbox_process.specs.Begun.{HasContents}
 use Rattle.outbox_process.specs.Errands.{DoesErrand}
 use Rattle.outbox_process.specs.Refusals.{RefusesOutbox}
 
--- What contracts see of it: the outbox, if it is open; the files that lie in its place, if there are some, where that
--- is known; and whether no close and no opening failed.
+-- What contracts see of it: the outbox, if it is open; if that is known, the files that lie in its place, if there are
+-- some; and whether no close and no opening failed.
 pub record Parts {D : Type 0} (g : Ghosts D) : Type 0 where
   pub outbox : Option (OutboxParts (FileStore D g))
   pub lying : Option (Option (Files D))
@@ -51,11 +51,12 @@ abbrev pub KeepsBy : {D : Type 0} {g : Ghosts D} → Option (OutboxParts (FileSt
 KeepsBy (Some outbox) lying it = HasContents over_files outbox it × (lying ≡ Some None)
 KeepsBy {D} {g} None lying it = Lie lying (λ files. HoldOutbox g files it)
 
--- the same, as long as no close and no opening failed
+-- the process keeps the outbox of these contents, as long as no close and no opening failed
 abbrev pub Keeps : {D : Type 0} {g : Ghosts D} → Parts g → Contents → Type 0
 Keeps process it = process.is_certain ≡ true → KeepsBy process.outbox process.lying it
 
--- What a call leaves that changes no entry: the outbox of before. What is certain after it was certain before.
+-- What a call leaves that changes no entry: the outbox as it was. If the process is certain after the call, it was
+-- certain before.
 pub record Leaves {D : Type 0} {g : Ghosts D} (old new : Parts g) : Type 0 where
   pub kept : (it : Contents) → Keeps old it → Keeps new it
   pub certain : new.is_certain ≡ true → old.is_certain ≡ true
@@ -68,7 +69,7 @@ has_to_be_there Found = true
 has_to_be_there (Made filer) = false
 has_to_be_there Migrated = true
 
--- These files hold the outbox of these contents in the version before, and it stands alone in them.
+-- These files hold the outbox of these contents in the version before, and its tables alone.
 pub record HoldEarlier {D : Type 0} (g : Ghosts D) (files : Files D) (it : Contents) : Type 0 where
   pub db : Database
   pub earlier : IsEarlierOf it db
@@ -76,20 +77,21 @@ pub record HoldEarlier {D : Type 0} (g : Ghosts D) (files : Files D) (it : Conte
   pub held : HoldsDatabase g files db
   pub usable : AreUsable g files
 
--- These are the contents that an outbox has that begins so: those that are kept; none, of the filer for which it is
--- made, while it is closed; or those that it had in the version before.
+-- The contents with which an outbox begins: those that are kept; no entries of the filer for which it is made, if the
+-- process is closed; or those that it had in the version before.
 abbrev pub BeginsWith : {D : Type 0} {g : Ghosts D} → Beginning → Parts g → Contents → Type 0
 BeginsWith Found old it = Keeps old it
 BeginsWith (Made filer) old it = (old.outbox ≡ None) × IsSome old.lying × (it ≡ empty filer.now)
 BeginsWith {D} {g} Migrated old it = (old.outbox ≡ None) × Lie old.lying (λ files. HoldEarlier g files it)
 
--- what this connection, which was given up, left of its files lies there, where that is known
+-- the files lie there, if that is known, as this connection, which was given up, left them
 abbrev pub LieGivenUp : {D : Type 0} {g : Ghosts D} → Option (Option (Files D)) → Option (Option (Files D))
     → Held (FileStore D g) → Type 0
 LieGivenUp None new conn = Unit {0}
 LieGivenUp (Some there) new conn = (files : Files _) × (new ≡ Some (Some files)) × IsGivenUp conn files
 
--- why it was not opened: the files gave no database; or a connection to these gave no outbox, and was given up
+-- why the process was not opened: the files gave no database; or this connection to them gave no outbox, and was given
+-- up
 abbrev pub IsNotOpened : {D : Type 0} → Ghosts D → Beginning → Option (Option (Files D)) → Option (Option (Files D))
     → OpeningFault → Type 0
 IsNotOpened g beginning old new (fault.Files why) = OpensPlace g (has_to_be_there beginning) old new (Err why)
@@ -102,7 +104,7 @@ abbrev pub IsUp : {S : Type 0} → Option (OutboxParts S) → Type 0
 IsUp (Some outbox) = outbox.has_failed ≡ false
 IsUp None = ⊥
 
--- What opening it does.
+-- What opening the process does.
 pub record OpensProcess {D : Type 0} (g : Ghosts D) (beginning : Beginning) (old new : Parts g)
     (result : Result (Unit {0}) OpeningFault) : Type 0 where
   pub keeps : IsHonest g → (it : Contents) → BeginsWith beginning old it → OnOk result (Keeps new it)
@@ -112,10 +114,10 @@ pub record OpensProcess {D : Type 0} (g : Ghosts D) (beginning : Beginning) (old
   pub certain : OnOk result (new.is_certain ≡ old.is_certain)
   pub is_open : OnOk result (IsSome new.outbox)
   pub up : old.outbox ≡ None → OnOk result (IsUp new.outbox)
-  -- one that is open stays as it is
+  -- a process that is open stays as it is
   pub already : IsSome old.outbox → (new ≡ old) × (result ≡ Ok tt)
-  -- after a refusal it is closed, and the fault says why; files that lay in the place lie there still, or what an
-  -- opening left of them
+  -- after a refusal the process is closed, and the fault says why; the files that lay in the place still lie there, as
+  -- the opening left them
   pub refused : IfErr result (λ why. IsNotOpened g beginning old.lying new.lying why × (new.outbox ≡ None)
       × (new.is_certain ≡ false))
   pub back : IfErr result (λ _. (there : Files D) → old.lying ≡ Some (Some there)
@@ -123,7 +125,7 @@ pub record OpensProcess {D : Type 0} (g : Ghosts D) (beginning : Beginning) (old
 
 -- ---- an errand is done
 
--- The outbox that is open did it, and nothing else changed.
+-- The outbox, which is open, did the errand, and nothing else changed.
 pub record PerformsErrand {D : Type 0} {g : Ghosts D} (errand : Errand) (net net' : Traffic)
     (out out' : Option (List ℕ)) (old new : Parts g) (result : Result Done TaskFault) : Type 0 where
   pub before : OutboxParts (FileStore D g)
@@ -136,14 +138,14 @@ pub record PerformsErrand {D : Type 0} {g : Ghosts D} (errand : Errand) (net net
 
 -- ---- it is closed
 
--- the last commit of the outbox was not copied into the database file, and this is why; what the close left lies there
+-- the last commit of the outbox was not copied into the database file, for this fault; what the close left lies there
 abbrev pub IsLeftOpen : {D : Type 0} {g : Ghosts D} → Option (OutboxParts (FileStore D g)) → Option (Option (Files D))
     → Option (Option (Files D)) → Error → Type 0
 IsLeftOpen {D} (Some outbox) old new error =
     (files : Files D) × place.Leaves old new files × IsNotClosed outbox.conn files error
 IsLeftOpen None old new error = ⊥
 
--- What closing it does.
+-- What closing the process does.
 pub record ClosesProcess {D : Type 0} (g : Ghosts D) (old new : Parts g) (result : Result (Unit {0}) Error)
     : Type 0 where
   pub leaves : IsHonest g → Leaves old new

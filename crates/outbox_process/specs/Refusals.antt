@@ -13,7 +13,7 @@ use Rattle.outbox_process.specs.declared.begun.Beginning.TheVariants.{Found, Mad
 use Rattle.outbox_process.specs.declared.fault.OpeningFault.{OpeningFault}
 use Rattle.outbox_process.specs.declared.fault.OpeningFault.TheVariants.{Taken, Create, Open, IsCurrent, Migrate}
 
--- the rows are none of an outbox of this version, or memory or the disk failed: the fault says which
+-- the rows are not those of an outbox of this version, or memory or the disk failed: the fault says which
 abbrev pub RefusesFinding : {S : Type 0} → Ghosts S → Held S → Held S → OpeningFault → Type 0
 RefusesFinding g conn back (Open fault holding) = GivesBackOpening g conn fault back
 RefusesFinding g conn back _ = ⊥
@@ -24,13 +24,13 @@ RefusesMaking g filer conn back (Taken holding) = (conn.schema ≢ no_schema) ×
 RefusesMaking g filer conn back (Create fault) = (conn.schema ≡ no_schema) × GivesBackMaking g filer conn fault back
 RefusesMaking g filer conn back _ = ⊥
 
--- it is the fault of a migration, of which this holds
+-- the fault is that of a migration, and this holds of it
 abbrev pub IsNotEarlier : OpeningFault → (OutboxFault → Type 0) → Type 0
 IsNotEarlier (Migrate fault holding) Says = Says fault
 IsNotEarlier _ Says = ⊥
 
--- It is an outbox of this version; or it was not found to be one or none; or it is none, and the fault says why the
--- migration failed.
+-- The database is an outbox of this version; or the reading failed before that was known; or it is no such outbox, and
+-- the fault says why the migration failed.
 abbrev pub RefusesMigrating : {S : Type 0} → Ghosts S → Held S → Held S → OpeningFault → Type 0
 RefusesMigrating {S} g conn back IsCurrent =
     (outbox : OutboxParts S) × HandsOutFound g conn (Ok outbox) × (back ≡ outbox.conn)

@@ -16,7 +16,7 @@ use sqlite::{Alter, Connection};
 use sqlite_schema::schema::Schema;
 use std::alloc::Global;
 
-/// How an outbox comes to be open.
+/// How an outbox is opened.
 #[derive(Clone, Copy)]
 pub enum Beginning<'a> {
     /// It is there.

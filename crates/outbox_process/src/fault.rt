@@ -7,7 +7,7 @@ use outbox_core::OutboxFault;
 /// Why an outbox is not opened.
 #[derive(Clone, Copy, Debug)]
 pub enum OpeningFault {
-    /// The files gave no database. The fault does not go by the bytes of the file.
+    /// The files gave no database. The fault does not depend on the bytes of the file.
     Files(DatabaseFault),
     /// An outbox was to be made in a database that isn't empty, and this is what it holds.
     Taken(Holding),

@@ -17,7 +17,7 @@ use sqlite_disk::Disk;
 use std::alloc::Global;
 use std::io::Write;
 
-/// How the database of an outbox is opened that begins like this.
+/// How the database of an outbox is opened, by how the outbox begins.
 fn opening_of(beginning: Beginning<'_>) -> Opening
     ensures { is_found result ≡ has_to_be_there beginning.entry }
 {
@@ -31,7 +31,7 @@ fn opening_of(beginning: Beginning<'_>) -> Opening
 #[derive(Drop)]
 pub struct OutboxProcess<D: Disk + Drop, P: Place<D> + Drop> {
     place: P,
-    /// None while it is closed.
+    /// `None` while the process is closed.
     outbox: Option<Outbox<FileStore<D>>>,
     /// Whether no close and no opening failed. After one that did, what lies in the place may be what a crash leaves.
     is_certain: bool,
@@ -119,7 +119,7 @@ impl<D: Disk + Drop, P: Place<D> + Drop> OutboxProcess<D, P> {
         }
     }
 
-    /// Does an errand on it, which is open.
+    /// Does an errand on the outbox, which is open.
     pub fn perform<N: Dial, O: Write>(
         &mut self,
         alloc: Global,

@@ -17,17 +17,18 @@ use Rattle.filing_model.specs.Outbox.{Entry}
 
 -- ---- its findings
 
--- the content has this JSON string, given with its quotes, if it occurs anywhere
+-- whether the content has this JSON string, given with its quotes, anywhere
 abbrev pub HasString : List ℕ → List ℕ → Bool → Type 0
 HasString content string has = (place : Option ℕ) × FindsNeedle content string 0 place × (has ≡ is_some place)
 
--- a report is refused for what was found in it
+-- whether the reply refuses a report for what was found in it
 abbrev pub Refuses : ReplyParts → Bool → Type 0
 Refuses reply refused =
     (named : Bool) × HasString reply.content (codes "\"refused\"") named
     × (refused ≡ (named && ((reply.status == 422) || (reply.status == 400))))
 
--- that it may not replace a filing is the one finding that the report alone doesn't show
+-- whether the report may replace its filing, by the content of a reply: the one finding that the report alone doesn't
+-- show
 abbrev pub MayReplace : Option ℕ → List ℕ → Bool → Type 0
 MayReplace None content free = free ≡ true
 MayReplace (Some number) content free =
@@ -38,11 +39,11 @@ abbrev pub AreLines : Form → List ℕ → List ℕ → List Pair → List ℕ 
 AreLines form name body [] text = text ≡ []
 AreLines form name body (first ∷ more) text = TellsOf form name body (first ∷ more) text
 
--- in the place of the name of a file
+-- what stands for the name of a file in the lines of findings
 abbrev pub entry_name : ℕ → List ℕ
 entry_name id = codes "entry-" ++ decimal id
 
--- all findings of the report of an entry, if it was refused, and else none
+-- the lines of all findings of the report of an entry if it was refused, and otherwise none
 abbrev pub HasFindingsIf : Bool → Form → List ℕ → ℕ × Entry → List ℕ → List ℕ → Type 0
 HasFindingsIf false form filer (id, entry) content text = text ≡ []
 HasFindingsIf true form filer (id, entry) content text =

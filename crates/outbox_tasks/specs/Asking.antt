@@ -70,8 +70,8 @@ WritesQuestion request written written' (Err (Unread why)) = Appends written wri
 WritesQuestion request written written' (Err (Take why)) = ⊥
 
 -- On a connection of its own, which was made for the entry of this id in this state, the whole request was written and
--- this reply was read. Or no connection was made; or one failed, for the cause that the fault says, as far as the
--- reader and the writer tell.
+-- this reply was read. Or no connection was made; or one failed, for the cause that the fault says, by the failures of
+-- the reader and the writer.
 abbrev pub IsReplied : ℕ → State → List ℕ → Traffic → Traffic → Result Reply SendFault → Type 0
 IsReplied id state request old new (Ok reply) =
     (left left' : Option (List ℕ)) × IsOneConnection old new left (record { id = id; came = Ok state; bytes = request })
@@ -84,7 +84,7 @@ IsReplied id state request old new (Err (Exchange fault)) =
 
 -- ---- all of it
 
--- the reply was printed, or could not be; or there was none, and nothing was printed
+-- the reply was printed, or could not be; or no reply was read, and nothing was printed
 abbrev pub IsAnswered : {X : Type 0} → Form → List ℕ → ℕ → ℕ × Entry → Result Reply SendFault → Option (List ℕ)
     → Option (List ℕ) → Result X TaskFault → Type 0
 IsAnswered form filer id entry (Ok reply) out out' (Ok done) =
@@ -103,7 +103,7 @@ pub record Asks {S X : Type 0} (g : Ghosts S) (form : Form) (id : ℕ) (old new 
   pub replied : IsReplied id entry.state request old new came
   pub answered : IsAnswered form box.filer id (view_entry entry) came out out' result
 
--- so it was, or it was not, and nothing was sent or printed; in any case the outbox was only read
+-- the settled entry of an id was asked about, or it was not, and nothing was sent or printed; the outbox was only read
 abbrev pub AsksEntry : {S X : Type 0} → Ghosts S → Form → ℕ → Traffic → Traffic → OutboxParts S → OutboxParts S
     → Option (List ℕ) → Option (List ℕ) → Result X TaskFault → Type 0
 AsksEntry g form id old new box box' out out' result =

@@ -13,20 +13,20 @@ id_line id = codes "entry " ++ decimal id ++ codes "\n"
 abbrev pub entry_line : ℕ → State → List ℕ
 entry_line id state = codes "entry " ++ decimal id ++ codes " " ++ state_words state ++ codes "\n"
 
--- the same of an id and a state as they are told
+-- the line of an id and a state as `states` answers them
 abbrev pub told_line : ℕ × Stored → List ℕ
 told_line (id, state) = entry_line id (view_state state)
 
--- the same of an entry
+-- the line of an entry
 abbrev pub state_line : ℕ × Entry → List ℕ
 state_line (id, entry) = entry_line id entry.state
 
--- what came of an entry that was tried: its state, or that it is open still
+-- the line of an entry that was tried: its state, or that it is still open
 abbrev pub line_of : {E : Type 0} → ℕ → Result Stored E → List ℕ
 line_of id (Ok state) = entry_line id (view_state state)
 line_of id (Err fault) = entry_line id Open
 
--- entry ID STATE, and behind it
+-- entry ID STATE, and a comma
 abbrev pub front_part : ℕ → State → List ℕ
 front_part id state = codes "entry " ++ decimal id ++ codes " " ++ state_words state ++ codes ", "
 
@@ -34,7 +34,7 @@ front_part id state = codes "entry " ++ decimal id ++ codes " " ++ state_words s
 abbrev pub size_part : ℕ → List ℕ
 size_part bytes = decimal bytes ++ codes " bytes"
 
--- what it is to replace, if it replaces a filing
+-- which filing the entry replaces, if it replaces one
 abbrev pub target_part : Option ℕ → List ℕ
 target_part None = []
 target_part (Some number) = codes ", replaces " ++ decimal number
@@ -45,6 +45,6 @@ long_line (id, entry) =
     front_part id entry.state ++ size_part (length entry.body) ++ target_part entry.target ++ codes ", key "
     ++ entry.key ++ codes "\n"
 
--- what is printed in the place of entries, if none is open
+-- what is printed if no entry is open
 abbrev pub nothing_open : List ℕ
 nothing_open = codes "nothing open\n"

@@ -1,4 +1,4 @@
--- An entry was looked for, and nothing was done.
+-- A look for an entry that found none, and did nothing.
 use Rattle.std.specs.Prelude.{◌≡◌, ◌⊎◌, ℕ, List, Option, None}
 use Rattle.sqlite.specs.Store.{Ghosts}
 use Rattle.filing_model.specs.Outbox.{Entry}
@@ -13,12 +13,12 @@ use Rattle.outbox_tasks.specs.Faults.{IsUnread}
 abbrev pub AreAny : List Entry → Type 0
 AreAny entries = Unit {0}
 
--- none was read, or none has the id
+-- no entry was read, or no entry has the id
 abbrev pub IsNotFound : {S : Type 0} → Ghosts S → OutboxParts S → OutboxParts S → ℕ → TaskFault → Type 0
 IsNotFound g box box' id fault =
     IsUnread fault ⊎ ((fault ≡ NoEntry id) × ForEntries g box box' (λ entries. entry_at entries id ≡ None))
 
--- the entries are those of before, of the same filer, no connection was made, and nothing was printed
+-- the entries and their filer are unchanged, no connection was made, and nothing was printed
 pub record DoesNothing {S : Type 0} (g : Ghosts S) (old new : Traffic) (box box' : OutboxParts S)
     (out out' : Option (List ℕ)) : Type 0 where
   pub entries : ForEntries g box box' (HasEntries g box')

@@ -4,11 +4,11 @@ use Rattle.outbox_tasks.specs.declared.memory.Finished.{Finished}
 use Rattle.outbox_tasks.specs.declared.memory.Replies.{Replies}
 use Rattle.outbox_tasks.specs.Dials.{Output, Traffic}
 
--- what a connection came to
+-- what became of a connection
 abbrev pub output_of : Finished → Output
 output_of finished = record { id = finished.id; came = finished.came; bytes = finished.text.items }
 
--- all that is to come, and what all that is over came to, unless memory was refused for one
+-- the connections that are still to come, and what became of those that are over, unless memory was refused for one
 abbrev pub traffic_of : Replies → Traffic
 traffic_of replies = record {
   coming = Some (map (λ bytes. bytes.items) replies.coming.now);

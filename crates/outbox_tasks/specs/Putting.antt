@@ -10,13 +10,14 @@ use Rattle.outbox_tasks.specs.declared.fault.TaskFault.{TaskFault}
 use Rattle.outbox_tasks.specs.declared.fault.TaskFault.TheVariants.{Put, NotTold}
 use Rattle.outbox_tasks.specs.Lines.{id_line}
 
--- the id was printed and is answered, or it could not be printed; or the fault is answered, and nothing was printed
+-- the id of the report was printed and answered, or could not be printed; or the fault is answered, and nothing was
+-- printed
 abbrev pub IsPutTold : Result ℕ PutFault → Option (List ℕ) → Option (List ℕ) → Result ℕ TaskFault → Type 0
 IsPutTold (Ok id) out out' result =
     ((result ≡ Ok id) × Appends out out' (id_line id)) ⊎ ((fault : LineFault) × (result ≡ Err (NotTold id fault)))
 IsPutTold (Err fault) out out' result = (result ≡ Err (Put fault)) × (out' ≡ out)
 
--- A report was put in, or it was refused, and what came of it was told.
+-- A report was put in, and its id was printed and answered; or it was refused, and the fault was answered.
 pub record PutsAndTells {S : Type 0} (g : Ghosts S) (box box' : OutboxParts S) (key : List ℕ) (target : Option ℕ)
     (body : List ℕ) (out out' : Option (List ℕ)) (result : Result ℕ TaskFault) : Type 0 where
   pub came : Result ℕ PutFault

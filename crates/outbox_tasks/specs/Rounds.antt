@@ -26,24 +26,24 @@ use Rattle.outbox_tasks.specs.Sending.{IsOpenAt, IsSentOnce, IsBrokenOff, IsTrie
 abbrev pub open_ids : List Entry → List ℕ
 open_ids entries = map (λ e. e.0) (filter is_open (numbered entries))
 
--- an id and a state as they are told, of an entry that is open
+-- whether an id and a state, as `states` answers them, are those of an open entry
 abbrev pub is_open_pair : ℕ × State → Bool
 is_open_pair (id, state) = is_open_state (view_state state)
 
 -- ---- turns
 
--- what came of an entry that had its turn
+-- the turn of an entry: its id, and what its exchange answered
 pub record Turn : Type 0 where
   pub id : ℕ
   pub came : Result State ExchangeFault
 
--- it was sent; or its exchange was broken off by a fault of its own, after which the network doesn't give up
+-- the entry was sent; or its exchange was broken off by a fault of its own, and the network does not give up
 abbrev pub IsTurn : List ℕ → List Entry → ℕ → Traffic → Traffic → Result State ExchangeFault → Type 0
 IsTurn filer entries id old new (Ok to) = IsSentOnce filer entries id old new to
 IsTurn filer entries id old new (Err fault) =
     IsBrokenOff filer entries id old new (Exchange fault) × (is_of_entry fault ≡ true) × (new.gives_up ≡ false)
 
--- each had its turn among the entries that the one before it left, and these are the last
+-- each turn was among the entries that the one before it left, and `after` are those that the last one left
 abbrev pub SentInTurn : List ℕ → List Entry → Traffic → List Turn → List Entry → Traffic → Type 0
 SentInTurn filer entries old [] after new = (after ≡ entries) × (new ≡ old)
 SentInTurn filer entries old (turn ∷ turns) after new =
@@ -61,7 +61,7 @@ failures turns = count_by (λ turn. is_err turn.came) turns
 
 -- ---- a round
 
--- The entries of these ids had their turns, where those of before are such, and what came of each was printed.
+-- If `Are` holds of the entries before, the entries of these ids had their turns, and the line of each was printed.
 pub record HaveTurns {S : Type 0} (g : Ghosts S) (Are : List Entry
     → Type 0) (ids : List ℕ) (old new : Traffic) (box box' : OutboxParts S) (out out' : Option (List ℕ)) : Type 0 where
   pub turns : List Turn
@@ -72,12 +72,12 @@ pub record HaveTurns {S : Type 0} (g : Ghosts S) (Are : List Entry
   pub filer : box'.filer ≡ box.filer
   pub clean : HasCleanDisk (shows g box') → HasCleanDisk (shows g box)
 
--- it is no fault of the one exchange, or the network gives up
+-- the fault is not one of a single exchange, or the network gives up
 abbrev pub EndsRound : Traffic → TaskFault → Type 0
 EndsRound new fault = (belongs_to_entry fault ≡ false) ⊎ (new.gives_up ≡ true)
 
--- The first of the entries of these ids had their turns, and the next of them ended the round: it was tried, and this
--- fault came.
+-- The first of the entries of these ids had their turns, and the next one ended the round: it was tried, and failed by
+-- this fault.
 pub record StopsAt {S : Type 0} (g : Ghosts S) (Are : List Entry
     → Type 0) (ids : List ℕ) (old new : Traffic) (box box' : OutboxParts S) (out out' : Option (List ℕ))
     (fault : TaskFault) : Type 0 where
@@ -98,12 +98,12 @@ pub record StopsAt {S : Type 0} (g : Ghosts S) (Are : List Entry
   pub filer : box'.filer ≡ box.filer
   pub clean : HasCleanDisk (shows g box') → HasCleanDisk (shows g box)
 
--- the entries of these ids are open, and none of them stands twice
+-- the entries of these ids are open, and no id is in the list twice
 abbrev pub AreToSend : List ℕ → List Entry → Type 0
 AreToSend [] entries = Unit {0}
 AreToSend (id ∷ ids) entries = IsOpenAt entries id × AllByRecursion (λ other. other ≢ id) ids × AreToSend ids entries
 
--- one of them had its turn, and it is answered whether its exchange failed; or it ended the round
+-- the entry of this id had its turn, and the answer says whether its exchange failed; or it ended the round
 abbrev pub TakesTurn : {S : Type 0} → Ghosts S → ℕ → Traffic → Traffic → OutboxParts S → OutboxParts S → Option (List ℕ)
     → Option (List ℕ) → Result Bool TaskFault → Type 0
 TakesTurn g id old new box box' out out' (Ok failed) =
@@ -112,19 +112,20 @@ TakesTurn g id old new box box' out out' (Ok failed) =
 TakesTurn g id old new box box' out out' (Err fault) =
     Sends g (λ entries. IsOpenAt entries id) id old new box box' out out' (Err fault) × EndsRound new fault
 
--- all of them had their turns, and it is answered how many exchanges failed; or one ended the round
+-- the entries of these ids had their turns, and the answer says how many exchanges failed; or one of them ended the
+-- round
 abbrev pub SendsEach : {S : Type 0} → Ghosts S → List ℕ → Traffic → Traffic → OutboxParts S → OutboxParts S
     → Option (List ℕ) → Option (List ℕ) → Result ℕ TaskFault → Type 0
 SendsEach g ids old new box box' out out' (Ok failed) =
     (made : HaveTurns g (AreToSend ids) ids old new box box' out out') × (failed ≡ failures made.turns)
 SendsEach g ids old new box box' out out' (Err fault) = StopsAt g (AreToSend ids) ids old new box box' out out' fault
 
--- behind the lines of these comes another, if there are none
+-- one more line was printed if there are no ids, and otherwise none
 abbrev pub EndsIn : List ℕ → Option (List ℕ) → Option (List ℕ) → Type 0
 EndsIn [] so_far out' = Appends so_far out' nothing_open
 EndsIn (id ∷ ids) so_far out' = out' ≡ so_far
 
--- Each entry that was open had one turn, in the order of the ids, and it is answered how many were sent and how many
+-- Each entry that was open had one turn, in the order of the ids, and the answer says how many were sent and how many
 -- failed.
 pub record SendsWhole {S : Type 0} (g : Ghosts S) (old new : Traffic) (box box' : OutboxParts S)
     (out out' : Option (List ℕ)) (round : Round) : Type 0 where
@@ -135,14 +136,14 @@ pub record SendsWhole {S : Type 0} (g : Ghosts S) (old new : Traffic) (box box' 
   pub last : EndsIn ids so_far out'
   pub counts : round ≡ record { sent = length ids; failed = failures made.turns }
 
--- One of them ended the round.
+-- An open entry ended the round.
 pub record SendsSome {S : Type 0} (g : Ghosts S) (old new : Traffic) (box box' : OutboxParts S)
     (out out' : Option (List ℕ)) (fault : TaskFault) : Type 0 where
   pub ids : List ℕ
   pub are : ForEntries g box box' (λ entries. ids ≡ open_ids entries)
   pub stops : StopsAt g AreAny ids old new box box' out out' fault
 
--- None was open, and that could not be printed.
+-- No entry was open, and that could not be printed.
 pub record FindsNone {S : Type 0} (g : Ghosts S) (old new : Traffic) (box box' : OutboxParts S)
     (fault : TaskFault) : Type 0 where
   pub none : ForEntries g box box' (λ entries. (open_ids entries ≡ []) × HasEntries g box' entries)

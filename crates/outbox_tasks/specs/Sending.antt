@@ -22,7 +22,7 @@ use Rattle.outbox_tasks.specs.Looking.{AreAny, IsNotFound, DoesNothing}
 
 -- ---- one entry that is tried
 
--- one connection was made, these bytes were to come on it, and it came to this
+-- one connection was made, on which these bytes were to come, and this became of it
 abbrev pub IsOneConnection : Traffic → Traffic → Option (List ℕ) → Output → Type 0
 IsOneConnection old new left output = Takes old.coming new.coming left × Grows old.over new.over (output ∷ [])
 
@@ -30,8 +30,8 @@ IsOneConnection old new left output = Takes old.coming new.coming left × Grows 
 abbrev pub IsOpenAt : List Entry → ℕ → Type 0
 IsOpenAt entries id = option_map (λ e. e.state) (entry_at entries id) ≡ Some Open
 
--- An entry that is not open is told as it is, and no connection was made. Of an open one the whole request was written,
--- on a connection of its own, and it moves by the reply that was read there.
+-- Of an entry that is not open the state is answered, and no connection was made. Of an open one the whole request was
+-- written, on a connection of its own, and it moves by the reply that was read there.
 abbrev pub IsSentOnce : List ℕ → List Entry → ℕ → Traffic → Traffic → State → Type 0
 IsSentOnce filer entries id old new to =
     (IsSettled entries id (view_state to) × (new ≡ old))
@@ -40,7 +40,7 @@ IsSentOnce filer entries id old new to =
     × Hears left left' (λ reply. view_state to ≡ moved Open reply))
 
 -- The entry is open, and no connection was made; or one was made, a first part of the request was written on it, and it
--- failed for the cause that the fault says, as far as the reader and the writer tell.
+-- failed for the cause that the fault says, by the failures of the reader and the writer.
 abbrev pub IsBrokenOff : List ℕ → List Entry → ℕ → Traffic → Traffic → SendFault → Type 0
 IsBrokenOff filer entries id old new (Connect error) = IsOpenAt entries id × (new ≡ old)
 IsBrokenOff filer entries id old new (Exchange fault) =
@@ -54,12 +54,12 @@ abbrev pub IsTried : List ℕ → List Entry → ℕ → Traffic → Traffic →
 IsTried filer entries id old new (Ok to) = IsSentOnce filer entries id old new to
 IsTried filer entries id old new (Err fault) = IsBrokenOff filer entries id old new fault
 
--- the entries after that
+-- the entries after one of them was tried
 abbrev pub entries_after : {E : Type 0} → List Entry → ℕ → Result State E → List Entry
 entries_after entries id (Ok to) = set_state entries id (view_state to)
 entries_after entries id (Err fault) = entries
 
--- Of the entry of an id this came, where the entries of before are such.
+-- If `Are` holds of the entries before, the entry of an id was tried, and this came of it.
 pub record Tries {S : Type 0} (g : Ghosts S) (Are : List Entry
     → Type 0) (id : ℕ) (old new : Traffic) (box box' : OutboxParts S) (came : Result State SendFault) : Type 0 where
   pub tried : ForEntries g box box' (λ entries. Are entries
@@ -95,7 +95,7 @@ SendsEntry g id old new box box' out out' result =
     ⊎ ((fault : TaskFault) × (result ≡ Err fault) × IsNotFound g box box' id fault
     × DoesNothing g old new box box' out out')
 
--- the same answer, of an entry that is there
+-- the answer of an entry that was found
 abbrev pub answer_of_some : Result State TaskFault → Result (Option State) TaskFault
 answer_of_some (Ok state) = Ok (Some state)
 answer_of_some (Err fault) = Err fault
@@ -118,7 +118,7 @@ pub record SendsNone {S : Type 0} (g : Ghosts S) (old new : Traffic) (box box' :
   pub told : ((result ≡ Ok None) × Appends out out' nothing_open)
       ⊎ ((fault : TaskFault) × (result ≡ Err fault) × IsNotPrinted fault)
 
--- one of these; or no entry was read, and nothing was done
+-- an open entry was sent, or no entry is open; or no entry was read, and nothing was done
 abbrev pub SendsNext : {S : Type 0} → Ghosts S → Traffic → Traffic → OutboxParts S → OutboxParts S → Option (List ℕ)
     → Option (List ℕ) → Result (Option State) TaskFault → Type 0
 SendsNext g old new box box' out out' result =

@@ -42,8 +42,8 @@ pub record ShowsEntry {S X : Type 0} (g : Ghosts S) (id : ℕ) (box box' : Outbo
 abbrev pub AreTold : List (ℕ × Stored) → List Entry → Type 0
 AreTold told entries = map view_pair told ≡ map id_and_state (numbered entries)
 
--- Each entry was printed so, in the order of the ids, where those of before are such. A fault says that one was not
--- read, and then the lines of the first were printed, or that a line could not be printed.
+-- If `Are` holds of the entries before, the long line of each was printed, in the order of the ids. A fault says that
+-- an entry was not read, and then the lines of the first ones were printed, or that a line could not be printed.
 pub record ShowsEach {S X : Type 0} (g : Ghosts S) (Are : List Entry
     → Type 0) (box box' : OutboxParts S) (out out' : Option (List ℕ)) (result : Result X TaskFault) : Type 0 where
   pub shown : ForEntries g box box' (λ entries. Are entries

@@ -34,8 +34,8 @@ fn refuses(reply: &Reply) -> bool
     is_named && (reply.status == 422 || reply.status == 400)
 }
 
-/// Whether a report may replace the filing of this number, if it is to replace one, by the content of a reply that
-/// refuses the report.
+/// Whether a report may replace the filing of this number, if it replaces one, by the content of a reply that refuses
+/// it.
 fn may_replace(target: Option<u64>, content: &[u8]) -> bool
     ensures { MayReplace target content.now result }
 {
@@ -146,7 +146,7 @@ fn answer_text(
     Ok(text)
 }
 
-/// Prints it.
+/// Prints the reply to a question about an entry of this filer.
 pub(crate) fn print_answer<O: Write>(
     alloc: Global,
     form: Form,

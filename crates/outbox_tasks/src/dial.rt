@@ -17,8 +17,8 @@ pub trait Dial {
     /// What writes on it.
     type Writer: Sink + Drop;
 
-    // What the peer writes from here on, and what came of the connections that are over, if these are known; and
-    // whether it gives up.
+    // What the peer writes from here on, and what became of the connections that are over, if that is known; and
+    // whether the network gives up.
     ghost traffic: { Self → Traffic };
 
     /// Makes a connection.

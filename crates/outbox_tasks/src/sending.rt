@@ -59,7 +59,7 @@ pub(crate) fn send_open<S: Alter, N: Dial, O: Write>(
 }
 
 /// Sends the entry of this id if it is open, and prints its state after the reply; after a fault, that it is open. If
-/// it is not open, it prints the state and makes no connection. `NoEntry` comes exactly if no entry has the id.
+/// it is not open, it prints the state and makes no connection. Answers `NoEntry` exactly if no entry has the id.
 pub fn send_entry<S: Alter, N: Dial, O: Write>(
     alloc: Global,
     network: &mut N,

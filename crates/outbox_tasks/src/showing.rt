@@ -24,7 +24,7 @@ pub fn show_states<S: Alter, O: Write>(
     Ok(())
 }
 
-/// Prints the entry of this id with its length, which filing it replaces, and its key. `NoEntry` comes exactly if no
+/// Prints the entry of this id with its length, which filing it replaces, and its key. Answers `NoEntry` exactly if no
 /// entry has the id.
 pub fn show_entry<S: Alter, O: Write>(
     alloc: Global,

@@ -22,7 +22,7 @@ impl<'r> TcpDial<'r> {
         TcpDial { rt, number }
     }
 
-    /// A connection to it.
+    /// A connection to the peer at this port.
     pub fn next_stream(&self) -> io::Result<TcpStream> {
         let stream = TcpStream::connect(self.rt, ("127.0.0.1", self.number))?;
         // A request is written whole, and without this its end may wait until the peer acknowledged what came before.

@@ -19,13 +19,13 @@ pub record Delivery : Type 0 where
   pub item : ℕ
   pub given : ℕ
 
--- what was read of a connection are these bytes
+-- what was read of a connection are the bytes of this delivery
 pub record IsOf (sent : List Sent) (connection : Connection) (delivery : Delivery) : Type 0 where
   pub from : Sent
   pub here : numbered sent delivery.item ≡ Some from
   pub read : connection.read ≡ take delivery.given from.bytes
 
--- the same of each connection and its delivery
+-- what was read of each connection are the bytes of its delivery
 abbrev pub AreOf : List Sent → List Connection → List Delivery → Type 0
 AreOf sent [] [] = Unit {0}
 AreOf sent [] (delivery ∷ deliveries) = ⊥
@@ -33,25 +33,25 @@ AreOf sent (connection ∷ connections) [] = ⊥
 AreOf sent (connection ∷ connections) (delivery ∷ deliveries) =
     IsOf sent connection delivery × AreOf sent connections deliveries
 
--- each of them is delivered to its end
+-- each delivery as an event, without a stop
 abbrev pub events_of : List Delivery → List Event
 events_of deliveries = map (λ delivery. Deliver delivery.item delivery.given No) deliveries
 
--- A connection that a fault ended is told in the world as one for which memory ran out: what was marked and written is
--- a first part in either.
+-- A connection that a fault ended is one in the world for which memory ran out: in either case a first part was marked
+-- and written.
 abbrev pub end_in_world : Ended → Ended
 end_in_world Closed = Closed
 end_in_world InputEnded = InputEnded
 end_in_world (Fault fault) = Fault Memory
 
--- what a connection came to, as an output of the world
+-- what became of a connection, as an output of the world
 pub record IsOutputOf (connection : Connection) (delivery : Delivery) (output : Output) : Type 0 where
   pub item : output.item ≡ delivery.item
   pub marks : output.marks ≡ connection.output.marks
   pub ended : output.ended ≡ Some (end_in_world connection.output.ended)
   pub bytes : output.bytes ≡ connection.output.bytes
 
--- the same of each connection and its delivery
+-- what became of each connection is the output of its delivery
 abbrev pub AreOutputsOf : List Connection → List Delivery → List Output → Type 0
 AreOutputsOf [] [] [] = Unit {0}
 AreOutputsOf (connection ∷ connections) (delivery ∷ deliveries) (output ∷ outputs) =
@@ -64,15 +64,15 @@ pub record GoesOnTo (old : World) (connections : List Connection) (deliveries : 
   pub run : Run old (events_of deliveries) new
   -- they are the first ones of all that were completed
   pub kept : after ≡ firsts new.done
-  -- what each connection came to is an output
+  -- what became of each connection is an output
   pub more : List Output
   pub outputs : new.outputs ≡ old.outputs ++ more
   pub are : AreOutputsOf connections deliveries more
   -- nothing else changed
   pub others : new ≡ record old { done = new.done; outputs = new.outputs }
 
--- An intake stands for a world: it holds the first ones of the requests that the world has completed, told as problem
--- details, and as many keys may be kept.
+-- An intake stands for a world: it holds the first ones of the requests that the world has completed, none of which is
+-- old-style, and keeps as many keys at most.
 pub record StandsFor {S : Type 0} (g : Ghosts S) (intake : Intake S) (world : World) : Type 0 where
   pub holds : HoldsRequests g intake (firsts world.done)
   pub old_style : old_style_of intake ≡ 0

@@ -6,7 +6,7 @@ use Rattle.filing_world.specs.World.{Outbox, Sent, Output, World, Send, Hand, nu
 use Rattle.filing_world.specs.Step.{Step}
 use Rattle.outbox_core.specs.Entries.{set_state}
 
--- the outbox of this number is this one, and is up
+-- the outbox of this number in the world is this one, and is up
 pub record IsBox (world : World) (outbox : ℕ) (box : Outbox) : Type 0 where
   pub here : numbered world.outboxes outbox ≡ Some box
   pub up : box.up ≡ true
@@ -16,7 +16,7 @@ pub record IsSent (old : World) (outbox id : ℕ) (text : List ℕ) (new : World
   pub step : Step old (Send outbox id) new
   pub becomes : new ≡ record old { sent = old.sent ++ record { from = Some (outbox, id); bytes = text } ∷ [] }
 
--- What comes are the first bytes of an output that answers an item of this entry.
+-- The bytes that come are the first ones of an output that answers an item of this entry.
 pub record ComesOf (world : World) (outbox id output given : ℕ) (bytes : List ℕ) : Type 0 where
   pub from : Output
   pub here : numbered world.outputs output ≡ Some from
@@ -25,7 +25,7 @@ pub record ComesOf (world : World) (outbox id output given : ℕ) (bytes : List 
   pub sender : item.from ≡ Some (outbox, id)
   pub first : bytes ≡ take given from.bytes
 
--- A reply was handed to the entry, which came to this state, and nothing else changed.
+-- A reply was handed to the entry, which moved to this state, and nothing else changed.
 pub record IsMoved (old : World) (outbox id output : ℕ) (box : Outbox) (to : State) (new : World) : Type 0 where
   pub given : ℕ
   pub step : Step old (Hand output given No) new

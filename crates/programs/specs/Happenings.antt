@@ -1,6 +1,6 @@
--- What programs do, one thing after another, and what they keep then; own rules. Each thing is said in the words of the
--- contract of the program that does it. Opening and closing a register or an outbox changes nothing that is kept, and
--- so nothing here.
+-- What programs do, one thing after another, and what they keep then; own rules. Each thing is stated in the words of
+-- the contract of the program that does it. Opening and closing a register or an outbox changes nothing that is kept,
+-- so it is no happening.
 use Rattle.std.specs.Prelude.{◌≡◌, ℕ, ◌≤◌, true, List, [], ◌∷◌, ◌++◌, take, map, Option, Some, None}
 use Rattle.key_string.specs.Key.{IsKey}
 use Rattle.http_messages.specs.Posting.{IsTarget}
@@ -50,17 +50,19 @@ at_first filers = record { requests = []; outboxes = map empty filers; sent = []
 pub data Happening : Type 0 where
   -- `intake serve` served a connection, on which first bytes of an item came
   Serving : Delivery → Connection → Happening
-  -- it was killed as it served such a connection, before a request was decided or after that, and is started again
+  -- `intake serve` was killed as it served such a connection, before or after it decided a request, and is started
+  -- again
   Killing : Delivery → Crash → (marks : List Mark) → (written : List ℕ) → Happening
-  -- its register was closed, and it turned such a connection away
+  -- the register of `intake serve` was closed, and it turned such a connection away
   TurningAway : Delivery → Connection → Happening
   -- `outbox put` put an entry in
   Putting : (outbox : ℕ) (key : List ℕ) (target : Option ℕ) (body : List ℕ) → Happening
   -- `outbox send` wrote this for an entry, its whole request or a first part
   Writing : (outbox id : ℕ) (written : List ℕ) → Happening
-  -- `outbox send` read so many first bytes of an answer, and the entry came to this state
+  -- `outbox send` read this many first bytes of an answer, and the entry came to this state
   Hearing : (outbox id answer given : ℕ) → State → Happening
-  -- the same of what was written on a connection that was turned away
+  -- `outbox send` read this many first bytes of what was written on a connection that was turned away, and the entry
+  -- came to this state
   HearingRefusal : (outbox id refusal given : ℕ) → State → Happening
   -- somebody else wrote this to the intake
   Stranger : (written : List ℕ) → Happening
@@ -134,8 +136,8 @@ pub record IsWriting (old : Situation) (outbox id : ℕ) (written : List ℕ) (n
   pub part : IsPrefixOf written text
   pub becomes : new ≡ record old { sent = old.sent ++ record { from = Some (outbox, id); bytes = written } ∷ [] }
 
--- First bytes of one of these answers, which is to what was written for the entry, give a reply, and the entry, which
--- was open, moved by it.
+-- The first bytes of one of these answers, on a connection on which the entry's own request came, give a reply, and the
+-- entry, which was open, moved by it.
 pub record IsHearing (old : Situation) (answers : List Answer) (outbox id answer given : ℕ) (to : State)
     (new : Situation) : Type 0 where
   pub from : Answer
@@ -155,7 +157,7 @@ pub record IsHearing (old : Situation) (answers : List Answer) (outbox id answer
         renewed old.outboxes outbox (contents_of contents.filer (set_state contents.entries id to));
   }
 
--- what one of them makes of what is kept
+-- what one happening makes of what is kept
 abbrev pub Makes : ℕ → Situation → Happening → Situation → Type 0
 Makes limit old (Serving delivery connection) new = IsServing limit old delivery connection new
 Makes limit old (Killing delivery crash marks written) new = IsKilling limit old delivery crash marks written new
@@ -168,7 +170,7 @@ Makes limit old (HearingRefusal outbox id refusal given to) new =
 Makes limit old (Stranger written) new =
     new ≡ record old { sent = old.sent ++ record { from = None; bytes = written } ∷ [] }
 
--- one after another, whichever program each is of
+-- happenings one after another, whichever program each is of
 abbrev pub Happen : ℕ → Situation → List Happening → Situation → Type 0
 Happen limit old [] new = new ≡ old
 Happen limit old (happening ∷ happenings) new =
@@ -208,7 +210,7 @@ pub record IsReached (filers : List (List ℕ)) (limit : ℕ) (situation : Situa
   pub kept : IsKept limit situation world
   pub holds : Holds world
 
--- Each entry that counts as confirmed stands in the register exactly once, under the number that it was told.
+-- Each entry that counts as confirmed is in the register exactly once, under the number that its reply gave.
 abbrev pub AreRegistered : Situation → Type 0
 AreRegistered situation =
     (outbox id number : ℕ) (contents : Contents) (entry : Entry) → numbered situation.outboxes outbox ≡ Some contents

@@ -25,7 +25,7 @@ use sqlite::Alter;
 
 /// Connections that were served in turn after the requests which a world has completed are deliveries: each is a step
 /// of the world, and what is kept then are the first of the requests that the new world has completed. So more
-/// connections go on from there, and where events led to the old world, the headline holds of the new one.
+/// connections go on from there, and if events led to the old world, the headline holds of the new one.
 pub fn connections_are_deliveries()
     ensures steps { (old : World) (connections : List Connection) (deliveries : List Delivery) (after : List Request)
         → old.up ≡ true → ServeInTurn (keeping old.limit [] (firsts old.done) after) connections
@@ -37,7 +37,7 @@ pub fn connections_are_deliveries()
         → Holds new }
 {}
 
-/// What serving the connections of a port did with an intake that stood for a world. Where the disk is clean at the
+/// What serving the connections of a port did with an intake that stood for a world. If the disk is clean at the
 /// end, the connections that came were served in turn, and whatever sent items were read on them, the world goes on by
 /// their deliveries to one that the intake stands for.
 pub fn a_served_port_is_in_the_world<S: Alter>()
@@ -46,8 +46,8 @@ pub fn a_served_port_is_in_the_world<S: Alter>()
         → world.up ≡ true → IsServedIn S.Store world port port' new taken }
 {}
 
-/// What an exchange writes is sent, and what it hears is handed to its entry, whatever came in between at other ends:
-/// the entry is in the state that the exchange answers.
+/// What an exchange writes is sent, and the reply that it reads is handed to its entry, whatever came in between at
+/// other ends: the entry is in the state that the exchange answers.
 pub fn an_exchange_is_sent_and_handed()
     ensures sent { (old : World) (outbox id : ℕ) (box : Outbox) (text : List ℕ) → IsBox old outbox box
         → IsOpenRequest box.filer box.entries id text → (new : World) × IsSent old outbox id text new }

@@ -21,7 +21,7 @@ use Rattle.receipts.specs.Text.{receipt_text}
 abbrev pub IsReplyIn : List ℕ → ReplyParts → Type 0
 IsReplyIn bytes reply = (rest : Option (List ℕ)) × HasGiven (Some bytes) rest (λ front. GivesReply front reply)
 
--- they have no whole reply, for this cause
+-- these bytes begin with no whole reply, for this cause
 abbrev pub HasNoReply : List ℕ → ReceiptFault → Type 0
 HasNoReply bytes (NoReply why) =
     (rest : Option (List ℕ)) × (failures : ℕ) × IsReplyFailure (Some bytes) rest 0 failures why
@@ -48,7 +48,7 @@ pub record IsReceipt (id : ℕ) (state : State) (sent came : List ℕ) (moment :
   pub tells : (request : Request) → IsSendable request → sent ≡ bytes_of request
       → text ≡ receipt_text id request reply when port
 
--- why there is none
+-- why there is no receipt
 abbrev pub HasNoReceipt : State → List ℕ → List ℕ → ReceiptFault → Type 0
 HasNoReceipt state sent came NoRequest = (request : Request) → IsSendable request → sent ≢ bytes_of request
 HasNoReceipt state sent came (NoReply why) = HasNoReply came (NoReply why)

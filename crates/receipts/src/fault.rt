@@ -7,10 +7,10 @@ use thiserror::Error;
 /// Why there is no receipt of an exchange.
 #[derive(Clone, Copy, Debug, PartialEq, Eq, Error)]
 pub enum ReceiptFault {
-    /// What was noted as sent is no request that files a report.
+    /// The bytes that were noted as sent are no request that files a report.
     #[error("the request was not noted whole")]
     NoRequest,
-    /// What was noted as come is no whole reply.
+    /// The bytes that were noted as received are no whole reply.
     #[error("{0}")]
     NoReply(ReplyFault),
     /// The reply settles nothing, or left the entry open.

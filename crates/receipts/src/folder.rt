@@ -37,7 +37,7 @@ impl<'a, F: Files> Folder<'a, F> {
         match self.write_part(part.as_str(), text) {
             Ok(()) => fs::rename(self.files, part.as_str(), whole.as_str()),
             Err(error) => {
-                // The part is in nobody's way if it can't be removed either.
+                // If the part can't be removed either, it does no harm.
                 let _ = fs::remove_file(self.files, part.as_str());
                 Err(error)
             }

@@ -1,4 +1,4 @@
--- What an export of a register does. `out` and `out'` are what the output has before and after it, where that is known.
+-- What an export of a register does. `out` and `out'` are what the output has before and after it, if that is known.
 use Rattle.std.specs.Prelude.{◌≡◌, ℕ, false, List, Option, Result, Ok, Err, IfErr, OnOk}
 use Rattle.std.specs.Io.KnownBytes.{Appends}
 use Rattle.sqlite.specs.Store.{Ghosts}
@@ -17,12 +17,12 @@ use Rattle.register_export.specs.declared.fault.ExportFault.{ExportFault}
 use Rattle.register_export.specs.declared.fault.ExportFault.TheVariants as fault
 use Rattle.register_export.specs.Records.{export_text}
 
--- this holds of the fault of an opening; nothing is said where the register is sound
+-- this holds of the fault by which an opening was refused; nothing is said of the faults of a sound register
 abbrev pub IfOpen : (OpenFault → Type 0) → ExportFault → Type 0
 IfOpen Holds (fault.Open why) = Holds why
 IfOpen Holds (fault.Records why) = Unit {0}
 
--- this holds, unless the register is refused: it is sound, and its records may not all be written
+-- this holds unless the register is refused: also if it is sound, and not all its records are written
 abbrev pub UnlessRefused : {X : Type 0} → Result X ExportFault → Type 0 → Type 0
 UnlessRefused (Ok done) Holds = Holds
 UnlessRefused (Err (fault.Records why)) Holds = Holds
@@ -34,15 +34,16 @@ pub record ExportsFacts {S X : Type 0} (g : Ghosts S) (form : Form) (filer : Opt
   -- The rows stand for requests, and there is one such list at most.
   pub exported : HasCleanDisk (state g new)
       → OnOk result (ForRows g old (λ _ requests. Appends out out' (export_text form filer (register requests))))
-  -- Unless it is refused, the tables of a register are a register, and what its rows stand for is committed still.
+  -- Unless it is refused, a database with the tables of a register is one, and what its rows stand for is still
+  -- committed.
   pub found : HasCleanDisk (state g new) → IsDeclared (state g old).now.schema
       → UnlessRefused result ((old_style : ℕ) × (requests : List Request)
       × IsRegisterOf old_style requests (state g old).now)
   pub kept : HasCleanDisk (state g new)
       → UnlessRefused result (ForRows g old (λ old_style requests. HasCommitted (IsRegisterOf old_style requests)
       (state g new)))
-  -- A refusal of the opening says why, and nothing was written out. Where the rows stand for requests, it is by memory
-  -- or disk.
+  -- A refusal of the opening says why, and nothing was written out. If the rows stand for requests, memory or the disk
+  -- refused.
   pub refused : HasCleanDisk (state g new) → IfErr result (IfOpen (λ why. IsRefused g why old new))
   pub failed : HasCleanDisk (state g new) → IfErr result (IfOpen (λ why. ForRows g old (λ _ _. IsFailure why)))
   pub quiet : IfErr result (IfOpen (λ _. out' ≡ out))

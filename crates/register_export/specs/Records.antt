@@ -19,14 +19,14 @@ abbrev pub is_wanted : Option (List ℕ) → List ℕ → Bool
 is_wanted None own = true
 is_wanted (Some filer) own = bytes_eq own filer
 
--- so the filing's are, or none
+-- the records of a filing if its filer's are written, and otherwise none
 abbrev pub wanted_records : Form → Option (List ℕ) → FilingParts → List ℕ
 wanted_records form filer f = if is_wanted filer f.filer then records form f else []
 
--- those of a filing as it stands among these
+-- the records of a filing, with what replaces it among these
 abbrev pub filing_records : Form → Option (List ℕ) → List Filing → Filing → List ℕ
 filing_records form filer filings f = wanted_records form filer (whole filings f)
 
--- what stands before the records, and then those of each filing, in order
+-- what is written before the first record, and then the records of each filing, in order
 abbrev pub export_text : Form → Option (List ℕ) → List Filing → List ℕ
 export_text form filer filings = first_line form ++ flat_map (filing_records form filer filings) filings

@@ -34,7 +34,7 @@ impl From<AllocError> for RecordsFault {
 pub enum ExportFault {
     /// The database is no sound register, or was not read. Nothing was written.
     Open(OpenFault),
-    /// It is one, and its records are not all written.
+    /// The register is sound, and not all its records are written.
     Records(RecordsFault),
 }
 

@@ -24,7 +24,7 @@ pub(crate) fn print<O: Write>(output: &mut O, text: &[u8]) -> Result<(), Records
     }
 }
 
-/// Whether the filings of this filer are written, where one is asked for or all are.
+/// Whether the filings of this filer are written: all filers' are, or those of the one that is asked for.
 fn is_wanted(filer: Option<&str>, own: &str) -> bool
     ensures { result ≡ is_wanted (option_map (λ s. s.now) filer.entry) own.now }
 {

@@ -40,7 +40,7 @@ pub fn export<S: Alter, O: Write>(
     Ok(())
 }
 
-/// Writes the records of a register of which so much is known.
+/// Writes the records of a register with these counts and this catalogue.
 fn write_records<S: Alter, O: Write>(
     alloc: Global,
     conn: &mut Connection<S>,

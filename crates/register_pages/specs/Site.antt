@@ -1,6 +1,6 @@
 -- What the writing of a register's pages does. What is written is HTML, in which each text of a report was escaped: a
 -- folder takes nothing else, and a text becomes HTML by `escape` alone. `pages` and `pages'` are the pages that were
--- written into the folder before and after it, where these are known.
+-- written into the folder before and after it, if these are known.
 use Rattle.std.specs.Prelude.{◌≡◌, ℕ, false, List, Option, Result, Ok, Err, IfErr, OnOk}
 use Rattle.sqlite.specs.Store.{Ghosts}
 use Rattle.sqlite.specs.Held.{Held, state}
@@ -17,12 +17,12 @@ use Rattle.register_pages.specs.declared.fault.PagesFault.{PagesFault}
 use Rattle.register_pages.specs.declared.fault.PagesFault.TheVariants as fault
 use Rattle.register_pages.specs.Pages.{WritesSite}
 
--- this holds of the fault of an opening; nothing is said where the register is sound
+-- this holds of the fault by which an opening was refused; nothing is said of the faults of a sound register
 abbrev pub IfOpen : (OpenFault → Type 0) → PagesFault → Type 0
 IfOpen Holds (fault.Open why) = Holds why
 IfOpen Holds (fault.Pages why) = Unit {0}
 
--- this holds, unless the register is refused: it is sound, and its pages may not all be written
+-- this holds unless the register is refused: also if it is sound, and not all its pages are written
 abbrev pub UnlessRefused : {X : Type 0} → Result X PagesFault → Type 0 → Type 0
 UnlessRefused (Ok done) Holds = Holds
 UnlessRefused (Err (fault.Pages why)) Holds = Holds
@@ -34,15 +34,16 @@ pub record WritesPages {S X : Type 0} (g : Ghosts S) (pages pages' : Option (Lis
   -- The rows stand for requests, and there is one such list at most.
   pub written : HasCleanDisk (state g new)
       → OnOk result (ForRows g old (λ _ requests. WritesSite (register requests) pages pages'))
-  -- Unless it is refused, the tables of a register are a register, and what its rows stand for is committed still.
+  -- Unless it is refused, a database with the tables of a register is one, and what its rows stand for is still
+  -- committed.
   pub found : HasCleanDisk (state g new) → IsDeclared (state g old).now.schema
       → UnlessRefused result ((old_style : ℕ) × (requests : List Request)
       × IsRegisterOf old_style requests (state g old).now)
   pub kept : HasCleanDisk (state g new)
       → UnlessRefused result (ForRows g old (λ old_style requests. HasCommitted (IsRegisterOf old_style requests)
       (state g new)))
-  -- A refusal of the opening says why, and no page was written. Where the rows stand for requests, it is by memory or
-  -- disk.
+  -- A refusal of the opening says why, and no page was written. If the rows stand for requests, memory or the disk
+  -- refused.
   pub refused : HasCleanDisk (state g new) → IfErr result (IfOpen (λ why. IsRefused g why old new))
   pub failed : HasCleanDisk (state g new) → IfErr result (IfOpen (λ why. ForRows g old (λ _ _. IsFailure why)))
   pub unwritten : IfErr result (IfOpen (λ _. pages' ≡ pages))

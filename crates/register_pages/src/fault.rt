@@ -12,7 +12,7 @@ use std::alloc::AllocError;
 pub enum PagesFault {
     /// The database is no sound register, or was not read. No page was written.
     Open(OpenFault),
-    /// It is one, and its pages are not all written.
+    /// The register is sound, and not all its pages are written.
     Pages(WritingFault),
 }
 

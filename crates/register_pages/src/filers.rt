@@ -32,7 +32,7 @@ impl Filer {
         }
     }
 
-    /// It has this filing.
+    /// Adds this filing.
     fn add(&mut self, alloc: Global, filing: &WholeFiling) -> Result<(), AllocError> {
         self.rows.constant("<tr>")?;
         filing_cell(&mut self.rows, alloc, Some(filing.number))?;

@@ -3,15 +3,15 @@
 use markup::Markup;
 use std::alloc::{AllocError, Global};
 
-/// What stands before the title of a page. It loads nothing from elsewhere.
+/// What a page has before its title. It loads nothing from elsewhere.
 const BEFORE_TITLE: &str =
     "<!DOCTYPE html>\n<html lang=\"en\">\n<head>\n<meta charset=\"utf-8\">\n<meta name=\"viewport\" content=\"width=device-width, initial-scale=1\">\n<meta http-equiv=\"Content-Security-Policy\" content=\"default-src 'none'; style-src 'unsafe-inline'; script-src 'unsafe-inline'; img-src data:; base-uri 'none'; form-action 'none'\">\n<link rel=\"icon\" href=\"data:,\">\n<title>";
 
-/// What stands between the title and the heading.
+/// What a page has between its title and its heading.
 const AFTER_TITLE: &str =
     "</title>\n<style>\n:root { color-scheme: light dark; --line: #8888; --link: #0645ad; --bar: #3a6ea5; }\n@media (prefers-color-scheme: dark) { :root { --link: #8ab4f8; --bar: #7fa8d9; } }\nbody { font-family: system-ui, sans-serif; line-height: 1.5; margin: 0 auto; max-width: 80rem; padding: 0 1rem 3rem; }\na { color: var(--link); }\n:focus-visible { outline: 3px solid var(--link); outline-offset: 2px; }\n.skip { position: absolute; left: -100rem; }\n.skip:focus { position: static; }\nnav { border-bottom: 1px solid var(--line); padding: .75rem 0; }\nnav a { margin-right: 1rem; }\n.scroll { overflow-x: auto; }\ntable { border-collapse: collapse; width: 100%; }\ncaption { text-align: left; padding: .5rem 0; }\nth, td { border-bottom: 1px solid var(--line); max-width: 30rem; overflow-wrap: break-word; padding: .25rem .75rem .25rem 0; text-align: left; unicode-bidi: isolate; vertical-align: top; white-space: pre-wrap; }\nh1, dd { overflow-wrap: anywhere; unicode-bidi: isolate; white-space: pre-wrap; }\n.number { text-align: right; white-space: nowrap; }\ninput { font: inherit; max-width: 100%; padding: .25rem; width: 24rem; }\nsvg { height: auto; max-width: 100%; }\nsvg text { fill: currentColor; font: 14px system-ui, sans-serif; }\nsvg rect { fill: var(--bar); }\n</style>\n</head>\n<body>\n<a class=\"skip\" href=\"#main\">Skip to the content</a>\n<nav aria-label=\"Pages\"><a href=\"index.html\">Filers</a> <a href=\"refused.html\">Refused reports</a> <a href=\"findings.html\">Findings</a></nav>\n<main id=\"main\">\n<h1>";
 
-/// The search box. It is shown where the page's script runs.
+/// The search box. It is shown if the page's script runs.
 const SEARCH: &str =
     "<p id=\"search-box\" hidden><label for=\"search\">Search this table</label> <input id=\"search\" type=\"search\" autocomplete=\"off\"> <span id=\"found\" role=\"status\"></span></p>\n";
 

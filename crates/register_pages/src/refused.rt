@@ -34,7 +34,7 @@ impl Refused {
         })
     }
 
-    /// This report was refused for these findings. It was sent to replace the filing of this number, if any.
+    /// This report was refused for these findings. It names the filing of this number as the one to replace, if any.
     pub(crate) fn add(
         &mut self,
         alloc: Global,

@@ -39,7 +39,7 @@ pub fn write_pages<S: Alter, F: Folder>(
     Ok(())
 }
 
-/// Writes the pages of a register of which so much is known.
+/// Writes the pages of a register with these counts and this catalogue.
 fn write_all<S: Alter, F: Folder>(
     alloc: Global,
     conn: &mut Connection<S>,
@@ -122,8 +122,8 @@ fn is_filing(catalogue: &Catalogue, number: u64, place: u64) -> bool {
     }
 }
 
-/// The filing that the request at this place was sent to replace, if the first of the rows says one, and the rows
-/// behind.
+/// The filing that the request at this place names as the one to replace, if the first of the rows is its row, and the
+/// rows behind that.
 fn target_at<'a>(rows: &'a [Row], place: u64) -> (Option<u64>, &'a [Row]) {
     if place < 1 << 62 {
         target_of(rows, place)

@@ -14,7 +14,7 @@ pub record FilingParts : Type 0 where
   pub replaced_by : Option ℕ
   pub facts : List FactRecord
 
--- a filing as it stands among these
+-- a filing with what replaces it among these
 abbrev pub whole : List Filing → Filing → FilingParts
 whole filings f = record {
   number = f.number;

@@ -17,6 +17,6 @@ sent_of r = record { filer = r.filer; key = r.key; body = r.body }
 abbrev pub sent_columns : Row → Row
 sent_columns row = column row 1 ∷ column row 2 ∷ column row 3 ∷ []
 
--- of these columns
+-- what a row with these columns says
 abbrev pub sent_in : Row → SentParts
 sent_in row = record { filer = text_in (column row 0); key = text_in (column row 1); body = bytes_in (column row 2) }

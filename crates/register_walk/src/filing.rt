@@ -54,7 +54,7 @@ impl WholeFiling {
     }
 }
 
-/// The filing of this number with its facts, or `None` if there is no such filing. Its facts are read of the report
+/// The filing of this number with its facts, or `None` if there is no such filing. Its facts are read from the report
 /// that was kept. Nothing is written.
 pub fn filing_at<S: Alter>(
     alloc: Global,

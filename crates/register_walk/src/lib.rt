@@ -1,5 +1,5 @@
 //! A register is read one request at a time, each with its report. What may live here: what is read of the row of one
-//! kept request, and which filing that is. What becomes of it is not known here.
+//! kept request, and which filing that is. What is done with it is not known here.
 #![tactic(auto)]
 
 mod filing;

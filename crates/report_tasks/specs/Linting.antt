@@ -1,5 +1,4 @@
--- What is printed of reports; own rules. `out` and `out'` are what the output has before and after, where that is
--- known.
+-- What is printed of reports; own rules. `out` and `out'` are what the output has before and after, if it is known.
 use Rattle.std.specs.Prelude.{◌≡◌, ◌⊎◌, ◌||◌, ℕ, Bool, true, false, List, [], ◌∷◌, ◌++◌, map, Option, Result, Ok, Err}
 use Rattle.std.specs.Prelude.{IfOk, IfErr, OnOk, if◌then◌else◌}
 use Rattle.std.specs.Io.KnownBytes.{Appends}
@@ -19,7 +18,7 @@ abbrev pub has_any : List Pair → Bool
 has_any [] = false
 has_any (first ∷ more) = true
 
--- the lines of these findings in a body are printed, and nothing if there are none
+-- the lines of these findings in a body are printed; without findings nothing is
 abbrev pub PrintsFindings : Form → List ℕ → List ℕ → List Pair → Option (List ℕ) → Option (List ℕ) → Type 0
 PrintsFindings form file body [] out out' = out' ≡ out
 PrintsFindings form file body (first ∷ more) out out' =
@@ -30,7 +29,7 @@ pub record FindsIn (form : Form) (filer file body : List ℕ) (out out' : Option
     (result : Result Bool CommandFault) : Type 0 where
   pub printed : OnOk result (PrintsFindings form file body (findings filer body) out out')
   pub found : IfOk result (λ is_found. is_found ≡ has_any (findings filer body))
-  -- where it isn't the output that failed, nothing was printed
+  -- unless the output failed, nothing was printed
   pub quiet : IfErr result (λ fault. (fault ≡ Output) ⊎ (out' ≡ out))
 
 -- ---- the reports in files
@@ -42,7 +41,7 @@ Read = List ℕ × List ℕ
 abbrev pub names_of : List Read → List (List ℕ)
 names_of reports = map (λ report. report.0) reports
 
--- so it is printed of each of these, in order
+-- the lines of the findings of each of these were printed, in order
 abbrev pub PrintsEach : Form → List ℕ → List Read → Option (List ℕ) → Option (List ℕ) → Type 0
 PrintsEach form filer [] out out' = out' ≡ out
 PrintsEach form filer (report ∷ reports) out out' =
@@ -54,15 +53,15 @@ abbrev pub have_any : List ℕ → List Read → Bool
 have_any filer [] = false
 have_any filer (report ∷ reports) = has_any (findings filer report.1) || have_any filer reports
 
--- a body was read, and it is so; or it was not the output that failed, and nothing was printed
+-- a body was read, and this holds of it; or nothing was printed, unless the output failed
 abbrev pub LintsFile : Form → List ℕ → List ℕ → Option (List ℕ) → Option (List ℕ) → Result Bool LintFault → Type 0
 LintsFile form filer name out out' (Ok found) =
     (body : List ℕ) × PrintsFindings form name body (findings filer body) out out'
     × (found ≡ has_any (findings filer body))
 LintsFile form filer name out out' (Err fault) = (fault ≡ Command Output) ⊎ (out' ≡ out)
 
--- The findings of each file were printed, and it is answered whether there is one; or those of the first were, and of
--- the next one nothing, unless it was the output that failed.
+-- The findings of each file were printed, and the answer says whether there is one; or those of the first files were,
+-- and of the next one nothing, unless the output failed.
 abbrev pub LintsFiles : Form → List ℕ → List (List ℕ) → Option (List ℕ) → Option (List ℕ) → Result Bool LintFault
     → Type 0
 LintsFiles form filer names out out' (Ok found) =

@@ -6,14 +6,14 @@ use Rattle.world.specs.declared.fault.Fault.{Fault}
 use Rattle.world.specs.declared.fault.Fault.TheVariants.{NoSuch, Memory, Store, Reopen}
 use Rattle.world.specs.Playing.{AsksOutbox, Closes}
 
--- the event of this number comes in this world, to which those before it lead
+-- the event of this number comes in this world, to which the events before it lead
 pub record Comes (first : World) (events : List Event) (number : ℕ) (world : World) (event : Event) : Type 0 where
   pub there : numbered events number ≡ Some event
   pub run : Run first (take (number - 1) events) world
 
--- Why a run of these events ended. An event that a fault tells was come to; with NoSuch it can't be played, with Store
--- it asks an outbox, and with Reopen it can be played, and stops an end or restarts it. The making of the world counts
--- as 0.
+-- Why a run of these events ended. The run came to the event that the fault names. If the fault is NoSuch, that event
+-- can't be played; if it is Store, the event asks an outbox; if it is Reopen, it can be played, and stops an end or
+-- restarts it. The making of the world counts as 0.
 abbrev pub EndsBy : World → List Event → Fault → Type 0
 EndsBy first events (NoSuch n) =
     (world : World) × (event : Event) × Comes first events n world event × CannotPlay world event

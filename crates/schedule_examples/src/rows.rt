@@ -12,8 +12,8 @@ use outbox_core::StoreFault;
 use schedule::Fault as WorldFault;
 use std::alloc::{AllocError, Global};
 
-/// Runs the vector of this number, of 24 its end, of 27 its beginning, and says whether it passed. A number that is
-/// none of schedules fails. If memory was refused, it answers that.
+/// Runs the vector of this number, of 24 its end, of 27 its beginning, and says whether it passed. A number without a
+/// schedule fails. If memory was refused, it answers that.
 pub fn run(alloc: Global, number: u32) -> Result<bool, AllocError> {
     let passed = match number {
         15 => stopped_after_keeping(alloc),
@@ -55,7 +55,7 @@ struct Scene<'a> {
 }
 
 impl Scene<'_> {
-    /// Whether this comes of it.
+    /// Whether the script has the expected result.
     fn holds(&self, alloc: Global) -> Result<bool, Fault> {
         let outcome = play(alloc, self.script)?;
         Ok(
@@ -167,7 +167,7 @@ done 2
     .holds(alloc)
 }
 
-/// Two outboxes send a body each, and the second's comes first. Each hears the reply to its own, the second twice.
+/// Two outboxes send a body each, and the second's comes first. Each gets the reply to its own body, the second twice.
 fn under_one_key(alloc: Global, first: &str, second: &str) -> Result<String, Fault> {
     Ok(format!(in alloc;
         r#"outbox ACME

@@ -1,10 +1,10 @@
 //! The bytes that several tests share: requests and replies.
 
-/// The head of the request that files the report of one fact under the key `k-1`, 93 bytes.
+/// The head of the request that files the report of one fact under the key `k-1`: 93 bytes.
 pub const HEAD: &str =
     "POST /filings/ACME HTTP/1.1\r\nHost: localhost\r\nIdempotency-Key: \"k-1\"\r\nContent-Length: 393\r\n\r\n";
 
-/// The same under the key `k-2`.
+/// The head of the request that files the report of one fact under the key `k-2`.
 pub const SECOND_HEAD: &str =
     "POST /filings/ACME HTTP/1.1\r\nHost: localhost\r\nIdempotency-Key: \"k-2\"\r\nContent-Length: 393\r\n\r\n";
 
@@ -12,7 +12,7 @@ pub const SECOND_HEAD: &str =
 pub const SMALL: &str =
     "POST /filings/ACME HTTP/1.1\r\nHost: h\r\nIdempotency-Key: \"k-1\"\r\nContent-Length: 84\r\n\r\n{\"documentInfo\":{\"documentType\":\"https://xbrl.org/2021/xbrl-json\",\"taxonomy\":[\"t\"]}}";
 
-/// The same under the key `k-2`.
+/// The request that files the smallest report under the key `k-2`.
 pub const SECOND_SMALL: &str =
     "POST /filings/ACME HTTP/1.1\r\nHost: h\r\nIdempotency-Key: \"k-2\"\r\nContent-Length: 84\r\n\r\n{\"documentInfo\":{\"documentType\":\"https://xbrl.org/2021/xbrl-json\",\"taxonomy\":[\"t\"]}}";
 

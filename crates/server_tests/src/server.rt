@@ -67,7 +67,7 @@ fn goes<S: Fresh>(
 /// What is given on a connection, what is written, and how it ends.
 type Conversation = (Text, Text, Ended);
 
-/// Asserts that a conversation goes as it is to go, however many of these bytes a read gives.
+/// Asserts that a conversation goes as expected, in pieces of each of these lengths.
 fn holds<S: Fresh>(
     rt: &impl Abort,
     alloc: Global,
@@ -83,7 +83,7 @@ fn holds<S: Fresh>(
     Ok(())
 }
 
-/// The same of each.
+/// Asserts that each conversation goes as expected.
 fn hold<S: Fresh>(
     rt: &impl Abort,
     alloc: Global,

@@ -27,7 +27,7 @@ impl Read for Waiting<'_> {
     }
 }
 
-/// Takes all, and counts it where a reader sees it.
+/// Takes all that is written, and counts it in a cell that a reader sees.
 #[derive(Drop)]
 pub struct Telling<'a> {
     pub output: &'a mut Vec<u8>,

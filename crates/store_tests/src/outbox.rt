@@ -15,7 +15,7 @@ mod stops;
 
 const BODY: &[u8] = b"{\"facts\":{}}";
 
-/// An entry as it is expected: its key, whether it is to replace filing 1, its body and its state.
+/// An entry as it is expected: its key, whether it replaces filing 1, its body and its state.
 type Expected = (&'static str, bool, &'static [u8], State);
 
 /// One entry, which is open.
@@ -24,7 +24,7 @@ static ONE: [Expected; 1] = [("k-1", false, BODY, State::Open)];
 /// A call that changes an outbox.
 #[derive(Clone, Copy)]
 enum Call {
-    /// A report is put in under this key, which is to replace filing 1 or none.
+    /// A report is put in under this key, which replaces filing 1 or none.
     Put(&'static str, bool, &'static [u8]),
     /// A reply with this status and content is taken for the entry of this id.
     Reply(u64, u16, &'static [u8]),

@@ -16,7 +16,7 @@ mod memory;
 mod migration;
 mod stops;
 
-/// A request of ACME: its key, whether it is to replace filing 1, its body, and the number of its filing, 0 if it is
+/// A request of ACME: its key, whether it replaces filing 1, its body, and the number of its filing, 0 if it is
 /// refused.
 type Request = (&'static str, bool, &'static str, u64);
 
@@ -72,7 +72,7 @@ fn is_kept<S: Alter>(
     }
 }
 
-/// The same under its own key.
+/// Whether the request is kept under its own key, with its answer.
 fn has_request<S: Alter>(
     alloc: Global,
     store: &mut Store<S>,

@@ -50,10 +50,10 @@ struct DiskStop {
     crashes: bool,
 }
 
-/// What comes of a trial.
+/// The result of a trial.
 #[derive(Clone, Copy, Debug, PartialEq)]
 enum End {
-    /// The change was answered, and the database has the rows of after it.
+    /// The change was answered, and the database has the rows from after it.
     Answered,
     /// The change was not answered, and the database has the rows from before or after it.
     Stopped,
@@ -61,11 +61,11 @@ enum End {
     NotOpened,
     /// What the database has before the change was not made.
     NotMade,
-    /// The change was not answered, and the close did not tell that the disk stopped.
+    /// The change was not answered, and the close did not report that the disk stopped.
     NotTold,
     /// The database was not opened after the change.
     Lost,
-    /// It has other rows, or was not closed then.
+    /// The database has other rows, or was not closed afterwards.
     OtherRows,
     /// The change was answered before any stop came in it.
     NeverStopped,
@@ -184,8 +184,8 @@ fn end_at<T: Trial>(alloc: Global, trial: &T, stop: &DiskStop, calls: u64) -> En
     }
 }
 
-/// Stops the file after 0, 1, 2, .. calls, until the change is answered: a stop is to come before, in the change or, of
-/// the database file, in the opening.
+/// Stops the file after 0, 1, 2, .. calls, until the change is answered: a stop is expected before that, in the change
+/// or, of the database file, in the opening.
 fn end_of<T: Trial>(alloc: Global, trial: &T, stop: &DiskStop) -> End {
     let mut is_stopped = false;
     for calls in 0..ENOUGH {

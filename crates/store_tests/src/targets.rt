@@ -1,4 +1,4 @@
-//! What a request or an entry of a test is to replace.
+//! Which filing a request or an entry of a test replaces.
 
 ghost use Rattle.http_messages.specs.Posting.{IsTarget};
 

@@ -17,7 +17,7 @@ use std::alloc::Global;
 const NOT_JSON_BEFORE: &str =
     "HTTP/1.1 400 Bad Request\r\nContent-Type: application/json\r\nContent-Length: 64\r\n\r\n{\"findings\":[{\"code\":\"not-json\",\"place\":\"\"}],\"status\":\"refused\"}";
 
-/// The reply to another body under a used key, at that time.
+/// The reply to another body under a used key before there were problem details.
 const KEY_REUSED_BEFORE: &str =
     "HTTP/1.1 422 Unprocessable Content\r\nContent-Type: application/json\r\nContent-Length: 23\r\n\r\n{\"status\":\"key-reused\"}";
 
@@ -97,7 +97,7 @@ fn asked<S: Alter + Drop>(
     Ok(Some(intake.into_store().into_conn()))
 }
 
-/// Whether a migration is refused, since the register is none of an earlier form; it gives the database up.
+/// Whether a migration is refused because the register has no earlier form; it gives the database up.
 pub(crate) fn migrate_again<S: Alter + Drop>(
     alloc: Global,
     conn: Connection<S>,

@@ -205,7 +205,7 @@ fn is_key_of_nil(alloc: Global) -> Result<bool, VectorFault> {
     Ok(key.as_str() == "00000000-0000-0000-0000-000000000000")
 }
 
-/// Whether the requests of entry 1, and of the smallest report in its place, are as long as they are to be.
+/// Whether the requests of entry 1, and of the smallest report in its place, have the expected lengths.
 fn requests(alloc: Global) -> Result<bool, VectorFault> {
     let mut outbox = outbox_with_report(alloc)?;
     match first_entry(&mut outbox)? {

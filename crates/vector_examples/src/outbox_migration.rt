@@ -60,7 +60,7 @@ pub(crate) fn migrate<S: Alter + Drop>(
     Ok(Some(outbox.into_conn()))
 }
 
-/// Whether a migration is refused, since the outbox is none of an earlier form; it gives the database up.
+/// Whether a migration is refused because the outbox has no earlier form; it gives the database up.
 pub(crate) fn migrate_again<S: Alter + Drop>(
     alloc: Global,
     conn: Connection<S>,
@@ -100,7 +100,7 @@ fn first_entry<S: Alter>(outbox: &mut Outbox<S>) -> Result<Option<Entry>, Vector
     Ok(outbox.entry(1)?)
 }
 
-/// Whether it is the earlier entry, which replaces nothing.
+/// Whether the entry is the earlier one, which replaces nothing.
 fn is_confirmed(entry: &Option<Entry>) -> bool {
     match entry {
         None => false,

@@ -10,7 +10,7 @@ pub fn run(alloc: Global, number: u32) -> Result<bool, AllocError> {
     VectorFault::settle(run_row(alloc, number))
 }
 
-/// Runs the first vector over an intake that keeps at most so many keys. With none it fails.
+/// Runs the first vector over an intake that keeps at most this many keys. With 0 it fails.
 pub fn first_over(alloc: Global, limit: u32) -> Result<bool, AllocError> {
     VectorFault::settle(connection_examples::registered(alloc, limit))
 }

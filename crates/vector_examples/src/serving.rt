@@ -7,7 +7,7 @@ use intake_core::Intake;
 use sqlite::Alter;
 use std::alloc::Global;
 
-/// Whether the intake answers what the connection gives as it is to answer.
+/// Whether the intake answers the connection as expected.
 pub(crate) fn goes<S: Alter>(
     alloc: Global,
     intake: &mut Intake<S>,

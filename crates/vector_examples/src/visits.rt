@@ -9,8 +9,8 @@ use sqlite::{Alter, Connection, Files};
 use sqlite_disk::Disk;
 use std::alloc::Global;
 
-/// What a vector does with a database while it is open. If that has to be refused, the refusal is compared, and the
-/// database is given up.
+/// What a vector does with a database while it is open. If a refusal is expected, it is compared, and the database is
+/// given up.
 #[derive(Clone, Copy)]
 pub(crate) enum Visit {
     /// Makes a register, and gives it three times the same request.
@@ -19,34 +19,34 @@ pub(crate) enum Visit {
     FindRequest,
     /// Puts another body into the kept row.
     ChangeBody,
-    /// Opens the register, and learns of the damage to that row.
+    /// Opens the register, and expects the report of the damage to that row.
     OpenDamaged,
-    /// Opens a register, and learns that there is none.
+    /// Opens a register, and expects that there is no register.
     OpenNone,
-    /// Makes a register, and learns that there is one already.
+    /// Makes a register, and expects that there is one already.
     MakeSecondRegister,
     /// Makes a register of the second form.
     MakeEarlierRegister,
-    /// Migrates it, and asks for the earlier answer and a new one.
+    /// Migrates the register, and asks for the earlier answer and a new one.
     MigrateRegister,
-    /// Opens it, and asks the same.
+    /// Opens the migrated register, and asks for both answers again.
     OpenMigrated,
-    /// Migrates the register, and learns that it has no earlier form.
+    /// Migrates the register, and expects that it has no earlier form.
     MigrateAgain,
     /// Makes an outbox.
     MakeOutbox,
-    /// Makes an outbox, and learns that there is one already.
+    /// Makes an outbox, and expects that there is one already.
     MakeSecondOutbox,
     /// Makes an outbox of the first form.
     MakeEarlierOutbox,
-    /// Migrates it, and finds its entry.
+    /// Migrates the outbox, and finds its entry.
     MigrateOutbox,
-    /// Migrates the outbox, and learns that it has no earlier form.
+    /// Migrates the outbox, and expects that it has no earlier form.
     MigrateOutboxAgain,
 }
 
-/// Whether these visits to a database that is new go as they are to go, one after another. After each the files are
-/// closed, and they are opened again for the next. None can follow one that gives the database up.
+/// Whether these visits to a new database go as expected, one after another. After each the files are closed, and they
+/// are opened again for the next. No visit can follow one that gives the database up.
 pub(crate) fn visits(alloc: Global, visits: &[Visit]) -> Result<bool, VectorFault> {
     let mut left = Some(new_files(alloc));
     for visit in visits {

@@ -15,15 +15,15 @@ passes outcome = part_passes outcome.calls && part_passes outcome.script
 abbrev pub fails : Outcome → Bool
 fails outcome = not (passes outcome)
 
--- vectors 15 and 16 are a script alone
+-- whether the vector is a script alone: 15 and 16 are
 abbrev pub is_script : ℕ → Bool
 is_script number = nat_eq number 15 || nat_eq number 16
 
--- and 24 and 27 have one besides
+-- whether the vector has a script: 24 and 27 have one besides their calls
 abbrev pub has_script : ℕ → Bool
 has_script number = is_script number || (nat_eq number 24 || nat_eq number 27)
 
--- each part that the vector has was run, and no other
+-- each part that the vector has was run, and no other part
 pub record IsWhole (outcome : Outcome) : Type 0 where
   pub calls : is_some outcome.calls ≡ not (is_script outcome.number)
   pub script : is_some outcome.script ≡ has_script outcome.number

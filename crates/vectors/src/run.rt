@@ -32,7 +32,7 @@ struct Outcome {
 impl Outcome {
     ghost use Rattle.vectors.specs.Report.{passes};
 
-    /// Whether nothing of it failed.
+    /// Whether no part of the vector failed.
     fn passed(self) -> bool
         ensures { result ≡ passes self }
     {

@@ -7,13 +7,13 @@ use Rattle.world.specs.declared.fault.Fault.TheVariants as fault
 use Rattle.world.specs.declared.fault.Unplayed.{Unplayed}
 use Rattle.world.specs.declared.fault.Unplayed.TheVariants.{NoSuch, Refused}
 
--- an end refused at the event of this number
+-- the fault if an end refused at the event of this number
 abbrev pub refused_at : ℕ → Cause → Fault
 refused_at event cause.Memory = fault.Memory
 refused_at event cause.Store = fault.Store event
 refused_at event cause.Reopen = fault.Reopen event
 
--- the event of this number was not played
+-- the fault if the event of this number was not played
 abbrev pub fault_at : ℕ → Unplayed → Fault
 fault_at event NoSuch = fault.NoSuch event
 fault_at event (Refused cause) = refused_at event cause

@@ -1,4 +1,4 @@
--- A filer's end as contracts see it: its outbox in the world, and whether that answers.
+-- A filer's end as contracts see it: its outbox in the world, and whether the outbox answers.
 use Rattle.std.specs.Prelude.{Bool, List, map}
 use Rattle.filing_world.specs.World.{Outbox}
 

@@ -1,4 +1,4 @@
--- Entries as they are listed, where all outboxes are up.
+-- Entries as they are listed. They are listed if all outboxes are up.
 use Rattle.std.specs.Prelude.{ℕ, Bool, List}
 use Rattle.std.specs.List.{list_all}
 use Rattle.filing_model.specs.Outbox.{State}

@@ -31,7 +31,7 @@ pub record Played : Type 0 where
   pub fault : Option Fault
   pub asleep : List Bool
 
--- the same world: only which outboxes are asleep may differ
+-- the world is unchanged, except which outboxes are asleep
 pub record IsSame (old new : Played) : Type 0 where
   pub world : new.world ≡ old.world
   pub events : new.events ≡ old.events
@@ -47,7 +47,7 @@ HasSleeper asleep = (outbox : ℕ) × (numbered asleep outbox ≡ Some true)
 abbrev pub next_number : ℕ → ℕ
 next_number events = min (events + 1) (2 ^ 64 - 1)
 
--- the fault tells this event, where it tells one
+-- the fault names this event, if it names one
 abbrev pub Tells : ℕ → Fault → Type 0
 Tells number (NoSuch event) = event ≡ number
 Tells number Memory = Unit {0}
@@ -56,7 +56,7 @@ Tells number (Reopen event) = event ≡ number
 
 -- ---- what is lent
 
--- the outbox of this number is up, and this one, with the entries and the filer that it has in the world
+-- the outbox of this number is up, and it is this one, with the entries and the filer that it has in the world
 pub record IsLent {D : Type 0} {g : Ghosts D} (boxes : List Outbox) (number : ℕ)
     (it : OutboxParts (FileStore D g)) : Type 0 where
   pub box : Outbox

@@ -29,7 +29,7 @@ Answers world output outbox =
     (from : Output) × (item : Sent) × (entry : ℕ) × (numbered world.outputs output ≡ Some from)
     × (numbered world.sent from.item ≡ Some item) × (item.from ≡ Some (outbox, entry))
 
--- An event in which the database of an outbox is asked, which is up: it takes a report, sends a request, or hears a
+-- An event in which the database of an outbox that is up is asked: it takes a report, sends a request, or reads a
 -- reply.
 abbrev pub AsksOutbox : World → Event → Type 0
 AsksOutbox world (Put outbox key target body) = IsUp world.outboxes outbox
@@ -46,16 +46,16 @@ pub record Plays (old new : Played) (event : Event) (result : Result (Unit {0}) 
   -- the world takes a step, and what the headline says holds of it
   pub step : OnOk result (Step old.world event new.world)
   pub holds : OnOk result (Holds new.world)
-  -- NoSuch tells of an event that can't be played
+  -- NoSuch comes only for an event that can't be played
   pub no_such : (n : ℕ) → result ≡ Err (NoSuch n) → old.fault ≡ None → CannotPlay old.world event
-  -- Store tells of an event that asks an outbox
+  -- Store comes only for an event that asks an outbox
   pub store : (n : ℕ) → result ≡ Err (Store n) → old.fault ≡ None → AsksOutbox old.world event
-  -- Reopen tells of an event that can be played, and stops an end or restarts it
+  -- Reopen comes only for an event that can be played, and stops an end or restarts it
   pub reopen : (n : ℕ) → result ≡ Err (Reopen n) → old.fault ≡ None → Closes event × (¬ CannotPlay old.world event)
-  -- events are counted as they come, and a fault tells the number of its own
+  -- events are counted as they come, and a fault names the number of its event
   pub counts : old.fault ≡ None → new.events ≡ next_number old.events
   pub numbered : old.fault ≡ None → IfErr result (Tells new.events)
-  -- after a fault each later call answers it again, and plays nothing
+  -- after a fault each later call answers that fault, and plays nothing
   pub ended : (fault : Fault) → old.fault ≡ Some fault → (result ≡ Err fault) × (new ≡ old)
   pub stops : IfErr result (λ fault. new.fault ≡ Some fault)
   pub goes_on : OnOk result ((old.fault ≡ None) × (new.fault ≡ None))

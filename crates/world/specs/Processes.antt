@@ -24,12 +24,12 @@ use Rattle.end_processes.specs.declared.cause.Cause.{Cause}
 abbrev pub lying_in : {D : Type 0} → Drawer D → Option (Option (Files D))
 lying_in drawer = Some drawer.files
 
--- It keeps these requests, each of which is told with problem details, and no close and no opening failed.
+-- The process keeps these requests, none of which is old-style, and no close and no opening failed.
 abbrev pub KeepsSurely : {D : Type 0} {g : Ghosts D} → IntakeProcess D (Drawer D) g → ℕ → List Request → Type 0
 KeepsSurely {D} {g} process limit requests =
     (process.is_certain ≡ true) × KeepsBy {g = g} process.intake (lying_in process.place) limit 0 requests
 
--- the same, unless a fault took it
+-- the process keeps these requests, unless a fault took it
 abbrev pub Keeps : {D : Type 0} {g : Ghosts D} → Option (IntakeProcess D (Drawer D) g) → ℕ → List Request → Type 0
 Keeps (Some process) limit requests = KeepsSurely process limit requests
 Keeps None limit requests = Unit {0}

@@ -19,7 +19,7 @@ use http_wire::{ConnFault, MemoryReader, MemoryWriter, Sink, Source};
 use intake_process::{Answered, IntakeProcess};
 use std::alloc::{AllocError, Global};
 
-/// What serving some bytes came to: what was marked, how it ended, and what was written.
+/// What became of some bytes that were served: what was marked, how serving ended, and what was written.
 #[derive(Drop)]
 pub(crate) struct Exchange {
     pub(crate) marks: Vec<Mark>,
@@ -92,7 +92,7 @@ fn is_refused(ended: Option<Ended>) -> bool
     matches!(ended, Some(Ended::Fault(ConnFault::Write { .. })))
 }
 
-/// Serves these bytes by this process, up to a stop. Memory is wanted if the writer failed.
+/// Serves these bytes by this process, up to a stop. If the writer failed, memory ran out.
 pub(crate) fn serve_bytes<D: Honest>(
     alloc: Global,
     process: &mut IntakeProcess<D, Drawer<D>>,

@@ -14,7 +14,7 @@ use end_processes::{Cause, Honest};
 use outbox_core::Outbox;
 use sqlite::FileStore;
 
-/// The index of the element of this number, where there are so many.
+/// The index of the element of this number, if there are so many.
 pub(crate) fn index_of(number: u64, count: usize) -> Option<usize>
     ensures some { IfSome result (λ at. (number ≡ suc at) × (at < count)) }
     ensures none { result ≡ None → (number ≡ 0) ⊎ (count < number) }
@@ -26,7 +26,7 @@ pub(crate) fn index_of(number: u64, count: usize) -> Option<usize>
     if at < count { Some(at) } else { None }
 }
 
-/// The index of the outbox of this number, where it is up.
+/// The index of the outbox of this number, if it is up.
 pub(crate) fn up_at<D: Honest>(filers: &[Filer<D>], outbox: u64) -> Option<usize>
     ensures some { IfSome result (λ at. (outbox ≡ suc at)
         × (it : FilerParts) × (slice_get filers.now at ≡ Some it) × (it.box.up ≡ true) × (at < length filers.now)) }
@@ -36,7 +36,7 @@ pub(crate) fn up_at<D: Honest>(filers: &[Filer<D>], outbox: u64) -> Option<usize
     if filers[at].is_up() { Some(at) } else { None }
 }
 
-/// The outbox of this number, where it is up.
+/// The outbox of this number, if it is up.
 pub(crate) fn outbox_at<D: Honest>(
     filers: &[Filer<D>],
     outbox: u64,
@@ -49,7 +49,7 @@ pub(crate) fn outbox_at<D: Honest>(
     filer.outbox()
 }
 
-/// The numbers of the outbox and the entry that this item was sent for. `NoSuch` comes if a stranger sent it, and
+/// The numbers of the outbox and the entry that this item was sent for. Answers `NoSuch` if a stranger sent it, and
 /// `Store` if there is no such item.
 pub(crate) fn sender_of(sent: &[Sent], item: u64) -> Result<(u64, u64), Unplayed>
     ensures some { IfOk result (λ from. (it : Item) × (numbered sent.now item ≡ Some it) × (it.from ≡ Some from)) }
@@ -68,7 +68,7 @@ pub(crate) fn sender_of(sent: &[Sent], item: u64) -> Result<(u64, u64), Unplayed
     }
 }
 
-/// The first bytes, or all where there are fewer.
+/// The first bytes, or all if there are fewer.
 pub(crate) fn first(bytes: &[u8], count: usize) -> &[u8]
     ensures { result.now ≡ take count bytes.now }
 {

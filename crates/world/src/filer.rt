@@ -63,8 +63,8 @@ impl<D: Honest> Drop for Filer<D> {
 }
 
 impl<D: Honest> Filer<D> {
-    /// A filer with an outbox that is up and has no entry. For another cause than memory, `Reopen` comes
-    /// where its files were not opened, and `Store` where its tables were not made.
+    /// A filer with an outbox that is up and has no entry. For another cause than memory it answers `Reopen` if its
+    /// files were not opened, and `Store` if its tables were not made.
     pub fn new(alloc: Global, code: &str) -> Result<Filer<D>, Cause>
         requires { is_filer code.now ≡ true }
         ensures made { IfOk result (λ f. f.box ≡ new_outbox code.now) }
@@ -84,8 +84,8 @@ impl<D: Honest> Filer<D> {
         matches!(self.process, OutboxProcess::Up(_))
     }
 
-    /// Puts a report into the outbox. One whose body is too long, or whose key is used, is not taken, and
-    /// that is no error. `Store` comes where the outbox refused for another cause than memory.
+    /// Puts a report into the outbox. One whose body is too long, or whose key is used, is not taken, and that is no
+    /// error. Answers `Store` if the outbox refused for another cause than memory.
     pub fn put(&mut self, key: &KeyText, target: Option<u64>, body: &[u8]) -> Result<(), StoreFault>
         requires up { self.old.box.up ≡ true }
         requires target { IsTarget target }
@@ -102,7 +102,7 @@ impl<D: Honest> Filer<D> {
     }
 
     /// The bytes of the request of the entry of this number, whatever its state, or `None` if there is no such entry.
-    /// `Store` comes if the outbox refused for another cause than memory.
+    /// Answers `Store` if the outbox refused for another cause than memory.
     pub fn request(&mut self, entry: u64) -> Result<Option<Vec<u8>>, StoreFault>
         requires { self.old.box.up ≡ true }
         ensures bytes { IfOk result (λ text.
@@ -112,9 +112,9 @@ impl<D: Honest> Filer<D> {
         self.process.request(self.alloc, entry)
     }
 
-    /// Hands these bytes to the entry of this number as the reply to its request. Bytes that give no reply
-    /// move nothing, and are no error. Before a stop nothing is read of them. For another cause than memory,
-    /// `Store` comes where the outbox did not take the reply, and `Reopen` where it did not give its files.
+    /// Hands these bytes to the entry of this number as the reply to its request. Bytes that give no reply move
+    /// nothing, and are no error. Before a stop nothing is read of them. For another cause than memory it answers
+    /// `Store` if the outbox did not take the reply, and `Reopen` if it did not give its files.
     pub fn hand(&mut self, entry: u64, bytes: &[u8], crash: Crash) -> Result<(), Cause>
         requires { self.old.box.up ≡ true }
         ensures heard { OnOk result ((what : Item) → numbered self.old.box.entries entry ≡ Some what
@@ -133,7 +133,7 @@ impl<D: Honest> Filer<D> {
         }
     }
 
-    /// The same without a stop.
+    /// Hands these bytes to the entry of this number as the reply to its request, without a stop.
     fn hear(&mut self, entry: u64, bytes: &[u8]) -> Result<(), StoreFault>
         requires { self.old.box.up ≡ true }
         ensures { OnOk result ((what : Item) → numbered self.old.box.entries entry ≡ Some what
@@ -146,8 +146,7 @@ impl<D: Honest> Filer<D> {
         Ok(())
     }
 
-    /// Takes the files, where it is up. `Reopen` comes where they were not given for another cause than
-    /// memory.
+    /// Takes the files, if it is up. Answers `Reopen` if they were not given for another cause than memory.
     fn stop(&mut self) -> Result<(), Cause>
         ensures down { OnOk result (self.new.box ≡ record self.old.box { up = false }) }
         ensures store { result ≢ Err Cause.Store }
@@ -157,8 +156,8 @@ impl<D: Honest> Filer<D> {
         Ok(())
     }
 
-    /// Takes the files, where it is up, and opens them. The outbox then has the entries that it had.
-    /// `Reopen` comes where it was not closed or opened for another cause than memory.
+    /// Takes the files, if it is up, and opens them. The outbox then has the entries that it had. Answers `Reopen` if
+    /// it was not closed or opened for another cause than memory.
     pub fn restart(&mut self) -> Result<(), Cause>
         ensures restarted { OnOk result (self.new.box ≡ record self.old.box { up = true }) }
         ensures store { result ≢ Err Cause.Store }
@@ -168,8 +167,8 @@ impl<D: Honest> Filer<D> {
         Ok(())
     }
 
-    /// The number and the state of each entry, in the order of the numbers. `Store` comes if the outbox is down, and
-    /// else only if its database refused.
+    /// The number and the state of each entry, in the order of the numbers. Answers `Store` if the outbox is down, and
+    /// otherwise only if its database refused.
     pub fn states(&mut self) -> Result<Vec<(u64, State)>, StoreFault>
         ensures same { self.new.box ≡ self.old.box }
         ensures list { IfOk result (λ s.
@@ -180,7 +179,7 @@ impl<D: Honest> Filer<D> {
         self.process.states(self.alloc)
     }
 
-    /// The outbox, where it is up.
+    /// The outbox, if it is up.
     pub fn outbox(&self) -> Option<&Outbox<FileStore<D>>>
         ensures lent { IsSome result ↔ (self.now.box.up ≡ true) }
         ensures keeps { IfSome result (λ b.

@@ -17,7 +17,7 @@ use crate::lists::{Output, Sent};
 use end_processes::{Cause, Honest};
 use event_script::Crash;
 
-/// Where the items that were sent for entries carry these, it is a step of the world.
+/// If the items that were sent for entries carry these, it is a step of the world.
 pub(crate) fn hand<D: Honest>(
     filers: &mut Vec<Filer<D>>,
     sent: &[Sent],

@@ -54,7 +54,7 @@ fn append_states<D: Honest>(
     append(list, at as u64 + 1, states.as_slice())
 }
 
-/// Every entry of every outbox with its state, by the numbers of the outbox and the entry, where all outboxes are up.
+/// Every entry of every outbox with its state, by the numbers of the outbox and the entry, if all outboxes are up.
 /// None of them changes.
 fn states_of_all<D: Honest>(
     alloc: Global,
@@ -71,8 +71,8 @@ fn states_of_all<D: Honest>(
     Ok(list)
 }
 
-/// Every entry of every outbox with its state, by the numbers of the outbox and the entry. No outbox changes. `Store`
-/// comes if one is down, and else only if the database of one refused.
+/// Every entry of every outbox with its state, by the numbers of the outbox and the entry. No outbox changes. Answers
+/// `Store` if one is down, and otherwise only if the database of one refused.
 pub(crate) fn all_states<D: Honest>(
     alloc: Global,
     filers: &mut Vec<Filer<D>>,
@@ -90,7 +90,7 @@ pub(crate) fn all_states<D: Honest>(
     }
 }
 
-/// Appends the entry with its number in the register, where it is confirmed.
+/// Appends the entry with its number in the register, if it is confirmed.
 fn append_confirmed(
     list: &mut Vec<(u64, u64, u64)>,
     entry: (u64, u64, State),
@@ -104,7 +104,7 @@ fn append_confirmed(
     Ok(())
 }
 
-/// The confirmed ones, with their numbers in the register.
+/// The confirmed ones among these entries, with their numbers in the register.
 pub(crate) fn confirmed_of(
     alloc: Global,
     states: &[(u64, u64, State)],

@@ -20,7 +20,7 @@ impl Model for Sent {
 }
 
 /// What one delivery left: how many bytes of which item came, after how many completed requests, and what was marked
-/// and written. It has no end of its own where the intake stopped at one of its requests.
+/// and written. It has no end of its own if the intake stopped at one of its requests.
 #[derive(Drop)]
 pub struct Output {
     pub item: u64,

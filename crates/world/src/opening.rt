@@ -61,8 +61,8 @@ pub(crate) fn close<D: Honest>(process: &mut IntakeProcess<D, Drawer<D>>) -> Res
     }
 }
 
-/// The registered requests under their numbers, ascending. `Down` comes if the process is closed, or its database
-/// refused a call before, and only then; `Full` never comes.
+/// The registered requests under their numbers, ascending. Answers `Down` exactly if the process is closed or its
+/// database refused an earlier call, and never `Full`.
 pub(crate) fn registered<D: Honest>(
     process: &mut IntakeProcess<D, Drawer<D>>,
 ) -> Result<Vec<Registered>, Unavailable>

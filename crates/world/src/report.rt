@@ -46,7 +46,7 @@ impl Report {
         })
     }
 
-    /// Replaces what is known of it.
+    /// Replaces what is known of the report.
     fn set_state(&mut self, state: State)
         ensures { self.new ≡ record self.old { state = view_state state } }
     {

@@ -33,7 +33,7 @@ pub struct Server<D: Honest> {
     alloc: Global,
     limit: u64,
     done: Vec<Completed>,
-    /// None after a fault, after which nothing is played.
+    /// `None` after a fault. Then no event is played.
     process: Option<IntakeProcess<D, Drawer<D>>>,
 }
 
@@ -61,7 +61,7 @@ impl<D: Honest> Drop for Server<D> {
     }
 }
 
-/// What one delivery came to.
+/// What became of one delivery.
 #[derive(Drop)]
 pub struct Delivered {
     /// How many requests were completed before it.
@@ -152,7 +152,7 @@ impl<D: Honest> Server<D> {
         self.done.as_slice()
     }
 
-    /// The intake, where it is up.
+    /// The intake, if it is up.
     pub fn intake(&self) -> Option<&Intake<FileStore<D>>>
         ensures lent { IsSome result ↔ (self.now.up ≡ true) }
         ensures keeps { IfSome result (λ intake. HoldsRequests over_files intake.now (firsts self.now.done)) }
@@ -201,8 +201,8 @@ impl<D: Honest> Server<D> {
         Ok(())
     }
 
-    /// The registered requests under their numbers, ascending. `Down` comes if it is down, and after `Store`; `Full`
-    /// never comes.
+    /// The registered requests under their numbers, ascending. Answers `Down` if the intake is down, and after `Store`;
+    /// never answers `Full`.
     pub fn register(&mut self) -> Result<Vec<Registered>, Unavailable>
         ensures list { IfOk result (λ rows. rows.items ≡ register self.old.done) }
         ensures down { self.old.up ≡ false → result ≡ Err Unavailable.Down }

@@ -197,7 +197,7 @@ impl<D: Honest> World<D> {
         }
     }
 
-    /// Plays the next event. Its fault tells its number. After a fault each later call answers it again.
+    /// Plays the next event. A fault names the number of the event, and each later call answers the same fault.
     pub fn play(&mut self, event: &Event) -> Result<(), Fault>
         requires { HasTarget (view_event event.now) }
         ensures { Plays self.old self.new (view_event event.now) result }
@@ -225,8 +225,8 @@ impl<D: Honest> World<D> {
         }
     }
 
-    /// The registered requests under their numbers, ascending. `Down` comes if the intake is down, and after `Store`;
-    /// `Full` never comes.
+    /// The registered requests under their numbers, ascending. Answers `Down` if the intake is down, and after `Store`;
+    /// never answers `Full`.
     pub fn register(&mut self) -> Result<Vec<Registered>, Unavailable>
         ensures list { IfOk result (λ rows. rows.items ≡ register self.old.world.done) }
         ensures down { self.old.world.up ≡ false → result ≡ Err Unavailable.Down }
@@ -236,8 +236,8 @@ impl<D: Honest> World<D> {
         self.server.register()
     }
 
-    /// Every entry of every outbox, by the number of the outbox and its own, with its state, ascending. `Store` comes
-    /// if an outbox is down, and else only if the database of one refused.
+    /// Every entry of every outbox, by the number of the outbox and its own, with its state, ascending. Answers `Store`
+    /// if an outbox is down, and otherwise only if the database of one refused.
     pub fn states(&mut self) -> Result<Vec<(u64, u64, State)>, StoreFault>
         ensures list { IfOk result (λ list. map view_listed list.items ≡ states self.old.world) }
         ensures down { are_up self.old.world.outboxes ≡ false → result ≡ Err StoreFault.Store }
@@ -248,8 +248,8 @@ impl<D: Honest> World<D> {
         all_states(self.alloc, &mut self.filers)
     }
 
-    /// The confirmed ones among them, with their numbers in the register. `Store` comes if an outbox is down, and else
-    /// only if the database of one refused.
+    /// The confirmed entries of every outbox, with their numbers in the register. Answers `Store` if an outbox is down,
+    /// and otherwise only if the database of one refused.
     pub fn confirmed(&mut self) -> Result<Vec<(u64, u64, u64)>, StoreFault>
         ensures list { IfOk result (λ list. list.items ≡ confirmed self.old.world) }
         ensures down { are_up self.old.world.outboxes ≡ false → result ≡ Err StoreFault.Store }
@@ -271,7 +271,7 @@ impl<D: Honest> World<D> {
         self.server.done()
     }
 
-    /// The intake that the events run on, where it is up.
+    /// The intake that the events run on, if it is up.
     pub fn intake(&self) -> Option<&Intake<FileStore<D>>>
         ensures lent { IsSome result ↔ (self.now.world.up ≡ true) }
         ensures keeps { IfSome result (λ intake. Lends over_files intake.now (firsts self.now.world.done)) }
@@ -279,7 +279,7 @@ impl<D: Honest> World<D> {
         self.server.intake()
     }
 
-    /// The outbox of this number that the events run on, where there is one and it is up.
+    /// The outbox of this number that the events run on, if there is one and it is up.
     pub fn outbox(&self, outbox: u64) -> Option<&Outbox<FileStore<D>>>
         ensures lent { IfSome result (λ it. IsLent self.now.world.outboxes outbox it.now) }
         ensures none { result ≡ None → IsAway self.now.world.outboxes outbox }

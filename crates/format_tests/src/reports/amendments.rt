@@ -1,10 +1,10 @@
-//! What is found in a report that is to replace a filing.
+//! What is found in a report that replaces a filing.
 
 use super::told_if;
 use crate::rows::hold;
 use example_texts::SMALLEST;
 
-/// A body, whether the filing is free to be replaced, and what is said of it then.
+/// A body, whether the filing may be replaced, and what judging the body gives.
 const CASES: &[((&str, bool), &str)] = &[
     (("hello", true), " not-json;"),
     (("hello", false), " not-json;"),

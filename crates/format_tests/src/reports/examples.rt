@@ -7,14 +7,14 @@ use std::alloc::{AllocError, Global};
 /// A fact's identifier, value, period and unit.
 type Parts = (&'static str, &'static str, &'static str, &'static str);
 
-/// A report with one fact, the example's but for these parts.
+/// A report with one fact, that of the example with these parts in place of its own.
 fn example(alloc: Global, (identifier, value, period, unit): Parts) -> Result<String, AllocError> {
     format!(in alloc;
         r#"{{"documentInfo":{{"documentType":"https://xbrl.org/2021/xbrl-json","namespaces":{{"eg":"http://example.com/eg","iso4217":"http://www.xbrl.org/2003/iso4217","lei":"http://standards.iso.org/iso/17442"}},"taxonomy":["http://example.com/eg.xsd"]}},"facts":{{"{identifier}":{{"value":"{value}","decimals":0,"dimensions":{{"concept":"eg:Assets","entity":"lei:ACME","period":"{period}","unit":"{unit}"}}}}}}}}"#
     )
 }
 
-/// How long an example is, and what is said of it.
+/// How long an example is, and what judging it gives.
 fn told_of_example(alloc: Global, parts: Parts) -> Result<String, AllocError> {
     let body = example(alloc, parts)?;
     let told = told(alloc, &body)?;

@@ -5,7 +5,7 @@ use crate::rows::hold;
 use std::alloc::{AllocError, Global};
 use std::test::Fail;
 
-/// What is said of so many opening brackets, and then so many closing ones.
+/// What judging this many opening brackets, and then closing ones, gives.
 fn told_of_brackets(alloc: Global, (opened, closed): (usize, usize)) -> Result<String, AllocError> {
     let open = "[".repeat(alloc, opened)?;
     let close = "]".repeat(alloc, closed)?;
@@ -82,7 +82,7 @@ fn too_many_with_one_more(rt: HostRuntime) {
     );
 }
 
-/// What is said of a report with a fact that is no object, under an identifier of so many letters.
+/// What judging a report gives with a fact that is no object, under an identifier of this many letters.
 fn told_of_long_place(alloc: Global, letters: usize) -> Result<String, AllocError> {
     let identifier = "a".repeat(alloc, letters)?;
     told(
@@ -104,7 +104,8 @@ fn long_places(rt: HostRuntime) {
     hold(&rt, rt.alloc(), rows, told_of_long_place);
 }
 
-/// What is said of a report with one fact of so many dimensions, all wrong, under an identifier of so many letters.
+/// What judging a report gives with one fact of this many dimensions, all wrong, under an identifier of this many
+/// letters.
 fn told_of_wide(alloc: Global, (letters, dimensions): (usize, u32)) -> Result<String, AllocError> {
     let identifier = "a".repeat(alloc, letters)?;
     let members = numbered_members(alloc, dimensions)?;

@@ -336,7 +336,7 @@ const FACTS: &[(&str, &str)] = &[
     ),
 ];
 
-/// What is said of a report with this one fact, whose identifier is `f`.
+/// What judging a report gives with this one fact, whose identifier is `f`.
 fn told_of_fact(alloc: Global, fact: &str) -> Result<String, AllocError> {
     let member = format!(in alloc; "\"f\":{fact}")?;
     told(alloc, &with_facts(alloc, &member)?)

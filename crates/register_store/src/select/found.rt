@@ -17,9 +17,9 @@ ghost use Rattle.register_store.specs.Found.{target_alone};
 
 use crate::decode::facts::read_text;
 use crate::kept_body::KeptBody;
-use crate::outcome::{KeptRow, Outcome};
+use crate::outcome::KeptRow;
 use crate::rows::{rows_of_findings, rows_of_target, rows_with_key};
-use filing_model::Style;
+use filing_model::{Outcome, Style};
 use sqlite::{Alter, Connection, Row};
 use std::alloc::Global;
 use table_rows::StoreFault;

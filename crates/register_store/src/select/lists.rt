@@ -13,13 +13,13 @@ ghost use Rattle.register_store.specs.Calls.{AnswersDurably, KeepsStore};
 ghost use Rattle.register_store.specs.Store.{shows, ForRequests, ForRegister};
 ghost use Rattle.register_tables.specs.Registers.{LeavesOnly};
 
-use crate::decode::completed::{Completed, Registered, read_filings, read_requests};
+use crate::decode::completed::{read_filings, read_requests};
 use crate::decode::facts::read_facts;
 use crate::select::catalogued::{row_of, rows_at};
 use crate::select::reads;
 use crate::select::replaceable::has_filing;
 use crate::store::Store;
-use filing_model::FilingRow;
+use filing_model::{Completed, FilingRow, Registered};
 use register_tables::{amends_rows, kept_rows};
 use sqlite::{Alter, Connection, Row};
 use table_rows::StoreFault;

@@ -212,7 +212,7 @@ fn is_unanswered<S: Alter>(alloc: Global, intake: &mut Intake<S>, given: &[u8]) 
     output.is_empty() && served.marks.is_empty() && served.ended == Ended::InputEnded
 }
 
-/// Whether this is written for a request.
+/// Whether this reply is written for a request.
 fn is_answered<S: Alter>(
     alloc: Global,
     intake: &mut Intake<S>,
@@ -239,7 +239,7 @@ fn is_nothing<S: Fresh>(
     )
 }
 
-/// Asserts it of each front of a request.
+/// Asserts that each front of a request is nothing to a new intake.
 fn fronts_are_nothing<S: Fresh>(
     rt: &impl Abort,
     alloc: Global,
@@ -253,7 +253,7 @@ fn fronts_are_nothing<S: Fresh>(
     Ok(())
 }
 
-/// Asserts it of each example.
+/// Asserts that each front of each example is nothing to a new intake.
 fn are_nothing<S: Fresh>(
     rt: &impl Abort,
     alloc: Global,

@@ -47,7 +47,7 @@ fn room(alloc: Global) -> Result<Vec<u8>, AllocError> {
     }
 }
 
-/// Whether a request that was refused because memory ran out was told so, or nothing.
+/// Whether a request that was refused because memory ran out got the reply that says so, or no reply.
 fn is_told(served: &Served, output: &[u8]) -> bool {
     match served.ended {
         Ended::InputEnded => output == UNAVAILABLE.as_bytes(),
@@ -73,7 +73,7 @@ fn goes<S: Alter>(
     Ok(told && output.as_slice() == reply.as_bytes())
 }
 
-/// Asserts it of each.
+/// Asserts that each request gets its reply.
 fn hold<S: Fresh>(rt: &impl Abort, alloc: Global) -> Result<(), Fail> {
     let mut intake: Intake<S> = made(alloc)?;
     for (number, &exchange) in EXCHANGES.iter().enumerate() {

@@ -62,7 +62,7 @@ fn has_completed_one(alloc: Global, given: &[u8], partly: &Partly) -> Result<boo
     )
 }
 
-/// Whether a connection is stopped so.
+/// Whether a connection is stopped as expected.
 fn stops<S: Alter>(
     alloc: Global,
     intake: &mut Intake<S>,
@@ -89,7 +89,7 @@ fn writes<S: Alter>(
     Ok(output == bytes_of(alloc, written)?)
 }
 
-/// Whether two connections go so, one after the other, on a new intake.
+/// Whether two connections go as expected, one after the other, on a new intake.
 fn goes<S: Fresh>(
     alloc: Global,
     (given, stop, written, next, reply): Stopped,
@@ -98,7 +98,7 @@ fn goes<S: Fresh>(
     Ok(stops(alloc, &mut intake, given, stop, written)? && writes(alloc, &mut intake, next, reply)?)
 }
 
-/// Asserts it of each.
+/// Asserts that each pair of connections goes as expected.
 fn hold<S: Fresh>(rt: &impl Abort, alloc: Global) -> Result<(), Fail> {
     for &stopped in &STOPS {
         assert!(rt; goes::<S>(alloc, stopped)?, "{:?}", stopped.1);

@@ -16,8 +16,8 @@ const NO_PATH: &str =
 const NOT_REPLACEABLE: &str =
     "HTTP/1.1 422 Unprocessable Content\r\nContent-Type: application/problem+json\r\nContent-Length: 137\r\n\r\n{\"findings\":[{\"code\":\"not-replaceable\",\"place\":\"\"}],\"reason\":\"refused\",\"status\":422,\"title\":\"Unprocessable Content\",\"type\":\"about:blank\"}";
 
-/// What stands behind the filer's code and a slash, and whether it is the number of a filing: 1 to 2^63 - 1 in decimal,
-/// without leading zeros.
+/// What a path has behind the filer's code and a slash, and whether it is the number of a filing: 1 to 2^63 - 1 in
+/// decimal, without leading zeros.
 static TEXTS: [(&str, bool); 17] = [
     ("1", true),
     ("10", true),
@@ -38,7 +38,7 @@ static TEXTS: [(&str, bool); 17] = [
     ("%31", false),
 ];
 
-/// Whether a list of the filing of this number is empty if it is one, and is not found otherwise.
+/// Whether a list of the filing of this number is empty if this is a number, and is answered 404 otherwise.
 fn is_listed<S: Fresh>(alloc: Global, text: &str, is_number: bool) -> Result<bool, Fail> {
     let given = format!(in alloc; "GET /filings/ACME/{text} HTTP/1.1\r\nHost: h\r\n\r\n")?;
     let written = if is_number { NO_FILINGS } else { NO_PATH };
@@ -51,8 +51,8 @@ fn is_listed<S: Fresh>(alloc: Global, text: &str, is_number: bool) -> Result<boo
     )
 }
 
-/// Whether a report that is to replace the filing of this number is refused for that if it is one, and is not found
-/// otherwise.
+/// Whether a report that replaces the filing of this number is refused as `not-replaceable` if this is a number, and is
+/// answered 404 otherwise.
 fn is_filed<S: Fresh>(alloc: Global, text: &str, is_number: bool) -> Result<bool, Fail> {
     let given = format!(in alloc;
         "POST /filings/ACME/{text} HTTP/1.1\r\nHost: h\r\nIdempotency-Key: \"k-1\"\r\nContent-Length: 84\r\n\r\n{SMALLEST}"

@@ -76,7 +76,7 @@ fn goes<S: Fresh>(alloc: Global, (turns, written): Exchange) -> Result<bool, Fai
     Ok(output.as_slice() == bytes_of(alloc, written)?.as_slice() && ended == Ended::InputEnded)
 }
 
-/// Asserts it of each.
+/// Asserts that all is written for each client.
 fn hold<S: Fresh>(rt: &impl Abort, alloc: Global) -> Result<(), Fail> {
     for (number, &exchange) in EXCHANGES.iter().enumerate() {
         assert!(rt; goes::<S>(alloc, exchange)?, "exchange {number}");

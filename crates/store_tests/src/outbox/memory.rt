@@ -82,7 +82,8 @@ fn created<S: Fresh>(alloc: Global) -> Result<Outbox<S>, OutboxFault> {
     }
 }
 
-/// The same. A refusal gives the database up, so another one is made then.
+/// What making an outbox answers, tried again if memory ran out: a refusal gives the database up, so another one is
+/// made then.
 fn created_again<S: Fresh>(alloc: Global) -> Result<Outbox<S>, OutboxFault> {
     match created(alloc) {
         Err(OutboxFault::Memory) => created(alloc),
@@ -116,7 +117,7 @@ fn is_made_again<S: Alter>(
     }
 }
 
-/// Whether a call does what it is to do.
+/// Whether a call does what is expected.
 fn moves<S: Alter>(alloc: Global, outbox: &mut Outbox<S>, row: &Move) -> bool {
     is_made_again(alloc, outbox, row) == Ok(row.made)
         && matches!(has_again(outbox, row.after), Ok(true))

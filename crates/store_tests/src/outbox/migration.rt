@@ -92,7 +92,7 @@ fn earlier<S: Fresh>(alloc: Global) -> Option<Connection<S>> {
     ran(S::fresh(alloc)?, TABLES)
 }
 
-/// The outbox after its migration and a new entry, which is to replace a filing; `None` if either is refused.
+/// The outbox after its migration and a new entry, which replaces a filing; `None` if either is refused.
 fn continued<S: Alter + Drop>(alloc: Global, conn: Connection<S>) -> Option<Connection<S>> {
     let mut outbox = migrate(alloc, conn).ok()?;
     put(alloc, &mut outbox, "k-3", true, BODY).ok()?;

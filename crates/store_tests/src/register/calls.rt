@@ -52,7 +52,7 @@ pub fn intake_over<S: Alter>(alloc: Global, store: Store<S>) -> Intake<S> {
     Intake::new(alloc, store, 10)
 }
 
-/// What `submit` answers for a short report of ACME under a key, which is to replace filing 1 or none.
+/// What `submit` answers for a short report of ACME under a key, which replaces filing 1 or none.
 pub fn submit<S: Alter>(
     intake: &mut Intake<S>,
     replaces: bool,

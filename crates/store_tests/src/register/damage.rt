@@ -14,7 +14,7 @@ type Case = (&'static str, Option<OpenFault>);
 /// A report with one fact, and a refused empty body, which is no JSON text.
 const TWO: &[Request] = &[("k-1", false, REPORT, 1), ("k-2", false, "", 0)];
 
-/// The same and the smallest report.
+/// A report, an empty body and the smallest report.
 const THREE: &[Request] = &[
     ("k-1", false, REPORT, 1),
     ("k-2", false, "", 0),
@@ -133,8 +133,8 @@ const OF_THREE: &[Case] = &[(
     Some(OpenFault::Damaged { row: 2 }),
 )];
 
-/// Targets that are none, other ones, one that was replaced already, and at last other targets with which each of these
-/// filings is one: none, one more, and that of another report.
+/// Targets that name no filing, other ones, one that was replaced already, and at last other targets with which each of
+/// these filings is valid: none, one more, and that of another report.
 const OF_AMENDED: &[Case] = &[
     (
         "UPDATE amends SET target = 0",

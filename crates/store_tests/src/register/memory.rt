@@ -44,7 +44,8 @@ fn created<S: Fresh>(alloc: Global) -> Result<Store<S>, CreateFault> {
     }
 }
 
-/// The same. A refusal gives the database up, so another one is made then.
+/// What making a register answers, tried again if memory ran out: a refusal gives the database up, so another one is
+/// made then.
 fn created_again<S: Fresh>(alloc: Global) -> Result<Store<S>, CreateFault> {
     match created(alloc) {
         Err(CreateFault::Memory) => created(alloc),
@@ -96,7 +97,8 @@ fn opened<S: Fresh>(alloc: Global) -> Result<Store<S>, OpenFault> {
     }
 }
 
-/// The same. A refusal gives the database up, so another one is made then.
+/// What an opening answers, tried again if memory ran out: a refusal gives the database up, so another one is made
+/// then.
 fn opened_again<S: Fresh>(alloc: Global) -> Result<Store<S>, OpenFault> {
     match opened(alloc) {
         Err(OpenFault::Memory) => opened(alloc),
@@ -113,7 +115,7 @@ fn lists_all<S: Alter>(store: &mut Store<S>) -> Result<bool, StoreFault> {
     )
 }
 
-/// Whether the register tells that the second filing replaces the first, and is itself free to be replaced.
+/// Whether the register answers that the second filing replaces the first, and may be replaced itself.
 fn is_replaced<S: Alter>(store: &mut Store<S>) -> Result<bool, StoreFault> {
     Ok(has_filings(store, &FILINGS)? && !replaceable(store, 1)? && replaceable(store, 2)?)
 }

@@ -49,7 +49,8 @@ impl Trial for Second {
     }
 }
 
-/// A report and a body that is none, and both to replace filing 1. A refused one is kept with its target, too.
+/// A report and a body that is no report, and both again to replace filing 1. A refused one is kept with its target,
+/// too.
 static SECONDS: [Second; 4] = [
     Second(("k-2", false, REPORT, 2)),
     Second(("k-2", false, "", 0)),
