@@ -53,15 +53,26 @@ pub fn split_at_slash(text: &str) -> Option<(&str, &str)>
     text.split_once('/')
 }
 
-/// The date-time that a text writes.
-pub fn read_date_time(text: &str) -> Option<DateTime>
+/// The date-time that a text writes, if it writes one.
+fn read_date_time(text: &str) -> Option<DateTime>
     ensures form { is_some result ≡ is_date_time text.now }
     ensures value { IfSome result (IsMomentOf text.now) }
 {
     let bytes = text.as_bytes();
-    if !has_date_time_form(bytes) {
-        return None;
+    if has_date_time_form(bytes) {
+        written_moment(bytes)
+    } else {
+        None
     }
+}
+
+// The date-time that the digits of a text of the form `YYYY-MM-DDThh:mm:ss` write, if that day and that time exist.
+#[tactic(auto, using(crate::proofs::Calendar::form))]
+fn written_moment(bytes: &[u8]) -> Option<DateTime>
+    requires { has_date_time_form_lem bytes.now ≡ true }
+    ensures form { is_some result ≡ is_date_time bytes.now }
+    ensures value { IfSome result (IsMomentOf bytes.now) }
+{
     let year = u16::from(two_digits(bytes, 0)) * 100 + u16::from(two_digits(bytes, 2));
     date_time(
         year,
