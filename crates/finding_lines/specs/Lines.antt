@@ -13,7 +13,7 @@ use Rattle.finding_lines.specs.Objects.{object_line}
 use Rattle.finding_lines.specs.Sentences.{sentence}
 use Rattle.finding_lines.specs.declared.form.Form.{Form}
 use Rattle.finding_lines.specs.declared.form.Form.TheVariants.{Sentences, Objects}
-use Rattle.finding_lines.specs.declared.stop.Stop.{Stop}
+use Rattle.finding_lines.specs.declared.syntax_fault.SyntaxFault.{SyntaxFault}
 
 -- of a finding at a position, with the value there, if there is one, and these words
 abbrev pub line_with : Form → List ℕ → Position → Pair → Option (List ℕ) → List ℕ → List ℕ
@@ -25,37 +25,37 @@ abbrev pub line : Form → List ℕ → List ℕ → Pair × Place → List ℕ
 line form file body told =
     line_with form file told.1.position told.0 (value body told.1) (message body told.1 told.0.code)
 
-abbrev pub stop_words : Stop → List ℕ
-stop_words stop = if stop.is_cut then codes "the body ends too soon" else codes "the body is no JSON text"
+abbrev pub fault_words : SyntaxFault → List ℕ
+fault_words fault = if fault.is_cut then codes "the body ends too soon" else codes "the body is no JSON text"
 
 -- of a finding in a body that is no JSON text
-abbrev pub stop_line : Form → List ℕ → Stop → Pair → List ℕ
-stop_line form file stop pair = line_with form file stop.position pair None (stop_words stop)
+abbrev pub fault_line : Form → List ℕ → SyntaxFault → Pair → List ℕ
+fault_line form file fault pair = line_with form file fault.position pair None (fault_words fault)
 
-abbrev pub at_the_start : Stop
+abbrev pub at_the_start : SyntaxFault
 at_the_start = record { position = record { line = 1; column = 1 }; is_cut = false }
 
 -- by the places that are told of a body, if any are
 abbrev pub lines_at : Form → List ℕ → List ℕ → List Pair → Option (Vec Place Global) → List ℕ
 lines_at form file body findings (Some places) = flat_map (line form file body) (zip findings places.items)
-lines_at form file body findings None = flat_map (stop_line form file at_the_start) findings
+lines_at form file body findings None = flat_map (fault_line form file at_the_start) findings
 
 pub record TellsByPlaces (form : Form) (file body : List ℕ) (findings : List Pair) (written : List ℕ) : Type 0 where
   pub places : Option (Vec Place Global)
   pub answered : Answers body (map (λ finding. finding.place) findings) places
   pub lines : written ≡ lines_at form file body findings places
 
--- The reader stops in a body that it does not read, and in no other. Where it stops, none of its clauses says.
-abbrev pub IsStopIn : List ℕ → Option Stop → Type 0
-IsStopIn body None = (value : Data) × (read body ≡ Some value)
-IsStopIn body (Some stop) = IsUtf8 body → read body ≡ None
+-- A body has a fault if and only if the reader does not read it. No clause of the reader says where the fault is.
+abbrev pub IsFaultIn : List ℕ → Option SyntaxFault → Type 0
+IsFaultIn body None = (value : Data) × (read body ≡ Some value)
+IsFaultIn body (Some fault) = IsUtf8 body → read body ≡ None
 
-abbrev pub TellsWith : Option Stop → Form → List ℕ → List ℕ → List Pair → List ℕ → Type 0
+abbrev pub TellsWith : Option SyntaxFault → Form → List ℕ → List ℕ → List Pair → List ℕ → Type 0
 TellsWith None form file body findings written = TellsByPlaces form file body findings written
-TellsWith (Some stop) form file body findings written = written ≡ flat_map (stop_line form file stop) findings
+TellsWith (Some fault) form file body findings written = written ≡ flat_map (fault_line form file fault) findings
 
--- A text has the lines of the findings in a body: each at its place if the body is read, else where the reader stopped.
+-- A text has the lines of the findings in a body: each at its place if the body is read, else where its fault is.
 pub record TellsOf (form : Form) (file body : List ℕ) (findings : List Pair) (written : List ℕ) : Type 0 where
-  pub stop : Option Stop
-  pub stopped : IsStopIn body stop
-  pub lines : TellsWith stop form file body findings written
+  pub fault : Option SyntaxFault
+  pub found : IsFaultIn body fault
+  pub lines : TellsWith fault form file body findings written

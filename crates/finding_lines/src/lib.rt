@@ -8,7 +8,7 @@ mod form;
 mod message;
 mod object;
 mod sentence;
-mod stop;
+mod syntax_fault;
 mod telling;
 mod text;
 

@@ -1,13 +1,13 @@
 //! A line for each finding.
 ghost use Rattle.std.specs.Prelude.{◌≡◌, map, option_map, length, IfOk};
 ghost use Rattle.std.specs.List.{flat_map, zip};
-ghost use Rattle.finding_lines.specs.Lines.{line_with, line, stop_line, TellsByPlaces, TellsOf};
+ghost use Rattle.finding_lines.specs.Lines.{line_with, line, fault_line, TellsByPlaces, TellsOf};
 
 use crate::form::Form;
 use crate::message::{message, value};
 use crate::object::object_line;
 use crate::sentence::sentence_of;
-use crate::stop::{Stop, stop_in};
+use crate::syntax_fault::{SyntaxFault, fault_in};
 use report_places::{Place, Position, places};
 use std::alloc::{AllocError, Global};
 use xbrl_report::Finding;
@@ -24,8 +24,8 @@ pub fn lines(
 ) -> Result<Vec<u8>, AllocError>
     ensures { IfOk result (λ lines. TellsOf form file.now body.now findings.now lines.items) }
 {
-    match stop_in(alloc, body)? {
-        Some(stop) => stop_lines(alloc, form, file, stop, findings),
+    match fault_in(alloc, body)? {
+        Some(fault) => fault_lines(alloc, form, file, fault, findings),
         None => place_lines(alloc, form, file, body, findings),
     }
 }
@@ -42,7 +42,7 @@ fn place_lines(
     let pointers = pointers_of(alloc, findings)?;
     match places(alloc, body, &pointers)? {
         Some(places) => lines_at(alloc, form, file, body, findings, &places),
-        None => stop_lines(alloc, form, file, Stop::AT_THE_START, findings),
+        None => fault_lines(alloc, form, file, SyntaxFault::AT_THE_START, findings),
     }
 }
 
@@ -93,33 +93,33 @@ fn line(
     line_with(alloc, form, file, place.position, finding, value, &message)
 }
 
-fn stop_lines(
+fn fault_lines(
     alloc: Global,
     form: Form,
     file: &str,
-    stop: Stop,
+    fault: SyntaxFault,
     findings: &[Finding],
 ) -> Result<Vec<u8>, AllocError>
-    ensures { IfOk result (λ lines. lines.items ≡ flat_map (stop_line form file.now stop) findings.now) }
+    ensures { IfOk result (λ lines. lines.items ≡ flat_map (fault_line form file.now fault) findings.now) }
 {
     let mut lines = Vec::new(alloc);
     for finding in findings {
-        lines.extend_from_slice(&stop_line(alloc, form, file, stop, finding)?)?;
+        lines.extend_from_slice(&fault_line(alloc, form, file, fault, finding)?)?;
     }
     Ok(lines)
 }
 
-fn stop_line(
+fn fault_line(
     alloc: Global,
     form: Form,
     file: &str,
-    stop: Stop,
+    fault: SyntaxFault,
     finding: &Finding,
 ) -> Result<Vec<u8>, AllocError>
-    ensures { IfOk result (λ written. written.items ≡ stop_line form file.now stop finding.now) }
+    ensures { IfOk result (λ written. written.items ≡ fault_line form file.now fault finding.now) }
 {
-    let words = stop.words().as_bytes();
-    line_with(alloc, form, file, stop.position, finding, None, words)
+    let words = fault.words().as_bytes();
+    line_with(alloc, form, file, fault.position, finding, None, words)
 }
 
 fn line_with(

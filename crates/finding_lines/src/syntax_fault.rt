@@ -1,28 +1,28 @@
-//! Where the reader stops in a body that is no JSON text.
+//! What is wrong with a body that is no JSON text.
 ghost use Rattle.std.specs.Prelude.{◌≡◌, IfOk};
-ghost use Rattle.finding_lines.specs.Lines.{IsStopIn, stop_words};
+ghost use Rattle.finding_lines.specs.Lines.{IsFaultIn, fault_words};
 
 use report_places::{Position, position_of};
 use serde_json::Value;
 use std::alloc::{AllocError, Global};
 
-/// Where the reader stopped, and whether more bytes could follow there.
+/// Where a body stops being JSON, and whether more bytes could mend it.
 #[derive(Clone, Copy)]
-pub(crate) struct Stop {
+pub(crate) struct SyntaxFault {
     pub position: Position,
     pub is_cut: bool,
 }
 
-impl Stop {
-    /// Before all bytes.
-    pub(crate) const AT_THE_START: Stop = Stop {
+impl SyntaxFault {
+    /// At the first byte.
+    pub(crate) const AT_THE_START: SyntaxFault = SyntaxFault {
         position: Position { line: 1, column: 1 },
         is_cut: false,
     };
 
     /// What is wrong there.
     pub(crate) fn words(self) -> &'static str
-        ensures { result.now ≡ stop_words self }
+        ensures { result.now ≡ fault_words self }
     {
         if self.is_cut {
             "the body ends too soon"
@@ -32,9 +32,9 @@ impl Stop {
     }
 }
 
-/// Where the reader stops, if it does not read the body.
-pub(crate) fn stop_in(alloc: Global, body: &[u8]) -> Result<Option<Stop>, AllocError>
-    ensures { IfOk result (IsStopIn body.now) }
+/// Where and why the reader does not read the body; `None` if it reads it.
+pub(crate) fn fault_in(alloc: Global, body: &[u8]) -> Result<Option<SyntaxFault>, AllocError>
+    ensures { IfOk result (IsFaultIn body.now) }
 {
     match Value::from_slice(alloc, body) {
         Ok(_) => Ok(None),
@@ -46,7 +46,7 @@ pub(crate) fn stop_in(alloc: Global, body: &[u8]) -> Result<Option<Stop>, AllocE
             } else {
                 offset_of(body, error.line(), error.column())
             };
-            Ok(Some(Stop {
+            Ok(Some(SyntaxFault {
                 position: position_of(body, offset),
                 is_cut,
             }))
@@ -54,7 +54,7 @@ pub(crate) fn stop_in(alloc: Global, body: &[u8]) -> Result<Option<Stop>, AllocE
     }
 }
 
-// The offset of a byte, which the reader counts in its line.
+// The offset of the byte in that column of that line.
 fn offset_of(body: &[u8], line: usize, column: usize) -> usize {
     let mut line_feeds = line.saturating_sub(1);
     for (index, byte) in body.iter().enumerate() {
