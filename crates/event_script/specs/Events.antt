@@ -1,4 +1,4 @@
--- Events without where they lie in memory: what the world knows them as.
+-- Events as the world knows them, without the memory that holds them.
 use Rattle.std.specs.Prelude.{List, All}
 use Rattle.http_messages.specs.Posting.{IsTarget}
 use Rattle.filing_model.specs.Stopping.{Crash}

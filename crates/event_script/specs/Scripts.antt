@@ -16,17 +16,17 @@ pub record Script : Type 0 where
   pub filers : List (List ℕ)
   pub events : List Event
 
--- own rule: where no line says the limit
+-- own rule: the limit if no line says one
 abbrev pub default_limit : ℕ
 default_limit = 1000000
 
--- an event before the others, if the line says one, and otherwise the line's number
+-- the event that a line says, before the others; if the line says none, its number
 abbrev pub before_events : ℕ → Option Event → Result (List Event) ℕ → Result (List Event) ℕ
 before_events number None others = Err number
 before_events number (Some event) (Ok events) = Ok (event ∷ events)
 before_events number (Some event) (Err wrong) = Err wrong
 
--- the events of the lines from this number on, or the number of the first line that says none
+-- the events of the lines from this number on, or the number of the first line that says no event
 abbrev pub events_from : ℕ → List (List ℕ) → Result (List Event) ℕ
 events_from number [] = Ok []
 events_from number (rest ∷ []) = if length rest == 0 then Ok [] else Err number
@@ -70,7 +70,7 @@ with_limit (Some limit) others = script_from limit 2 (drop 1 others)
 unfoldable pub script_of : List ℕ → Result Script ℕ
 script_of text = with_limit (limit_of (lines_of text)) (lines_of text)
 
--- ---- the same without where it lies in memory
+-- ---- a script without the memory that holds it
 
 abbrev pub view_script : Kept → Script
 view_script script = record {
@@ -79,7 +79,7 @@ view_script script = record {
   events = map view_event script.events.items;
 }
 
--- the fault tells the wrong line, or that memory ran out
+-- the fault names the wrong line, or says that memory ran out
 abbrev pub IsFaultOf : {A : Type 0} → Result A ℕ → ScriptFault → Type 0
 IsFaultOf said (Unreadable number) = said ≡ Err number
 IsFaultOf said Memory = ⊤

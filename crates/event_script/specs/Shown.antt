@@ -5,7 +5,7 @@ use Rattle.std.specs.Fmt.{decimal}
 use Rattle.key_string.specs.Key.{spelling}
 use Rattle.filing_model.specs.Outbox.{State, state_words}
 
--- replaces K, behind a space, where a filing replaces one
+-- replaces K, behind a space, if the filing replaces another
 abbrev pub replaces_words : Option ℕ → List ℕ
 replaces_words None = []
 replaces_words (Some number) = codes " replaces " ++ decimal number

@@ -2,21 +2,20 @@
 
 use key_string::KeyText;
 
-/// Where an end stops while it handles an event. The requests of a delivery are counted from 1, and
-/// 0 acts as 1; while a reply is handed over there is one point to stop at, whatever the number.
+/// Where an end stops while it handles an event. The requests of a delivery are counted from 1, and 0 acts as 1; while
+/// a reply is handed over, there is one point to stop at, whatever the number.
 #[derive(Clone, Copy, Debug, PartialEq, Eq)]
 pub enum Crash {
-    /// It does not stop.
+    /// The end does not stop.
     No,
-    /// It stops before anything is kept for this request, or before a reply is taken.
+    /// The end stops before anything is kept for this request, or before a reply is taken.
     Before(u32),
-    /// It stops after what this request, or a reply, changes is kept, and before a byte of an answer
-    /// is written.
+    /// The end stops after what this request, or a reply, changes is kept, and before a byte of an answer is written.
     After(u32),
 }
 
-/// What may happen. Outboxes, entries, sent items and outputs are named by their numbers, from 1 on.
-/// A delivery and a reply that is handed over give so many bytes, or all where there are fewer.
+/// What may happen. Outboxes, entries, sent items and outputs are named by their numbers, from 1 on. A delivery and a
+/// reply that is handed over give so many bytes, or all if there are fewer.
 #[derive(Drop)]
 pub enum Event {
     /// A report is put into an outbox under a key; it may be to replace the filing of a number, from 1 to 2^63 - 1.

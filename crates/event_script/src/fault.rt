@@ -1,4 +1,4 @@
-//! Why a text is read as no script.
+//! Why a text is no script.
 
 ghost use Rattle.std.specs.Prelude.{◌≡◌};
 ghost use Rattle.event_script.specs.declared.fault.ScriptFault.TheVariants.{Memory};
@@ -6,14 +6,14 @@ ghost use Rattle.event_script.specs.declared.fault.ScriptFault.TheVariants.{Memo
 use std::alloc::AllocError;
 use thiserror::Error;
 
-/// Why a text is read as no script.
+/// Why a text is no script.
 #[derive(Clone, Copy, Debug, PartialEq, Eq, Error)]
 pub enum ScriptFault {
-    /// This line, counted from 1, is the first that says nothing which a script may say there. It is
-    /// the line behind the last where the text ends before an outbox.
+    /// The first line that may not stand there in a script, counted from 1. If the text ends before an outbox, it is
+    /// the line behind the last.
     #[error("line {line}: unreadable")]
     Unreadable { line: u64 },
-    /// No memory was left.
+    /// Memory ran out.
     #[error("out of memory")]
     Memory,
 }

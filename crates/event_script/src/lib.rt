@@ -1,6 +1,6 @@
 //! What may happen to an intake and to the outboxes of its filers, as a list of events, the scripts that spell such
-//! lists, and the lines that show what came of one. What may live here: the events, and how a text spells them and what
-//! they led to. What an event does is not known here.
+//! lists, and the lines that show what came of a script. What may live here: the events, and how a text spells them and
+//! what they led to. What an event does is not known here.
 #![tactic(auto)]
 
 mod event;

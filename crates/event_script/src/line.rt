@@ -1,4 +1,4 @@
-//! What a line of a script says. No line has a line feed here.
+//! What a line of a script says. The lines here have no line feed.
 
 ghost use Rattle.std.specs.Prelude.{◌≡◌, map, option_map, option_copied, IfOk, IfSome};
 ghost use Rattle.event_script.specs.Events.{view_crash, view_event, HasTarget};

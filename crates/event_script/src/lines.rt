@@ -5,8 +5,7 @@ ghost use Rattle.event_script.specs.Text.{lines_of};
 
 use crate::fault::ScriptFault;
 
-/// What of a text is still to be read, and the number of the line with which it begins, counted
-/// from 1.
+/// The part of a text that is still to be read, and the number of its first line, counted from 1.
 #[derive(Clone, Copy)]
 pub(crate) struct Lines<'t> {
     pub(crate) rest: &'t str,
@@ -37,7 +36,7 @@ impl<'t> Lines<'t> {
         Some((line, Lines { rest, number }))
     }
 
-    /// That the first line is wrong.
+    /// The fault that the first line is wrong.
     pub(crate) fn unreadable(self) -> ScriptFault
         ensures { result ≡ ScriptFault.Unreadable self.entry.number }
     {

@@ -26,7 +26,7 @@ pub(crate) fn read_put(alloc: Global, rest: &str) -> Result<Option<Event>, Alloc
     }
 }
 
-/// `O N KEY BODY`: the same, of a report that is to replace filing N.
+/// `O N KEY BODY`: as for `put`, with a report that is to replace filing N.
 pub(crate) fn read_amend(alloc: Global, rest: &str) -> Result<Option<Event>, AllocError>
     ensures read { IfOk result (λ event. option_map view_event event ≡ amend_of rest.now) }
     ensures targets { IfOk result (λ event. IfSome event (λ e. HasTarget (view_event e))) }

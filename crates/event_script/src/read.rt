@@ -15,28 +15,29 @@ use crate::lines::Lines;
 use crate::script::Script;
 use std::alloc::{AllocError, Global};
 
-/// How many filers' keys an intake keeps where nothing is said (own rule).
+/// How many filers' keys an intake keeps if the script says no limit (own rule).
 const DEFAULT_LIMIT: u64 = 1_000_000;
 
-/// The script that a text spells (own format). Its lines end in LF, the last one too; its words are
-/// parted by one space; its numbers are decimal, without leading zeros, and at most 2^63 - 1 (a
-/// arrival to stop at: 2^32 - 1). The first line may say `limit N`, with N at most 2^62; without it
-/// the limit is 1,000,000. One line or more `outbox FILER` follow, and then any events:
+/// The script that a text spells (own format). Its lines end in LF, the last one too; its words are parted by one
+/// space; its numbers are decimal, without leading zeros, and at most 2^63 - 1, or 2^32 - 1 for an arrival to stop at.
+/// The first line may say `limit N`, with N at most 2^62; without it the limit is 1,000,000. Then come one or more
+/// lines
+/// `outbox FILER`, and then any events:
 ///
 /// ```text
 /// put O KEY BODY          KEY is the spelling of a key, BODY the rest of the line
-/// amend O N KEY BODY      the same, of a report that is to replace filing N
+/// amend O N KEY BODY      as put, with a report that is to replace filing N
 /// send O E
 /// stranger TEXT           \r, \n, \\ stand for CR, LF, backslash
 /// deliver S N             N is a number or all
-/// deliver S N before J    and: after J
-/// hand P N                and: hand P N before, hand P N after
+/// deliver S N before J    or: deliver S N after J
+/// hand P N                or: hand P N before, hand P N after
 /// restart server
 /// restart outbox O
 /// ```
 ///
-/// BODY and TEXT may be empty, behind their space. An error tells the first line that is none of
-/// these where it stands, or that memory ran out, which says nothing of the text.
+/// BODY and TEXT may be empty, behind their space. An error names the first line that may not stand there, or says that
+/// memory ran out, which says nothing about the text.
 pub fn read_script(alloc: Global, text: &str) -> Result<Script, ScriptFault>
     ensures read { IfOk result (λ script. script_of text.now ≡ Ok (view_script script)) }
     ensures filers { IfOk result (λ script. AreFilers (map string_bytes script.filers.items)) }

@@ -9,8 +9,8 @@ use filing_model::State;
 use key_string::{KeyFault, KeyText, append_key};
 use std::alloc::{AllocError, Global};
 
-/// Appends `filing N FILER KEY`, where KEY is the key's spelling, with `replaces K` behind it where the filing replaces
-/// one. An `Err` changes nothing.
+/// Appends `filing N FILER KEY`, where KEY is the key's spelling, with `replaces K` behind it if the filing replaces
+/// filing K. An `Err` changes nothing.
 pub fn append_filing(
     number: u64,
     filer: &str,

@@ -16,7 +16,7 @@ pub(crate) fn read_stranger(alloc: Global, text: &str) -> Result<Option<Event>, 
     Ok(bytes.map(|bytes| Event::Stranger { bytes }))
 }
 
-/// The bytes that a text stands for, where no backslash stands before anything else.
+/// The bytes that a text stands for; `None` if a backslash stands before any other character.
 fn unescape(alloc: Global, text: &[u8]) -> Result<Option<Vec<u8>>, AllocError>
     ensures { IfOk result (λ bytes. option_map (λ b. b.items) bytes ≡ unescaped false text.now) }
 {

@@ -8,7 +8,7 @@ ghost use Rattle.event_script.specs.Words.{arrival_number, amount};
 
 use std::alloc::{AllocError, Global};
 
-/// The greatest number that a script may have where nothing else is said.
+/// The greatest number in a script, unless another limit is given.
 const MAX_NUMBER: u64 = (1 << 63) - 1;
 
 /// The greatest number of an arrival to stop at.

@@ -1,4 +1,4 @@
--- The lines that tell of findings.
+-- The lines that report findings.
 use Rattle.std.specs.Prelude.{◌≡◌, ℕ, List, map, codes, false, if◌then◌else◌, Option, Some, None, Vec, IsUtf8}
 use Rattle.std.specs.Global.{Global}
 use Rattle.std.specs.List.{flat_map, zip}
@@ -15,12 +15,12 @@ use Rattle.finding_lines.specs.declared.form.Form.{Form}
 use Rattle.finding_lines.specs.declared.form.Form.TheVariants.{Sentences, Objects}
 use Rattle.finding_lines.specs.declared.syntax_fault.SyntaxFault.{SyntaxFault}
 
--- of a finding at a position, with the value there, if there is one, and these words
+-- the line of a finding at a position, with the value there, if there is one, and these words
 abbrev pub line_with : Form → List ℕ → Position → Pair → Option (List ℕ) → List ℕ → List ℕ
 line_with Sentences file position pair value words = sentence file position pair words
 line_with Objects file position pair value words = object_line file position pair value words
 
--- of a finding in a body, with its place there
+-- the line of a finding in a body, with its place there
 abbrev pub line : Form → List ℕ → List ℕ → Pair × Place → List ℕ
 line form file body told =
     line_with form file told.1.position told.0 (value body told.1) (message body told.1 told.0.code)
@@ -28,14 +28,14 @@ line form file body told =
 abbrev pub fault_words : SyntaxFault → List ℕ
 fault_words fault = if fault.is_cut then codes "the body ends too soon" else codes "the body is no JSON text"
 
--- of a finding in a body that is no JSON text
+-- the line of a finding in a body that is no JSON text
 abbrev pub fault_line : Form → List ℕ → SyntaxFault → Pair → List ℕ
 fault_line form file fault pair = line_with form file fault.position pair None (fault_words fault)
 
 abbrev pub at_the_start : SyntaxFault
 at_the_start = record { position = record { line = 1; column = 1 }; is_cut = false }
 
--- by the places that are told of a body, if any are
+-- the lines by the places that are found in a body, if they are found
 abbrev pub lines_at : Form → List ℕ → List ℕ → List Pair → Option (Vec Place Global) → List ℕ
 lines_at form file body findings (Some places) = flat_map (line form file body) (zip findings places.items)
 lines_at form file body findings None = flat_map (fault_line form file at_the_start) findings

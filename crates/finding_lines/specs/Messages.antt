@@ -1,4 +1,4 @@
--- What is said of a finding.
+-- The sentence of a finding.
 use Rattle.std.specs.Prelude.{ℕ, ◌==◌, List, [], ◌∷◌, ◌++◌, length, drop, nat_lt, if◌then◌else◌, codes, Option, Some}
 use Rattle.std.specs.Prelude.{None}
 use Rattle.report_places.specs.Shown.{scalar, value_text}
@@ -40,7 +40,7 @@ phrase UnknownDimension = codes "belongs to no known dimension"
 phrase TooMany = codes "has more findings than are shown"
 phrase NotReplaceable = codes "may not replace that filing"
 
--- behind a value that is shown in part
+-- what stands behind a value that is shown in part
 abbrev pub dots : List ℕ → List ℕ → List ℕ
 dots shown whole = if nat_lt (length shown) (length whole) then codes "..." else []
 

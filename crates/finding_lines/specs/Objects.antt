@@ -1,4 +1,4 @@
--- The line that tells programs of a finding.
+-- The line that reports a finding to programs.
 use Rattle.std.specs.Prelude.{ℕ, List, ◌++◌, codes, Option, Some, None}
 use Rattle.std.specs.Fmt.{decimal}
 use Rattle.std.specs.Str.Lossy.{utf8_lossy}
@@ -23,7 +23,7 @@ front_part code position file =
     codes "{\"code\":" ++ code ++ codes ",\"column\":" ++ decimal position.column
     ++ codes ",\"file\":" ++ file ++ codes ",\"line\":" ++ decimal position.line
 
--- the others
+-- the other members
 abbrev pub back_part : List ℕ → List ℕ → List ℕ → List ℕ
 back_part words place value =
     codes ",\"message\":" ++ words ++ codes ",\"place\":" ++ place ++ codes ",\"value\":" ++ value ++ codes "}\n"

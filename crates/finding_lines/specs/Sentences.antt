@@ -1,4 +1,4 @@
--- The line that tells people of a finding.
+-- The line that reports a finding to people.
 use Rattle.std.specs.Prelude.{ℕ, List, ◌++◌, codes}
 use Rattle.std.specs.Fmt.{decimal}
 use Rattle.report_places.specs.declared.position.Position.{Position}

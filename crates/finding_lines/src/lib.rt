@@ -1,4 +1,4 @@
-//! How findings are told to people and to programs: a line for each.
+//! How findings are reported to people and to programs: a line for each.
 //!
 //! `lines` writes sentences or JSON objects. What may live here: the words for findings. Neither files nor command
 //! lines are known here.

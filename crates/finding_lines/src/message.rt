@@ -1,4 +1,4 @@
-//! What is said of a finding.
+//! The sentence of a finding.
 ghost use Rattle.std.specs.Prelude.{◌≡◌, drop, option_map, IfOk};
 ghost use Rattle.finding_lines.specs.Messages.{phrase, subject, bracket_words, message, value as value_lem};
 
@@ -25,8 +25,8 @@ pub(crate) fn message(
     Ok(message)
 }
 
-/// The string, number or literal at a place, as it is in the body. None is there if the value is an object or an array,
-/// or is missing.
+/// The string, number or literal at a place, as it is in the body. `None` if the value is an object or an array, or is
+/// missing.
 pub(crate) fn value<'a>(body: &'a [u8], place: &Place) -> Option<&'a [u8]>
     ensures { option_map (λ value. value.now) result ≡ value_lem body.now place.now }
 {

@@ -10,7 +10,7 @@ use std::alloc::{AllocError, Global};
 use xbrl_report::Finding;
 
 /// A JSON object with the members `code`, `column`, `file`, `line`, `message`, `place`, and `value`, which is the text
-/// of a string, a number or a literal at the place, and else null.
+/// of a string, a number or a literal at the place, and otherwise null.
 pub(crate) fn object_line(
     alloc: Global,
     file: &str,
@@ -50,7 +50,7 @@ fn front_text(
     Ok(text)
 }
 
-/// The others.
+/// The other members of the object.
 fn back_text(
     alloc: Global,
     message: &str,

@@ -14,7 +14,7 @@ use xbrl_report::Finding;
 
 /// A line for each finding in the body of a report, in order. The line and the column in it are those of the value at
 /// the place, or of the nearest one above it if it is missing. If the body is no JSON text, they are those at which the
-/// reader stopped.
+/// reader stops.
 pub fn lines(
     alloc: Global,
     form: Form,

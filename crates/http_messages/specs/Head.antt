@@ -68,8 +68,8 @@ expects p = (p.minor == 1) && lists_word (codes "expect") (codes "100-continue")
 abbrev pub is_number : List ℕ → Bool
 is_number part = nat_lt 0 (length part) && list_all is_ascii_digit part
 
--- all parts write one number (RFC 9112, section 6.3); own rules: leading zeros count for nothing, and an empty part is
--- no number
+-- all parts write one number (RFC 9112, section 6.3); own rules: leading zeros are ignored, and an empty part is no
+-- number
 abbrev pub agree : List (List ℕ) → Bool
 agree [] = true
 agree (part ∷ parts) = list_all (λ p. is_number p && digits_value 10 p == digits_value 10 part) (part ∷ parts)
@@ -97,7 +97,7 @@ has_host_fault p =
 abbrev pub has_coding : RequestParts → Bool
 has_coding p = nat_lt 0 (length (values_named (codes "transfer-encoding") p.fields))
 
--- a POST without Content-Length (RFC 9110, section 15.5.12); own rule: it is refused, also where no content follows
+-- a POST without Content-Length (RFC 9110, section 15.5.12); own rule: it is refused, also if no content follows
 abbrev pub lacks_length : RequestParts → Bool
 lacks_length p = bytes_eq p.method (codes "POST") && length (values_named (codes "content-length") p.fields) == 0
 
@@ -114,8 +114,8 @@ framing_fault p =
 abbrev pub FollowsCr : List ℕ → ℕ → Type 0
 FollowsCr block i = (0 < i) × (slice_index block (i - 1) ≡ carriage_return)
 
--- the block begins with no CR or LF, and each LF directly follows a CR; own rule, where RFC 9112, section 2.2, allows a
--- bare LF
+-- the block begins with no CR or LF, and each LF directly follows a CR; own rule: RFC 9112, section 2.2, allows a bare
+-- LF too
 pub record HasPlainLines (block : List ℕ) : Type 0 where
   pub start : (slice_index block 0 ≡ carriage_return) → ⊥
   pub feeds : (i : ℕ) → slice_index block i ≡ line_feed → FollowsCr block i
@@ -124,7 +124,7 @@ pub record HasPlainLines (block : List ℕ) : Type 0 where
 abbrev pub before_query : List ℕ → List ℕ
 before_query target = split_once_front question_mark (without_fragment target)
 
--- the path of a target, or nothing where the target writes none, as `http://h` (own rule; RFC 9112, section 3.2)
+-- the path of a target, or nothing if the target writes none, as `http://h` (own rule; RFC 9112, section 3.2)
 abbrev pub written_path : List ℕ → List ℕ → List ℕ
 written_path target path = if ends_with nat_eq (before_query target) path then path else []
 
@@ -155,7 +155,7 @@ IsMalformed block = (parts : RequestParts) → ¬ (ReadsHead block parts)
 abbrev pub HasFraming : List ℕ → HeadFault → Type 0
 HasFraming block fault = (parts : RequestParts) × ReadsHead block parts × (framing_fault parts ≡ Some fault)
 
--- the fault is the block's first; that memory ran out says nothing of the block
+-- the fault is the block's first; that memory ran out says nothing about the block
 abbrev pub IsHeadFault : List ℕ → HeadFault → Type 0
 IsHeadFault block Malformed = IsMalformed block
 IsHeadFault block Host = HasFraming block Host

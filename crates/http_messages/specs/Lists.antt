@@ -5,7 +5,8 @@ use Rattle.httparse.specs.Ascii.{digit_zero}
 use Rattle.http_messages.specs.Head.{agree, agreed_number}
 use Rattle.http_messages.specs.Response.{max_content_len}
 
--- the number that all parts write, or any larger than a content may be; none where they don't agree
+-- the number that all parts write, or one more than a content may have in place of any larger one; nothing if they
+-- don't agree
 abbrev pub IsAgreed : List (List ℕ) → Option ℕ → Type 0
 IsAgreed parts declared =
     MatchOption declared (agree parts ≡ false) (λ n. (agree parts ≡ true)

@@ -37,7 +37,7 @@ phrase = phrase_in phrases
 abbrev pub line : List ℕ → List ℕ
 line text = text ++ codes "\r\n"
 
--- the text, where the test holds
+-- the text if the test holds, and else nothing
 abbrev pub only_if : Bool → List ℕ → List ℕ
 only_if test text = if test then text else []
 
@@ -51,7 +51,7 @@ length_line len = line (codes "Content-Length: " ++ decimal len)
 
 -- The head of a reply, which ends with an empty line. Content-Type is of RFC 9110, section 8.3; Allow, which goes with
 -- 405, of sections 10.2.1 and 15.5.6; `close` of RFC 9112, section 9.6. Own rules: this order of lines, no
--- Content-Length where there is no content, and no Date, since the intake has no clock.
+-- Content-Length if there is no content, and no Date, since the intake has no clock.
 unfoldable pub render_head : ReplyParts → Bool → List ℕ
 render_head reply close =
     status_line reply.status ++ line (codes "Content-Type: " ++ media_type reply.kind)

@@ -31,8 +31,8 @@ pub fn find_block(bytes: &[u8]) -> Block
     find_block_from(bytes, 0)
 }
 
-/// The same as `find_block`, where the first `searched` bytes of the block, a skipped CRLF not
-/// counted, hold no end, so that a search goes on where the last one stopped.
+/// Where the block at the front of the bytes ends, as `find_block` answers, if its first `searched` bytes hold no end.
+/// A skipped CRLF is not counted. So a search goes on where the last one stopped.
 pub fn find_block_from(bytes: &[u8], searched: usize) -> Block
     requires { HasNoEndUpTo (from_block bytes.now) searched }
     ensures { IsBlock bytes.now result }

@@ -28,7 +28,7 @@ impl<'h> FieldsNamed<'h> {
         FieldsNamed::of(block, &spans.fields, name)
     }
 
-    /// The same of fields of which no head is known.
+    /// The values of the fields of one name, among fields of which no head is known.
     pub(crate) fn of(block: &'h [u8], spans: &'h [HeaderSpan], name: &'h [u8]) -> FieldsNamed<'h>
         requires { All (IsHeaderWithin (length block.now)) spans.now }
         ensures { values_left result ≡ values_named name.now (map (header_bytes block.now) spans.now) }

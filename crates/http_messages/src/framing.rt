@@ -40,7 +40,7 @@ pub(crate) fn read_framing(block: &[u8], spans: &HeadSpans) -> Result<Framing, H
     })
 }
 
-/// Whether it is a POST without Content-Length, of which the length is known that the head declares.
+/// Whether the head is a POST without Content-Length. `body_len` is the length that the head declares.
 fn lacks_length(block: &[u8], spans: &HeadSpans, body_len: usize) -> bool
     requires within { IsHeadWithin block.now spans.now }
     requires agreed { IsAgreed (lengths (parts_at block.now spans.now)) (Some body_len) }

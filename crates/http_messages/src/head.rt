@@ -138,8 +138,8 @@ impl<'a> Head<'a> {
         self.spans.get().method.of(self.block)
     }
 
-    /// The path of the target, as it was written, without its query. It is empty where the target
-    /// writes none, as `http://h`.
+    /// The path of the target, as it was written, without its query. It is empty if the target writes none, as
+    /// `http://h`.
     pub fn path(&self) -> &'a [u8]
         ensures { result.now ≡ self.now.path }
     {
@@ -179,8 +179,8 @@ impl<'a> Head<'a> {
     }
 }
 
-/// The head that the bytes are, all of them: a block, behind the CRLF that is skipped if one stands
-/// before it. Bytes of which `find_block` answers no end, or one before the last byte, are malformed.
+/// The head that the bytes are, all of them: a block, behind the CRLF that is skipped if one stands before it. Bytes in
+/// which `find_block` finds no end, or finds it before the last byte, are malformed.
 pub fn read_head(alloc: Global, bytes: &[u8]) -> Result<Head<'_>, HeadFault>
     ensures ok { IfOk result (λ head. IsWholeBlock bytes.now × IsHead (from_block bytes.now) head) }
     ensures fault { IsWholeBlock bytes.now → IfErr result (IsHeadFault (from_block bytes.now)) }
@@ -196,8 +196,8 @@ pub fn read_head(alloc: Global, bytes: &[u8]) -> Result<Head<'_>, HeadFault>
     }
 }
 
-/// Parses a block as a head: where its parts are, and what they say of the rest of the message. A block
-/// that isn't one is refused with the first fault that holds, as by `read_head`.
+/// Parses a block as a head: where its parts are, and what they say of the rest of the message. A block that is no head
+/// is refused with the first fault that holds, as by `read_head`.
 #[tactic(auto, using(crate::proofs::HeadLemmas::head_fault_of_framing))]
 pub fn read_parts(alloc: Global, block: &[u8]) -> Result<(HeadSpans, Framing), HeadFault>
     ensures at { IfOk result (λ r. IsHeadAt block.now r.0 r.1) }

@@ -35,8 +35,8 @@ pub fn post_is_read()
         → SpellsRequest (render_post filer target key body) (post_request filer target key body) }
 {}
 
-/// However it is cut, nothing else is read in it: what comes of a filer's request holds no arrival and
-/// asks for nothing, or it is the whole request, after which the connection closes.
+/// However a filer's request is cut, nothing else is read in it: what comes of it holds no arrival and asks for
+/// nothing, or it is the whole request, after which the connection closes.
 pub fn cut_post_is_nothing_or_whole()
     ensures { (filer : List ℕ) (target : Option ℕ) (key body : List ℕ) → is_filer filer ≡ true → IsTarget target
         → IsKey key → length body ≤ max_body_len → (n : ℕ) (arrivals : List Arrival) (ending : Ending)
@@ -49,7 +49,7 @@ pub fn reply_is_read()
     ensures { (reply : ReplyParts) (close : Bool) → IsReadable reply → SpellsReply (render reply close) reply }
 {}
 
-/// However it is cut, no other reply is read in it.
+/// However a reply is cut, no other reply is read in it.
 pub fn cut_reply_is_no_other()
     ensures { (reply other : ReplyParts) (close : Bool) (n : ℕ) → IsReadable reply
         → SpellsReply (take n (render reply close)) other → other ≡ reply }
@@ -67,7 +67,7 @@ pub fn given_reply_is_not_refused()
         → ¬ (IsRefusedReply bytes fault) }
 {}
 
-/// Where nothing is read, there is no reply.
+/// No bytes at all are no reply.
 pub fn nothing_is_no_reply()
     ensures { (reply : ReplyParts) → ¬ (SpellsReply [] reply) }
 {}

@@ -27,8 +27,8 @@ fn is_same_name(a: &[u8], b: &[u8]) -> bool
     a.eq_ignore_ascii_case(b)
 }
 
-/// The number that all parts write, or 8,388,609 in place of a larger one; 0 without parts, none
-/// where they don't agree (RFC 9112, section 6.3).
+/// The number that all parts write, or 8,388,609 in place of a larger one; 0 without parts, `None` if they don't agree
+/// (RFC 9112, section 6.3).
 pub(crate) fn agreed_length(mut parts: Parts) -> Option<usize>
     ensures { IsAgreed (parts_left parts.entry) result }
 {

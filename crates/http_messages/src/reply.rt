@@ -21,8 +21,7 @@ pub enum Kind {
 }
 
 impl Kind {
-    /// The media type by which a content of this kind is told (RFC 8259, section 11; RFC 9457,
-    /// section 3).
+    /// The media type of a content of this kind (RFC 8259, section 11; RFC 9457, section 3).
     pub(crate) fn media_type(self) -> &'static str
         ensures { result.now ≡ media_type self }
     {
@@ -80,8 +79,8 @@ pub fn append_reply(
     out.extend_from_slice(&text)
 }
 
-/// The bytes of a reply (RFC 9112, section 4), in room that is made at once: with `close` the last one
-/// on its connection. It fails only where memory runs out.
+/// The bytes of a reply (RFC 9112, section 4), in room that is made at once: with `close` the last one on its
+/// connection. It fails only if memory runs out.
 #[tactic(auto, unfolding(crate::specs::Reply::render, crate::specs::Reply::render_head))]
 pub fn reply_text(alloc: Global, reply: &Reply, close: bool) -> Result<Vec<u8>, AllocError>
     requires { IsSome (phrase reply.now.status) }

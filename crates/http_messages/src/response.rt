@@ -23,15 +23,15 @@ use httparse::spans::{EMPTY_HEADER_SPAN, HeaderSpan, parse_response};
 pub struct ResponseHead {
     /// The status code, of three digits (RFC 9110, section 15).
     pub status: u16,
-    /// What the content is: problem details where one line of Content-Type names them, else JSON.
+    /// What the content is: problem details if one line of Content-Type names them, and otherwise JSON.
     pub kind: Kind,
     /// The declared length of the content in bytes, or why the content isn't read: `Malformed`,
     /// `NoLength` or `TooLarge`, as `ReplyFault` says.
     pub content_len: Result<usize, ReplyFault>,
 }
 
-/// The head of a response that a block is, from its first byte to the empty line that ends it (RFC 9112,
-/// sections 4 and 5), or nothing where it is none.
+/// The head of a response that a block is, from its first byte to the empty line that ends it (RFC 9112, sections 4 and
+/// 5), or nothing if it is none.
 pub fn read_response(block: &[u8]) -> Option<ResponseHead>
     ensures { MatchOption result (IsNoResponse block.now) (IsResponseBlock block.now) }
 {
@@ -49,7 +49,7 @@ pub fn read_response(block: &[u8]) -> Option<ResponseHead>
     }
 }
 
-/// What the content is: problem details where one line names their media type, else JSON.
+/// What the content is: problem details if one line names their media type, and otherwise JSON.
 fn content_kind(block: &[u8], fields: &[HeaderSpan]) -> Kind
     requires { All (IsHeaderWithin (length block.now)) fields.now }
     ensures { result ≡ kind_of (map (header_bytes block.now) fields.now) }

@@ -5,7 +5,7 @@ ghost use Rattle.std.specs.List.{slice_split};
 ghost use Rattle.http_uri.specs.ByteClasses.{split_once_front};
 ghost use Rattle.http_messages.specs.Parts.{later_parts};
 
-/// What lies before the first such byte, and what lies after it. Without one all lies before.
+/// What lies before the first such byte, and what lies after it. Without such a byte, all of the text lies before.
 pub fn split_at_first(text: &[u8], stop: u8) -> (&[u8], Option<&[u8]>)
     ensures before { result.0.now ≡ split_once_front stop text.now }
     ensures after { option_copied result.1

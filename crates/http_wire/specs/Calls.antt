@@ -15,7 +15,7 @@ abbrev pub HoldsArrival : List ℕ → Type 0
 HoldsArrival bytes =
     ((request : Request) × (n : ℕ) × BeginsRequest bytes request n) ⊎ ((refusal : Refusal) × IsRefused bytes refusal)
 
--- the interim response, where one is asked for
+-- the interim response, if one is asked for
 abbrev pub interim_if : Bool → List ℕ
 interim_if asks = if asks then interim else []
 
@@ -32,9 +32,9 @@ WritesUpTo before after bytes ReadLimit = WritesAsked before after bytes
 WritesUpTo before after bytes Memory = WritesAsked before after bytes ⊎ Appends before after []
 
 -- Why a call failed, by the reader and the writer before and after, the reads that are counted, and the bytes that are
--- held: a read that was wanted failed, or a write did; or neither failed, and all reads were made that may give bytes
--- where one more was wanted, or there was no memory. Where no read may give bytes any more, memory is wanted for the
--- head of a block that is held.
+-- held: a read that was wanted failed, or a write did; or neither failed, and one more read was wanted after all reads
+-- that may give bytes, or there was no memory. After all of these reads, memory is wanted only for the head of a block
+-- that is held.
 abbrev pub IsFault : Wire → Wire → ℕ → List ℕ → ConnFault → Type 0
 IsFault before after reads held Read = ReaderFailed before after × ¬ (HoldsArrival held)
 IsFault before after reads held (Write sent) = WriterFailed before after

@@ -28,7 +28,7 @@ pub record WritesReply {R W : Type 0} (w : Writes W) (old new : Conn R W) (reply
   -- the reply was written, and the writer didn't fail
   pub ok : OnOk result (Appends (w.written (conn_writer old)) (w.written (conn_writer new)) (render reply close))
   pub fine : OnOk result (w.write_failures (conn_writer new) ≡ w.write_failures (conn_writer old))
-  -- or this is why it wasn't; after a fault, of `next` too, nothing is written
+  -- or this is why it wasn't written; after a fault, also one of `next`, nothing is written
   pub fault : is_failed (conn_inbox old) ≡ false
       → IfErr result (IsWriteFault w (conn_writer old) (conn_writer new) (render reply close))
   pub after_fault : is_failed (conn_inbox old) ≡ true → (result ≡ Err (Write 0)) × (conn_writer new ≡ conn_writer old)
@@ -36,6 +36,6 @@ pub record WritesReply {R W : Type 0} (w : Writes W) (old new : Conn R W) (reply
   pub over : OnOk result (is_over (conn_inbox new) ≡ (close || is_over (conn_inbox old)))
   pub closed : OnErr result (is_over (conn_inbox new) ≡ true)
   pub failed : is_failed (conn_inbox new) ≡ (is_failed (conn_inbox old) || is_err result)
-  -- nothing was read, and what was lent is lent
+  -- nothing was read, and the request that was lent is still lent
   pub reader : conn_reader new ≡ conn_reader old
   pub bytes : KeepsBytes (conn_inbox old) (conn_inbox new)

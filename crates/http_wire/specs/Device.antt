@@ -1,4 +1,4 @@
--- What readers and writers tell of their calls; own rules, over those of std.
+-- What readers and writers report of their calls; own rules, beyond those of std.
 use Rattle.std.specs.Prelude.{◌≡◌, ◌⊎◌, ℕ, ◌+◌, ◌-◌, ◌^◌, ◌<◌, min, Result, IfOk, List, length, is_ok, if◌then◌else◌}
 
 -- one failure more, counted up to 2^64 - 1

@@ -84,13 +84,13 @@ pub record ReadsNothing {R : Type 0} (before after : R) (old new : Inbox) : Type
   pub count : reads new ≡ reads old
   pub held_is : held new ≡ unread old
 
--- nothing was read or dropped, and what was lent is lent
+-- nothing was read or dropped, and the request that was lent is still lent
 pub record KeepsBytes (old new : Inbox) : Type 0 where
   pub held_is : held new ≡ held old
   pub lent : lent_request new ≡ lent_request old
   pub count : reads new ≡ reads old
 
--- the request that is lent begins the bytes that are held, and is the last where it closes
+-- the request that is lent begins the bytes that are held, and is the last one if it closes
 pub record LendsFirst (i : Inbox) : Type 0 where
   pub request : Request
   pub lent : lent_request i ≡ Some request

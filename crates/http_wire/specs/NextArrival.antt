@@ -32,7 +32,7 @@ IsNextArrival left bytes (Request p) = IsParsed bytes p × BeginsRequest bytes (
 IsNextArrival left bytes (Refused refusal) = IsRefused bytes refusal
 IsNextArrival left bytes Rest = IsRest bytes × IsAtEnd left
 
--- what was written where this was found
+-- what was written if this was found
 abbrev pub WritesFor : Option (List ℕ) → Option (List ℕ) → List ℕ → NextArrival → Type 0
 WritesFor before after bytes (Request p) = Appends before after (interim_if (awaits (parsed_request bytes p).head))
 WritesFor before after bytes (Refused refusal) = Appends before after []
@@ -41,14 +41,14 @@ WritesFor before after bytes Rest = WritesAsked before after bytes
 -- What reading on to the next arrival does with a reader, a writer and the bytes that are held, and what it finds.
 pub record FindsArrival {R W : Type 0} (r : Reads R) (w : Writes W) (reader reader' : R) (writer writer' : W)
     (old new : Received) (result : Result NextArrival ConnFault) : Type 0 where
-  -- what was read follows what was held, and nothing is read where an arrival is there already
+  -- what was read follows what was held, and nothing is read if an arrival is there already
   pub reads : Receives (r.left reader) (r.left reader') old new
   pub lazy : HoldsArrival (held_bytes old) → ReceivesNothing reader reader' old new
   pub found : IfOk result (IsNextArrival (r.left reader') (held_bytes new))
   -- what was written: the interim response that is asked for, or a part of it
   pub interim : IfOk result (WritesFor (w.written writer) (w.written writer') (held_bytes new))
   pub part : IfErr result (WritesUpTo (w.written writer) (w.written writer') (held_bytes new))
-  -- neither failed where there is an answer, and otherwise this is why there is none
+  -- neither failed if there is an answer, and otherwise this is why there is none
   pub fine : OnOk result (NoneFailed (wire r w reader writer) (wire r w reader' writer'))
   pub fault : IfErr result (IsFault (wire r w reader writer) (wire r w reader' writer') (read_count new)
       (held_bytes new))

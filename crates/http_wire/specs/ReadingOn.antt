@@ -17,7 +17,7 @@ pub record FindsNext {R W : Type 0} (r : Reads R) (w : Writes W) (reader reader'
     (old new : Inbox) (result : Result Next ConnFault) : Type 0 where
   -- what was read follows what was held
   pub reads : ReadsOn (r.left reader) (r.left reader') old new
-  -- nothing is read where a request or a refusal is there already
+  -- nothing is read if a request or a refusal is there already
   pub lazy : HoldsArrival (unread old) → ReadsNothing reader reader' old new
   -- no more is held than the longest head and the longest body take, with the CRLF before them that is skipped, and
   -- there is no more memory for it
@@ -25,12 +25,12 @@ pub record FindsNext {R W : Type 0} (r : Reads R) (w : Writes W) (reader reader'
   pub memory : memory new ≤ 1064962
   -- the answer is what stands next in it
   pub arrival : IfOk result (IsNext (r.left reader') old new)
-  -- where nothing arrives any more, nothing is read or written
+  -- if nothing arrives any more, nothing is read or written
   pub over : is_over old ≡ true → (result ≡ Ok End) × (writer' ≡ writer) × ReadsNothing reader reader' old new
   -- what was written: the interim response that is asked for, or a part of it
   pub interim : IfOk result (WritesInterim (w.written writer) (w.written writer') old new)
   pub part : IfErr result (WritesUpTo (w.written writer) (w.written writer') (held new))
-  -- neither failed where there is an answer, and otherwise this is why there is none
+  -- neither failed if there is an answer, and otherwise this is why there is none
   pub fine : OnOk result (NoneFailed (wire r w reader writer) (wire r w reader' writer'))
   pub fault : IfErr result (IsFault (wire r w reader writer) (wire r w reader' writer') (inbox.reads new) (held new))
   -- after a fault nothing arrives any more

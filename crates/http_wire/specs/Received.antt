@@ -21,8 +21,8 @@ held_memory r = buffer_memory r.bytes
 abbrev pub read_count : Received → ℕ
 read_count r = r.reads
 
--- What is held now is what was held, and what the reader gave since: at least a byte in each read that is counted,
--- and nothing where none is.
+-- What is held now is what was held, and what the reader gave since: at least a byte in each read that is counted, and
+-- nothing if none is.
 pub record Receives (before after : Option (List ℕ)) (old new : Received) : Type 0 where
   pub bytes : held_bytes new ≡ held_bytes old ++ drop (length (held_bytes old)) (held_bytes new)
   pub given : Consumes before after (drop (length (held_bytes old)) (held_bytes new))
@@ -36,8 +36,8 @@ pub record ReceivesNothing {R : Type 0} (before after : R) (old new : Received) 
   pub bytes : held_bytes new ≡ held_bytes old
   pub reads : read_count new ≡ read_count old
 
--- Why a read gave nothing, by the reader's failures before and after: it failed; or it didn't, and all reads were made
--- that may give bytes, or there was no memory for one more.
+-- Why a read gave nothing, by the reader's failures before and after: the reader failed; or it didn't, and all reads
+-- were made that may give bytes, or there was no memory for one more.
 abbrev pub IsReadFault : ℕ → ℕ → Received → ConnFault → Type 0
 IsReadFault failures failures' new Read = HasFailed failures failures'
 IsReadFault failures failures' new (Write sent) = ⊥
@@ -48,6 +48,6 @@ IsReadFault failures failures' new Memory = (failures' ≡ failures) × (read_co
 pub record ReadsFrom {R X : Type 0} (r : Reads R) (before after : R) (old new : Received)
     (result : Result X ConnFault) : Type 0 where
   pub receives : Receives (r.left before) (r.left after) old new
-  -- the reader didn't fail where there is an answer, and otherwise this is why there is none
+  -- the reader didn't fail if there is an answer, and otherwise this is why there is none
   pub fine : OnOk result (r.read_failures after ≡ r.read_failures before)
   pub fault : IfErr result (IsReadFault (r.read_failures before) (r.read_failures after) new)

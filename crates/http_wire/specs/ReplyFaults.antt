@@ -30,8 +30,8 @@ IsReplyFailure before after failures failures' ReadLimit =
 IsReplyFailure before after failures failures' Memory = failures' ≡ failures
 
 -- A fault of the reader or of memory, of which this text shows nothing. After it the reader has the rest of the text
--- left: where all reads were made that may give bytes, there is a rest, and they gave at least a byte each of what
--- stands before it.
+-- left: if all reads were made that may give bytes, there is a rest, and they gave at least a byte each of what stands
+-- before it.
 abbrev pub IsOfReader : List ℕ → Option (List ℕ) → ReplyFault → Type 0
 IsOfReader text left Cut = ⊥
 IsOfReader text left Malformed = ⊥

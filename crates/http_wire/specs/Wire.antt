@@ -4,8 +4,7 @@ use Rattle.http_wire.specs.declared.device.Source.{Ghosts as Reads}
 use Rattle.http_wire.specs.declared.device.Sink.{Ghosts as Writes}
 use Rattle.http_wire.specs.Device.{HasFailed}
 
--- What the reader has left and what the writer has written, where they are known, and how many calls of each have
--- failed.
+-- What the reader has left and what the writer has written, if they are known, and how many calls of each have failed.
 pub record Wire : Type 0 where
   pub left : Option (List ℕ)
   pub written : Option (List ℕ)

@@ -6,7 +6,7 @@ use Rattle.http_wire.specs.declared.device.Sink.{Ghosts as Writes}
 use Rattle.http_messages.specs.declared.refusal.ConnFault.TheVariants.{Read, Write, ReadLimit, Memory}
 use Rattle.http_wire.specs.Device.{HasFailed}
 
--- Of a text: the first `sent` bytes, where the writer failed; nothing, where it didn't and there was no memory.
+-- Of a text: the first `sent` bytes, if the writer failed; nothing, if it didn't and there was no memory.
 abbrev pub IsWriteFault : {W : Type 0} → Writes W → W → W → List ℕ → ConnFault → Type 0
 IsWriteFault w before after text Read = ⊥
 IsWriteFault w before after text (Write sent) =

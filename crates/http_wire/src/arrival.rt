@@ -97,7 +97,7 @@ fn read_request<R: Source, W: Sink>(
     }
 }
 
-/// Writes the interim response where the head asks for it, also where the body is there already.
+/// Writes the interim response if the head asks for it, even if the body is there already.
 fn send_interim<W: Sink>(writer: &mut W, framing: Framing) -> Result<(), ConnFault>
     ensures ok { OnOk result
         (Appends (W.written writer.old) (W.written writer.new) (interim_if (framing_awaits framing))) }

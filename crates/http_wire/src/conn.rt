@@ -42,7 +42,7 @@ impl<R: Source + Drop, W: Sink + Drop> Conn<R, W> {
         self.inbox.next(&mut self.reader, &mut self.writer)
     }
 
-    /// The request that `next` answered last, where that was `Message`.
+    /// The request that `next` found last, if it answered `Message`.
     pub fn message(&self) -> Message<'_>
         requires { IsSome (lent_request (conn_inbox self.now)) }
         ensures { lent_request (conn_inbox self.now) ≡ Some (record { head = result.head; body = result.body.now }) }
@@ -50,8 +50,8 @@ impl<R: Source + Drop, W: Sink + Drop> Conn<R, W> {
         self.inbox.message()
     }
 
-    /// Writes the reply, and closes the connection after it where that is asked for. The request that
-    /// is lent stays. After a fault, of `next` too, nothing is written any more.
+    /// Writes the reply, and closes the connection after it if that is asked for. The request that is lent stays lent.
+    /// After a fault, also one of `next`, nothing is written any more.
     pub fn reply(&mut self, reply: &Reply, close: bool) -> Result<(), ConnFault>
         requires { IsSome (phrase reply.now.status) }
         ensures { WritesReply W.Sink self.old self.new (reply_parts reply.now) close result }

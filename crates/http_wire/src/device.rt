@@ -12,14 +12,13 @@ pub struct DeviceFailed;
 
 /// A reader whose bytes contracts can name, and which counts its failures.
 pub trait Source {
-    // The bytes that reads will give from here on, where they are known.
+    // The bytes that reads will give from here on, if they are known.
     ghost left: { Self → Option (List ℕ) };
 
     // How many reads have failed.
     ghost read_failures: { Self → ℕ };
 
-    /// Reads some bytes into the front of the room, and says how many; none only at the end, or
-    /// where there is no room.
+    /// Reads some bytes into the front of the room, and answers how many: 0 only at the end, or if there is no room.
     fn read(&mut self, room: &mut [u8]) -> Result<usize, DeviceFailed>
         ensures bound { ReadsAtMost result room.new }
         ensures bytes { ReadConsumes (left self.old) (left self.new) result room.new }
@@ -28,14 +27,13 @@ pub trait Source {
 
 /// A writer whose bytes contracts can name, and which counts its failures.
 pub trait Sink {
-    // The bytes that were written, where they are known.
+    // The bytes that were written, if they are known.
     ghost written: { Self → Option (List ℕ) };
 
     // How many writes have failed.
     ghost write_failures: { Self → ℕ };
 
-    /// Writes some bytes of the text from its front, and says how many; none only where the text
-    /// is empty.
+    /// Writes some bytes of the text from its front, and answers how many: 0 only if the text is empty.
     fn write(&mut self, text: &[u8]) -> Result<usize, DeviceFailed>
         ensures bound { WritesAtMost result text.now }
         ensures some { TakesSome result text.now }

@@ -21,9 +21,8 @@ enum Phase {
     Failed,
 }
 
-/// The bytes of a connection that were read and not yet answered, and the request that stands first
-/// in them. Its calls are given the reader and the writer: one and the same over the whole
-/// connection.
+/// The bytes of a connection that were read and not yet answered, and the request that stands first in them. Each call
+/// is given the reader and the writer, which stay the same over the whole connection.
 #[derive(Drop)]
 pub struct Inbox {
     received: Received,
@@ -66,10 +65,9 @@ impl Inbox {
         })
     }
 
-    /// Lets the request go that was lent, and reads on to the next request or refusal. The bytes after
-    /// it stay for the next call. The interim response is written where a head asks for it (RFC 9110,
-    /// section 10.1.1). After a request that closes, a refusal, the end of the input or a fault every
-    /// call answers `End`, and neither reads nor writes.
+    /// Lets the request go that was lent, and reads on to the next request or refusal. The bytes after it stay for the
+    /// next call. The interim response is written if a head asks for it (RFC 9110, section 10.1.1). After a request
+    /// that closes, a refusal, the end of the input or a fault every call answers `End`, and neither reads nor writes.
     pub fn next<R: Source, W: Sink>(
         &mut self,
         reader: &mut R,
@@ -101,7 +99,7 @@ impl Inbox {
         }
     }
 
-    /// The request that `next` answered last, where that was `Message`.
+    /// The request that `next` found last, if it answered `Message`.
     pub fn message(&self) -> Message<'_>
         requires { IsSome (lent_request self.now) }
         ensures { lent_request self.now ≡ Some (record { head = result.head; body = result.body.now }) }

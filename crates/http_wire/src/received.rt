@@ -81,7 +81,7 @@ impl Received {
         }
     }
 
-    /// Reads until there are so many bytes; `false` where the input ends before.
+    /// Reads until there are so many bytes; `false` if the input ends before.
     pub(crate) fn read_up_to<R: Source>(
         &mut self,
         reader: &mut R,
@@ -102,8 +102,7 @@ impl Received {
         Ok(true)
     }
 
-    /// Makes one read; `false` where it gave nothing, and so the input has ended. Only a read that
-    /// gave bytes is counted.
+    /// Makes one read; `false` if it gave nothing, since the input has ended. Only a read that gave bytes is counted.
     pub(crate) fn read_more<R: Source>(&mut self, reader: &mut R) -> Result<bool, ConnFault>
         requires { length (held_bytes self.old) < MAX_HELD }
         ensures reads { ReadsFrom R.Source reader.old reader.new self.old self.new result }
@@ -123,8 +122,8 @@ impl Received {
     }
 }
 
-/// How many bytes of the block are known to hold no end, where the bytes hold none: all that are
-/// there, from four bytes on.
+/// How many bytes of the block are known to hold no end, if the bytes hold none: all that are there, once there are
+/// four.
 fn searched_len(bytes: &[u8]) -> usize
     requires { IsBlock bytes.now Block.More }
     ensures unended { (more : List ℕ) → HasNoEndUpTo (from_block (bytes.now ++ more)) result }

@@ -29,7 +29,7 @@ pub fn write_all<W: Sink>(writer: &mut W, text: &[u8]) -> Result<(), usize>
     Ok(())
 }
 
-/// Writes the bytes of a reply. Where there is no memory for them, nothing is written.
+/// Writes the bytes of a reply. If there is no memory for them, nothing is written.
 pub fn write_reply<W: Sink>(
     alloc: Global,
     writer: &mut W,

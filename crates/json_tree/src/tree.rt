@@ -82,7 +82,7 @@ impl<'a> Tree<'a> {
         self.as_i64().is_some()
     }
 
-    /// The number, if this is one that is whole and within an `i64`.
+    /// The number, if this is a whole number within an `i64`.
     pub fn as_i64(&self) -> Option<i64>
         ensures { result ≡ option_and_then as_i64 (as_number (view self.now)) }
     {

@@ -78,13 +78,13 @@ IsFieldFault field TooLong = (text : List ℕ) × SpellsKey field text × (1024 
 IsFieldFault field (NotPrintable at) = ⊥
 IsFieldFault field Memory = (text : List ℕ) × SpellsKey field text × IsKey text
 
--- ---- the same as functions, for the definitions that compute with keys
+-- ---- keys and their spelling as functions, for the definitions that compute with them
 
 -- whether the text is a key
 abbrev pub is_key : List ℕ → Bool
 is_key text = nat_lt 0 (length text) && nat_le (length text) 1024 && list_all is_printable text
 
--- the characters without the backslashes that escape one; `escaped` says whether one stood before
+-- the characters without the backslashes that escape another; `escaped` says whether such a backslash stood before
 abbrev pub without_escapes : Bool → List ℕ → List ℕ
 without_escapes escaped [] = []
 without_escapes escaped (c ∷ cs) =

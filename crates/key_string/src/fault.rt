@@ -9,7 +9,7 @@ use thiserror::Error;
 /// Why a text or a field's value gives no key. The limits are own rules.
 #[derive(Clone, Copy, Debug, PartialEq, Eq, Error)]
 pub enum KeyFault {
-    /// The value is not one String of RFC 8941, section 3.3.3, and nothing else.
+    /// The value is not exactly one String of RFC 8941, section 3.3.3.
     #[error("the value is not a quoted string")]
     NotString,
     /// The text is empty.
@@ -21,7 +21,7 @@ pub enum KeyFault {
     /// The byte at this place is the first outside %x20-7E. Places count from 0.
     #[error("byte {at} of the key is not printable ASCII")]
     NotPrintable { at: usize },
-    /// No memory was left for a key that would have been fine.
+    /// The text or the value gives a key, and memory ran out.
     #[error("out of memory")]
     Memory,
 }

@@ -14,7 +14,7 @@ pub fn is_filer(text: &str) -> bool
     !text.is_empty() && text.len() <= MAX_FILER_LEN && are_filer_bytes(text.as_bytes())
 }
 
-/// The filer code that the bytes are, or `None` where they are none (own rule, as for `is_filer`).
+/// The filer code that the bytes are; `None` if they are no filer code (own rule, as for `is_filer`).
 pub fn read_filer(bytes: &[u8]) -> Option<&str>
     ensures { MatchOption result (is_filer bytes.now ≡ false) (λ filer.
         (filer.now ≡ bytes.now) × (is_filer bytes.now ≡ true)) }

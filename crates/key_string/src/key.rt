@@ -1,4 +1,4 @@
-//! The keys, how a field spells one, and how it is spelled.
+//! Keys: how one is read from a field's value, and how one is written.
 
 ghost use Rattle.std.specs.Prelude.{◌≡◌, ◌↔◌, ℕ, List, ◌++◌, IsTrue, IfOk, IfErr, OnOk, OnErr, MatchOption};
 ghost use Rattle.std.specs.Prelude.{string_bytes, position, not, IfNone};
@@ -29,8 +29,8 @@ impl Model for KeyText {
 }
 
 impl KeyText {
-    /// The key with this text. The first fault that holds is answered, in the order `Empty`, `TooLong`,
-    /// `NotPrintable`; `Memory` only where the text is a key, and `NotString` never.
+    /// The key with this text. The error is the first of `Empty`, `TooLong` and `NotPrintable` that holds. It is
+    /// `Memory` only if the text is a key, and never `NotString`.
     pub fn new(alloc: Global, text: &str) -> Result<KeyText, KeyFault>
         ensures ok { IfOk result (λ key. IsKey key × (key ≡ text.now)) }
         ensures fault { IfErr result (IsTextFault text.now) }
@@ -64,9 +64,8 @@ impl KeyText {
     }
 }
 
-/// The key that a field's value spells (RFC 8941, section 3.3.3). The value is a String and nothing
-/// else: no spaces around it, and no parameters (own rule). `Memory` is answered only where the value
-/// spells a key.
+/// The key that a field's value spells (RFC 8941, section 3.3.3). The value is a String and nothing else: no spaces
+/// around it, and no parameters (own rule). The error is `Memory` only if the value spells a key.
 pub fn read_key(alloc: Global, field: &[u8]) -> Result<KeyText, KeyFault>
     ensures ok { IfOk result (λ key. IsKey key × SpellsKey field.now key) }
     ensures fault { IfErr result (IsFieldFault field.now) }

@@ -1,5 +1,5 @@
--- Where a JSON Pointer leads in a value (RFC 6901, section 4). A place is told by how many tokens of the value's text
--- stand before it: the tokens of a text are those of its value, one after another (`json_tokens`).
+-- Where a JSON Pointer leads in a value (RFC 6901, section 4). A place is given by the number of tokens of the value's
+-- text that stand before it: the tokens of a text are those of its value, one after another (`json_tokens`).
 use Rattle.std.specs.Prelude.{ℕ, zero, suc, ◌+◌, ◌==◌, List, [], ◌∷◌, ◌++◌, length, Bool, true, false, if◌then◌else◌}
 use Rattle.std.specs.Prelude.{Option, Some, None, option_map, option_and_then}
 use Rattle.std.specs.Str.{bytes_eq}

@@ -43,7 +43,7 @@ IsNameAt nodes i result =
 abbrev pub HasElementAt : List Node → ℕ → Type 0
 HasElementAt nodes i = (i < length nodes) × (after_end_array (left_at nodes i) ≡ None)
 
--- what the code tells of where a pointer leads
+-- what the code answers about where a pointer leads
 abbrev pub led : Reached → Lead
 led r = record { token = r.token; is_there = r.is_there }
 

@@ -9,7 +9,8 @@ ghost use Rattle.report_places.specs.OnTape.{led, Begins};
 use crate::tape::child;
 use json::Node;
 
-/// The token at which the value begins that a pointer names. If it is not there, that of the nearest value above it.
+/// The token at which the value begins that a pointer names. If that value is not there, it is the token of the nearest
+/// value above it.
 #[derive(Clone, Copy)]
 pub(crate) struct Lead {
     pub token: usize,

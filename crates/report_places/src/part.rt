@@ -24,14 +24,14 @@ fn starts_with_zero(bytes: &[u8]) -> bool
     !bytes.is_empty() && bytes[0] == b'0'
 }
 
-/// Whether a part has nothing that is written otherwise than it is.
+/// Whether a part has no escape, and so stands for itself.
 pub(crate) fn is_plain(part: &str) -> bool
     ensures { IsTrue result → unescape part.now ≡ part.now }
 {
     !part.contains('~')
 }
 
-/// Whether a part, which may be known to stand for itself, is the name.
+/// Whether a part stands for the name. `as_it_is` says that it is known to stand for itself.
 pub(crate) fn is_name(part: &str, as_it_is: bool, name: &str) -> bool
     requires { IsTrue as_it_is → unescape part.now ≡ part.now }
     ensures { IsTrue result ↔ (unescape part.now ≡ name.now) }
@@ -43,7 +43,7 @@ pub(crate) fn is_name(part: &str, as_it_is: bool, name: &str) -> bool
     }
 }
 
-// Whether a part is the name, with `~0` for `~` and `~1` for a slash.
+// Whether a part stands for the name, with `~0` for `~` and `~1` for a slash.
 fn unescapes_to(part: &[u8], name: &[u8]) -> bool
     ensures { IsTrue result ↔ (unescape part.now ≡ name.now) }
 {

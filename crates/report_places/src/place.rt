@@ -20,7 +20,7 @@ pub struct Place {
 }
 
 /// For each JSON Pointer the place of the value that it names; `None` if the bytes are no JSON text. The text is read
-/// once, whatever the number of pointers. It fails where memory runs out, or at more than 4 GiB.
+/// once, whatever the number of pointers. It fails if memory runs out, or if the text has more than 4 GiB.
 pub fn places(
     alloc: Global,
     text: &[u8],

@@ -12,8 +12,8 @@ use crate::position::begins_character;
 /// How many characters of a value are shown at most.
 const SHOWN: usize = 60;
 
-/// The bytes of the string, number or literal at an offset, up to 60 characters of them. None begins at any other byte,
-/// as at the bracket of an array.
+/// The bytes of the string, number or literal that begins at an offset, up to 60 characters of them; `None` if none
+/// begins there, as at the bracket of an array.
 pub fn value_text(text: &[u8], offset: usize) -> Option<&[u8]>
     ensures { option_map (λ shown. shown.now) result ≡ value_text_lem (drop offset text.now) }
 {
@@ -21,7 +21,7 @@ pub fn value_text(text: &[u8], offset: usize) -> Option<&[u8]>
     Some(&value[..characters_len(value)])
 }
 
-/// All bytes of the string, number or literal at an offset. None begins at any other byte.
+/// All bytes of the string, number or literal that begins at an offset; `None` if none begins there.
 pub fn whole_value(text: &[u8], offset: usize) -> Option<&[u8]>
     ensures { option_map (λ value. value.now) result ≡ scalar_lem (drop offset text.now) }
 {

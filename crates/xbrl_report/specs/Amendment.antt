@@ -8,7 +8,7 @@ use Rattle.xbrl_report.specs.InOrder.{list_of}
 use Rattle.xbrl_report.specs.Pair.{Pair, pair_at}
 use Rattle.xbrl_report.specs.Tree.{is_object}
 
--- own rule: where the filing is not free to be replaced, a report that is an object has one finding more
+-- own rule: if the filing is not free to be replaced, a report that is an object has one finding more
 abbrev pub IsAmendmentFinding : List ℕ → Bool → Option Data → Pair → Type 0
 IsAmendmentFinding filer free d x =
     IsFinding filer d x ⊎ ((x ≡ pair_at [] NotReplaceable) × (free ≡ false) × IsTrue (is_object d))

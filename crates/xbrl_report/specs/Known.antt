@@ -1,4 +1,5 @@
--- Dimensions that are known to be right, so that the same need not be judged again. No public clause cites this file.
+-- Dimensions that are known to be right, so that an equal one need not be judged again. No public clause cites this
+-- file.
 use Rattle.std.specs.Prelude.{◌≡◌, ℕ, List, [], ◌∷◌, Bool, Option, Some, None, option_and_then}
 use Rattle.std.specs.List.{flat_map}
 use Rattle.serde_json.specs.Data.{Data, Members}
@@ -12,16 +13,17 @@ use Rattle.xbrl_report.specs.Walk.{dimension_pairs}
 abbrev pub AreRight : List ℕ → Option Data → List (List ℕ × Data) → Type 0
 AreRight filer namespaces es = flat_map (dimension_pairs filer namespaces []) es ≡ []
 
--- two texts, and the same
+-- both are texts, and equal
 abbrev pub is_same_text : Data → Data → Bool
 is_same_text d e = text_passes (λ s. text_passes (same s) (as_str e)) (as_str d)
 
--- of the entries of the last fact and those known before
+-- the entries of the last fact, or those known before if it has none
 abbrev pub entries_else : Option Members → List (List ℕ × Data) → List (List ℕ × Data)
 entries_else None known = known
 entries_else (Some ms) known = entries ms
 
--- after a fact with that value at its dimensions, where those pairs were gathered so far
+-- the entries that are known to be right after a fact with that value at its dimensions, with those pairs gathered so
+-- far
 abbrev pub known_after : List Pair → Option Data → List (List ℕ × Data) → List (List ℕ × Data)
 known_after [] dimensions known = entries_else (option_and_then as_object dimensions) known
 known_after (x ∷ xs) dimensions known = known

@@ -1,9 +1,9 @@
 //! The findings and the facts of an xBRL-JSON report.
 //!
-//! `judge` reads a body and answers that it is a valid report, with its facts, or lists everything that is
-//! wrong with it: each place, as a JSON Pointer, with a code. `specs/Finding.antt` says what each code means.
-//! What may live here: what can be told of one report alone, with no taxonomy and no other report. What a text of it
-//! says by itself is known by `xbrl_values`.
+//! `judge` reads a body and answers that it is a valid report, with its facts, or lists everything that is wrong with
+//! it: each place, as a JSON Pointer, with a code. `specs/Finding.antt` says what each code means. What may live here:
+//! what one report alone shows, with no taxonomy and no other report. `xbrl_values` knows what one of its texts says by
+//! itself.
 #![tactic(auto)]
 
 mod code;

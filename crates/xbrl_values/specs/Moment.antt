@@ -17,7 +17,7 @@ abbrev pub IsMomentOf : List ℕ → DateTime → Type 0
 IsMomentOf s d =
     IsMoment (year_of s) (two_digits s 5) (two_digits s 8) (two_digits s 11) (two_digits s 14) (two_digits s 17) d
 
--- one moment, or two where a slash joins them
+-- one moment, or two if a slash joins them
 abbrev pub IsPeriodOf : List ℕ → Period → Type 0
 IsPeriodOf s (At d) = (list_any is_slash s ≡ false) × IsMomentOf s d
 IsPeriodOf s (Span from to) =

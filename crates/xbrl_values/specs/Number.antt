@@ -39,7 +39,7 @@ is_mantissa s =
 unfoldable pub is_exponent : List ℕ → Bool
 is_exponent s = nat_lt 0 (length (without_sign s)) && are_digits (without_sign s)
 
--- a mantissa after at most one sign, and an exponent where there is an exponent mark
+-- a mantissa after at most one sign, and an exponent if there is an exponent mark
 unfoldable pub is_decimal : List ℕ → Bool
 is_decimal s =
     is_mantissa (before_first is_exponent_mark (without_sign s))

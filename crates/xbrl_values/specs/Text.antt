@@ -2,7 +2,7 @@
 use Rattle.std.specs.Prelude.{ℕ, nat_eq, List, Bool, false, Option, Some, None}
 use Rattle.std.specs.Cmp.Lexicographic.{pointwise}
 
--- the same text
+-- the two texts are equal, byte for byte
 abbrev pub same : List ℕ → List ℕ → Bool
 same = pointwise nat_eq
 

@@ -10,7 +10,7 @@ use Rattle.xbrl_values.specs.Text.{text_passes}
 abbrev pub is_unit_mark : ℕ → Bool
 is_unit_mark b = (b == 42) || (b == 47) || (b == 40) || (b == 41)
 
--- own rule: a qualified name without these marks, so that they alone tell the parts of a unit
+-- own rule: a qualified name without these marks, so that these marks alone separate the parts of a unit
 unfoldable pub is_measure : List ℕ → Bool
 is_measure s = is_qname s && not (list_any is_unit_mark s)
 

@@ -1,6 +1,6 @@
-//! The texts of a report's values, each told by itself: names and entities, periods, units, numbers, languages; and the
-//! JSON Pointers that name places in one. What may live here: what can be told of one text alone. Of JSON, of what else
-//! stands in a report and of findings nothing is known here.
+//! The texts of a report's values, each judged by itself: names and entities, periods, units, numbers, languages; and
+//! the JSON Pointers that name places in a report. What may live here: what one text alone shows. JSON, the rest of a
+//! report and findings are not known here.
 #![tactic(auto)]
 
 mod language;

@@ -4,7 +4,7 @@ ghost use Rattle.xbrl_values.specs.QName.{is_qname, is_entity, is_name_byte as i
 ghost use Rattle.xbrl_values.specs.QName.{is_name_part as is_name_part_lem, prefix_of, local_of};
 
 /// The prefix and the local name of a qualified name (xBRL-JSON 1.0): one colon, and on each side of it a text that
-/// isn't empty and has no ASCII white space or control character. None where the text is no such name.
+/// isn't empty and has no ASCII white space or control character. `None` if the text is no such name.
 pub fn split_qname(text: &str) -> Option<(&str, &str)>
     ensures { MatchOption result (is_qname text.now ≡ false)
         (λ parts. (is_qname text.now ≡ true)
@@ -19,7 +19,7 @@ pub fn split_qname(text: &str) -> Option<(&str, &str)>
 }
 
 /// The prefix of its scheme and the identifier of an entity (xBRL-JSON 1.0): what stands before the first colon and
-/// after it, neither empty. None where the text is no entity.
+/// after it, neither empty. `None` if the text is no entity.
 pub fn split_entity(text: &str) -> Option<(&str, &str)>
     ensures { MatchOption result (is_entity text.now ≡ false)
         (λ parts. (is_entity text.now ≡ true)

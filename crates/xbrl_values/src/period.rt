@@ -18,7 +18,7 @@ pub enum Period {
 
 /// The period that a text writes, if it writes one (OIM 1.0, period core dimension): `YYYY-MM-DDThh:mm:ss`, or two of
 /// these joined by a slash, each a day of the Gregorian calendar and a time of a clock without leap seconds. By a rule
-/// of this profile it has no zone and no fraction of a second. The order of the two is not looked at.
+/// of this profile it has no zone and no fraction of a second. The order of the two is not checked.
 pub fn read_period(text: &str) -> Option<Period>
     ensures form { is_some result ≡ is_period text.now }
     ensures value { IfSome result (IsPeriodOf text.now) }
@@ -43,8 +43,8 @@ pub fn is_backward(text: &str) -> bool
     }
 }
 
-/// What stands before the first slash of a text and after it, either of which may be empty. None where it has no slash.
-/// So the two ends of a period are parted, and the two sides of a unit (xBRL-JSON 1.0).
+/// What stands before the first slash of a text and after it, either of which may be empty. `None` if the text has no
+/// slash. This separates the two ends of a period, and the two sides of a unit (xBRL-JSON 1.0).
 pub fn split_at_slash(text: &str) -> Option<(&str, &str)>
     ensures { MatchOption result (list_any is_slash text.now ≡ false)
         (λ parts. (list_any is_slash text.now ≡ true)

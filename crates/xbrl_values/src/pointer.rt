@@ -8,7 +8,7 @@ ghost use Rattle.xbrl_values.specs.Pointer.{is_plain_byte as is_plain_byte_lem};
 use std::alloc::{AllocError, Global};
 
 /// The pointer to the member that a path of names leads to (RFC 6901, section 3): a slash before each name, in which
-/// `~` is written `~0` and a slash `~1`. That of no names is empty. It fails where memory runs out.
+/// `~` is written `~0` and a slash `~1`. The pointer of no names is empty. It fails if memory runs out.
 pub fn pointer(alloc: Global, path: &[&str]) -> Result<String, AllocError>
     ensures { IfOk result (λ place. string_bytes place ≡ pointer_lem (map (λ name. name.now) path.now)) }
 {
@@ -20,7 +20,7 @@ pub fn pointer(alloc: Global, path: &[&str]) -> Result<String, AllocError>
     Ok(place)
 }
 
-// How many bytes the pointer has where nothing in it is escaped.
+// How many bytes the pointer has if nothing in it is escaped.
 fn least_len(path: &[&str]) -> usize {
     let mut len = 0usize;
     for name in path {
@@ -29,7 +29,7 @@ fn least_len(path: &[&str]) -> usize {
     len
 }
 
-/// Whether the pointer of that path has at most that many bytes. It is not made for that.
+/// Whether the pointer of that path has at most that many bytes. The pointer is not made to find out.
 pub fn is_within(path: &[&str], limit: usize) -> bool
     ensures { IsTrue result ↔ (length (pointer_lem (map (λ name. name.now) path.now)) ≤ limit) }
 {

@@ -18,8 +18,8 @@ pub struct Unit<'a> {
     pub under: Vec<&'a str>,
 }
 
-/// The unit that a text writes, if it writes one (OIM 1.0, unit core dimension), as `is_unit` says. It fails where
-/// memory runs out.
+/// The unit that a text writes, if it writes one (OIM 1.0, unit core dimension), as `is_unit` says. It fails if memory
+/// runs out.
 #[tactic(auto, unfolding(crate::specs::Unit::over, crate::specs::Unit::under))]
 pub fn read_unit<'a>(alloc: Global, text: &'a str) -> Result<Option<Unit<'a>>, AllocError>
     ensures { IfOk result (λ unit. MatchOption unit (is_unit_lem text.now ≡ false)
@@ -69,8 +69,8 @@ fn is_side(text: &str) -> bool
     is_measure(text) || inside(text).is_some_and(is_measure_list)
 }
 
-/// What stands between a parenthesis at the start of a text and one at its end, or all of it where it has not both. So
-/// the list of measures on a side of a unit is found.
+/// What stands between a parenthesis at the start of a text and one at its end, or the whole text if it has not both.
+/// On a side of a unit, that is the list of measures.
 pub fn without_parentheses(text: &str) -> &str
     ensures { result.now ≡ unwrap_or (inside_lem text.now) text.now }
 {
@@ -109,7 +109,7 @@ fn is_measure(text: &str) -> bool
 }
 
 /// The prefix of a measure, which is a qualified name that has, by a rule of this profile, no asterisk, slash or
-/// parenthesis. None where the text is no measure.
+/// parenthesis. `None` if the text is no measure.
 #[tactic(auto, unfolding(crate::specs::Unit::is_measure))]
 pub fn measure_prefix(text: &str) -> Option<&str>
     ensures { MatchOption result (is_measure_lem text.now ≡ false)

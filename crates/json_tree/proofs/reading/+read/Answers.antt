@@ -209,7 +209,8 @@ read_members-members-preserved t c =
     let less = read_key-shorter l.reader (Some k) s named in
     let lesser = done.shorter in
     let grown : put_all no_members c.push.new.self.items ≡ put k (view v) old =
-    ap (put_all no_members) c.in_ok-push.ensures.items ∙ put_all-append no_members l.found.items (c.in-Some.name, v) in (
+    ap (put_all no_members) c.in_ok-push.ensures.items
+    ∙ put_all-append no_members l.found.items (c.in-Some.name, v) in (
       n - 1,
       omega (arith, l.invariant.1),
       l.invariant.2 ∙ member_read p old n k l.reader s r (view v) (omega (arith, l.invariant.1)) named done.ok

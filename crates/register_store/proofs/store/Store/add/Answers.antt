@@ -39,7 +39,7 @@ returns g c = record {
               (state g.S.Store c.keep.new.conn) c.keep.ensures.autocommit (c.in_ok-keep.ensures.adds clean);
           kept_is = kept_more g.S.Store store r row.judged.now completed F was new_key is;
           filings_is =
-              rw c.filings.ensures (filings_more g.S.Store store r row.judged.now completed F was new_key is _ told);
+              rw c.filings_by.ensures (filings_more g.S.Store store r row.judged.now completed F was new_key is _ told);
           within = within_more g.S.Store store r row.judged.now completed F was new_key is;
           catalogue_is =
               c.note.ensures F (c.reserve.ensures.same ∙ was.catalogue_is)
