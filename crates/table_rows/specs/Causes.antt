@@ -1,4 +1,4 @@
--- The causes of the refusals of `sqlite`, and how a call on the rows of a store tells them.
+-- The causes of the refusals of `sqlite`, and how a call on the rows of a store reports them.
 use Rattle.sqlite.specs.declared.error.Error.{Error}
 use Rattle.sqlite.specs.declared.error.Error.TheVariants.{SqliteFailure}
 use Rattle.sqlite.specs.declared.error.ErrorCode.TheVariants.{OutOfMemory, SystemIoFailure, DatabaseCorrupt, DiskFull}
@@ -8,7 +8,7 @@ use Rattle.table_rows.specs.declared.cause.Cause.TheVariants.{Memory, Disk, Othe
 use Rattle.table_rows.specs.declared.fault.StoreFault.{StoreFault}
 use Rattle.table_rows.specs.declared.fault.StoreFault.TheVariants as store
 
--- that memory ran out is told as that alone, and a fault of the disk as a fault of the disk
+-- memory ran out, the disk failed, or the cause is another
 abbrev pub cause_of : Error → Cause
 cause_of (SqliteFailure OutOfMemory) = Memory
 cause_of (SqliteFailure SystemIoFailure) = Disk
@@ -22,6 +22,6 @@ store_fault_by Memory = store.Memory
 store_fault_by Disk = store.Store
 store_fault_by Other = store.Store
 
--- that memory ran out is told as that alone
+-- Memory if memory ran out, and Store for every other cause
 abbrev pub store_fault : Error → StoreFault
 store_fault error = store_fault_by (cause_of error)

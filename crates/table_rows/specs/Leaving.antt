@@ -9,7 +9,7 @@ use Rattle.sqlite.specs.declared.error.Error.{Error}
 use Rattle.table_rows.specs.Picking.{IsStopped}
 use Rattle.table_rows.specs.Standing.{CommitsNothing, StaysCommitted}
 
--- nothing was written; this holds of a connection that is shut too, if it is left alone
+-- nothing was written; this holds also of a connection that was shut and stays so
 pub record IsUntouched (old new : State) : Type 0 where
   pub was_open : IsTrue new.is_open → IsTrue old.is_open
   pub same : IsTrue old.is_open → IsUnchanged old new
@@ -17,9 +17,9 @@ pub record IsUntouched (old new : State) : Type 0 where
 
 -- How a call ended.
 pub data Ending : Type 0 where
-  -- the database answered
+  -- the database answered a query
   Asked : Ending
-  -- it did, or it was not asked
+  -- it answered one, or it was not asked
   Passed : Ending
   -- whatever came of it: nothing was written, or what the transaction had written is undone
   Ended : Ending
@@ -47,14 +47,15 @@ ending_of answered refused (Err e) = refused e
 abbrev pub OnlyReads : {S X E : Type 0} → Ghosts S → Held S → Held S → Result X E → Type 0
 OnlyReads g old new result = Leaves (ending_of Asked (λ _. Ended) result) (state g old) (state g new)
 
--- So it does where it may answer without a query.
+-- The call only reads, and may answer without a query.
 abbrev pub MayRead : {S X E : Type 0} → Ghosts S → Held S → Held S → Result X E → Type 0
 MayRead g old new result = Leaves (ending_of Passed (λ _. Ended) result) (state g old) (state g new)
 
--- The same of a call that hands on why the database refused.
+-- The call only reads, an answer says that the store is open, and a refusal is the database's own.
 abbrev pub OnlyQueries : {S X : Type 0} → Ghosts S → Held S → Held S → Result X Error → Type 0
 OnlyQueries g old new result = Leaves (ending_of Asked Stopped result) (state g old) (state g new)
 
+-- The call only reads, may answer without a query, and a refusal is the database's own.
 abbrev pub MayQuery : {S X : Type 0} → Ghosts S → Held S → Held S → Result X Error → Type 0
 MayQuery g old new result = Leaves (ending_of Passed Stopped result) (state g old) (state g new)
 

@@ -18,8 +18,8 @@ ascending = record { collation = Binary; descending = false }
 abbrev pub RisesBy : (Row → Row) → List Row → Type 0
 RisesBy sort = IsAscending (λ a b. key_cmp 0 (map (λ _. ascending) (sort a)) (sort a) (sort b) ≡ Less)
 
--- of the table's rows those that pass `keep` were read, as `show` has them: in some order, and in the order of `sort`
--- where that has no ties; nothing was written
+-- of the table's rows those that pass `keep` were read, as `show` has them: in the order of `sort` if that has no ties,
+-- and otherwise in some order; nothing was written
 pub record ReadsRows (table : Table) (keep : Row → Bool) (sort show : Row
     → Row) (rows : List Row) (old new : State) : Type 0 where
   pub same : IsUnchanged old new

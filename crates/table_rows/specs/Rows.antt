@@ -31,7 +31,7 @@ pub record Gains (ours : List Table) (table : Table) (rows : List Row) (old new 
       (map (shown table) (new.trees table.tree))
   pub others : KeepsOthers ours table old new
 
--- so it is inside a transaction, which goes on
+-- inside a transaction, which goes on, the table gains these rows
 pub record GainsInside (ours : List Table) (table : Table) (rows : List Row) (old new : State) : Type 0 where
   pub gains : BeginsWith ours old.now.schema → Gains ours table rows old.now new.now
   pub inside : IsTrue new.in_transaction
@@ -42,7 +42,7 @@ abbrev pub counted_from : {X : Type 0} → (ℕ → X → Row) → ℕ → List 
 counted_from row at [] = []
 counted_from row at (x ∷ xs) = row at x ∷ counted_from row (at + 1) xs
 
--- a query that has no row is no failure
+-- what the query answered, where `None` says that it has no row
 abbrev pub row_or_none : Result (Option Row) Error → Result Row Error
 row_or_none (Ok (Some row)) = Ok row
 row_or_none (Ok None) = Err QueryReturnedNoRows

@@ -29,19 +29,19 @@ Commits {X} Is s After trees = (x : X) → HasCommitted (Is x) s → IsTrue s.is
 abbrev pub CommitsNothing : State → State → Type 0
 CommitsNothing old new = Survives old new (λ _. ⊥)
 
--- between transactions before the call, and so after it
+-- if no transaction was under way before the call, none is after it
 abbrev pub StaysAutocommit : {S : Type 0} → Held S → Held S → Type 0
 StaysAutocommit old new = old.in_transaction ≡ false → new.in_transaction ≡ false
 
--- Where the disk is clean at the end, what was committed is committed still.
+-- If the disk is clean at the end, what was committed is still committed.
 abbrev pub StaysCommitted : {S : Type 0} → Ghosts S → Held S → Held S → Type 0
 StaysCommitted g old new = HasCleanDisk (state g new) → KeepsCommit (state g old) (state g new)
 
--- Where the disk is clean at the end, an answer leaves the database as it was,
+-- If the disk is clean at the end, an answer leaves the database as it was.
 abbrev pub StaysOnOk : {X E : Type 0} → State → State → Result X E → Type 0
 StaysOnOk old new result = HasCleanDisk new → OnOk result (IsUnchanged old new)
 
--- and a refusal leaves what was committed.
+-- If the disk is clean at the end, a refusal leaves what was committed.
 abbrev pub KeepsOnErr : {X E : Type 0} → State → State → Result X E → Type 0
 KeepsOnErr old new result = HasCleanDisk new → OnErr result (KeepsCommit old new)
 

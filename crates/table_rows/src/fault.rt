@@ -3,7 +3,7 @@
 use crate::cause::Cause;
 use std::alloc::{AllocError, AllocFailed};
 
-/// Why a call on the rows failed. The rows are those of before.
+/// Why a call on the rows failed. The rows are as they were.
 #[derive(Clone, Copy, Debug, PartialEq, Eq, thiserror::Error)]
 pub enum StoreFault {
     /// No memory was left.

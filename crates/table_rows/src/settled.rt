@@ -13,6 +13,7 @@ pub fn is_settled<S: Alter>(conn: &Connection<S>) -> bool
     ensures settled { IsTrue result → IsTrue (state S.Store conn.now).is_open
         → (state S.Store conn.now).now ≡ (state S.Store conn.now).committed }
 {
+    // For its clause `live`, which the proof needs.
     let _schema = conn.schema();
     conn.is_autocommit()
 }
