@@ -19,27 +19,29 @@ use Rattle.table_rows.proofs.QueryLemmas.{Asks}
 use Rattle.table_rows.proofs.TextLemmas.{IsQueryText}
 use Rattle.outbox_tables.specs.Schema.{outbox_tables, IsDeclared}
 use Rattle.outbox_tables.proofs.Texts.{equals, by_id, entry_query, names}
+use Rattle.outbox_core.specs.declared.rows.TheConstants.{ALL_STATES, ENTRIES_IN_STATE, ID_OF_KEY, INSERT_ENTRY}
+use Rattle.outbox_core.specs.declared.rows.TheConstants.{INSERT_TARGET, SET_STATE, STATE_WITH_ID, TARGET_WITH_ID}
 
 abbrev pub by_key_text : List ℕ
-by_key_text = codes "SELECT id FROM entry WHERE idem = ?1 ORDER BY id"
+by_key_text = ID_OF_KEY.now
 
 abbrev pub state_text : List ℕ
-state_text = codes "SELECT state, number FROM entry WHERE id = ?1 ORDER BY id"
+state_text = STATE_WITH_ID.now
 
 abbrev pub by_state_text : List ℕ
-by_state_text = codes "SELECT id, idem, body, state, number FROM entry WHERE state = ?1 ORDER BY id"
+by_state_text = ENTRIES_IN_STATE.now
 
 abbrev pub insert_text : List ℕ
-insert_text = codes "INSERT INTO entry (id, idem, body, state) VALUES (?1, ?2, ?3, 0)"
+insert_text = INSERT_ENTRY.now
 
 abbrev pub target_text : List ℕ
-target_text = codes "SELECT number FROM target WHERE id = ?1"
+target_text = TARGET_WITH_ID.now
 
 abbrev pub insert_target_text : List ℕ
-insert_target_text = codes "INSERT INTO target VALUES (?1, ?2)"
+insert_target_text = INSERT_TARGET.now
 
 abbrev pub update_text : List ℕ
-update_text = codes "UPDATE entry SET state = ?2, number = ?3 WHERE id = ?1"
+update_text = SET_STATE.now
 
 abbrev pub id_terms : List Term
 id_terms = col 1 0 ∷ []
@@ -55,7 +57,7 @@ abbrev pub state_query : Query
 state_query = one_table 1 (equals 0) bare_state_terms by_id
 
 abbrev pub states_text : List ℕ
-states_text = codes "SELECT id, state, number FROM entry ORDER BY id"
+states_text = ALL_STATES.now
 
 abbrev pub state_terms : List Term
 state_terms = col 1 0 ∷ col 1 4 ∷ col 1 5 ∷ []

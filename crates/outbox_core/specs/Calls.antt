@@ -1,4 +1,4 @@
--- What the calls on an outbox promise. What is said of entries holds where the disk is clean as the call ends.
+-- What the calls on an outbox promise. What is said of entries holds if the disk is clean as the call ends.
 use Rattle.std.specs.Prelude.{◌≡◌, ◌+◌, ◌<◌, ◌≤◌, ◌↔◌, ℕ, false, List, [], ◌∷◌, ◌++◌, length, find, Option, option_map}
 use Rattle.std.specs.Prelude.{None, Some, Result, Err, IsTrue, IfOk, OnOk, IfSome, IsSome}
 use Rattle.sqlite.specs.Store.{Ghosts}
@@ -37,7 +37,7 @@ pub record PutsEntry {S : Type 0} (g : Ghosts S) (old new : OutboxParts S) (key 
   pub stopped : IsTrue old.has_failed → (result ≡ Err put.Store) × (new ≡ old)
   pub stops : IsTrue new.has_failed ↔ (result ≡ Err put.Store)
   pub filer : new.filer ≡ old.filer
-  -- A crash leaves what one before the call could leave, or the entries with this one, and after Ok these alone.
+  -- A crash in the call leaves what one before it could leave, or the entries with this one; one after Ok, these.
   pub crash : SurvivesAs g old new (λ entries. LeavesOutbox (contents old (entries ++ opened key target body ∷ [])))
   pub durable : ForEntries g old new (λ entries. OnOk result
       (IsDurableAs g new (contents new (entries ++ opened key target body ∷ []))))
@@ -48,13 +48,13 @@ pub record LooksUp {S : Type 0} (g : Ghosts S) (old new : OutboxParts S) (sought
   pub found : ForEntries g old new (λ entries. Finds result (sought entries))
   pub short : IfOk result (λ entry. IfSome entry (λ e. length e.body.items ≤ max_body_len))
   pub within : IfOk result (λ entry. IfSome entry (λ e. IsTarget e.target))
-  -- The entries are those of before, whatever the answer is, and a crash leaves what it could leave before.
+  -- The entries are as they were, whatever the answer is, and a crash leaves what it could leave before.
   pub kept : ForEntries g old new (HasEntries g new)
   pub stopped : IsTrue old.has_failed → (result ≡ Err store.Store) × (new ≡ old)
   pub stops : IsTrue new.has_failed ↔ (result ≡ Err store.Store)
   pub filer : new.filer ≡ old.filer
   pub crash : CommitsNothing (shows g old) (shows g new)
-  -- Where an entry is answered, a crash leaves these entries alone.
+  -- If an entry is answered, a crash leaves these entries and no others.
   pub durable : ForEntries g old new (λ entries. IfOk result (λ entry. IsSome entry
       → IsDurableAs g new (contents new entries)))
 
@@ -71,8 +71,8 @@ pub record MovesEntry {S : Type 0} (g : Ghosts S) (old new : OutboxParts S) (id 
   pub stopped : IsTrue old.has_failed → (result ≡ Err take.Store) × (new ≡ old)
   pub stops : IsTrue new.has_failed ↔ (result ≡ Err take.Store)
   pub filer : new.filer ≡ old.filer
-  -- A crash leaves what one before the call could leave, or the entries after the move where the id names one, and
-  -- after Ok these alone.
+  -- A crash in the call leaves what one before it could leave, or the entries after the move, if the id names one; one
+  -- after Ok, the entries after the move.
   pub crash : SurvivesAs g old new (λ entries. LeavesMoved (contents old entries) id reply)
   pub durable : ForEntries g old new (λ entries. IfOk result
       (λ to. IsDurableAs g new (contents new (set_state entries id (view_state to)))))

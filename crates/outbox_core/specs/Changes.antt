@@ -21,13 +21,13 @@ pub record AddsRows (id : ℕ) (e : Entry) (old new : Database) : Type 0 where
   pub rows : (it : Contents) → id ≡ 1 + length it.entries → HasRows it old → HasRows (with_entry it e) new
   pub sound : IsDeclared old.schema → IsDatabase old → IsDatabase new
 
--- so they do inside a transaction, which goes on
+-- the tables gain these rows inside a transaction, which goes on
 pub record AddsInside (id : ℕ) (e : Entry) (old new : State) : Type 0 where
   pub adds : AddsRows id e old.now new.now
   pub inside : IsTrue new.in_transaction
   pub committed : new.committed ≡ old.committed
 
--- so they did, and it is committed
+-- the tables gained these rows, and that is committed
 pub record Adds (id : ℕ) (e : Entry) (old new : State) : Type 0 where
   pub was_open : IsTrue old.is_open
   pub is_open : IsTrue new.is_open

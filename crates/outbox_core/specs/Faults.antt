@@ -6,12 +6,12 @@ use Rattle.outbox_core.specs.declared.fault.PutFault.TheVariants as put
 use Rattle.outbox_core.specs.declared.fault.TakeFault.{TakeFault}
 use Rattle.outbox_core.specs.declared.fault.TakeFault.TheVariants as take
 
--- a failure of the rows where an entry is put
+-- a failure of the rows while an entry is put
 abbrev pub putting : StoreFault → PutFault
 putting store.Memory = put.Memory
 putting store.Store = put.Store
 
--- the same where a reply is taken
+-- a failure of the rows while a reply is taken
 abbrev pub taking : StoreFault → TakeFault
 taking store.Memory = take.Memory
 taking store.Store = take.Store

@@ -36,8 +36,8 @@ module _ {D : Type 0} {g : Ghosts D} where
     pub named : fault ≡ store_fault error
     pub closed : IsClosed conn last
     pub failed : IsClean (view last) → FailsToClose conn last error
-    -- Store comes only where the database was shut before, or the disk failed or refused during the close. Else it is
-    -- Memory.
+    -- The fault is Store only if the database was shut before, or the disk failed or refused during the close.
+    -- Otherwise it is Memory.
     pub store : IsClean (view last) → fault ≡ stores.Store
         → ((view conn.store).is_open ≡ false) ⊎ MoreFaults (faults conn.store) (faults last)
 

@@ -1,4 +1,4 @@
--- What is promised of an outbox that a call hands out over a connection, and of the connection where the call refuses.
+-- What is promised of an outbox that a call hands out over a connection, and of the connection if the call refuses.
 use Rattle.std.specs.Prelude.{◌≡◌, ◌↔◌, true, false, ℕ, List, [], Result, Ok, Err, IsTrue, IfOk, IfErr, string_bytes}
 use Rattle.std.specs.Result.{result_map_both}
 use Rattle.key_string.specs.Filer.{is_filer}
@@ -25,17 +25,17 @@ use Rattle.outbox_core.specs.Refusals.{GivesUpOpening, GivesUpMigrating}
 -- An outbox of the filer of this code was made, in one transaction; or it was refused, and the connection is given up.
 pub record HandsOutMade {S : Type 0} (g : Ghosts S) (code : List ℕ) (conn : Held S)
     (result : Result (OutboxParts S) OutboxFault) : Type 0 where
-  -- Where the database had no tables before, it has no entry.
+  -- If the database had no tables before, the outbox has no entry.
   pub made : HandsOut g result (λ outbox. (state g conn).now.schema ≡ no_schema → HasEntries g outbox [])
   pub filer : IfOk result (λ outbox. (outbox.filer ≡ code) × (outbox.has_failed ≡ false))
-  -- BadFiler comes where the text is no filer code, and always there; Taken where it is one and one of the names is in
-  -- use, and always there.
+  -- The answer is BadFiler if and only if the text is no filer code. It is Taken if and only if the text is a filer
+  -- code and one of the names is in use.
   pub bad_filer : (result ≡ Err BadFiler) ↔ (is_filer code ≡ false)
   pub taken : (result ≡ Err Taken) ↔ ((is_filer code ≡ true) × IsTrue (is_taken (state g conn).now.schema))
   pub no_other : IfErr result IsOfMaking
   -- Of some last state of the connection, which is given up: `create_or_back` says it of the one that comes back.
   pub refused : IfErr result (GivesUpMaking g code conn)
-  -- A crash leaves what one before the call could leave, or the outbox with no entry, and after the call that alone.
+  -- A crash in the call leaves what one before it could leave, or the outbox with no entry; one after it, that outbox.
   pub crash : IfOk result (λ outbox. Survives (state g conn) (shows g outbox) (LeavesMade g code conn))
   pub durable : HandsOut g result (λ outbox. (state g conn).now.schema ≡ no_schema → IsDurableAs g outbox (empty code))
 
@@ -43,13 +43,13 @@ pub record HandsOutMade {S : Type 0} (g : Ghosts S) (code : List ℕ) (conn : He
 -- written.
 pub record HandsOutFound {S : Type 0} (g : Ghosts S) (conn : Held S)
     (result : Result (OutboxParts S) OutboxFault) : Type 0 where
-  -- Where the tables are declared as an outbox has them, the rows are those of the entries that it has.
+  -- If the tables are declared as an outbox has them, the rows are those of the outbox's entries.
   pub opened :
       HandsOut g result (λ outbox.
       IsDeclared (state g conn).now.schema → (entries : List Entry)
       × IsOutboxOf (contents outbox entries) (state g conn).now × HasEntries g outbox entries)
   pub able : IfOk result (λ outbox. outbox.has_failed ≡ false)
-  -- Where the database is an outbox, it is that one that is opened, and after the call a crash leaves it alone.
+  -- If the database is an outbox, that outbox is opened, and a crash after the call leaves it.
   pub same : IfOk result (λ outbox. ForOutbox g conn outbox.conn (λ it. (outbox.filer ≡ it.filer)
       × HasEntries g outbox it.entries))
   pub durable : IfOk result (λ outbox. ForOutbox g conn outbox.conn (IsDurableAs g outbox))
@@ -58,11 +58,11 @@ pub record HandsOutFound {S : Type 0} (g : Ghosts S) (conn : Held S)
   pub refused : IfErr result (GivesUpOpening g conn)
   pub no_other : IfErr result IsOfOpening
 
--- The outbox that the database holds in the form before this one was brought into this one, in one transaction, and
+-- The outbox that the database holds in the earlier form was brought into the present one, in one transaction, and
 -- opened; or it was refused, and the connection is given up.
 pub record HandsOutMigrated {S : Type 0} (g : Ghosts S) (conn : Held S)
     (result : Result (OutboxParts S) OutboxFault) : Type 0 where
-  -- Where the database has no other tables, the rows were in that form those of the entries that it has.
+  -- If the database has no other tables, the rows were in that form those of the outbox's entries.
   pub migrated :
       HandsOut g result (λ outbox.
       IsAlone (state g conn).now.schema → (entries : List Entry)
@@ -72,12 +72,12 @@ pub record HandsOutMigrated {S : Type 0} (g : Ghosts S) (conn : Held S)
   pub able : IfOk result (λ outbox. outbox.has_failed ≡ false)
   -- Of some last state of the connection, which is given up: `migrate_or_back` says it of the one that comes back.
   pub refused : IfErr result (GivesUpMigrating g conn)
-  -- A crash leaves what it could leave before, or the migrated rows, and after the call these alone.
+  -- A crash in the call leaves what it could leave before, or the migrated rows; one after it, the migrated rows.
   pub crash : IfOk result (λ outbox. Survives (state g conn) (shows g outbox) (LeavesMigrated (state g conn)))
   pub durable : HandsOut g result (λ outbox. (entries : List Entry) → HasEntries g outbox entries
       → IsDurableAs g outbox (contents outbox entries))
 
--- ---- or the connection comes back
+-- ---- an outbox is handed out, or the connection comes back
 
 -- the outbox, or the fault without the connection that comes back beside it
 abbrev pub without_conn : {T E C : Type 0} → Result T (E × C) → Result T E
@@ -89,20 +89,19 @@ over conn (Ok found) =
     Ok (record { conn = conn; filer = string_bytes found.filer; count = found.count; has_failed = false })
 over conn (Err fault) = Err (fault, conn)
 
--- What `create_or_back` does: what `create` does, and of the connection that comes back it says what was left of the
--- database.
+-- What `create_or_back` does: what `create` does, and a connection that comes back is as it says.
 pub record MakesOrGivesBack {S : Type 0} (g : Ghosts S) (code : List ℕ) (conn : Held S)
     (result : Result (OutboxParts S) (OutboxFault × Held S)) : Type 0 where
   pub outcome : HandsOutMade g code conn (without_conn result)
   pub back : IfErr result (λ refusal. GivesBackMaking g code conn refusal.0 refusal.1)
 
--- What `open_or_back` does, in the same way.
+-- What `open_or_back` does: what `open` does, and a connection that comes back is as it says.
 pub record FindsOrGivesBack {S : Type 0} (g : Ghosts S) (conn : Held S)
     (result : Result (OutboxParts S) (OutboxFault × Held S)) : Type 0 where
   pub outcome : HandsOutFound g conn (without_conn result)
   pub back : IfErr result (λ refusal. GivesBackOpening g conn refusal.0 refusal.1)
 
--- What `migrate_or_back` does, in the same way.
+-- What `migrate_or_back` does: what `migrate` does, and a connection that comes back is as it says.
 pub record MigratesOrGivesBack {S : Type 0} (g : Ghosts S) (conn : Held S)
     (result : Result (OutboxParts S) (OutboxFault × Held S)) : Type 0 where
   pub outcome : HandsOutMigrated g conn (without_conn result)

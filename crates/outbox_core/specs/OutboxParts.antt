@@ -26,25 +26,25 @@ parts_code {S} store =
     (λ b. (b.conn, (b.filer, (b.count, b.has_failed))))
     (λ p. record { conn = p.0; filer = p.1.0; count = p.1.1.0; has_failed = p.1.1.1 }) (λ _. refl)
 
--- what its connection shows
+-- the state of the outbox's connection
 abbrev pub shows : {S : Type 0} → Ghosts S → OutboxParts S → State
 shows g box = state g box.conn
 
--- its filer with these entries
+-- the outbox's filer with these entries
 abbrev pub contents : {S : Type 0} → OutboxParts S → List Entry → Contents
 contents box entries = record { filer = box.filer; entries = entries }
 
--- While it is open, the outbox holds these entries, and they are committed. One that a fault of the disk shut says
--- nothing of its rows.
+-- While the outbox is open, it holds these entries, and they are committed. An outbox that a fault of the disk shut
+-- says nothing of its rows.
 pub record HasEntries {S : Type 0} (g : Ghosts S) (box : OutboxParts S) (entries : List Entry) : Type 0 where
   pub stands : HasCommitted (IsOutboxOf (contents box entries)) (shows g box)
   pub count : box.count ≡ length entries
 
--- Whatever entries it had before: where the disk is clean at the end, this holds of them.
+-- If the disk is clean at the end, this holds of the entries that the outbox had before.
 abbrev pub ForEntries : {S : Type 0} → Ghosts S → OutboxParts S → OutboxParts S → (List Entry → Type 0) → Type 0
 ForEntries g old new P = HasCleanDisk (shows g new) → (entries : List Entry) → HasEntries g old entries → P entries
 
--- This holds of the outbox that a call hands out, where its disk is clean.
+-- This holds of the outbox that a call hands out, if its disk is clean.
 abbrev pub HandsOut : {S E : Type 0} → Ghosts S → Result (OutboxParts S) E → (OutboxParts S → Type 0) → Type 0
 HandsOut g result Holds = IfOk result (λ outbox. HasCleanDisk (shows g outbox) → Holds outbox)
 
@@ -52,12 +52,12 @@ HandsOut g result Holds = IfOk result (λ outbox. HasCleanDisk (shows g outbox) 
 abbrev pub KeepsOnRefusal : {S X E : Type 0} → Ghosts S → OutboxParts S → OutboxParts S → Result X E → Type 0
 KeepsOnRefusal g old new result = ForEntries g old new (λ entries. OnErr result (HasEntries g new entries))
 
--- It is open, and a crash now leaves this outbox alone.
+-- The outbox is open, and a crash now leaves it with these contents.
 abbrev pub IsDurableAs : {S : Type 0} → Ghosts S → OutboxParts S → Contents → Type 0
 IsDurableAs g box it =
     IsTrue (shows g box).is_open × ((trees : Trees) → (shows g box).may_leave trees → LeavesOutbox it trees)
 
--- A crash inside the call leaves what one before it could leave, or this, by the entries of before.
+-- A crash in the call leaves what one before it could leave, or these trees, which depend on the entries before it.
 abbrev pub SurvivesAs : {S : Type 0} → Ghosts S → OutboxParts S → OutboxParts S → (List Entry → Trees → Type 0) → Type 0
 SurvivesAs g old new Leaves =
     Survives (shows g old) (shows g new) (λ trees. (entries : List Entry) → HasEntries g old entries

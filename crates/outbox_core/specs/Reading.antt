@@ -1,4 +1,4 @@
--- Entries and states without where they lie in memory.
+-- Entries and states as values, apart from where they are in memory.
 use Rattle.std.specs.Prelude.{◌≡◌, ℕ, pos, if◌then◌else◌, Option, option_map, Result, IfOk}
 use Rattle.std.specs.Ordering.{int_eq}
 use Rattle.sqlite.specs.declared.types.Value.{Value}
@@ -26,7 +26,7 @@ pub record Shows (row : Row) (e : Read) : Type 0 where
   pub code : column row 3 ≡ Int (pos (code_of (view_state e.state)))
   pub number : column row 4 ≡ number_of (view_state e.state)
 
--- ---- what a row tells, read the other way
+-- ---- what a row says, from the row to the entry
 
 abbrev pub nat_in : Value → ℕ
 nat_in (Int (pos n)) = n
@@ -38,7 +38,7 @@ state_in (Int code) number =
     else (if int_eq code (pos 2) then Refused else (if int_eq code (pos 3) then Clashed else Open))
 state_in _ number = Open
 
--- the id and the state that a row of id, state and number tells
+-- the id and the state in a row of id, state and number
 abbrev pub state_told : Row → ℕ × State
 state_told row = (nat_in (column row 0), state_in (column row 1) (column row 2))
 

@@ -15,7 +15,7 @@ use Rattle.outbox_tables.specs.Promises.{ForOutbox}
 
 -- ---- the connection comes back
 
--- What is written is what was committed, and it is committed still: so the rows are as they were.
+-- What is written is what was committed, and it is still committed: so the rows are as they were.
 abbrev pub ShowsCommitted : {S : Type 0} → Ghosts S → Held S → Held S → Type 0
 ShowsCommitted g conn back = HasCleanDisk (state g back)
     → KeepsCommit (state g conn) (state g back) × (IsTrue (state g back).is_open
@@ -38,7 +38,7 @@ pub record GivesBackOpening {S : Type 0} (g : Ghosts S) (conn : Held S) (fault :
   pub unlimited : back.step_limit ≡ None
   pub same : ShowsCommitted g conn back
   pub why : HasCleanDisk (state g back) → IsRefused g fault conn back
-  -- An outbox is refused by memory or disk.
+  -- If the database is an outbox, the cause is memory or the disk.
   pub sound : ForOutbox g conn back (λ _. IsFailure fault)
   -- A crash leaves what it could leave before.
   pub crash : CommitsNothing (state g conn) (state g back)
@@ -50,7 +50,7 @@ pub record GivesBackMigrating {S : Type 0} (g : Ghosts S) (conn : Held S) (fault
   pub unlimited : back.step_limit ≡ None
   pub same : ShowsCommitted g conn back
   pub why : HasCleanDisk (state g back) → IsNotMigrated g fault conn back
-  -- Where the rows hold an outbox in the earlier form, and the name is not in the way, it is by memory or disk.
+  -- If the rows hold an outbox in the earlier form, and the name is not in the way, the cause is memory or the disk.
   pub sound : HasCleanDisk (state g back) → (it : Contents) → IsEarlierOf it (state g conn).now
       → is_blocked (state g conn).now.schema ≡ false → IsFailure fault
   -- A crash leaves what it could leave before, or the migrated rows.

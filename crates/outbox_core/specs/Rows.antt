@@ -1,18 +1,18 @@
--- What is told of an entry where not all of its row is read.
+-- What a statement shows of an entry if it selects some columns.
 use Rattle.std.specs.Prelude.{ℕ, pos, [], ◌∷◌}
 use Rattle.sqlite.specs.declared.types.Value.TheVariants.{Int}
 use Rattle.sqlite.specs.Order.{Row}
 use Rattle.filing_model.specs.Outbox.{Entry}
 use Rattle.outbox_tables.specs.Rows.{code_of, number_of}
 
--- its id alone
+-- the column `id`
 abbrev pub id_row : ℕ × Entry → Row
 id_row (id, e) = Int (pos id) ∷ []
 
--- its state alone
+-- the columns `state` and `number`
 abbrev pub bare_state_row : ℕ × Entry → Row
 bare_state_row (id, e) = Int (pos (code_of e.state)) ∷ number_of e.state ∷ []
 
--- its id and its state
+-- the columns `id`, `state` and `number`
 abbrev pub state_row : ℕ × Entry → Row
 state_row (id, e) = Int (pos id) ∷ Int (pos (code_of e.state)) ∷ number_of e.state ∷ []

@@ -99,7 +99,7 @@ pub(crate) fn add_entry<S: Alter>(
     }
 }
 
-/// The entry of this id that the row is of.
+/// The entry in a row, with its target, which is read.
 fn read_entry<S: Alter>(
     conn: &mut Connection<S>,
     alloc: Global,
@@ -119,7 +119,7 @@ fn read_entry<S: Alter>(
     Entry::from_row(alloc, row, target)
 }
 
-/// The entry that the row is of, if there is one.
+/// The entry in the row, if there is a row.
 fn read_found<S: Alter>(
     conn: &mut Connection<S>,
     alloc: Global,

@@ -45,7 +45,7 @@ pub(crate) fn state_of(code: u32, number: Option<u64>) -> Option<State>
     }
 }
 
-/// The key of a text that a table of ours holds.
+/// The key that a column of ours holds as this text.
 fn key_in(alloc: Global, text: &str) -> Result<KeyText, StoreFault>
     ensures { IfOk result (λ key. key ≡ text.now) }
 {
@@ -104,7 +104,7 @@ pub(crate) fn state_in(row: &Row) -> Result<State, StoreFault>
     state_of(code, number).ok_or(StoreFault::Store)
 }
 
-/// The id and the state that a row of the columns `id`, `state` and `number` tells.
+/// The id and the state in a row of the columns `id`, `state` and `number`.
 fn read_state(row: &Row) -> Result<(u64, State), StoreFault>
     ensures { IfOk result (λ told. view_pair told ≡ state_told row.now) }
 {
@@ -115,7 +115,7 @@ fn read_state(row: &Row) -> Result<(u64, State), StoreFault>
     Ok((id, state))
 }
 
-/// The same of each row.
+/// The ids and the states of such rows.
 pub(crate) fn read_states(alloc: Global, rows: &[Row]) -> Result<Vec<(u64, State)>, StoreFault>
     ensures { IfOk result (λ states. map view_pair states.items ≡ map state_told rows.now) }
 {

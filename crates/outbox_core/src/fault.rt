@@ -2,7 +2,7 @@
 
 use table_rows::StoreFault;
 
-/// Why no entry was put. The entries are those of before.
+/// Why no entry was put. The entries are as they were.
 #[derive(Clone, Copy, Debug, PartialEq, Eq, thiserror::Error)]
 pub enum PutFault {
     /// The body has more than 1,048,576 bytes.
@@ -19,7 +19,7 @@ pub enum PutFault {
     Store,
 }
 
-/// Why no reply was taken. The entries are those of before.
+/// Why no reply was taken. The entries are as they were.
 #[derive(Clone, Copy, Debug, PartialEq, Eq, thiserror::Error)]
 pub enum TakeFault {
     /// No entry has the id.

@@ -25,8 +25,8 @@ use table_rows::StoreFault;
 
 /// The outbox of a filer, over a connection: each report that is to be sent under its key, and what is known of it.
 ///
-/// What a clause says of entries holds where the disk is clean as the call ends: where it gave back what was written.
-/// After a call was refused as Store, each later call that can be refused so is, until the database is opened again.
+/// What a clause says of entries holds if the disk is clean as the call ends: if it gave back what was written. After a
+/// call was refused as Store, each later call that may be refused as Store is, until the database is opened again.
 ///
 /// An outbox's file is its own: if the database had a table before the outbox was made in it, no clause says what the
 /// rows stand for.
@@ -133,9 +133,9 @@ impl<S: Alter> Outbox<S> {
         Outbox::over(alloc, conn, found)
     }
 
-    /// Brings the outbox that the database holds from the form before this one into this one, in one transaction, and
+    /// Brings the outbox that the database holds from the earlier form into the present one, in one transaction, and
     /// opens it: no entry has a target. A refusal leaves the rows as they were, and gives the connection back, which
-    /// may be used again. What is said of the new rows holds where the database has no other tables.
+    /// may be used again. What is said of the new rows holds if the database has no other tables.
     pub fn migrate_or_back(
         alloc: Global,
         conn: Connection<S>,
@@ -235,7 +235,7 @@ impl<S: Alter> Outbox<S> {
         }
     }
 
-    /// The entry of this id, or `None` where there is none.
+    /// The entry of this id, or `None` if there is none.
     pub fn entry(&mut self, id: u64) -> Result<Option<Entry>, StoreFault>
         ensures { LooksUp S.Store self.old self.new (λ entries. found_at entries id) result }
     {
@@ -254,7 +254,7 @@ impl<S: Alter> Outbox<S> {
         }
     }
 
-    /// The open entry with the least id, or `None` where no entry is open.
+    /// The open entry with the least id, or `None` if no entry is open.
     pub fn next_open(&mut self) -> Result<Option<Entry>, StoreFault>
         ensures { LooksUp S.Store self.old self.new first_open result }
     {
@@ -275,7 +275,7 @@ impl<S: Alter> Outbox<S> {
         ensures found { ForEntries S.Store self.old self.new (λ entries.
             IfOk result (λ states. map view_pair states.items ≡ map id_and_state (numbered entries))) }
 
-        // The entries are those of before, whatever the answer is, and a crash leaves what it could leave before.
+        // The entries are as they were, whatever the answer is, and a crash leaves what it could leave before.
         ensures kept { ForEntries S.Store self.old self.new (HasEntries S.Store self.new) }
         ensures stopped { IsTrue self.old.has_failed → (result ≡ Err StoreFault.Store) × (self.new ≡ self.old) }
         ensures stops { IsTrue self.new.has_failed ↔ (result ≡ Err StoreFault.Store) }

@@ -20,17 +20,15 @@ use filing_model::State;
 use sqlite::{Alter, Connection, Error, Row, Transaction, params};
 use table_rows::{first_row, run, select};
 
+const ID_OF_KEY: &str = "SELECT id FROM entry WHERE idem = ?1 ORDER BY id";
+
 /// The row of the id of the entry that has the key.
 fn id_row_of_key<S: Alter>(conn: &mut Connection<S>, key: &str) -> Result<Option<Row>, Error>
     ensures found { ForContents S.Store conn.old conn.new (λ it.
         IfOk result (λ row. row ≡ option_map id_row (find (has_text key.now) (numbered it.entries)))) }
     ensures leaves { OnlyQueries S.Store conn.old conn.new result }
 {
-    first_row(
-        conn,
-        "SELECT id FROM entry WHERE idem = ?1 ORDER BY id",
-        params![key],
-    )
+    first_row(conn, ID_OF_KEY, params![key])
 }
 
 /// The id of the entry that has the key.
@@ -46,6 +44,9 @@ pub(crate) fn id_of_key<S: Alter>(conn: &mut Connection<S>, key: &str) -> Result
     }
 }
 
+const ENTRY_WITH_ID: &str =
+    "SELECT id, idem, body, state, number FROM entry WHERE id = ?1 ORDER BY id";
+
 /// The row of the entry that has the id.
 pub(crate) fn entry_with_id<S: Alter>(
     conn: &mut Connection<S>,
@@ -56,12 +57,10 @@ pub(crate) fn entry_with_id<S: Alter>(
         IfOk result (λ row. row ≡ option_map entry_row (find (has_id id) (numbered it.entries)))) }
     ensures leaves { OnlyQueries S.Store conn.old conn.new result }
 {
-    first_row(
-        conn,
-        "SELECT id, idem, body, state, number FROM entry WHERE id = ?1 ORDER BY id",
-        params![id as i64],
-    )
+    first_row(conn, ENTRY_WITH_ID, params![id as i64])
 }
+
+const STATE_WITH_ID: &str = "SELECT state, number FROM entry WHERE id = ?1 ORDER BY id";
 
 /// The state and the number of the entry that has the id.
 pub(crate) fn state_with_id<S: Alter>(
@@ -73,12 +72,11 @@ pub(crate) fn state_with_id<S: Alter>(
         IfOk result (λ row. row ≡ option_map bare_state_row (find (has_id id) (numbered it.entries)))) }
     ensures leaves { OnlyQueries S.Store conn.old conn.new result }
 {
-    first_row(
-        conn,
-        "SELECT state, number FROM entry WHERE id = ?1 ORDER BY id",
-        params![id as i64],
-    )
+    first_row(conn, STATE_WITH_ID, params![id as i64])
 }
+
+const ENTRIES_IN_STATE: &str =
+    "SELECT id, idem, body, state, number FROM entry WHERE state = ?1 ORDER BY id";
 
 /// The row of the open entry with the least id.
 pub(crate) fn first_open_entry<S: Alter>(conn: &mut Connection<S>) -> Result<Option<Row>, Error>
@@ -86,12 +84,10 @@ pub(crate) fn first_open_entry<S: Alter>(conn: &mut Connection<S>) -> Result<Opt
         IfOk result (λ row. row ≡ option_map entry_row (first_open it.entries))) }
     ensures leaves { OnlyQueries S.Store conn.old conn.new result }
 {
-    first_row(
-        conn,
-        "SELECT id, idem, body, state, number FROM entry WHERE state = ?1 ORDER BY id",
-        params![0i64],
-    )
+    first_row(conn, ENTRIES_IN_STATE, params![0i64])
 }
+
+const ALL_STATES: &str = "SELECT id, state, number FROM entry ORDER BY id";
 
 /// The id, the state and the number of each entry, in the order of the ids.
 pub(crate) fn state_rows<S: Alter>(conn: &mut Connection<S>) -> Result<Vec<Row>, Error>
@@ -99,8 +95,10 @@ pub(crate) fn state_rows<S: Alter>(conn: &mut Connection<S>) -> Result<Vec<Row>,
         IfOk result (λ rows. rows.items ≡ map state_row (numbered it.entries))) }
     ensures leaves { OnlyQueries S.Store conn.old conn.new result }
 {
-    select(conn, "SELECT id, state, number FROM entry ORDER BY id", &[])
+    select(conn, ALL_STATES, &[])
 }
+
+const TARGET_WITH_ID: &str = "SELECT number FROM target WHERE id = ?1";
 
 /// The row of the target of the entry that has the id.
 fn target_with_id<S: Alter>(conn: &mut Connection<S>, id: u64) -> Result<Option<Row>, Error>
@@ -109,11 +107,7 @@ fn target_with_id<S: Alter>(conn: &mut Connection<S>, id: u64) -> Result<Option<
         IfOk result (λ row. row ≡ option_map (λ number. Int (pos number) ∷ []) (target_at it.entries id))) }
     ensures leaves { OnlyQueries S.Store conn.old conn.new result }
 {
-    first_row(
-        conn,
-        "SELECT number FROM target WHERE id = ?1",
-        params![id as i64],
-    )
+    first_row(conn, TARGET_WITH_ID, params![id as i64])
 }
 
 /// The target of the entry that has the id, if it has one.
@@ -130,6 +124,8 @@ pub(crate) fn target_of<S: Alter>(conn: &mut Connection<S>, id: u64) -> Result<O
     }
 }
 
+const INSERT_ENTRY: &str = "INSERT INTO entry (id, idem, body, state) VALUES (?1, ?2, ?3, 0)";
+
 /// Adds the row of an open entry of this id.
 pub(crate) fn insert_entry<S: Alter>(
     tx: &mut Transaction<'_, S>,
@@ -144,12 +140,10 @@ pub(crate) fn insert_entry<S: Alter>(
         (held.state S.Store tx.old.conn.now) (held.state S.Store tx.new.conn.now)) }
     ensures leaves { OnlyWrites S.Store tx.old.conn tx.new.conn }
 {
-    run(
-        tx,
-        "INSERT INTO entry (id, idem, body, state) VALUES (?1, ?2, ?3, 0)",
-        params![id as i64, key, body],
-    )
+    run(tx, INSERT_ENTRY, params![id as i64, key, body])
 }
+
+const INSERT_TARGET: &str = "INSERT INTO target VALUES (?1, ?2)";
 
 /// Adds the row of the target of the entry of this id.
 pub(crate) fn insert_target<S: Alter>(
@@ -165,11 +159,7 @@ pub(crate) fn insert_target<S: Alter>(
         (held.state S.Store tx.new.conn.now)) }
     ensures leaves { OnlyWrites S.Store tx.old.conn tx.new.conn }
 {
-    run(
-        tx,
-        "INSERT INTO target VALUES (?1, ?2)",
-        params![id as i64, number as i64],
-    )
+    run(tx, INSERT_TARGET, params![id as i64, number as i64])
 }
 
 fn code_of(state: State) -> u32
@@ -193,6 +183,8 @@ fn number_of(state: State) -> Option<i64>
     }
 }
 
+const SET_STATE: &str = "UPDATE entry SET state = ?2, number = ?3 WHERE id = ?1";
+
 /// Puts the entry of the id into the state.
 pub(crate) fn set_state<S: Alter>(
     conn: &mut Connection<S>,
@@ -211,7 +203,7 @@ pub(crate) fn set_state<S: Alter>(
         IsSome (entry_at it.entries id) → LeavesOutbox (with_state it id (view_state state)) trees)) }
 {
     conn.execute(
-        "UPDATE entry SET state = ?2, number = ?3 WHERE id = ?1",
+        SET_STATE,
         params![id as i64, code_of(state), number_of(state)],
     )
 }

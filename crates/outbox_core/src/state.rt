@@ -30,8 +30,8 @@ fn has_status(tree: &Value, word: &str) -> bool
     has_word(tree, "status", word)
 }
 
-/// Whether the report is refused for this reason: problem details have it in `reason` (RFC 9457), and contents of
-/// before in `status`.
+/// Whether the report is refused for this reason: problem details have it in `reason` (RFC 9457), and the contents of
+/// earlier versions in `status`.
 fn refuses(tree: &Value, word: &str) -> bool
     ensures { result ≡ refuses word.now (view tree.now) }
 {
@@ -64,7 +64,7 @@ fn state_by(status: u16, tree: &Value) -> State
     }
 }
 
-/// What a reply says. Where its content is no JSON, it says nothing.
+/// What a reply says of an open entry. If its content is no JSON, the entry stays open.
 fn state_told(alloc: Global, reply: &Reply) -> Result<State, AllocError>
     ensures told { IfOk result (λ state.
         view_state state ≡ state_told reply.now.status (tree reply.now.content.items)) }

@@ -18,14 +18,15 @@ use Rattle.table_rows.proofs.SelectLemmas.{one_table}
 use Rattle.table_rows.proofs.QueryLemmas.{Asks}
 use Rattle.table_rows.proofs.FailLemmas.{IsWhole}
 use Rattle.table_rows.proofs.TextLemmas.{IsQueryText}
+use Rattle.outbox_tables.specs.declared.opening.picks.TheConstants.{COUNT_ENTRIES, ENTRY_WITH_ID}
 use Rattle.outbox_tables.specs.Schema.{common_tables, outbox_tables, HasCommon, IsDeclared}
 use Rattle.outbox_tables.specs.Audit.{meta_text, targets_text, entries_text}
 
 abbrev pub by_id_text : List ℕ
-by_id_text = codes "SELECT id, idem, body, state, number FROM entry WHERE id = ?1 ORDER BY id"
+by_id_text = ENTRY_WITH_ID.now
 
 abbrev pub count_text : List ℕ
-count_text = codes "SELECT count(*) FROM entry"
+count_text = COUNT_ENTRIES.now
 
 -- the column equals the parameter
 abbrev pub equals : ℕ → List Term

@@ -16,6 +16,7 @@ use Rattle.filing_model.specs.Outbox.{Entry}
 use Rattle.table_rows.specs.Causes.{cause_of}
 use Rattle.table_rows.specs.declared.cause.Cause.{Cause}
 use Rattle.table_rows.specs.declared.cause.Cause.TheVariants.{Disk, Other}
+use Rattle.outbox_tables.specs.declared.rows.TheConstants.{ALL_ENTRIES, ALL_META, ALL_TARGETS}
 use Rattle.outbox_tables.specs.declared.fault.OutboxFault.{OutboxFault}
 use Rattle.outbox_tables.specs.declared.fault.OutboxFault.TheVariants as fault
 use Rattle.outbox_tables.specs.Entries.{FitsNumber}
@@ -46,13 +47,13 @@ abbrev pub is_number : Value → Bool
 is_number (Int (pos n)) = nat_le 1 n && nat_lt n (2 ^ 63)
 is_number _ = false
 
--- a state, with a number where it is that of a confirmed entry and with none else
+-- a state, with a number if it is that of a confirmed entry, and otherwise without
 abbrev pub is_state : Value → Value → Bool
 is_state code number =
     if is_int 1 code then is_number number
     else ((is_int 0 code || (is_int 2 code || is_int 3 code)) && is_absent number)
 
--- the row of an entry, as an outbox keeps it, of this id
+-- the row is that of an entry with this id, as an outbox keeps it
 abbrev pub is_entry : ℕ → Row → Bool
 is_entry id row =
     is_int id (column row 0) && (is_key_text (column row 1)
@@ -68,11 +69,11 @@ is_target [] = true
 is_target (row ∷ []) = is_number (column row 1)
 is_target (row ∷ other ∷ rows) = false
 
--- the row of an entry is sound, and so is what is said of its target
+-- the row of the entry with this id is sound, and so are the rows of its target
 abbrev pub is_sound : List Row → ℕ → Row → Bool
 is_sound targets id row = is_entry id row && is_target (with_id id targets)
 
--- the first row that is not so, where the first of the rows has this id
+-- the first row that is not sound, if the first of the rows has this id
 abbrev pub first_damaged : List Row → ℕ → List Row → Option ℕ
 first_damaged targets id [] = None
 first_damaged targets id (row ∷ rows) = if is_sound targets id row then first_damaged targets (suc id) rows else Some id
@@ -82,7 +83,7 @@ abbrev pub is_id_to : ℕ → Value → Bool
 is_id_to count (Int (pos n)) = nat_le 1 n && nat_le n count
 is_id_to count _ = false
 
--- a row of `target` is that of none of so many entries
+-- a row of `target` belongs to none of so many entries
 abbrev pub is_left_over : ℕ → List Row → Bool
 is_left_over count targets = list_any (λ row. not (is_id_to count (column row 0))) targets
 
@@ -90,7 +91,7 @@ abbrev pub or_left_over : Bool → Option ℕ → Option ℕ
 or_left_over left (Some row) = Some row
 or_left_over left None = if left then Some 0 else None
 
--- the row of the first entry that is not sound; or 0, where each is and a row of `target` is that of no entry
+-- the row of the first entry that is not sound; or 0, if each is sound and a row of `target` belongs to no entry
 abbrev pub damaged_row : List Row → List Row → Option ℕ
 damaged_row targets rows = or_left_over (is_left_over (length rows) targets) (first_damaged targets 1 rows)
 
@@ -104,7 +105,7 @@ abbrev pub filer_text : Value → Option (List ℕ)
 filer_text (Text t) = if is_filer t then Some t else None
 filer_text _ = None
 
--- the filer of the one row of `outbox_meta`, where it is one in this form
+-- the filer in the one row of `outbox_meta`, if that is an outbox in this form
 abbrev pub filer_in : ℕ → List Row → Option (List ℕ)
 filer_in form (row ∷ []) =
     if is_int 1 (column row 0) && (is_outbox (column row 1) && is_int form (column row 2))
@@ -125,15 +126,15 @@ pub record IsKept (e : Entry) : Type 0 where
 -- ---- why a database is not opened
 
 abbrev pub meta_text : List ℕ
-meta_text = codes "SELECT id, kind, form, filer FROM outbox_meta"
+meta_text = ALL_META.now
 
 abbrev pub targets_text : List ℕ
-targets_text = codes "SELECT id, number FROM target"
+targets_text = ALL_TARGETS.now
 
 abbrev pub entries_text : List ℕ
-entries_text = codes "SELECT id, idem, body, state, number FROM entry ORDER BY id"
+entries_text = ALL_ENTRIES.now
 
--- the query failed for such a cause
+-- the query failed for this cause
 abbrev pub StopsFor : Cause → List ℕ → State → State → Type 0
 StopsFor cause text old new = (error : Error) × FailsToQuery text [] old new error × (cause_of error ≡ cause)
 
@@ -147,33 +148,33 @@ IsNoOutbox form old new =
 abbrev pub ReadsFiler : ℕ → State → State → Type 0
 ReadsFiler form old new = (rows : List Row) × Shown meta_text [] old new rows × IsSome (filer_in form rows)
 
--- The row is the first, in the order of the ids and counted from 1, that is not that of an entry or whose target is
--- none; or it is 0, and a row of `target` is that of no entry, or `entry` cannot be read, for another cause than memory
--- or disk.
+-- The row is the first, in the order of the ids and counted from 1, that is not sound or has no sound target. Or it is
+-- 0, and a row of `target` belongs to no entry, or `entry` cannot be read, for another cause than memory or disk.
 abbrev pub IsDamagedAt : List Row → ℕ → State → State → Type 0
 IsDamagedAt targets row old new =
     ((rows : List Row) × Shown entries_text [] old new rows × (damaged_row targets rows ≡ Some row))
     ⊎ ((row ≡ 0) × StopsFor Other entries_text old new)
 
--- So it is where the rows of `target` were read before; or the row is 0, and these cannot be read, for such a cause.
+-- The rows of `target` were read, and then this row is damaged; or the row is 0, and `target` cannot be read, for
+-- another cause than memory or disk.
 abbrev pub AreDamaged : {S : Type 0} → Ghosts S → ℕ → Held S → Held S → Type 0
 AreDamaged {S} g row old new =
     ((row ≡ 0) × StopsFor Other targets_text (state g old) (state g new))
     ⊎ ((mid : Held S) × (targets : List Row) × Shown targets_text [] (state g old) (state g mid) targets
     × IsDamagedAt targets row (state g mid) (state g new))
 
--- so it is where the filer was found before
+-- the filer was found, and then this row is damaged
 abbrev pub IsDamaged : {S : Type 0} → Ghosts S → ℕ → Held S → Held S → Type 0
 IsDamaged {S} g row old new = (mid : Held S) × ReadsFiler 2 (state g old) (state g mid) × AreDamaged g row mid new
 
--- the query of `target` failed by the disk, or that of `entry` where those rows were read before
+-- the disk failed under the query of `target`, or under that of `entry` after `target` was read
 abbrev pub AreStopped : {S : Type 0} → Ghosts S → Held S → Held S → Type 0
 AreStopped {S} g old new =
     StopsFor Disk targets_text (state g old) (state g new)
     ⊎ ((mid : Held S) × (targets : List Row) × Shown targets_text [] (state g old) (state g mid) targets
     × StopsFor Disk entries_text (state g mid) (state g new))
 
--- the query of `outbox_meta` failed by it, or one of the others where the filer was found before
+-- the disk failed under the query of `outbox_meta`, or under one of the others after the filer was found
 abbrev pub IsStopped : {S : Type 0} → Ghosts S → Held S → Held S → Type 0
 IsStopped {S} g old new =
     StopsFor Disk meta_text (state g old) (state g new)

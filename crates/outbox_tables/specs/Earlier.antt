@@ -1,4 +1,4 @@
--- Outboxes in the form before this one, which had no targets.
+-- Outboxes in the earlier form, which had no targets.
 use Rattle.std.specs.Prelude.{◌≡◌, ◌⊎◌, ⊤, ℕ, Bool, false, List, [], ◌∷◌, codes, Ok, None, IsTrue}
 use Rattle.std.specs.List.{AllByRecursion}
 use Rattle.sqlite.specs.Order.{Row}
@@ -13,6 +13,7 @@ use Rattle.sqlite_catalog.specs.Change.{is_used}
 use Rattle.table_rows.specs.Rows.{TableHas}
 use Rattle.table_rows.specs.Tables.{no_schema}
 use Rattle.table_rows.specs.declared.cause.Cause.TheVariants as cause
+use Rattle.outbox_tables.specs.declared.migrate.TheConstants.{RAISE_FORM}
 use Rattle.outbox_tables.specs.declared.fault.OutboxFault.{OutboxFault}
 use Rattle.outbox_tables.specs.declared.fault.OutboxFault.TheVariants as fault
 use Rattle.outbox_tables.specs.Schema.{HasCommon, meta_table, entry_table}
@@ -51,7 +52,7 @@ IsFound {S} g old new =
     (mid : Held S) × ReadsFiler 1 (state g old) (state g mid) × (rows : List Row)
     × Shown entries_text [] (state g mid) (state g new) rows × (damaged_row [] rows ≡ None)
 
--- why it is not so
+-- why no sound outbox in that form was found
 abbrev pub IsNotFound : {S : Type 0} → Ghosts S → OutboxFault → Held S → Held S → Type 0
 IsNotFound g fault.BadFiler old new = ⊥
 IsNotFound g fault.Taken old new = ⊥
@@ -67,7 +68,7 @@ IsNotFound {S} g fault.Disk old new =
 -- ---- what is written
 
 abbrev pub raise_form : List ℕ
-raise_form = codes "UPDATE outbox_meta SET form = 2 WHERE id = 1"
+raise_form = RAISE_FORM.now
 
 -- the table of the targets was made and the form was raised, in turn and inside one transaction
 pub record Raises {S : Type 0} (g : Ghosts S) (old new : Held S) : Type 0 where
@@ -80,7 +81,7 @@ pub record Raises {S : Type 0} (g : Ghosts S) (old new : Held S) : Type 0 where
 abbrev pub is_blocked : Schema → Bool
 is_blocked schema = is_used schema (codes "target")
 
--- where an outbox was found, its name is in the way; or it is not, and the statements failed
+-- after an outbox was found, the name is in the way; or it is not, and the statements failed
 abbrev pub IsHindered : {S : Type 0} → Ghosts S → OutboxFault → Held S → Type 0
 IsHindered g fault.NotOurs old = IsTrue (is_blocked (state g old).now.schema)
 IsHindered g fault.Memory old = is_blocked (state g old).now.schema ≡ false

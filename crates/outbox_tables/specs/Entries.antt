@@ -38,7 +38,7 @@ abbrev pub FitsNumber : State → Type 0
 FitsNumber (Confirmed number) = (1 ≤ number) × (number < 2 ^ 63)
 FitsNumber _ = Unit {0}
 
--- no key stands twice
+-- no two entries have one key
 abbrev pub AreDistinct : List Entry → Type 0
 AreDistinct [] = Unit {0}
 AreDistinct (e ∷ es) = AllByRecursion (λ b. bytes_eq b.key e.key ≡ false) es × AreDistinct es

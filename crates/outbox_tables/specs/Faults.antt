@@ -20,7 +20,7 @@ IsOfMaking fault = (fault ≢ outbox.NotOurs) × ((row : ℕ) → fault ≢ outb
 abbrev pub IsOfOpening : OutboxFault → Type 0
 IsOfOpening fault = (fault ≢ outbox.BadFiler) × (fault ≢ outbox.Taken)
 
--- where an outbox is made or opened
+-- a refusal while an outbox is made or opened
 abbrev pub outbox_fault : Error → OutboxFault
 outbox_fault error = outbox_fault_by (cause_of error)
 
@@ -29,7 +29,7 @@ meta_fault_by cause.Memory = outbox.Memory
 meta_fault_by cause.Disk = outbox.Disk
 meta_fault_by cause.Other = outbox.NotOurs
 
--- where `outbox_meta` cannot be read
+-- `outbox_meta` cannot be read
 abbrev pub meta_fault : Error → OutboxFault
 meta_fault error = meta_fault_by (cause_of error)
 
@@ -38,7 +38,7 @@ entry_fault_by cause.Memory = outbox.Memory
 entry_fault_by cause.Disk = outbox.Disk
 entry_fault_by cause.Other = outbox.Damaged 0
 
--- where `entry` cannot be read
+-- `entry` or `target` cannot be read
 abbrev pub entry_fault : Error → OutboxFault
 entry_fault error = entry_fault_by (cause_of error)
 

@@ -1,4 +1,4 @@
--- What is promised where an outbox in the form before this one is brought into this one.
+-- What is promised of bringing an outbox from the earlier form into the present one.
 use Rattle.std.specs.Prelude.{◌≡◌, ◌≤◌, ◌^◌, true, false, List, length, Result, IsTrue, IfOk, IfErr, OnOk, string_bytes}
 use Rattle.key_string.specs.Filer.{is_filer}
 use Rattle.sqlite.specs.Store.{Ghosts}
@@ -13,13 +13,13 @@ use Rattle.outbox_tables.specs.Rows.{IsOutboxOf}
 use Rattle.outbox_tables.specs.Earlier.{IsAlone, IsEarlierOf, IsNotMigrated, is_blocked, LeavesMigrated}
 use Rattle.outbox_tables.specs.Faults.{IsFailure}
 
--- The outbox that was there in the earlier form was brought into this one over a connection, in one transaction: its
--- filer, and how many entries it has. Or it was refused. What is said of the rows holds where the disk is clean at the
--- end.
+-- The outbox that the database held in the earlier form was brought into the present one over a connection, in one
+-- transaction: its filer, and how many entries it has. Or it was refused. What is said of the rows holds if the disk is
+-- clean at the end.
 pub record MigratesOutbox {S : Type 0} (g : Ghosts S) (old new : Held S)
     (result : Result FoundOutbox OutboxFault) : Type 0 where
   pub autocommit : new.in_transaction ≡ false
-  -- Where the database has no other tables, the rows held an outbox in that form, and hold the same in this one.
+  -- If the database has no other tables, the rows held an outbox in that form, and hold the same in the present one.
   pub migrated :
       HasCleanDisk (state g new) → IsAlone (state g old).now.schema
       → IfOk result (λ found.
@@ -30,14 +30,14 @@ pub record MigratesOutbox {S : Type 0} (g : Ghosts S) (old new : Held S)
   pub «open» : HasCleanDisk (state g new) → OnOk result (IsTrue (state g new).is_open)
   pub code : IfOk result (λ found. is_filer (string_bytes found.filer) ≡ true)
   pub few : IfOk result (λ found. found.count ≤ 2 ^ 62)
-  -- A refusal says why; where the rows hold an outbox in that form and the name is not in the way, it is by memory or
-  -- disk. What is committed is what was committed.
+  -- A refusal says why. If the rows hold an outbox in that form and the name is not in the way, the cause is memory or
+  -- the disk. A refusal leaves what was committed.
   pub refused : HasCleanDisk (state g new) → IfErr result (λ fault. IsNotMigrated g fault old new)
   pub sound :
       HasCleanDisk (state g new)
       → IfErr result (λ fault. (it : Contents) → IsEarlierOf it (state g old).now
       → is_blocked (state g old).now.schema ≡ false → IsFailure fault)
   pub undone : KeepsOnErr (state g old) (state g new) result
-  -- A crash leaves what it could leave before, or the migrated rows, and after the call these alone.
+  -- A crash in the call leaves what it could leave before, or the migrated rows; one after it, the migrated rows.
   pub crash : Survives (state g old) (state g new) (LeavesMigrated (state g old))
   pub durable : HasCleanDisk (state g new) → OnOk result (IsLasting (state g new))

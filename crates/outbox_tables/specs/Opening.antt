@@ -1,4 +1,4 @@
--- What is promised where the outbox of a database is read.
+-- What is promised of reading the outbox of a database.
 use Rattle.std.specs.Prelude.{◌≡◌, ◌≤◌, ◌^◌, true, false, List, length, Result, IsTrue, IfOk, IfErr, OnOk, string_bytes}
 use Rattle.key_string.specs.Filer.{is_filer}
 use Rattle.sqlite.specs.Store.{Ghosts}
@@ -16,10 +16,10 @@ use Rattle.outbox_tables.specs.Audit.{IsRefused}
 use Rattle.outbox_tables.specs.Promises.{ForOutbox}
 
 -- The outbox of a database was read over a connection: its filer, and how many entries it has. Or it was refused.
--- Nothing was written. What is said of the rows holds where the disk is clean at the end.
+-- Nothing was written. What is said of the rows holds if the disk is clean at the end.
 pub record ReadsOutbox {S : Type 0} (g : Ghosts S) (old new : Held S) (result : Result FoundOutbox OutboxFault)
     : Type 0 where
-  -- Where the tables are declared as an outbox has them, the rows are those of the outbox that is answered, and are
+  -- If the tables are declared as an outbox has them, the rows are those of the outbox that is answered, and are
   -- committed.
   pub found :
       HasCleanDisk (state g new) → IsDeclared (state g old).now.schema
@@ -32,7 +32,7 @@ pub record ReadsOutbox {S : Type 0} (g : Ghosts S) (old new : Held S) (result : 
       → OnOk result (IsTrue (state g new).is_open)
   pub code : IfOk result (λ found. is_filer (string_bytes found.filer) ≡ true)
   pub few : IfOk result (λ found. found.count ≤ 2 ^ 62)
-  -- A refusal says why; an outbox is refused by memory or disk.
+  -- A refusal says why. If the database is an outbox, the cause is memory or the disk.
   pub refused : HasCleanDisk (state g new) → IfErr result (λ fault. IsRefused g fault old new)
   pub sound : ForOutbox g old new (λ _. IfErr result IsFailure)
   pub others : IfErr result IsOfOpening

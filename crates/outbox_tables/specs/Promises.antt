@@ -5,6 +5,6 @@ use Rattle.sqlite.specs.State.{HasCleanDisk}
 use Rattle.outbox_tables.specs.Entries.{Contents}
 use Rattle.outbox_tables.specs.Rows.{IsOutboxOf}
 
--- Whatever outbox the rows were before: where the disk is clean at the end, this holds of it.
+-- If the disk is clean at the end, this holds of the outbox that the rows held before.
 abbrev pub ForOutbox : {S : Type 0} → Ghosts S → Held S → Held S → (Contents → Type 0) → Type 0
 ForOutbox g old new P = HasCleanDisk (state g new) → (it : Contents) → IsOutboxOf it (state g old).now → P it

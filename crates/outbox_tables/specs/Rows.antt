@@ -10,7 +10,7 @@ use Rattle.table_rows.specs.Rows.{TableHas}
 use Rattle.outbox_tables.specs.Schema.{IsDeclared, meta_table, entry_table, target_table}
 use Rattle.outbox_tables.specs.Entries.{Contents, IsOutbox, numbered}
 
--- a state as the table spells it
+-- the code of a state in the table
 abbrev pub code_of : State → ℕ
 code_of Open = 0
 code_of (Confirmed number) = 1
@@ -26,7 +26,7 @@ number_of _ = Null
 abbrev pub form_row : ℕ → List ℕ → Row
 form_row form filer = Int (pos 1) ∷ Text (codes "outbox") ∷ Int (pos form) ∷ Text filer ∷ []
 
--- so it is in the form of these tables
+-- the one row of `outbox_meta`: an outbox of this filer, in the form of these tables
 abbrev pub meta_row : List ℕ → Row
 meta_row = form_row 2
 
@@ -42,7 +42,7 @@ abbrev pub target_row : ℕ → Option ℕ → List Row
 target_row id None = []
 target_row id (Some number) = (Int (pos id) ∷ Int (pos number) ∷ []) ∷ []
 
--- those of the entries, the first of which has this id
+-- the rows of the targets of these entries, the first of which has this id
 abbrev pub target_rows_from : ℕ → List Entry → List Row
 target_rows_from id [] = []
 target_rows_from id (e ∷ es) = target_row id e.target ++ target_rows_from (suc id) es

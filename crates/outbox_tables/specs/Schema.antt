@@ -33,12 +33,13 @@ common_tables = meta_table ∷ entry_table ∷ []
 abbrev pub outbox_tables : List Table
 outbox_tables = meta_table ∷ entry_table ∷ target_table ∷ []
 
--- They come first. Others may follow, and no table has a foreign key, which would act when an entry changes.
+-- The tables of an outbox come first. Others may follow, and no table has a foreign key, which would act when an entry
+-- changes.
 pub record IsDeclared (schema : Schema) : Type 0 where
   pub begins : BeginsWith outbox_tables schema
   pub free : AllByRecursion (λ t. t.references ≡ []) schema.tables
 
--- those of every form come first
+-- the tables of every form come first
 abbrev pub HasCommon : Schema → Type 0
 HasCommon = BeginsWith common_tables
 

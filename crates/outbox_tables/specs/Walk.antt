@@ -15,7 +15,7 @@ pub record Walked (targets : List Row) (total count : ℕ) (db : Database) (rows
   pub all : IsPermutation (rows ++ rest) (rows_in db entry_table)
   pub in_all : length rest + count ≡ total
 
--- so many entries are all that the table has, and none is damaged
+-- the table has so many entries and no others, and none is damaged
 pub record AreCounted (targets : List Row) (count : ℕ) (db : Database) : Type 0 where
   pub rows : List Row
   pub held : TableHas db entry_table rows

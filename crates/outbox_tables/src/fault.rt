@@ -15,8 +15,8 @@ pub enum OutboxFault {
     /// The database is no outbox in the form that is read here.
     #[error("the database is no outbox")]
     NotOurs,
-    /// The entry of this row, counted from 1, or its target is none that an outbox keeps; 0 where the entries or the
-    /// targets cannot be read, or one is the target of no entry.
+    /// The entry in this row, counted from 1, or its target is not as an outbox keeps it. The row is 0 if the entries
+    /// or the targets cannot be read, or if a target belongs to no entry.
     #[error("row {row} of the outbox is damaged")]
     Damaged { row: u64 },
     /// No memory was left.

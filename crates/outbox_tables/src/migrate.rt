@@ -1,4 +1,4 @@
-//! An outbox in the form before this one is brought into this one.
+//! An outbox in the earlier form is brought into the present one.
 
 ghost use Rattle.std.specs.Prelude.{◌≡◌, ◌≤◌, ◌^◌, List, length, true, false, None, IsTrue, IfOk, IfErr, OnOk};
 ghost use Rattle.std.specs.Prelude.{string_bytes};
@@ -18,12 +18,13 @@ ghost use Rattle.outbox_tables.specs.Migrating.{MigratesOutbox};
 
 use crate::fault::OutboxFault;
 use crate::opening::{FoundOutbox, count_whole, filer_of};
+use crate::schema::create::CREATE_TARGET;
 use sqlite::{Alter, Connection, Error, Transaction};
 use sqlite_catalog::layout::is_used;
 use std::alloc::Global;
 use table_rows::{is_settled, run};
 
-/// Reads the outbox of a database in the form before this one. Nothing is written.
+/// Reads the outbox of a database in the earlier form. Nothing is written.
 fn read_earlier<S: Alter>(
     alloc: Global,
     conn: &mut Connection<S>,
@@ -49,21 +50,19 @@ fn read_earlier<S: Alter>(
     Ok(FoundOutbox { filer, count })
 }
 
+const RAISE_FORM: &str = "UPDATE outbox_meta SET form = 2 WHERE id = 1";
+
 /// Makes the table of the targets, and raises the form.
 fn raise<S: Alter>(tx: &mut Transaction<'_, S>) -> Result<(), Error>
     ensures ran { HasCleanDisk (state S.Store tx.new.conn.now)
         → OnOk result (Raises S.Store tx.old.conn.now tx.new.conn.now) }
     ensures leaves { OnlyWrites S.Store tx.old.conn tx.new.conn }
 {
-    run(
-        tx,
-        "CREATE TABLE target (id INTEGER PRIMARY KEY, number INTEGER NOT NULL) STRICT",
-        &[],
-    )?;
-    run(tx, "UPDATE outbox_meta SET form = 2 WHERE id = 1", &[])
+    run(tx, CREATE_TARGET, &[])?;
+    run(tx, RAISE_FORM, &[])
 }
 
-/// Writes it in one transaction.
+/// Writes what an outbox in the earlier form lacks, in one transaction.
 fn write<S: Alter>(conn: &mut Connection<S>) -> Result<(), Error>
     requires autocommit { conn.old.in_transaction ≡ false }
     ensures autocommit { conn.new.in_transaction ≡ false }
@@ -81,8 +80,8 @@ fn write<S: Alter>(conn: &mut Connection<S>) -> Result<(), Error>
     tx.commit()
 }
 
-/// Brings an outbox in the form before this one into this one, in one transaction: no entry has a target. What is said
-/// of the new rows holds where the database has no other tables.
+/// Brings an outbox from the earlier form into the present one, in one transaction: no entry has a target. What is said
+/// of the new rows holds if the database has no other tables.
 pub fn migrate_outbox<S: Alter>(
     alloc: Global,
     conn: &mut Connection<S>,

@@ -145,8 +145,8 @@ pub(crate) fn count_whole<S: Alter>(
     }
 }
 
-/// Counts the entries with one of them in memory at a time. `None` says nothing of the rows: they are then read whole,
-/// and say what is refused.
+/// Counts the entries, with one of them in memory at a time. `None` says nothing of the rows: they are then read whole,
+/// and decide what is refused.
 fn count_one_by_one<S: Alter>(
     alloc: Global,
     conn: &mut Connection<S>,
@@ -170,8 +170,8 @@ fn count_one_by_one<S: Alter>(
     }
 }
 
-/// How many entries the outbox has that the database is, with the targets of these rows. Where they are sound, one of
-/// them is in memory at a time.
+/// How many entries the outbox has that the database is, with the targets of these rows. If they are sound, one of them
+/// is in memory at a time.
 fn count_entries<S: Alter>(
     alloc: Global,
     conn: &mut Connection<S>,

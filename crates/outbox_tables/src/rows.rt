@@ -9,6 +9,8 @@ ghost use Rattle.outbox_tables.specs.Audit.{meta_text, targets_text, entries_tex
 use sqlite::{Alter, Connection, Error, Row};
 use table_rows::select;
 
+const ALL_META: &str = "SELECT id, kind, form, filer FROM outbox_meta";
+
 /// The rows of `outbox_meta`.
 pub(crate) fn meta_rows<S: Alter>(conn: &mut Connection<S>) -> Result<Vec<Row>, Error>
     ensures shown { HasCleanDisk (held.state S.Store conn.new)
@@ -18,8 +20,10 @@ pub(crate) fn meta_rows<S: Alter>(conn: &mut Connection<S>) -> Result<Vec<Row>, 
         → IfErr result (FailsToQuery meta_text [] (held.state S.Store conn.old) (held.state S.Store conn.new)) }
     ensures leaves { OnlyQueries S.Store conn.old conn.new result }
 {
-    select(conn, "SELECT id, kind, form, filer FROM outbox_meta", &[])
+    select(conn, ALL_META, &[])
 }
+
+const ALL_ENTRIES: &str = "SELECT id, idem, body, state, number FROM entry ORDER BY id";
 
 /// The rows of all entries, in the order of the ids.
 pub(crate) fn all_rows<S: Alter>(conn: &mut Connection<S>) -> Result<Vec<Row>, Error>
@@ -30,12 +34,10 @@ pub(crate) fn all_rows<S: Alter>(conn: &mut Connection<S>) -> Result<Vec<Row>, E
         → IfErr result (FailsToQuery entries_text [] (held.state S.Store conn.old) (held.state S.Store conn.new)) }
     ensures leaves { OnlyQueries S.Store conn.old conn.new result }
 {
-    select(
-        conn,
-        "SELECT id, idem, body, state, number FROM entry ORDER BY id",
-        &[],
-    )
+    select(conn, ALL_ENTRIES, &[])
 }
+
+const ALL_TARGETS: &str = "SELECT id, number FROM target";
 
 /// The rows of `target`.
 pub(crate) fn target_rows<S: Alter>(conn: &mut Connection<S>) -> Result<Vec<Row>, Error>
@@ -46,5 +48,5 @@ pub(crate) fn target_rows<S: Alter>(conn: &mut Connection<S>) -> Result<Vec<Row>
         → IfErr result (FailsToQuery targets_text [] (held.state S.Store conn.old) (held.state S.Store conn.new)) }
     ensures leaves { OnlyQueries S.Store conn.old conn.new result }
 {
-    select(conn, "SELECT id, number FROM target", &[])
+    select(conn, ALL_TARGETS, &[])
 }

@@ -26,28 +26,28 @@ pub record OtherRows : Type 0 where
   pub fact : List Row
   pub amends : List Row
 
--- those that hold these
+-- the tables with these rows
 abbrev pub rows_beside : List Row → List Row → List Row → List Row → OtherRows
 rows_beside finding filing fact amends = record { finding = finding; filing = filing; fact = fact; amends = amends }
 
--- these begin with the rows of the kept request, and the rest follows
+-- the rows of each table begin with those of the kept request, and the rest follows
 pub record Begins (seq : ℕ) (k : Kept) (all rest : OtherRows) : Type 0 where
   pub finding : all.finding ≡ finding_rows seq k ++ rest.finding
   pub filing : all.filing ≡ filing_rows seq k ++ rest.filing
   pub fact : all.fact ≡ fact_rows seq k ++ rest.fact
   pub amends : all.amends ≡ amends_rows seq k ++ rest.amends
 
--- as code holds them
+-- the rows of the tables, as code has them
 abbrev pub view_other_tables : OtherTables → OtherRows
 view_other_tables b =
     record { finding = b.findings.now; filing = b.filings.now; fact = b.facts.now; amends = b.amends.now }
 
--- what is left of them, as code holds it
+-- the rows that are left of them, as code has them
 abbrev pub view_rows_left : RowsLeft → OtherRows
 view_rows_left r =
     record { finding = r.findings.now; filing = r.filings.now; fact = r.facts.now; amends = r.amends.now }
 
--- with a row of `amends` before them where the request at this place is to replace a filing
+-- with a row of `amends` before them, if the request at this place is to replace a filing
 abbrev pub with_target : ℕ → Option ℕ → OtherRows → OtherRows
 with_target seq target rest =
     record {
@@ -87,8 +87,8 @@ has_more seq outcome rest =
     begins_with 0 seq rest.finding || (begins_with 1 seq rest.filing
     || (has_more_facts outcome rest.fact || begins_with 0 seq rest.amends))
 
--- what is left behind the rows of a request with this outcome that is to replace this filing, if any, where its row of
--- `amends` was read
+-- what is left behind the rows of a request with this outcome that is to replace this filing, if any; its row of
+-- `amends` was read before
 abbrev pub IsAfter : ℕ → Row → Option ℕ → Outcome → RowsLeft → Option RowsLeft → Type 0
 IsAfter seq row target o rest next = MatchOption next
     ((tail : OtherRows) → row ≡ kept_row seq (request_outcome (request_in target row) o)
@@ -120,18 +120,18 @@ pub record AreRowsOf (kept_are : List Row) (others : OtherRows) (F : List Reques
   pub fact_is : others.fact ≡ joined_from fact_rows 1 (kept F)
   pub amends_is : others.amends ≡ joined_from amends_rows 1 (kept F)
 
--- ---- which kept row is told
+-- ---- which kept row is reported
 
 -- the rows with this number in the column
 abbrev pub with_number : ℕ → ℕ → List Row → List Row
 with_number at n rows = filter (λ row. is_number n (column row at)) rows
 
--- the rows of a filing's facts, none where there is no filing
+-- the rows of a filing's facts, or none if the request was refused
 abbrev pub facts_under : Outcome → List Row → List Row
 facts_under (Outcome.Registered number) rows = with_number 0 number rows
 facts_under (Outcome.Refused findings) rows = []
 
--- the row is that of the kept request at this place, and of the other tables so are those with its place or number
+-- the row is that of the kept request at this place, and so are the rows of the other tables with its place or number
 pub record IsKeptAs (seq : ℕ) (k : Kept) (row : Row) (others : OtherRows) : Type 0 where
   pub row_is : row ≡ kept_row seq k
   pub finding_is : with_number 0 seq others.finding ≡ finding_rows seq k
@@ -146,7 +146,7 @@ pub record IsSound (kept_are : List Row) (others : OtherRows) (before : List Req
   pub fresh : has_key before r ≡ false
   pub kept_as : IsKeptAs (suc (length before)) (judged (kept before) r) (get_or kept_are (length before) []) others
 
--- so is each of the rows of these, behind those before them
+-- the rows of these requests are sound, behind those before them
 abbrev pub AreSound : List Row → OtherRows → List Request → List Request → Type 0
 AreSound kept_are others before [] = Unit {0}
 AreSound kept_are others before (r ∷ requests) =
@@ -160,7 +160,7 @@ pub record IsFirstUnsound (kept_are : List Row) (others : OtherRows) (row : ℕ)
   pub sound : AreSound kept_are others [] before
   pub unsound : (r : Request) → IsSound kept_are others before r → ⊥
 
--- this row is told: the first that is not sound, or 0 where each one is
+-- the row to report: the first that is not sound, or 0 if each is
 abbrev pub IsTold : List Row → OtherRows → ℕ → Type 0
 IsTold kept_are others row =
     IsFirstUnsound kept_are others row ⊎ ((row ≡ 0)
@@ -170,13 +170,13 @@ IsTold kept_are others row =
 abbrev pub StandForNone : List Row → OtherRows → Type 0
 StandForNone kept_are others = (F : List Request) → AreRowsOf kept_are others F → ⊥
 
--- the rows stand for requests, and these are the filings; or for none, and this row is told
+-- the rows stand for requests, and these are their filings; or they stand for none, and this is the row to report
 abbrev pub IsVerdict : List Row → OtherRows → Verdict → Type 0
 IsVerdict kept_are others (Sound catalogue) =
     (F : List Request) × AreRowsOf kept_are others F × (view_lines catalogue ≡ catalogue_of F)
 IsVerdict kept_are others (Damaged row) = StandForNone kept_are others × IsTold kept_are others row
 
--- the rows are told to be those of these requests
+-- the verdict is that the rows are sound, with the filings of these requests
 abbrev pub IsSoundAs : List Request → Verdict → Type 0
 IsSoundAs F (Sound catalogue) = view_lines catalogue ≡ catalogue_of F
 IsSoundAs F (Damaged row) = ⊥

@@ -1,4 +1,4 @@
--- Where the filings of a register are kept, and what a list shows of each.
+-- The filings of a register: the place of each one's request, and what a list shows of it.
 use Rattle.std.specs.Prelude.{◌≡◌, ◌<◌, ◌+◌, ℕ, zero, suc, List, [], ◌∷◌, ◌++◌, length, map, Option, Some, None}
 use Rattle.std.specs.Prelude.{slice_get, vec_len}
 use Rattle.std.specs.Vec.{vec_capacity}
@@ -58,7 +58,7 @@ abbrev pub entry_numbered : List Entry → ℕ → Option Entry
 entry_numbered entries zero = None
 entry_numbered entries (suc at) = slice_get entries at
 
--- the request is registered after these, and this is said of it
+-- the request is registered after these, and has this place, so many facts and this target
 pub record IsRegisteredNext (before : List Kept) (r : Request) (seq facts : ℕ) (target : Option ℕ) : Type 0 where
   pub seq_is : seq ≡ suc (length before)
   pub facts_are : facts ≡ fact_count r.body
@@ -66,7 +66,7 @@ pub record IsRegisteredNext (before : List Kept) (r : Request) (seq facts : ℕ)
   pub number : ℕ
   pub registered : (judged before r).outcome ≡ Registered number
 
--- ---- as code holds it
+-- ---- as code has it
 
 -- 0 is no filing's number
 abbrev pub number_or_none : ℕ → Option ℕ

@@ -1,4 +1,4 @@
--- Values that rows are held against.
+-- Values that rows are compared with.
 use Rattle.sqlite.specs.declared.types.Value.{Value}
 use Rattle.sqlite.specs.declared.types.Value.TheVariants as value
 use Rattle.register_rows.specs.declared.cells.Cell.{Cell}

@@ -6,12 +6,12 @@ use Rattle.sqlite.specs.Order.{Row, column}
 use Rattle.xbrl_report.specs.FactRecord.{FactRecord}
 use Rattle.filing_model.specs.Request.{Request}
 
--- the bytes of a text, none where the value is no text
+-- the bytes of a text, or none if the value is no text
 abbrev pub text_in : Value → List ℕ
 text_in (Text t) = t
 text_in _ = []
 
--- the bytes of a blob, none where the value is none
+-- the bytes of a blob, or none if the value is no blob
 abbrev pub bytes_in : Value → List ℕ
 bytes_in (Blob b) = b
 bytes_in _ = []
@@ -21,7 +21,7 @@ abbrev pub number_in : Value → Option ℕ
 number_in (Int (pos n)) = Some n
 number_in _ = None
 
--- of the columns `seq`, `filer`, `idem`, `body`, `number`, where the request is to replace this filing, if any
+-- the request in the columns `seq`, `filer`, `idem`, `body` and `number`, which is to replace this filing, if any
 abbrev pub request_in : Option ℕ → Row → Request
 request_in target row =
     record {
@@ -32,7 +32,7 @@ request_in target row =
           bytes_in (column row 3);
     }
 
--- the bytes of a blob, where the value is one
+-- the bytes of a blob, if the value is one
 abbrev pub maybe_bytes_in : Value → Option (List ℕ)
 maybe_bytes_in (Blob b) = Some b
 maybe_bytes_in _ = None
@@ -42,7 +42,7 @@ abbrev pub integer_in : Value → Option ℤ
 integer_in (Int n) = Some n
 integer_in _ = None
 
--- of the columns `id`, `concept`, `dimensions`, `value`, `decimals`
+-- the fact in the columns `id`, `concept`, `dimensions`, `value` and `decimals`
 abbrev pub fact_in : Row → FactRecord
 fact_in row = record {
   id = bytes_in (column row 0);

@@ -4,7 +4,7 @@ use Rattle.filing_model.specs.Register.{Outcome}
 use Rattle.xbrl_report.specs.declared.judging.Judged.{Judged}
 use Rattle.xbrl_report.specs.declared.judging.Judged.TheVariants.{Valid, Refused}
 
--- what becomes of a report that was judged so, where the next filing has this number
+-- what becomes of a report that was judged so, if the next filing has this number
 abbrev pub outcome_of : ℕ → Judged → Outcome
 outcome_of number (Valid report) = Outcome.Registered number
 outcome_of number (Refused findings) = Outcome.Refused findings

@@ -26,11 +26,11 @@ use Rattle.register_rows.specs.Schema.{migrated_table, amends_table}
 abbrev pub form_row : ℕ → Row
 form_row form = Int (pos 1) ∷ Text (codes "register") ∷ Int (pos form) ∷ []
 
--- so it is in the form of these tables
+-- the one row of `intake_meta`: a register in the form of these tables
 abbrev pub meta_row : Row
 meta_row = form_row 4
 
--- the one row of `migrated`, where the first `old_style` kept requests are told what they were told before
+-- the one row of `migrated`: the first `old_style` kept requests keep the answers of an earlier version
 abbrev pub migrated_row : ℕ → Row
 migrated_row old_style = Int (pos 1) ∷ Int (pos old_style) ∷ []
 

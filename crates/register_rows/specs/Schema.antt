@@ -14,7 +14,7 @@ meta_table =
     keyed (codes "intake_meta") 0 (optional (codes "id") Integer ∷ needed (codes "kind") Text
     ∷ needed (codes "form") Integer ∷ []) [] []
 
--- the first request of each filer and key, with its number where it was registered
+-- the first request of each filer and key, with its number if it was registered
 abbrev pub kept_table : Table
 kept_table = keyed (codes "kept") 1
     (optional (codes "seq") Integer ∷ needed (codes "filer") Text ∷ needed (codes "idem") Text
@@ -40,8 +40,7 @@ fact_table = paired (codes "fact") 7
     ∷ needed (codes "concept") Blob ∷ needed (codes "dimensions") Blob ∷ optional (codes "value") Blob
     ∷ optional (codes "decimals") Integer ∷ [])
 
--- which of the kept requests are told what they were told before there were problem details: the first so many, in one
--- row
+-- how many of the kept requests, from the first on, are answered as before there were problem details, in one row
 abbrev pub migrated_table : Table
 migrated_table = keyed (codes "migrated") 9 (optional (codes "id") Integer ∷ needed (codes "last") Integer ∷ []) [] []
 
@@ -58,11 +57,11 @@ common_tables = meta_table ∷ kept_table ∷ finding_table ∷ filing_table ∷
 abbrev pub register_tables : List Table
 register_tables = common_tables ++ migrated_table ∷ amends_table ∷ []
 
--- they come first, and others may follow
+-- the tables of a register come first, and others may follow
 abbrev pub IsDeclared : Schema → Type 0
 IsDeclared = BeginsWith register_tables
 
--- those of every form do
+-- the tables of every form come first, and others may follow
 abbrev pub HasCommon : Schema → Type 0
 HasCommon = BeginsWith common_tables
 

@@ -5,14 +5,14 @@ use Rattle.register_rows.specs.declared.damage.Spans.{Spans}
 use Rattle.register_rows.specs.declared.spans.Span.{Span}
 use Rattle.register_rows.specs.Audit.{OtherRows, is_number, with_number}
 
--- of the first so many rows, each with this number in the column lies in the span, which has none behind them
+-- of the first so many rows, each with this number in the column lies in the span, which ends within them
 pub record Covers (at n : ℕ) (rows : List Row) (count : ℕ) (span : Span) : Type 0 where
   pub ordered : span.from ≤ span.to
   pub within : span.to ≤ count
   pub all : (place : ℕ) → place < count → is_number n (column (get_or rows place []) at) ≡ true
       → (span.from ≤ place) × (place < span.to)
 
--- so does each of the spans, for its place among them as the number
+-- each of the spans covers the rows with its place among the spans as the number
 abbrev pub AreSpans : ℕ → List Row → ℕ → List Span → Type 0
 AreSpans at rows count spans = (n : ℕ) (d : Span) → n < length spans → Covers at n rows count (get_or spans n d)
 
@@ -24,7 +24,7 @@ pub record AreSpansOf (others : OtherRows) (spans : Spans) : Type 0 where
   pub fact : AreSpans 0 others.fact (length others.fact) spans.facts.items
   pub amends : AreSpans 0 others.amends (length others.amends) spans.amends.items
 
--- both have the same rows with the place, and with the number
+-- in each table, the part and the whole have the same rows with the place, or with the number
 pub record AgreeAt (seq number : ℕ) (part whole : OtherRows) : Type 0 where
   pub finding : with_number 0 seq part.finding ≡ with_number 0 seq whole.finding
   pub filing : with_number 1 seq part.filing ≡ with_number 1 seq whole.filing

@@ -1,4 +1,4 @@
-//! Where each filing of a register is kept, and what a list shows of it, by number.
+//! The filings of a register, by number: the place of each one's request, and what a list shows of it.
 
 ghost use Rattle.std.specs.Prelude.{◌≡◌, ◌++◌, ◌∷◌, [], List, length, option_map, OnOk};
 ghost use Rattle.filing_model.specs.Request.{Request};
@@ -63,7 +63,7 @@ pub struct Catalogue {
 }
 
 impl Catalogue {
-    /// There is no filing yet.
+    /// No filing.
     pub fn new(alloc: Global) -> Catalogue
         ensures { view_lines result ≡ [] }
     {
@@ -97,7 +97,8 @@ impl Catalogue {
         self.lines.reserve(1)
     }
 
-    /// The next filing has this place and so many facts, and replaces the filing with this number, if it replaces one.
+    /// Adds the next filing, which has this place and so many facts, and replaces the filing with this number, if it
+    /// replaces one.
     pub fn note(&mut self, seq: u64, facts: u64, target: Option<u64>)
         requires { HasRoom self.old }
         ensures { (F : List Request) (r : Request) → view_lines self.old ≡ catalogue_of F

@@ -1,4 +1,4 @@
-//! Rows held against values.
+//! Rows compared with values.
 
 ghost use Rattle.std.specs.Prelude.{◌≡◌, ◌↔◌, ◌<◌, length, map, IsTrue};
 ghost use Rattle.sqlite.specs.Order.{column};

@@ -1,6 +1,6 @@
-//! Which kept row is told of a register whose rows stand for no requests. Each kept row is held against all rows of the
-//! other tables that have its place or its number, in any order of these tables; where they lie is looked up once for
-//! all.
+//! Which kept row is reported of a register whose rows stand for no requests. Each kept row is compared with all rows
+//! of the other tables that have its place or its number, whatever the order of these tables is. Where they lie is
+//! looked up once for all.
 
 ghost use Rattle.std.specs.Prelude.{◌≡◌, ◌↔◌, ◌<◌, ◌≤◌, ◌^◌, ◌+◌, ℕ, suc, List, [], ◌∷◌, ◌++◌, length, IsTrue, IfOk};
 ghost use Rattle.std.specs.Prelude.{IfSome, MatchOption, Option, None, vec_len};
@@ -21,11 +21,12 @@ ghost use Rattle.register_rows.specs.Register.{IsCompleted, amends_rows_by};
 ghost use Rattle.register_rows.specs.Spans.{AreSpansOf, AgreeAt};
 
 use crate::cells::{Cell, is_row};
-use crate::columns::bytes_at;
+use crate::columns::{amends, fact, filing, finding, kept};
 use crate::filed::Filed;
 use crate::items::RowItem;
 use crate::segments::target_of;
 use crate::spans::{Span, spans_of};
+use crate::values::bytes_at;
 use crate::verdict::{filer_of, first_repeated, is_kept_row};
 use filing_model::is_target;
 use sqlite::Row;
@@ -52,7 +53,7 @@ struct Spans {
 }
 
 impl Spans {
-    /// Those of the places and numbers below `count`. It fails where memory runs out.
+    /// The spans of the places and numbers below `count`. It fails if memory runs out.
     fn of(alloc: Global, beside: OtherTables<'_>, count: usize) -> Result<Spans, AllocError>
         requires { count < 2 ^ 63 }
         ensures long { IfOk result (λ spans. (vec_len spans.findings ≡ count) × (vec_len spans.filings ≡ count)
@@ -60,14 +61,15 @@ impl Spans {
         ensures covers { IfOk result (AreSpansOf (view_other_tables beside.entry)) }
     {
         Ok(Spans {
-            findings: spans_of(alloc, beside.findings, 0, count)?,
-            filings: spans_of(alloc, beside.filings, 1, count)?,
-            facts: spans_of(alloc, beside.facts, 0, count)?,
-            amends: spans_of(alloc, beside.amends, 0, count)?,
+            findings: spans_of(alloc, beside.findings, finding::SEQ, count)?,
+            filings: spans_of(alloc, beside.filings, filing::SEQ, count)?,
+            facts: spans_of(alloc, beside.facts, fact::NUMBER, count)?,
+            amends: spans_of(alloc, beside.amends, amends::SEQ, count)?,
         })
     }
 
-    /// Rows among which are all that have the place or the number; in the order of the keys, these alone.
+    /// Rows among which are all that have the place or the number. If each table is in the order of its key, there are
+    /// no others.
     fn part_of<'a>(&self, beside: OtherTables<'a>, seq: u64, number: u64) -> OtherTables<'a>
         requires seq { (seq < vec_len self.now.findings) × (seq < vec_len self.now.filings)
             × (seq < vec_len self.now.amends) }
@@ -116,7 +118,7 @@ fn has_items<T: RowItem>(rows: &[Row], column: usize, number: u64, items: &[T]) 
     found == items.len()
 }
 
-/// The filing that the request at this place is to replace, if any, or `None` where its rows say no such thing.
+/// The filing that the request at this place is to replace, if any, or `None` if its rows of `amends` are wrong.
 fn target_at(rows: &[Row], seq: u64) -> Option<Option<u64>>
     requires { seq < 2 ^ 63 }
     ensures some { IfSome result (λ target.
@@ -126,7 +128,7 @@ fn target_at(rows: &[Row], seq: u64) -> Option<Option<u64>>
 {
     let mut found = None;
     for at in 0..rows.len() {
-        if has_number(&rows[at], 0, seq) {
+        if has_number(&rows[at], amends::SEQ, seq) {
             let (target, _) = target_of(&rows[at..], seq);
             if found.is_some() || target.is_none() || !is_target(target) {
                 return None;
@@ -146,8 +148,8 @@ fn is_refused(row: &Row, seq: u64, findings: &[Finding], beside: OtherTables<'_>
         (view_other_tables beside.entry) }
 {
     is_kept_row(row, seq, None)
-        && has_items(beside.findings, 0, seq, findings)
-        && has_items::<i64>(beside.filings, 1, seq, &[])
+        && has_items(beside.findings, finding::SEQ, seq, findings)
+        && has_items::<i64>(beside.filings, filing::SEQ, seq, &[])
 }
 
 /// Whether the row and those of the other tables are those of a request registered under the number.
@@ -161,9 +163,9 @@ fn is_registered(row: &Row, seq: u64, number: u64, facts: &[Fact], beside: Other
         (view_other_tables beside.entry) }
 {
     is_kept_row(row, seq, Some(number))
-        && has_items::<Finding>(beside.findings, 0, seq, &[])
-        && has_items(beside.filings, 1, seq, &[number as i64])
-        && has_items(beside.facts, 0, number, facts)
+        && has_items::<Finding>(beside.findings, finding::SEQ, seq, &[])
+        && has_items(beside.filings, filing::SEQ, seq, &[number as i64])
+        && has_items(beside.facts, fact::NUMBER, number, facts)
 }
 
 /// Whether the row and those of the other tables are those of a request that was judged so, where those of `amends`
@@ -193,8 +195,8 @@ fn filings_as_judged(judged: &Judged) -> u64
     }
 }
 
-/// How many filings the request of the kept row is, which is to replace this filing, if any, or `None` where the row,
-/// whatever its filer and key are, is not sound. It fails where memory runs out.
+/// How many filings the request of the kept row is, one or none, or `None` if the row is not sound. Whether an earlier
+/// row has its filer and key is not asked. It fails if memory runs out.
 fn filings_if_sound(
     alloc: Global,
     filed: &mut Filed,
@@ -222,7 +224,7 @@ fn filings_if_sound(
     let Some(filer) = filer_of(row) else {
         return Ok(None);
     };
-    let judged = filed.judge(alloc, filer, target, bytes_at(row, 3))?;
+    let judged = filed.judge(alloc, filer, target, bytes_at(row, kept::BODY))?;
     if !is_kept_as(row, seq, number, &judged, beside) {
         return Ok(None);
     }
@@ -230,7 +232,7 @@ fn filings_if_sound(
     Ok(Some(filings_as_judged(&judged)))
 }
 
-/// The place, from 1, of the first kept row that is not sound, or 0 where each one is. It fails where memory runs out.
+/// The place, from 1, of the first kept row that is not sound, or 0 if each is. It fails if memory runs out.
 pub(crate) fn first_unsound(
     alloc: Global,
     kept: &[Row],

@@ -1,4 +1,4 @@
-//! The filings of a register, by number: whose each is, where it is kept, and what a list shows of it.
+//! The filings of a register, by number: the filer of each, the place of its request, and what a list shows of it.
 
 ghost use Rattle.std.specs.Prelude.{◌≡◌, ◌++◌, ◌∷◌, [], suc, List, length, IfOk, OnOk};
 ghost use Rattle.xbrl_report.specs.Judgement.{HasFacts};
@@ -20,7 +20,7 @@ pub struct Filed {
 }
 
 impl Filed {
-    /// There is no filing yet.
+    /// No filing.
     pub fn new(alloc: Global) -> Filed
         ensures { AreFiled [] result }
     {
@@ -55,7 +55,7 @@ impl Filed {
         }
     }
 
-    /// The filer has a filing more, which has this place and so many facts, and replaces the one with this number, if
+    /// Adds a filing of the filer, which has this place and so many facts, and replaces the filing with this number, if
     /// it replaces one.
     fn add(
         &mut self,
@@ -76,7 +76,7 @@ impl Filed {
         Ok(())
     }
 
-    /// Judges a report that comes after these filings. It fails where memory runs out.
+    /// Judges a report that comes after these filings. It fails if memory runs out.
     pub fn judge(
         &self,
         alloc: Global,
@@ -92,7 +92,7 @@ impl Filed {
         judge_amendment(alloc, filer, body, self.is_free(filer, target))
     }
 
-    /// A report of the kept request at this place was judged so after these filings: it is one more if it is valid.
+    /// Adds the filing that the kept request at this place is, if its report was found valid after these filings.
     pub fn note(
         &mut self,
         alloc: Global,

@@ -12,9 +12,9 @@ use crate::cells::{Cell, is_row};
 use sqlite::Row;
 use xbrl_report::{Fact, Finding};
 
-/// What has a row of its own among others of its kind.
+/// What has a row of its own among others of its kind: a finding, a fact or the number of a filing.
 pub trait RowItem {
-    // Its row, where its request or filing has this number, and so many of its kind come up to it.
+    // Its row, if its request or filing has this number, and it is at this place among those of its kind, from 1.
     ghost row_of: { ℕ → ℕ → Self → Row };
 
     /// Whether the row is its own.

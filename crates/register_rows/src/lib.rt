@@ -5,18 +5,19 @@
 
 mod catalogue;
 mod cells;
-mod columns;
+pub mod columns;
 mod damage;
 mod filed;
 mod items;
 mod segments;
 mod spans;
+mod values;
 mod verdict;
 
 pub use catalogue::{Catalogue, Line};
 pub use cells::{Cell, is_row};
-pub use columns::{bytes_at, last_in, text_at};
 pub use filed::Filed;
 pub use items::RowItem;
 pub use segments::{after_filing, after_items, target_of};
+pub use values::{bytes_at, number_at, text_at};
 pub use verdict::{MAX_KEPT, Verdict, audit, filer_of, is_kept_row};

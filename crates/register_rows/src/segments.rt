@@ -9,8 +9,9 @@ ghost use Rattle.register_rows.specs.Register.{amends_rows_by};
 ghost use Rattle.register_rows.specs.Audit.{begins_with};
 
 use crate::cells::{Cell, is_row};
-use crate::columns::last_in;
+use crate::columns::amends;
 use crate::items::RowItem;
+use crate::values::number_at;
 use sqlite::Row;
 
 /// The rows behind those of the items, if the rows begin with these.
@@ -38,26 +39,24 @@ pub fn after_filing<'a>(rows: &'a [Row], number: u64, seq: u64) -> Option<&'a [R
     ensures { MatchOption result ((tail : List Row) → rows.now ≡ (Int (pos number) ∷ Int (pos seq) ∷ []) ∷ tail → ⊥)
         (λ tail. rows.now ≡ (Int (pos number) ∷ Int (pos seq) ∷ []) ∷ tail.now) }
 {
-    match rows {
-        [first, rest @ ..] => {
-            if is_row(first, &[Cell::Int(number as i64), Cell::Int(seq as i64)]) {
-                Some(rest)
-            } else {
-                None
-            }
-        }
-        [] => None,
+    let [first, rest @ ..] = rows else {
+        return None;
+    };
+    if is_row(first, &[Cell::Int(number as i64), Cell::Int(seq as i64)]) {
+        Some(rest)
+    } else {
+        None
     }
 }
 
-/// The number of the filing that the request at this place is to replace, where the row says one.
+/// The number of the filing that the request at this place is to replace, if the row says one.
 fn target_in(row: &Row, seq: u64) -> Option<u64>
     requires { seq < 2 ^ 63 }
     ensures some { IfSome result (λ target. row.now ≡ Int (pos seq) ∷ Int (pos target) ∷ []) }
     ensures few { IfSome result (λ target. target < 2 ^ 63) }
     ensures none { result ≡ None → (target : ℕ) → row.now ≡ Int (pos seq) ∷ Int (pos target) ∷ [] → ⊥ }
 {
-    match last_in(row) {
+    match number_at(row, amends::TARGET) {
         Some(target) if is_row(row, &[Cell::Int(seq as i64), Cell::Int(target as i64)]) => Some(
             target,
         ),

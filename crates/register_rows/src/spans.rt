@@ -11,7 +11,7 @@ use sqlite::Row;
 use sqlite::types::ValueRef;
 use std::alloc::{AllocError, Global};
 
-/// The places from `from` up to `to`, and not `to` itself.
+/// The places from `from` up to `to`, without `to`.
 #[derive(Clone, Copy)]
 pub(crate) struct Span {
     from: usize,
@@ -19,7 +19,7 @@ pub(crate) struct Span {
 }
 
 impl Span {
-    /// The span with this place too, which lies behind it.
+    /// The span that goes on to this place, which lies behind it.
     fn reaching(self, place: usize) -> Span
         requires ordered { self.from ≤ self.to }
         requires behind { self.to ≤ place }
@@ -35,7 +35,7 @@ impl Span {
         }
     }
 
-    /// The rows that lie there.
+    /// The rows at these places.
     pub(crate) fn part_of<'a>(self, rows: &'a [Row]) -> &'a [Row]
         requires ordered { self.from ≤ self.to }
         requires within { self.to ≤ length rows.now }
@@ -45,7 +45,7 @@ impl Span {
     }
 }
 
-/// The number in the column, where it is one below `count`.
+/// The number in the column, if it is one below `count`.
 fn number_below(row: &Row, at: usize, count: usize) -> Option<usize>
     requires { count < 2 ^ 63 }
     ensures { MatchOption result ((n : ℕ) → n < count → is_number n (column row.now at) ≡ false)
@@ -63,7 +63,7 @@ fn number_below(row: &Row, at: usize, count: usize) -> Option<usize>
     }
 }
 
-/// Where the rows with each number below `count` in the column lie. It fails where memory runs out.
+/// For each number below `count`, a span of all rows that have it in the column. It fails if memory runs out.
 pub(crate) fn spans_of(
     alloc: Global,
     rows: &[Row],

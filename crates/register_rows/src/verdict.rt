@@ -1,4 +1,4 @@
-//! Whether the rows of a register's tables stand for a list of requests. No SQL is known here.
+//! Whether the rows of a register's tables stand for a list of requests.
 
 ghost use Rattle.std.specs.Prelude.{◌≡◌, ◌↔◌, ◌<◌, ◌≤◌, ◌^◌, ◌+◌, ◌&&◌, ℕ, suc, pos, List, [], ◌∷◌, ◌++◌, length};
 ghost use Rattle.std.specs.Prelude.{Option, Some, None, true, false, IsTrue, IfOk, IfSome, MatchOption};
@@ -22,10 +22,11 @@ ghost use Rattle.register_rows.specs.Register.{IsCompleted};
 
 use crate::catalogue::Catalogue;
 use crate::cells::{Cell, is_row};
-use crate::columns::{bytes_at, text_at};
+use crate::columns::{amends, fact, filing, finding, kept};
 use crate::damage::{OtherTables, first_unsound};
 use crate::filed::Filed;
 use crate::segments::{after_filing, after_items, target_of};
+use crate::values::{bytes_at, text_at};
 use filing_model::is_target;
 use http_messages::MAX_BODY_LEN;
 use key_string::{is_key, read_filer};
@@ -53,13 +54,13 @@ pub(crate) struct RowsLeft<'a> {
 pub enum Verdict {
     /// The rows stand for a list of requests, and these are its filings.
     Sound { catalogue: Catalogue },
-    /// They stand for none: the kept row at this place, counted from 1, is the first that is not sound, or at 0 each
-    /// one is, and rows of the other tables are left over.
+    /// They stand for none. The kept row at this place, counted from 1, is the first that is not sound. If each is
+    /// sound, the place is 0: rows of the other tables are left over.
     Damaged { row: u64 },
 }
 
-/// The place, from 0, of the first row whose filer and key an earlier one has, or how many rows there are. It fails
-/// where memory runs out.
+/// The place, from 0, of the first row whose filer and key an earlier one has, or the number of rows if there is none.
+/// It fails if memory runs out.
 pub(crate) fn first_repeated(alloc: Global, kept: &[Row]) -> Result<usize, AllocError>
     ensures { IfOk result (λ first.
         (first ≤ length kept.now) × ((at : ℕ) → at < first → is_repeated_at kept.now at ≡ false)
@@ -68,7 +69,7 @@ pub(crate) fn first_repeated(alloc: Global, kept: &[Row]) -> Result<usize, Alloc
     let mut seen = BTreeSet::new(alloc);
     for at in 0..kept.len() {
         let row = &kept[at];
-        if !seen.insert((text_at(row, 1), text_at(row, 2)))? {
+        if !seen.insert((text_at(row, kept::FILER), text_at(row, kept::KEY)))? {
             return Ok(at);
         }
     }
@@ -86,7 +87,7 @@ fn number_cell(number: Option<u64>) -> Cell<'static>
     }
 }
 
-/// Whether the row has this place and this number beside its own request.
+/// Whether the row is one of `kept` with this place and this number. Its filer, key and body may be any.
 pub fn is_kept_row(row: &Row, seq: u64, number: Option<u64>) -> bool
     requires seq { seq < 2 ^ 63 }
     requires number { IfSome number (λ n. n < 2 ^ 63) }
@@ -98,9 +99,9 @@ pub fn is_kept_row(row: &Row, seq: u64, number: Option<u64>) -> bool
         row,
         &[
             Cell::Int(seq as i64),
-            Cell::Text(text_at(row, 1)),
-            Cell::Text(text_at(row, 2)),
-            Cell::Blob(bytes_at(row, 3)),
+            Cell::Text(text_at(row, kept::FILER)),
+            Cell::Text(text_at(row, kept::KEY)),
+            Cell::Blob(bytes_at(row, kept::BODY)),
             number_cell(number),
         ],
     )
@@ -184,36 +185,36 @@ fn has_more(seq: u64, judged: &Judged, number: u64, rest: RowsLeft<'_>) -> bool
     requires number { number < 2 ^ 63 }
     ensures { result ≡ has_more seq (outcome_of number judged.now) (view_rows_left rest.entry) }
 {
-    begins_with(rest.findings, 0, seq)
-        || begins_with(rest.filings, 1, seq)
+    begins_with(rest.findings, finding::SEQ, seq)
+        || begins_with(rest.filings, filing::SEQ, seq)
         || match judged {
-            Judged::Valid(_) => begins_with(rest.facts, 0, number),
+            Judged::Valid(_) => begins_with(rest.facts, fact::NUMBER, number),
             Judged::Refused(_) => false,
         }
-        || begins_with(rest.amends, 0, seq)
+        || begins_with(rest.amends, amends::SEQ, seq)
 }
 
-/// The filer of a row whose request may be completed, where it is to replace such a filing.
+/// The filer of the row's request, if the request has a filer, a key and a body that filers may send.
 pub fn filer_of<'a>(row: &'a Row) -> Option<&'a str>
     ensures { (target : Option ℕ) → IsTarget target
         → MatchOption result (IsCompleted (request_in target row.now) → ⊥) (λ filer.
         (filer.now ≡ (request_in None row.now).filer) × IsCompleted (request_in target row.now)) }
 {
-    let key = text_at(row, 2);
-    let Some(filer) = read_filer(text_at(row, 1)) else {
+    let key = text_at(row, kept::KEY);
+    let Some(filer) = read_filer(text_at(row, kept::FILER)) else {
         return None;
     };
     if !is_key(key) {
         return None;
     }
-    if bytes_at(row, 3).len() > MAX_BODY_LEN {
+    if bytes_at(row, kept::BODY).len() > MAX_BODY_LEN {
         return None;
     }
     Some(filer)
 }
 
-/// What is left behind the rows of a kept row of this filer, with the target read, or `None`. It fails where memory
-/// runs out.
+/// What is left behind the rows of this kept row, whose filer and target were read, or `None` if the row may not come
+/// next. It fails if memory runs out.
 fn check_filed<'a>(
     alloc: Global,
     filed: &mut Filed,
@@ -237,22 +238,19 @@ fn check_filed<'a>(
         × AreFiled (kept (F ++ request_in target row.now ∷ [])) filed.new
         × (tail.number ≡ suc (length (register (F ++ request_in target row.now ∷ [])))))) }
 {
-    let judged = filed.judge(alloc, filer, target, bytes_at(row, 3))?;
-    match after_judged(row, seq, &judged, rest) {
-        Some(tail) => {
-            if has_more(seq, &judged, rest.number, tail) {
-                Ok(None)
-            } else {
-                filed.note(alloc, filer, seq, target, &judged)?;
-                Ok(Some(tail))
-            }
-        }
-        None => Ok(None),
+    let judged = filed.judge(alloc, filer, target, bytes_at(row, kept::BODY))?;
+    let Some(tail) = after_judged(row, seq, &judged, rest) else {
+        return Ok(None);
+    };
+    if has_more(seq, &judged, rest.number, tail) {
+        return Ok(None);
     }
+    filed.note(alloc, filer, seq, target, &judged)?;
+    Ok(Some(tail))
 }
 
-/// Whether the kept row may come next after those before it: what is left behind its rows in the other tables, or
-/// `None`. It fails where memory runs out.
+/// What is left behind the rows of this kept row in the other tables, or `None` if the row may not come next. It fails
+/// if memory runs out.
 fn check_next<'a>(
     alloc: Global,
     filed: &mut Filed,
@@ -294,8 +292,8 @@ fn check_next<'a>(
     )
 }
 
-/// Audits one kept row after the other, as the tables are in the order of their keys: the filings of the requests that
-/// the rows stand for, or `None` if they stand for none. It fails where memory runs out.
+/// Audits one kept row after the other, with the rows of each table in the order of its key. The result is the filings
+/// of the requests that the rows stand for, or `None` if they stand for none. It fails if memory runs out.
 fn audit_in_order(
     alloc: Global,
     kept: &[Row],
@@ -346,8 +344,8 @@ fn audit_in_order(
     }
 }
 
-/// Audits the rows of `kept`, by `seq`, with those of the other tables, each in the order of its key. It fails
-/// where memory runs out.
+/// Audits the rows of `kept`, by `seq`, with those of the other tables, each in the order of its key. It fails if
+/// memory runs out.
 pub fn audit(
     alloc: Global,
     kept: &[Row],
@@ -367,20 +365,15 @@ pub fn audit(
     if kept.len() as u64 > MAX_KEPT {
         return Err(AllocError);
     }
-    match audit_in_order(alloc, kept, findings, filings, facts, amends)? {
-        Some(catalogue) => Ok(Verdict::Sound { catalogue }),
-        None => {
-            let row = first_unsound(
-                alloc,
-                kept,
-                OtherTables {
-                    findings,
-                    filings,
-                    facts,
-                    amends,
-                },
-            )?;
-            Ok(Verdict::Damaged { row })
-        }
+    if let Some(catalogue) = audit_in_order(alloc, kept, findings, filings, facts, amends)? {
+        return Ok(Verdict::Sound { catalogue });
     }
+    let beside = OtherTables {
+        findings,
+        filings,
+        facts,
+        amends,
+    };
+    let row = first_unsound(alloc, kept, beside)?;
+    Ok(Verdict::Damaged { row })
 }

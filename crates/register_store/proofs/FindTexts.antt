@@ -15,12 +15,13 @@ use Rattle.table_rows.proofs.TextLemmas.{IsQueryText}
 use Rattle.register_rows.specs.Schema.{common_tables, HasCommon}
 use Rattle.register_tables.proofs.ReadTexts.{columns, equals}
 use Rattle.register_tables.proofs.PickTexts.{same_filer_and_key}
+use Rattle.register_store.specs.declared.rows.TheConstants.{FINDINGS_AT, KEPT_WITH_KEY}
 
 abbrev pub find_text : List ℕ
-find_text = codes "SELECT seq, body, number FROM kept WHERE filer = ?1 AND idem = ?2"
+find_text = KEPT_WITH_KEY.now
 
 abbrev pub found_text : List ℕ
-found_text = codes "SELECT code, place FROM finding WHERE seq = ?1 ORDER BY pos"
+found_text = FINDINGS_AT.now
 
 pub query_key : IsQueryText find_text
 unfolding everything

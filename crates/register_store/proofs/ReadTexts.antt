@@ -14,18 +14,20 @@ use Rattle.table_rows.proofs.QueryLemmas.{Asks}
 use Rattle.table_rows.proofs.TextLemmas.{IsQueryText}
 use Rattle.register_rows.specs.Schema.{common_tables, register_tables, HasCommon, IsDeclared}
 use Rattle.register_tables.proofs.ReadTexts.{columns, equals, on_ours}
+use Rattle.register_store.specs.declared.rows.TheConstants.{TARGET_AT}
+use Rattle.register_store.specs.declared.select.reads.TheConstants.{FACTS_OF_FILING, FILER_AT, PLACES_OF}
 
 abbrev pub places_of : List ℕ
-places_of = codes "SELECT seq FROM kept WHERE filer = ?1 ORDER BY seq"
+places_of = PLACES_OF.now
 
 abbrev pub filer_at : List ℕ
-filer_at = codes "SELECT filer FROM kept WHERE seq = ?1 ORDER BY seq"
+filer_at = FILER_AT.now
 
 abbrev pub target_at : List ℕ
-target_at = codes "SELECT target FROM amends WHERE seq = ?1"
+target_at = TARGET_AT.now
 
 abbrev pub facts_said : List ℕ
-facts_said = codes "SELECT id, concept, dimensions, value, decimals FROM fact WHERE number = ?1 ORDER BY pos"
+facts_said = FACTS_OF_FILING.now
 
 pub query_places_of : IsQueryText places_of
 unfolding everything

@@ -13,21 +13,23 @@ use Rattle.sqlite.specs.Listing.{understood}
 use Rattle.sqlite.proofs.Callers.{IsPlain, command_of}
 use Rattle.table_rows.specs.Tables.{schema_with}
 use Rattle.register_rows.specs.Schema.{register_tables}
+use Rattle.register_store.specs.declared.rows.TheConstants.{INSERT_AMENDS, INSERT_FACT, INSERT_FILING, INSERT_FINDING}
+use Rattle.register_store.specs.declared.rows.TheConstants.{INSERT_KEPT}
 
 abbrev pub insert_kept : List ℕ
-insert_kept = codes "INSERT INTO kept VALUES (?1, ?2, ?3, ?4, ?5)"
+insert_kept = INSERT_KEPT.now
 
 abbrev pub insert_finding : List ℕ
-insert_finding = codes "INSERT INTO finding VALUES (?1, ?2, ?3, ?4)"
+insert_finding = INSERT_FINDING.now
 
 abbrev pub insert_filing : List ℕ
-insert_filing = codes "INSERT INTO filing VALUES (?1, ?2)"
+insert_filing = INSERT_FILING.now
 
 abbrev pub insert_fact : List ℕ
-insert_fact = codes "INSERT INTO fact VALUES (?1, ?2, ?3, ?4, ?5, ?6, ?7)"
+insert_fact = INSERT_FACT.now
 
 abbrev pub insert_amends : List ℕ
-insert_amends = codes "INSERT INTO amends VALUES (?1, ?2)"
+insert_amends = INSERT_AMENDS.now
 
 module _ (tables : List Table) (indexes : List Index) (views : List View) where
   abbrev schema : Schema

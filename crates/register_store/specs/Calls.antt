@@ -32,16 +32,16 @@ use Rattle.register_tables.specs.Registers.{ForRows, IsRegisterOf, LeavesRegiste
 -- ---- a store is handed out
 
 -- What `create` does with a connection: it makes the tables of a register that has no request. What is said of rows
--- holds where the database had no table before.
+-- holds if the database had no table before.
 pub record CreatesStore {S : Type 0} (g : Ghosts S) (conn : Held S) (result : Result (StoreParts S) CreateFault)
     : Type 0 where
   pub made : HandsOut g result (λ store. (state g conn).now.schema ≡ no_schema → HasRequests g store [])
   pub counts : IfOk result (λ store. (store.kept ≡ 0) × (store.filings ≡ 0) × (store.old_style ≡ 0))
-  -- Taken comes where one of the names is in use, and always there.
+  -- The answer is Taken if and only if one of the names is in use.
   pub taken : (result ≡ Err Taken) ↔ IsTrue (is_taken (state g conn).now.schema)
   -- Of some last state of the connection, which is given up: `create_or_back` says it of the one that comes back.
   pub refused : IfErr result (GivesUpMaking g conn)
-  -- A crash leaves what one before the call could leave, or the empty register, and after the call that alone.
+  -- A crash in the call leaves what one before it could leave, or the empty register; one after it, the empty register.
   pub crash : IfOk result (λ store. Survives (state g conn) (shows g store)
       (λ trees. (state g conn).now.schema ≡ no_schema → LeavesRegister 0 [] trees))
   pub durable : HandsOut g result (λ store. (state g conn).now.schema ≡ no_schema → IsDurableAs g store 0 [])
@@ -57,12 +57,12 @@ pub record OpensStore {S : Type 0} (g : Ghosts S) (conn : Held S) (result : Resu
   pub same : HandsOut g result (λ store. IsUnchanged (state g conn) (shows g store))
   -- Of some last state of the connection, which is given up: `open_or_back` says it of the one that comes back.
   pub refused : IfErr result (GivesUpOpening g conn)
-  -- A crash leaves what it could leave before, and after the call these requests alone.
+  -- A crash in the call leaves what it could leave before; one after it, these requests.
   pub crash : IfOk result (λ store. CommitsNothing (state g conn) (shows g store))
   pub durable : HandsOut g result (λ store. ForRows g conn (IsDurableAs g store))
 
 -- What `migrate` does with a connection: it brings the register that the database holds from an earlier form into the
--- present one. What is said of the new rows holds where the database has no other tables.
+-- present one. What is said of the new rows holds if the database has no other tables.
 pub record MigratesStore {S : Type 0} (g : Ghosts S) (conn : Held S) (result : Result (StoreParts S) OpenFault)
     : Type 0 where
   -- The store has the requests that the rows stood for, and there is one such list at most.
@@ -72,7 +72,7 @@ pub record MigratesStore {S : Type 0} (g : Ghosts S) (conn : Held S) (result : R
       × HasRequests g store F))
   -- Of some last state of the connection, which is given up: `migrate_or_back` says it of the one that comes back.
   pub refused : IfErr result (GivesUpMigrating g conn)
-  -- A crash leaves what it could leave before, or the migrated rows, and after the call these alone.
+  -- A crash in the call leaves what it could leave before, or the migrated rows; one after it, the migrated rows.
   pub crash : IfOk result (λ store. Survives (state g conn) (shows g store)
       (λ trees. ForEarlier g conn (λ _ old_style F. LeavesRegister old_style F trees)))
   pub durable : HandsOut g result (λ store. ForEarlier g conn (λ _. IsDurableAs g store))
@@ -83,20 +83,19 @@ pub record MigratesStore {S : Type 0} (g : Ghosts S) (conn : Held S) (result : R
 abbrev pub without_conn : {T E C : Type 0} → Result T (E × C) → Result T E
 without_conn = result_map_both (λ store. store) (λ refusal. refusal.0)
 
--- What `create_or_back` does: what `create` does, and of the connection that comes back it says what was left of the
--- database.
+-- What `create_or_back` does: what `create` does, and a connection that comes back is as it says.
 pub record CreatesOrGivesBack {S : Type 0} (g : Ghosts S) (conn : Held S)
     (result : Result (StoreParts S) (CreateFault × Held S)) : Type 0 where
   pub outcome : CreatesStore g conn (without_conn result)
   pub back : IfErr result (λ refusal. GivesBackMaking g conn refusal.0 refusal.1)
 
--- What `open_or_back` does, in the same way.
+-- What `open_or_back` does: what `open` does, and a connection that comes back is as it says.
 pub record OpensOrGivesBack {S : Type 0} (g : Ghosts S) (conn : Held S)
     (result : Result (StoreParts S) (OpenFault × Held S)) : Type 0 where
   pub outcome : OpensStore g conn (without_conn result)
   pub back : IfErr result (λ refusal. GivesBackOpening g conn refusal.0 refusal.1)
 
--- What `migrate_or_back` does, in the same way.
+-- What `migrate_or_back` does: what `migrate` does, and a connection that comes back is as it says.
 pub record MigratesOrGivesBack {S : Type 0} (g : Ghosts S) (conn : Held S)
     (result : Result (StoreParts S) (OpenFault × Held S)) : Type 0 where
   pub outcome : MigratesStore g conn (without_conn result)
@@ -104,24 +103,24 @@ pub record MigratesOrGivesBack {S : Type 0} (g : Ghosts S) (conn : Held S)
 
 -- ---- a store is asked
 
--- What a call that only reads leaves of a store, whatever it answers: the rows are those of before, and a crash leaves
--- what it could leave before.
+-- What a call that only reads leaves of a store, whatever it answers: the rows as they were. A crash leaves what it
+-- could leave before.
 pub record KeepsStore {S : Type 0} (g : Ghosts S) (old new : StoreParts S) : Type 0 where
   pub same : ForRequests g old new (HasRequests g new)
   pub counts : (new.kept ≡ old.kept) × (new.filings ≡ old.filings) × (new.catalogue ≡ old.catalogue)
   pub old_style : new.old_style ≡ old.old_style
   pub crash : CommitsNothing (shows g old) (shows g new)
 
--- an answer leaves it open, and durable as it is
+-- an answer leaves the store open, and durable as it is
 abbrev pub AnswersDurably : {S X E : Type 0} → Ghosts S → StoreParts S → StoreParts S → Result X E → Type 0
 AnswersDurably g old new result = ForRequests g old new (λ F. OnOk result (IsDurableAs g new old.old_style F))
 
--- What `find` tells of a filer and key, and that it writes nothing.
+-- What `find` answers of a filer and key, and that it writes nothing.
 pub record FindsRow {S : Type 0} (g : Ghosts S) (filer key : List ℕ) (old new : StoreParts S)
     (result : Result (Option KeptRow) StoreFault) : Type 0 where
   pub found : ForRequests g old new (λ F. (target : Option ℕ) (body : List ℕ)
       → IfOk result (λ row. option_map (kept_as filer key) row ≡ kept_for (kept F) (the_request filer key target body)))
-  -- It is answered in the style of before where it is among the first that were kept then.
+  -- The style is the earlier one if the request was kept before there were problem details.
   pub style : ForRequests g old new (λ F. (target : Option ℕ) (body : List ℕ)
       → IfOk result (λ row. IfSome row (λ r. r.style
       ≡ style_of (take old.old_style F) (the_request filer key target body))))
@@ -130,8 +129,8 @@ pub record FindsRow {S : Type 0} (g : Ghosts S) (filer key : List ℕ) (old new 
 
 -- ---- a store is written to
 
--- What `add` does with a request, in one transaction. What is said of rows holds where its filer and key are not kept
--- yet, and where it was judged by whether the filing that it is to replace, if any, is free after the kept requests.
+-- What `add` does with a request, in one transaction. What is said of rows holds if its filer and key are not kept yet,
+-- and if it was judged by whether the filing that it is to replace, if any, is free after the kept requests.
 pub record AddsRequest {S : Type 0} (g : Ghosts S) (row : NewRow) (old new : StoreParts S)
     (result : Result Outcome StoreFault) : Type 0 where
   pub added : ForRequests g old new (λ F. ForNew F (the_request row.filer.now row.key.now row.target row.body.now)
@@ -142,7 +141,7 @@ pub record AddsRequest {S : Type 0} (g : Ghosts S) (row : NewRow) (old new : Sto
   pub count : OnOk result (new.kept ≡ old.kept + 1)
   pub counts : OnErr result ((new.kept ≡ old.kept) × (new.filings ≡ old.filings))
   pub old_style : new.old_style ≡ old.old_style
-  -- A crash leaves what one before the call could leave, or the rows with this request, and after Ok these alone.
+  -- A crash in the call leaves what one before it could leave, or the rows with this request; one after Ok, these rows.
   pub crash : SurvivesAs g old new (λ F trees. ForNew F (the_request row.filer.now row.key.now row.target row.body.now)
       row.judged.now (λ r.
       LeavesRegister old.old_style (F ++ r ∷ []) trees))

@@ -20,21 +20,21 @@ use Rattle.register_rows.specs.Schema.{IsDeclared}
 use Rattle.register_rows.specs.Register.{HasRows, kept_row, finding_rows, filing_rows, fact_rows, amends_rows}
 use Rattle.register_tables.specs.Gains.{GainsRows, AddsNothing}
 
--- the tables gain the rows of the kept request at this place, whatever their rows were
+-- the tables gain the rows of the kept request at this place, whatever rows they had
 pub record AddsRows (seq : ℕ) (k : Kept) (old new : Database) : Type 0 where
   pub rows : (old_style : ℕ) (ks fs gs hs ts : List Row) → HasRows old old_style ks fs gs hs ts
       → HasRows new old_style (ks ++ kept_row seq k ∷ []) (fs ++ finding_rows seq k) (gs ++ filing_rows seq k)
       (hs ++ fact_rows seq k) (ts ++ amends_rows seq k)
   pub sound : IsDeclared old.schema → IsDatabase old → IsDatabase new
 
--- so they do inside a transaction, which goes on
+-- the tables gain these rows inside a transaction, which goes on
 pub record AddsInside (seq : ℕ) (k : Kept) (old new : State) : Type 0 where
   pub adds : AddsRows seq k old.now new.now
   pub inside : IsTrue new.in_transaction
   pub committed : new.committed ≡ old.committed
 
--- where the disk is clean at the end, that is what an answer says of a request that is to be kept, with this target and
--- this outcome
+-- if the disk is clean at the end, an answer says that the rows of this request, with this target and this outcome,
+-- were added
 abbrev pub AddsAs : {X E : Type 0} → ℕ → Option ℕ → NewRow → Outcome → State → State → Result X E → Type 0
 AddsAs seq target row outcome old new result =
     HasCleanDisk new
@@ -44,7 +44,7 @@ AddsAs seq target row outcome old new result =
       outcome = outcome;
     }) old new)
 
--- so they did, and it is committed
+-- the tables gained these rows, and that is committed
 pub record Adds (seq : ℕ) (k : Kept) (old new : State) : Type 0 where
   pub was_open : IsTrue old.is_open
   pub is_open : IsTrue new.is_open
@@ -57,7 +57,7 @@ pub record AddsTo (seq : ℕ) (k : Kept) (old : Database) (trees : Trees) : Type
   pub adds : AddsRows seq k old db
   pub is : trees ≡ db.trees
 
--- What the writing of one row inside a transaction does.
+-- What writing one row inside a transaction does.
 pub record InsertsRow {S : Type 0} (g : Ghosts S) (table : Table) (row : Row) (old new : MutBor (Held S))
     (result : Result (Unit {0}) Error) : Type 0 where
   pub leaves : OnlyWrites g old new
@@ -66,7 +66,7 @@ pub record InsertsRow {S : Type 0} (g : Ghosts S) (table : Table) (row : Row) (o
   pub gains : HasCleanDisk (state g new.now)
       → OnOk result (GainsRows table (row ∷ []) (state g old.now) (state g new.now))
 
--- What the keeping of a request at its place does, in one transaction, where the next filing has this number.
+-- What keeping a request at its place does, in one transaction, if the next filing has this number.
 pub record KeepsRequest {S : Type 0} (g : Ghosts S) (seq number : ℕ) (row : NewRow) (old new : Held S)
     (result : Result (Unit {0}) Error) : Type 0 where
   pub key : IsKey row.key.now

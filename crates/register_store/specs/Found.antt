@@ -41,7 +41,7 @@ use Rattle.register_store.specs.Store.{ForRegister}
 abbrev pub has_seq : ℤ → Row → Bool
 has_seq seq row = is_true (binary (Compare Eq Binary) (column row 0) (Int seq)) && true
 
--- in no order
+-- a sort key by which no rows are ordered
 abbrev pub unsorted : Row → Row
 unsorted row = []
 
@@ -73,15 +73,15 @@ abbrev pub is_whole : Value → ℕ → Bool
 is_whole (Int (pos n)) m = nat_eq n m
 is_whole _ m = false
 
--- the code whose number the value is, the first where it is none's
+-- the code whose number the value is, or the first code if there is none
 abbrev pub code_in : Value → Code
 code_in v = unwrap_or (find (λ c. is_whole v (code_number c)) all_codes) NotJson
 
--- of the columns `code` and `place`
+-- the finding in the columns `code` and `place`
 abbrev pub finding_in : Row → Pair
 finding_in row = record { place = bytes_in (column row 1); code = code_in (column row 0) }
 
--- the kept request stands at this place, where the first of them stands at `at`
+-- the kept request is at this place, if the first of these is at `at`
 abbrev pub IsPlaced : ℕ → ℕ → List Kept → Kept → Type 0
 IsPlaced at seq [] k = ⊥
 IsPlaced at seq (x ∷ ks) k = ((seq ≡ at) × (k ≡ x)) ⊎ IsPlaced (at + 1) seq ks k
@@ -96,7 +96,7 @@ pub record IsFound (filer key : List ℕ) (F : List Request) (found : FoundRow) 
   pub seq_is : found.seq ≡ pos seq
   pub number_is : found.number ≡ number_of k.outcome
 
--- so is an answer, also where nothing is kept of them
+-- what was found is the kept request of this filer and key, or nothing if none is kept
 abbrev pub IsLookUp : List ℕ → List ℕ → List Request → Option FoundRow → Type 0
 IsLookUp filer key F None = (target : Option ℕ) (body : List ℕ)
     → kept_for (kept F) (the_request filer key target body) ≡ None
@@ -108,13 +108,13 @@ IsReading rows None = rows ≡ []
 IsReading rows (Some found) = (rows ≢ []) × ((seq : ℕ) (k : Kept) → rows ≡ found_row seq k ∷ []
     → (found.seq ≡ pos seq) × (found.body ≡ k.request.body) × (found.number ≡ number_of k.outcome))
 
--- the place of the filing of this number, or none where there is none
+-- the place of the filing of this number, or none if there is no such filing
 abbrev pub IsPlaceOf : ℕ → List Request → Option ℕ → Type 0
 IsPlaceOf number F None = (k : Kept) (seq : ℕ) → IsPlaced 1 seq (kept F) k → number_of k.outcome ≡ Some number → ⊥
 IsPlaceOf number F (Some seq) = (k : Kept) × IsPlaced 1 seq (kept F) k × (number_of k.outcome ≡ Some number)
 
--- What the looking up of a filer and key tells, where the first `old_style` requests are answered as before, and that
--- it writes nothing.
+-- What looking up a filer and key answers, if the first `old_style` requests are answered in the earlier style, and
+-- that it writes nothing.
 pub record FindsKept {S : Type 0} (g : Ghosts S) (old_style : ℕ) (filer key : List ℕ) (old new : Held S)
     (result : Result (Option KeptRow) StoreFault) : Type 0 where
   pub found : ForRegister g old new (λ _ F. (target : Option ℕ) (body : List ℕ)

@@ -8,6 +8,6 @@ use Rattle.filing_model.specs.Register.{Filing}
 abbrev pub filing_numbered : ℕ → List Filing → Option Filing
 filing_numbered number filings = find (λ f. f.number == number) filings
 
--- its facts
+-- the facts of the filing of this number
 abbrev pub facts_numbered : ℕ → List Filing → Option (List FactRecord)
 facts_numbered number filings = option_map (λ f. facts f.request.body) (filing_numbered number filings)

@@ -1,4 +1,4 @@
--- Kept rows without where they lie in memory.
+-- Kept rows as values, apart from where they are in memory.
 use Rattle.std.specs.Prelude.{ℕ, List, nat_le, if◌then◌else◌}
 use Rattle.filing_model.specs.declared.served.Style.{Style}
 use Rattle.filing_model.specs.declared.served.Style.TheVariants.{Old, Problem}
@@ -13,7 +13,7 @@ abbrev pub kept_as : List ℕ → List ℕ → KeptRow → Kept
 kept_as filer key row =
     record { request = the_request filer key row.target row.body; outcome = view_outcome row.outcome }
 
--- what is kept of a request that was judged so, where the next filing has this number
+-- what is kept of a request that was judged so, if the next filing has this number
 abbrev pub kept_new : ℕ → NewRow → Kept
 kept_new number row =
     record {
@@ -22,7 +22,7 @@ kept_new number row =
           outcome_of number row.judged.now;
     }
 
--- the style in which the kept request at this place is answered, where the first so many were kept before there were
--- problem details
+-- the style in which the kept request at this place is answered, if the first `old_style` ones were kept before there
+-- were problem details
 abbrev pub style_at : ℕ → ℕ → Style
 style_at old_style place = if nat_le place old_style then Old else Problem

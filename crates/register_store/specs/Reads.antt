@@ -11,10 +11,10 @@ use Rattle.sqlite_sql.specs.declared.ops.CompareOp.TheVariants.{Eq}
 abbrev pub has_filer : List ℕ → Row → Bool
 has_filer filer row = is_true (binary (Compare Eq Binary) (column row 1) (Text filer)) && true
 
--- of a kept row its filer
+-- the filer of a kept row
 abbrev pub filer_alone : Row → Row
 filer_alone row = column row 1 ∷ []
 
--- of a fact row, what the fact says
+-- the columns of a fact's row that say the fact
 abbrev pub said : Row → Row
 said row = column row 2 ∷ column row 3 ∷ column row 4 ∷ column row 5 ∷ column row 6 ∷ []

@@ -14,7 +14,7 @@ use Rattle.register_rows.specs.Catalogue.{Entry, catalogue_of}
 use Rattle.register_tables.specs.Registers.{IsRegisterOf, LeavesOnly}
 
 -- a connection, how many requests are kept, how many of them are filings, how many were kept before there were problem
--- details, and what is said of each filing
+-- details, and the catalogue of the filings
 pub record StoreParts (S : Type 0) : Type 0 where
   pub conn : Held S
   pub kept : ℕ
@@ -45,11 +45,11 @@ pub record IsIdle {S : Type 0} (conn : Held S) (kept filings old_style : ℕ) : 
   pub fewer : filings ≤ kept
   pub within : old_style ≤ kept
 
--- what its connection shows
+-- the state of the store's connection
 abbrev pub shows : {S : Type 0} → Ghosts S → StoreParts S → State
 shows g store = state g store.conn
 
--- While it is open, the store's rows stand for these requests, and are committed. One that a fault of the disk shut
+-- While the store is open, its rows stand for these requests, and are committed. A store that a fault of the disk shut
 -- says nothing of its rows.
 pub record HasRequests {S : Type 0} (g : Ghosts S) (store : StoreParts S) (F : List Request) : Type 0 where
   pub stands : HasCommitted (IsRegisterOf store.old_style F) (shows g store)
@@ -58,31 +58,30 @@ pub record HasRequests {S : Type 0} (g : Ghosts S) (store : StoreParts S) (F : L
   pub within : store.old_style ≤ length F
   pub catalogue_is : store.catalogue ≡ catalogue_of F
 
--- Whatever requests the rows stood for before, and were committed: where the disk is clean at the end, this holds of
--- them.
+-- If the disk is clean at the end, this holds of the requests for which the rows stood before, if they were committed.
 abbrev pub ForRegister : {S : Type 0} → Ghosts S → Held S → Held S → (ℕ → List Request → Type 0) → Type 0
 ForRegister g old new Holds = HasCleanDisk (state g new) → (old_style : ℕ) (F : List Request)
     → HasCommitted (IsRegisterOf old_style F) (state g old) → Holds old_style F
 
--- Whatever requests it had before: where the disk is clean at the end, this holds of them.
+-- If the disk is clean at the end, this holds of the requests that the store had before.
 abbrev pub ForRequests : {S : Type 0} → Ghosts S → StoreParts S → StoreParts S → (List Request → Type 0) → Type 0
 ForRequests g old new Holds = HasCleanDisk (shows g new) → (F : List Request) → HasRequests g old F → Holds F
 
--- This holds of the store that a call hands out, where its disk is clean.
+-- This holds of the store that a call hands out, if its disk is clean.
 abbrev pub HandsOut : {S E : Type 0} → Ghosts S → Result (StoreParts S) E → (StoreParts S → Type 0) → Type 0
 HandsOut g result Holds = IfOk result (λ store. HasCleanDisk (shows g store) → Holds store)
 
--- Where the filer and key are new after these requests, and the report was judged by whether the filing that it is to
--- replace, if any, is free after them, this holds of the request.
+-- This holds of the request, if its filer and key are new after these requests, and if its report was judged by whether
+-- the filing that it is to replace, if any, is free after them.
 abbrev pub ForNew : List Request → Request → Judged → (Request → Type 0) → Type 0
 ForNew F r judged Holds = has_key F r ≡ false
     → IsAmendmentJudgement r.filer r.body (is_free (register F) r.filer r.target) judged → Holds r
 
--- it is open, and a crash now leaves the rows of these requests, and no others
+-- the store is open, and a crash now leaves the rows of these requests, and no others
 abbrev pub IsDurableAs : {S : Type 0} → Ghosts S → StoreParts S → ℕ → List Request → Type 0
 IsDurableAs g store old_style F = IsTrue (shows g store).is_open × LeavesOnly (shows g store) old_style F
 
--- A crash inside the call leaves what one before it could leave, or these trees, by the requests of before.
+-- A crash in the call leaves what one before it could leave, or these trees, which depend on the requests before it.
 abbrev pub SurvivesAs : {S : Type 0} → Ghosts S → StoreParts S → StoreParts S → (List Request → Trees → Type 0) → Type 0
 SurvivesAs g old new Leaves =
     Survives (shows g old) (shows g new) (λ trees. (F : List Request) → HasRequests g old F

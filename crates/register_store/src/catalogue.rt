@@ -1,4 +1,4 @@
-//! The catalogue of an open register, when a request more is kept.
+//! How the catalogue of an open register grows when a request is kept.
 
 ghost use Rattle.std.specs.Prelude.{◌≡◌, ◌++◌, ◌∷◌, [], List, length, suc};
 ghost use Rattle.xbrl_report.specs.Judgement.{HasFacts};
@@ -12,7 +12,7 @@ use crate::outcome::NewRow;
 use register_rows::Catalogue;
 use xbrl_report::Judged;
 
-/// The request was kept at this place as it was judged: it is one filing more, if its report is valid.
+/// Adds the filing that the request kept at this place is, if its report is valid.
 pub(crate) fn note(catalogue: &mut Catalogue, seq: u64, row: &NewRow<'_>)
     requires room { HasRoom catalogue.old }
     requires facts { HasFacts row.now.body.now row.now.judged.now }

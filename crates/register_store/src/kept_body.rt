@@ -1,10 +1,11 @@
-//! The body of a kept request, where the row has it that was read.
+//! The body of a kept request, in the row that was read.
 
 ghost use Rattle.std.specs.Prelude.{◌≡◌, IfOk};
 ghost use Rattle.sqlite_value.specs.Value.{owned};
 ghost use Rattle.sqlite.specs.Order.{column};
 ghost use Rattle.register_rows.specs.Columns.{bytes_in};
 
+use crate::columns::found;
 use sqlite::Row;
 use sqlite::types::ValueRef;
 use std::marker::Model;
@@ -31,7 +32,7 @@ impl KeptBody {
     pub(crate) fn of_row(row: Row) -> Result<KeptBody, StoreFault>
         ensures { IfOk result (λ body. body ≡ bytes_in (column row 1)) }
     {
-        match row.get_ref(1) {
+        match row.get_ref(found::BODY) {
             Ok(ValueRef::Blob(_)) => Ok(KeptBody { row }),
             _ => Err(StoreFault::Store),
         }
@@ -41,14 +42,14 @@ impl KeptBody {
     pub fn as_slice(&self) -> &[u8]
         ensures { result.now ≡ self.now }
     {
-        match self.row.get_ref(1) {
+        match self.row.get_ref(found::BODY) {
             Ok(value) => blob_in(value),
             Err(_) => &[],
         }
     }
 }
 
-/// The bytes of a blob, none where the value is none.
+/// The bytes of a blob, or none if the value is no blob.
 fn blob_in(value: ValueRef<'_>) -> &[u8]
     ensures { result.now ≡ bytes_in (owned value.entry) }
 {

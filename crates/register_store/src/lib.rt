@@ -4,6 +4,7 @@
 #![tactic(auto)]
 
 mod catalogue;
+mod columns;
 mod decode;
 mod kept_body;
 mod outcome;

@@ -34,6 +34,8 @@ fn signed(number: Option<u64>) -> Option<i64>
     }
 }
 
+const INSERT_KEPT: &str = "INSERT INTO kept VALUES (?1, ?2, ?3, ?4, ?5)";
+
 /// Adds the row of a kept request, with its place and its number, if it has one.
 pub fn insert_kept<S: Alter>(
     tx: &mut Transaction<'_, S>,
@@ -51,10 +53,12 @@ pub fn insert_kept<S: Alter>(
     let number = signed(number);
     run(
         tx,
-        "INSERT INTO kept VALUES (?1, ?2, ?3, ?4, ?5)",
+        INSERT_KEPT,
         params![seq as i64, row.filer, row.key.as_str(), row.body, number],
     )
 }
+
+const INSERT_FILING: &str = "INSERT INTO filing VALUES (?1, ?2)";
 
 /// Adds the row of a filing, with its number and the place of its request.
 pub fn insert_filing<S: Alter>(
@@ -67,12 +71,10 @@ pub fn insert_filing<S: Alter>(
     ensures { InsertsRow S.Store filing_table (Int (pos number) ∷ Int (pos seq) ∷ []) tx.old.conn tx.new.conn
         result }
 {
-    run(
-        tx,
-        "INSERT INTO filing VALUES (?1, ?2)",
-        params![number as i64, seq as i64],
-    )
+    run(tx, INSERT_FILING, params![number as i64, seq as i64])
 }
+
+const INSERT_AMENDS: &str = "INSERT INTO amends VALUES (?1, ?2)";
 
 /// Adds the row that says which filing the request at this place is to replace.
 pub fn insert_amends<S: Alter>(
@@ -85,19 +87,15 @@ pub fn insert_amends<S: Alter>(
     ensures { InsertsRow S.Store amends_table (Int (pos seq) ∷ Int (pos target) ∷ []) tx.old.conn tx.new.conn
         result }
 {
-    run(
-        tx,
-        "INSERT INTO amends VALUES (?1, ?2)",
-        params![seq as i64, target as i64],
-    )
+    run(tx, INSERT_AMENDS, params![seq as i64, target as i64])
 }
 
 /// What has a row of its own in a table.
 pub trait InsertItem: RowItem {
-    // The table that has it.
+    // The table that has its row.
     ghost table: { Table };
 
-    /// Adds its row; `number` is that of its request or filing, and so many of its kind come up to it.
+    /// Adds its row. `number` is that of its request or filing, and `at` its place among those of its kind, from 1.
     fn insert<S: Alter>(
         &self,
         tx: &mut Transaction<'_, S>,
@@ -108,6 +106,8 @@ pub trait InsertItem: RowItem {
         requires at { at < 2 ^ 63 }
         ensures { InsertsRow S.Store table (Self.RowItem.row_of number at self.now) tx.old.conn tx.new.conn result };
 }
+
+const INSERT_FINDING: &str = "INSERT INTO finding VALUES (?1, ?2, ?3, ?4)";
 
 impl InsertItem for Finding {
     ghost table = { finding_table };
@@ -122,11 +122,13 @@ impl InsertItem for Finding {
         let place = self.place.as_bytes();
         run(
             tx,
-            "INSERT INTO finding VALUES (?1, ?2, ?3, ?4)",
+            INSERT_FINDING,
             params![number as i64, at as i64, code, place],
         )
     }
 }
+
+const INSERT_FACT: &str = "INSERT INTO fact VALUES (?1, ?2, ?3, ?4, ?5, ?6, ?7)";
 
 impl InsertItem for Fact {
     ghost table = { fact_table };
@@ -143,7 +145,7 @@ impl InsertItem for Fact {
         let value = bytes_of(&self.value);
         run(
             tx,
-            "INSERT INTO fact VALUES (?1, ?2, ?3, ?4, ?5, ?6, ?7)",
+            INSERT_FACT,
             params![
                 number as i64,
                 at as i64,
@@ -189,6 +191,8 @@ pub fn insert_items<S: Alter, T: InsertItem>(
     Ok(())
 }
 
+const KEPT_WITH_KEY: &str = "SELECT seq, body, number FROM kept WHERE filer = ?1 AND idem = ?2";
+
 /// The columns `seq`, `body` and `number` of the rows kept for a filer and key.
 pub fn rows_with_key<S: Alter>(
     conn: &mut Connection<S>,
@@ -201,12 +205,10 @@ pub fn rows_with_key<S: Alter>(
         (state S.Store conn.new)) }
     ensures leaves { OnlyQueries S.Store conn.old conn.new result }
 {
-    select(
-        conn,
-        "SELECT seq, body, number FROM kept WHERE filer = ?1 AND idem = ?2",
-        params![filer, key],
-    )
+    select(conn, KEPT_WITH_KEY, params![filer, key])
 }
+
+const FINDINGS_AT: &str = "SELECT code, place FROM finding WHERE seq = ?1 ORDER BY pos";
 
 /// The columns `code` and `place` of the findings of the request at this place, in order.
 pub fn rows_of_findings<S: Alter>(conn: &mut Connection<S>, seq: i64) -> Result<Vec<Row>, Error>
@@ -216,12 +218,10 @@ pub fn rows_of_findings<S: Alter>(conn: &mut Connection<S>, seq: i64) -> Result<
         (state S.Store conn.new)) }
     ensures leaves { OnlyQueries S.Store conn.old conn.new result }
 {
-    select(
-        conn,
-        "SELECT code, place FROM finding WHERE seq = ?1 ORDER BY pos",
-        params![seq],
-    )
+    select(conn, FINDINGS_AT, params![seq])
 }
+
+const TARGET_AT: &str = "SELECT target FROM amends WHERE seq = ?1";
 
 /// The column `target` of the rows of `amends` with this place.
 pub fn rows_of_target<S: Alter>(conn: &mut Connection<S>, seq: i64) -> Result<Vec<Row>, Error>
@@ -231,9 +231,5 @@ pub fn rows_of_target<S: Alter>(conn: &mut Connection<S>, seq: i64) -> Result<Ve
         (state S.Store conn.new)) }
     ensures leaves { OnlyQueries S.Store conn.old conn.new result }
 {
-    select(
-        conn,
-        "SELECT target FROM amends WHERE seq = ?1",
-        params![seq],
-    )
+    select(conn, TARGET_AT, params![seq])
 }

@@ -26,10 +26,10 @@ use std::alloc::Global;
 use std::marker::Model;
 use table_rows::StoreFault;
 
-/// The register of a connection: the first request of each filer and key with its outcome, for good. Where each filing
-/// is kept and what a list shows of it is held in memory, in 32 bytes for each.
+/// The register of a connection: the first request of each filer and key with its outcome, for good. The catalogue of
+/// the filings is in memory, with 32 bytes for each.
 ///
-/// What a clause says of rows holds where the disk is clean as the call ends: where it gave back what was written.
+/// What a clause says of rows holds if the disk is clean as the call ends: if it gave back what was written.
 ///
 /// A register's file is its own: if the database had a table before the register was made in it, no clause says what
 /// the rows stand for.
@@ -135,7 +135,7 @@ impl<S: Alter> Store<S> {
 
     /// Brings the register that the database holds from an earlier form into the present one, in one transaction, and
     /// opens it. A refusal leaves the rows as they were, and gives the connection back, which may be used again. What
-    /// is said of the new rows holds where the database has no other tables.
+    /// is said of the new rows holds if the database has no other tables.
     pub fn migrate_or_back(
         alloc: Global,
         conn: Connection<S>,
@@ -202,7 +202,7 @@ impl<S: Alter + Drop> Store<S> {
 }
 
 impl<S: Alter> Store<S> {
-    /// What is kept of this filer and key: the first request with its outcome, or `None` where they are new.
+    /// What is kept of this filer and key: the first request with its outcome, or `None` if they are new.
     pub fn find(&mut self, filer: &str, key: &KeyText) -> Result<Option<KeptRow>, StoreFault>
         ensures { FindsRow S.Store filer.now key.now self.old self.new result }
     {
@@ -215,9 +215,10 @@ impl<S: Alter> Store<S> {
         )
     }
 
-    /// Keeps a request, in one transaction, and answers its outcome: a valid report takes the next number, and another
-    /// is refused with all its findings. The filer and key are not kept yet, and it was judged by whether the filing
-    /// that it is to replace, if any, is free after the kept requests.
+    /// Keeps a request, in one transaction, and answers its outcome: a valid report takes the next number, and any
+    /// other is refused with all its findings. What the clauses say of the rows holds if the filer and key are not kept
+    /// yet, and if the report was judged by whether the filing that it is to replace, if any, is free after the kept
+    /// requests.
     pub fn add(&mut self, row: &NewRow<'_>) -> Result<Outcome, StoreFault>
         requires filer { is_filer row.now.filer.now ≡ true }
         requires body { length row.now.body.now ≤ max_body_len }
@@ -250,7 +251,7 @@ impl<S: Alter> Store<S> {
         Ok(self.filings)
     }
 
-    /// How many of the first kept requests are told what they were told before there were problem details.
+    /// How many of the kept requests, from the first on, were kept before there were problem details.
     pub fn old_style_count(&self) -> Result<u64, StoreFault>
         ensures { result ≡ Ok self.now.old_style }
     {

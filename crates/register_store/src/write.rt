@@ -94,6 +94,7 @@ fn write_amendment<S: Alter>(
     ensures adds { AddsAs seq (Some target) row.now (outcome_of number row.now.judged.now)
         (state S.Store tx.old.conn.now) (state S.Store tx.new.conn.now) result }
 {
+    // For its clause `key`, which the proof needs.
     let _key = row.key.as_str();
     insert_amends(tx, seq, target)?;
     write_judged(tx, seq, number, row)

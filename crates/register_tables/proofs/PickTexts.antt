@@ -16,6 +16,9 @@ use Rattle.table_rows.proofs.ReadingLemmas.{by_each}
 use Rattle.table_rows.proofs.QueryLemmas.{Asks}
 use Rattle.table_rows.proofs.TextLemmas.{IsQueryText}
 use Rattle.register_rows.specs.Schema.{common_tables, HasCommon}
+use Rattle.register_tables.specs.declared.select.picks.TheConstants.{COUNT_FACTS, COUNT_FILINGS, COUNT_FINDINGS}
+use Rattle.register_tables.specs.declared.select.picks.TheConstants.{COUNT_KEPT, FACTS_NUMBERED, FILINGS_NUMBERED}
+use Rattle.register_tables.specs.declared.select.picks.TheConstants.{FINDINGS_AT, KEPT_AT, PLACES_WITH_KEY}
 use Rattle.register_tables.proofs.ReadTexts.{columns, equals, on_ours}
 use Rattle.sqlite_tied.specs.Listing.{counting}
 
@@ -24,32 +27,31 @@ abbrev pub same_filer_and_key : List Term
 same_filer_and_key = op2 (Compare Eq Binary) (col 1 2) (col 0 0) ∷ op2 (Compare Eq Binary) (col 1 3) (col 0 1) ∷ []
 
 abbrev pub kept_at_text : List ℕ
-kept_at_text = codes "SELECT seq, filer, idem, body, number FROM kept WHERE seq = ?1 ORDER BY seq"
+kept_at_text = KEPT_AT.now
 
 abbrev pub findings_at_text : List ℕ
-findings_at_text = codes "SELECT seq, pos, code, place FROM finding WHERE seq = ?1 ORDER BY pos"
+findings_at_text = FINDINGS_AT.now
 
 abbrev pub filings_numbered_text : List ℕ
-filings_numbered_text = codes "SELECT number, seq FROM filing WHERE number = ?1 ORDER BY number"
+filings_numbered_text = FILINGS_NUMBERED.now
 
 abbrev pub facts_numbered_text : List ℕ
-facts_numbered_text =
-    codes "SELECT number, pos, id, concept, dimensions, value, decimals FROM fact WHERE number = ?1 ORDER BY pos"
+facts_numbered_text = FACTS_NUMBERED.now
 
 abbrev pub with_key_text : List ℕ
-with_key_text = codes "SELECT seq FROM kept WHERE filer = ?1 AND idem = ?2 ORDER BY seq"
+with_key_text = PLACES_WITH_KEY.now
 
 abbrev pub count_kept_text : List ℕ
-count_kept_text = codes "SELECT count(*) FROM kept"
+count_kept_text = COUNT_KEPT.now
 
 abbrev pub count_findings_text : List ℕ
-count_findings_text = codes "SELECT count(*) FROM finding"
+count_findings_text = COUNT_FINDINGS.now
 
 abbrev pub count_filings_text : List ℕ
-count_filings_text = codes "SELECT count(*) FROM filing"
+count_filings_text = COUNT_FILINGS.now
 
 abbrev pub count_facts_text : List ℕ
-count_facts_text = codes "SELECT count(*) FROM fact"
+count_facts_text = COUNT_FACTS.now
 
 -- each is a SELECT
 

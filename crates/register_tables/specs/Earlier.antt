@@ -1,4 +1,4 @@
--- Registers in the forms before this one.
+-- Registers in the forms of earlier versions.
 use Rattle.std.specs.Prelude.{◌≡◌, ◌≤◌, ℕ, Bool, List, [], ◌∷◌, ◌++◌, length}
 use Rattle.std.specs.List.{list_any}
 use Rattle.sqlite.specs.Change.{created}
@@ -27,21 +27,21 @@ abbrev pub tables_of : Earlier → List Table
 tables_of Second = common_tables
 tables_of Third = common_tables ++ migrated_table ∷ []
 
--- those that it has not, and a register has
+-- the tables of a register that this form lacks
 abbrev pub lacking : Earlier → List Table
 lacking Second = migrated_table ∷ amends_table ∷ []
 lacking Third = amends_table ∷ []
 
--- whether the name of one of these is in use
+-- whether the name of a table that this form lacks is in use
 abbrev pub is_blocked : Schema → Earlier → Bool
 is_blocked schema form = list_any (λ t. is_used schema t.name) (lacking form)
 
--- what is declared once these tables are made, one after another
+-- what is declared after these tables were made, one after another
 abbrev pub made_from : Schema → List Table → Schema
 made_from schema [] = schema
 made_from schema (t ∷ tables) = made_from (created schema t) tables
 
--- these tables and their indexes alone are declared, as they were made in a database that had none
+-- the tables of this form and their indexes alone are declared, as they were made in a database that had none
 abbrev pub IsAlone : Earlier → Schema → Type 0
 IsAlone form schema = schema ≡ made_from no_schema (tables_of form)
 
@@ -58,7 +58,7 @@ pub record StandsForEarlier (form : Earlier) (db : Database) (old_style : ℕ) (
   pub are : AreAllOf F [] db
   pub old_style_is : HasOldStyle form db old_style (length F)
 
--- a database, as SQLite's files have one, whose rows do
+-- a database, as SQLite's files have one, whose rows stand for these requests in this form
 pub record IsEarlierOf (form : Earlier) (old_style : ℕ) (F : List Request) (db : Database) : Type 0 where
   pub sound : IsDatabase db
   pub rows : StandsForEarlier form db old_style F

@@ -14,7 +14,7 @@ create_fault_by cause.Memory = create.Memory
 create_fault_by cause.Disk = create.Disk
 create_fault_by cause.Other = create.Disk
 
--- the same where the tables are made
+-- a refusal while the tables are made
 abbrev pub create_fault : Error → CreateFault
 create_fault error = create_fault_by (cause_of error)
 
@@ -23,7 +23,7 @@ meta_fault_by cause.Memory = fault.Memory
 meta_fault_by cause.Disk = fault.Disk
 meta_fault_by cause.Other = fault.NotOurs
 
--- where `intake_meta` cannot be read
+-- `intake_meta` cannot be read
 abbrev pub meta_fault : Error → OpenFault
 meta_fault error = meta_fault_by (cause_of error)
 
@@ -32,10 +32,10 @@ table_fault_by cause.Memory = fault.Memory
 table_fault_by cause.Disk = fault.Disk
 table_fault_by cause.Other = fault.Damaged 0
 
--- where another table cannot be read
+-- another table cannot be read
 abbrev pub table_fault : Error → OpenFault
 table_fault error = table_fault_by (cause_of error)
 
--- it says nothing of the rows
+-- memory or the disk failed, which says nothing of the rows
 abbrev pub IsFailure : OpenFault → Type 0
 IsFailure why = (why ≡ fault.Memory) ⊎ (why ≡ fault.Disk)

@@ -9,46 +9,45 @@ use Rattle.sqlite.specs.State.{HasCleanDisk, Survives, ExecutesInside, IsRolledB
 use Rattle.sqlite.specs.declared.error.Error.{Error}
 use Rattle.table_rows.specs.Tables.{no_schema}
 use Rattle.table_rows.specs.Standing.{IsLasting}
+use Rattle.register_tables.specs.declared.schema.create.TheConstants.{CREATE_AMENDS, CREATE_FACT, CREATE_FILING}
+use Rattle.register_tables.specs.declared.schema.create.TheConstants.{CREATE_FINDING, CREATE_KEPT, CREATE_META}
+use Rattle.register_tables.specs.declared.schema.create.TheConstants.{CREATE_MIGRATED, INSERT_META, INSERT_NO_OLD_STYLE}
 use Rattle.register_tables.specs.Gains.{AddsNothing}
 use Rattle.register_tables.specs.Registers.{IsRegisterOf}
 
 abbrev pub create_meta : List ℕ
-create_meta =
-    codes "CREATE TABLE intake_meta (id INTEGER PRIMARY KEY, kind TEXT NOT NULL, form INTEGER NOT NULL) STRICT"
+create_meta = CREATE_META.now
 
 abbrev pub create_kept : List ℕ
-create_kept =
-    codes "CREATE TABLE kept (seq INTEGER PRIMARY KEY, filer TEXT NOT NULL, idem TEXT NOT NULL, body BLOB NOT NULL, number INTEGER, UNIQUE (filer, idem)) STRICT"
+create_kept = CREATE_KEPT.now
 
 abbrev pub create_finding : List ℕ
-create_finding =
-    codes "CREATE TABLE finding (seq INTEGER NOT NULL, pos INTEGER NOT NULL, code INTEGER NOT NULL, place BLOB NOT NULL, PRIMARY KEY (seq, pos)) STRICT"
+create_finding = CREATE_FINDING.now
 
 abbrev pub create_filing : List ℕ
-create_filing = codes "CREATE TABLE filing (number INTEGER PRIMARY KEY, seq INTEGER NOT NULL UNIQUE) STRICT"
+create_filing = CREATE_FILING.now
 
 abbrev pub create_fact : List ℕ
-create_fact =
-    codes "CREATE TABLE fact (number INTEGER NOT NULL, pos INTEGER NOT NULL, id BLOB NOT NULL, concept BLOB NOT NULL, dimensions BLOB NOT NULL, value BLOB, decimals INTEGER, PRIMARY KEY (number, pos)) STRICT"
+create_fact = CREATE_FACT.now
 
 abbrev pub create_migrated : List ℕ
-create_migrated = codes "CREATE TABLE migrated (id INTEGER PRIMARY KEY, last INTEGER NOT NULL) STRICT"
+create_migrated = CREATE_MIGRATED.now
 
 abbrev pub create_amends : List ℕ
-create_amends = codes "CREATE TABLE amends (seq INTEGER PRIMARY KEY, target INTEGER NOT NULL) STRICT"
+create_amends = CREATE_AMENDS.now
 
 abbrev pub insert_meta : List ℕ
-insert_meta = codes "INSERT INTO intake_meta VALUES (1, 'register', 4)"
+insert_meta = INSERT_META.now
 
 -- none of the requests of a new register was kept before there were problem details
 abbrev pub insert_none_old_style : List ℕ
-insert_none_old_style = codes "INSERT INTO migrated VALUES (1, 0)"
+insert_none_old_style = INSERT_NO_OLD_STYLE.now
 
--- they make the tables of every form
+-- the statements that make the tables of every form
 abbrev pub common_texts : List (List ℕ)
 common_texts = create_meta ∷ create_kept ∷ create_finding ∷ create_filing ∷ create_fact ∷ []
 
--- and they the others, and the rows that every register has
+-- the statements that make the other tables, and the rows that every register has
 abbrev pub later_texts : List (List ℕ)
 later_texts = create_migrated ∷ create_amends ∷ insert_meta ∷ insert_none_old_style ∷ []
 
@@ -62,7 +61,7 @@ AreRun {S} g (text ∷ texts) old new =
     (mid : Held S) × ((count : ℕ) × ExecutesInside 0 text [] (state g old) (state g mid) (Ok count))
     × AreRun g texts mid new
 
--- one of them fails with this error, after those before it were run
+-- one of the statements fails with this error, after those before it were run
 abbrev pub StopsWith : {S : Type 0} → Ghosts S → Error → List (List ℕ) → Held S → Held S → Type 0
 StopsWith g error [] old new = ⊥
 StopsWith {S} g error (text ∷ texts) old new =
@@ -80,8 +79,7 @@ pub record Makes {S : Type 0} (g : Ghosts S) (old : Held S) (trees : Trees) : Ty
   pub ran : AreRun g making_texts (begun old) last
   pub is : trees ≡ (state g last).now.trees
 
--- a statement failed with this error and what the others did was undone, or they were all run and could not be
--- committed
+-- a statement failed with this error and what the others did was undone, or all were run and could not be committed
 pub record FailsToMake {S : Type 0} (g : Ghosts S) (error : Error) (old new : Held S) : Type 0 where
   pub last : Held S
   pub counts : (state g last).faults ≤ (state g new).faults
@@ -91,12 +89,12 @@ pub record FailsToMake {S : Type 0} (g : Ghosts S) (error : Error) (old new : He
 -- What the making of a register that has no request does, in one transaction.
 pub record MakesRegister {S E : Type 0} (g : Ghosts S) (old new : Held S) (result : Result (Unit {0}) E) : Type 0 where
   pub autocommit : new.in_transaction ≡ false
-  -- where the database had no table before, the rows stand for no request, and they are committed
+  -- If the database had no table before, the rows stand for no request, and they are committed.
   pub made : HasCleanDisk (state g new) → (state g old).now.schema ≡ no_schema
       → OnOk result (IsTrue (state g new).is_open × IsRegisterOf 0 [] (state g new).now
       × ((state g new).committed ≡ (state g new).now))
   pub durable : HasCleanDisk (state g new) → OnOk result (IsLasting (state g new))
-  -- After a refusal nothing was written, and what was committed is what it was: whatever tables there are.
+  -- A refusal wrote nothing and left what was committed, whatever tables there are.
   pub neither : HasCleanDisk (state g new) → OnErr result (AddsNothing (state g old) (state g new))
   -- A crash leaves what it could leave before, or what all the statements make of the database.
   pub crash : Survives (state g old) (state g new) (Makes g old)

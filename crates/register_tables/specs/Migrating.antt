@@ -16,6 +16,7 @@ use Rattle.table_rows.specs.Standing.{HasCommitted}
 use Rattle.table_rows.specs.declared.cause.Cause.{Cause}
 use Rattle.table_rows.specs.declared.cause.Cause.TheVariants as cause
 use Rattle.register_rows.specs.declared.verdict.Verdict.TheVariants as verdict
+use Rattle.register_tables.specs.declared.migrate.TheConstants.{INSERT_OLD_STYLE, RAISE_FORM}
 use Rattle.register_tables.specs.declared.migrate.earlier.Earlier.{Earlier}
 use Rattle.register_tables.specs.declared.migrate.earlier.Earlier.TheVariants.{Second, Third}
 use Rattle.register_tables.specs.declared.fault.OpenFault.{OpenFault}
@@ -56,7 +57,7 @@ pub record IsCounted {S : Type 0} (g : Ghosts S) (form : Earlier) (counts : Coun
   pub totals_are : AreTotals (record { kept = counts.kept; filings = counts.filings; catalogue = counts.catalogue })
       (state g mid) (state g new)
 
--- one in this form was found, and holds so much
+-- a register in this form was found, and holds so much
 pub record IsSurveyed {S : Type 0} (g : Ghosts S) (form : Earlier) (counts : Counts) (old new : Held S) : Type 0 where
   pub mid : Held S
   pub form_is : IsRead g all_meta old mid (form_row (form_number form) ∷ [])
@@ -86,11 +87,11 @@ HasNoTotals g fault.Memory old new =
     StopsFor g cause.Memory row_texts old new ⊎ ((rows : List (List Row)) × AreRead g row_texts old new rows)
 HasNoTotals g fault.Disk old new = StopsFor g cause.Disk row_texts old new
 
--- the rows of `migrated` say no number of so many kept requests
+-- the rows of `migrated` are not one row with a number that is at most that of the kept requests
 abbrev pub SaysNone : ℕ → List Row → Type 0
 SaysNone kept rows = (old_style : ℕ) → rows ≡ migrated_row old_style ∷ [] → old_style ≤ kept → ⊥
 
--- beside those of `intake_meta` the tables of this form cannot be read, or their rows stand for no requests
+-- the tables of this form beside `intake_meta` cannot be read, or their rows stand for no requests
 abbrev pub HasNoCounts : {S : Type 0} → Ghosts S → Earlier → OpenFault → Held S → Held S → Type 0
 HasNoCounts g Second why old new = HasNoTotals g why old new
 HasNoCounts {S} g Third why old new =
@@ -99,7 +100,7 @@ HasNoCounts {S} g Third why old new =
     × (HasNoTotals g why mid new ⊎ ((why ≡ fault.Damaged 0) × (totals : Totals)
     × AreTotals totals (state g mid) (state g new) × SaysNone totals.kept rows)))
 
--- so no register in an earlier form was found
+-- no register in an earlier form was found
 abbrev pub IsNotSurveyed : {S : Type 0} → Ghosts S → OpenFault → Held S → Held S → Type 0
 IsNotSurveyed {S} g why old new =
     HasNoForm g why old new ⊎ ((form : Earlier) × (mid : Held S)
@@ -108,16 +109,16 @@ IsNotSurveyed {S} g why old new =
 -- ---- what is written
 
 abbrev pub insert_old_style : List ℕ
-insert_old_style = codes "INSERT INTO migrated VALUES (1, ?1)"
+insert_old_style = INSERT_OLD_STYLE.now
 
 abbrev pub raise_form : List ℕ
-raise_form = codes "UPDATE intake_meta SET form = 4 WHERE id = 1"
+raise_form = RAISE_FORM.now
 
 -- a statement, and the values of its parameters
 abbrev pub Statement : Type 0
 Statement = List ℕ × Row
 
--- the statements for a register of this form, where so many requests were kept before there were problem details
+-- the statements that upgrade a register of this form, with so many requests from before there were problem details
 abbrev pub migrating : Earlier → ℕ → List Statement
 migrating Second old_style =
     (create_migrated, []) ∷ (create_amends, []) ∷ (insert_old_style, Int (pos old_style) ∷ []) ∷ (raise_form, []) ∷ []
@@ -130,7 +131,7 @@ AreDone {S} g (s ∷ more) old new =
     (mid : Held S) × ((count : ℕ) × ExecutesInside 0 s.0 s.1 (state g old) (state g mid) (Ok count))
     × AreDone g more mid new
 
--- one of them fails with this error, after those before it were run
+-- one of the statements fails with this error, after those before it were run
 abbrev pub StopsAt : {S : Type 0} → Ghosts S → Error → List Statement → Held S → Held S → Type 0
 StopsAt g error [] old new = ⊥
 StopsAt {S} g error (s ∷ more) old new =
@@ -138,7 +139,7 @@ StopsAt {S} g error (s ∷ more) old new =
     ⊎ ((mid : Held S) × ((count : ℕ) × ExecutesInside 0 s.0 s.1 (state g old) (state g mid) (Ok count))
     × StopsAt g error more mid new)
 
--- they were run in one transaction, they and no others, and what they made is committed
+-- these statements and no others were run in one transaction, and what they made is committed
 pub record AreCommitted {S : Type 0} (g : Ghosts S) (statements : List Statement) (old new : Held S) : Type 0 where
   pub last : Held S
   pub done : AreDone g statements (begun old) last
@@ -146,8 +147,7 @@ pub record AreCommitted {S : Type 0} (g : Ghosts S) (statements : List Statement
   pub now_is : (state g new).now ≡ (state g last).now
   pub committed_is : (state g new).committed ≡ (state g last).now
 
--- a statement failed with this error and what the others did was undone, or they were all run and could not be
--- committed
+-- a statement failed with this error and what the others did was undone, or all were run and could not be committed
 pub record AreUndone {S : Type 0} (g : Ghosts S) (error : Error) (statements : List Statement) (old new : Held S)
     : Type 0 where
   pub last : Held S
@@ -171,7 +171,7 @@ pub record IsMigrated {S : Type 0} (g : Ghosts S) (form : Earlier) (counts : Cou
   pub free : is_blocked (state g mid).now.schema form ≡ false
   pub written : AreCommitted g (migrating form counts.old_style) mid new
 
--- what a crash may leave of them
+-- what a crash may leave: the trees that all the statements for the register that was found make of it
 pub record MigratesTo {S : Type 0} (g : Ghosts S) (old : Held S) (trees : Trees) : Type 0 where
   pub form : Earlier
   pub counts : Counts
@@ -188,7 +188,7 @@ pub record Migrates {S : Type 0} (g : Ghosts S) (form : Earlier) (counts : Count
   pub filings_is : counts.filings ≡ length (register requests)
   pub catalogue_is : view_lines counts.catalogue ≡ catalogue_of requests
 
--- a fault of a statement that writes, which is not one of the rows
+-- a fault of a statement that writes; it says nothing of the rows
 abbrev pub write_fault_by : Cause → OpenFault
 write_fault_by cause.Memory = fault.Memory
 write_fault_by cause.Disk = fault.Disk
@@ -197,7 +197,7 @@ write_fault_by cause.Other = fault.Disk
 abbrev pub write_fault : Error → OpenFault
 write_fault error = write_fault_by (cause_of error)
 
--- why it is not migrated, where it was found: a name is in the way, or the statements failed
+-- why a register that was found is not migrated: a name is in the way, or the statements failed
 abbrev pub IsHindered : {S : Type 0} → Ghosts S → Earlier → ℕ → OpenFault → Held S → Held S → Type 0
 IsHindered g form old_style why old new =
     ((why ≡ fault.NotOurs) × IsTrue (is_blocked (state g old).now.schema form) × (old ≡ new))
@@ -210,28 +210,28 @@ IsNotMigrated {S} g why old new =
     IsNotSurveyed g why old new ⊎ ((form : Earlier) × (counts : Counts) × (mid : Held S)
     × IsSurveyed g form counts old mid × IsHindered g form counts.old_style why mid new)
 
--- What the bringing of a register from an earlier form into the present one does, in one transaction.
+-- What bringing a register from an earlier form into the present one does, in one transaction.
 pub record MigratesRegister {S : Type 0} (g : Ghosts S) (old new : Held S) (result : Result Counts OpenFault)
     : Type 0 where
   pub autocommit : new.in_transaction ≡ false
-  -- The rows stood for requests, and stand for them in the present form. Others than those that are counted they didn't
-  -- stand for.
+  -- The rows stood for requests, and stand for them in the present form. They did not stand for other requests than
+  -- those that are counted.
   pub migrated : HasCleanDisk (state g new) → (form : Earlier) → IsAlone form (state g old).now.schema
       → IfOk result (λ counts. Migrates g form counts old new)
   pub only : HasCleanDisk (state g new) → IfOk result (λ counts. ForEarlier g old (λ _. opening.IsCounted g new counts))
   pub few : IfOk result AreWithin
   -- The statements of the form that was read, and they alone, were run in one transaction and committed.
   pub ran : HasCleanDisk (state g new) → IfOk result (λ counts. (form : Earlier) × IsMigrated g form counts old new)
-  -- A refusal says why; where the rows stand for requests and no name is in the way, it is by memory, or by the disk or
-  -- another failure of a statement that writes. It leaves the rows as they were.
+  -- A refusal says why. If the rows stand for requests and no name is in the way, the cause is memory, the disk or
+  -- another failure of a statement that writes. A refusal leaves the rows as they were.
   pub refused : HasCleanDisk (state g new) → IfErr result (λ fault. IsNotMigrated g fault old new)
   pub sound : HasCleanDisk (state g new)
       → IfErr result (λ fault. (form : Earlier) (old_style : ℕ) (F : List Request)
       → IsEarlierOf form old_style F (state g old).now
       → is_blocked (state g old).now.schema form ≡ false → IsFailure fault)
   pub neither : HasCleanDisk (state g new) → OnErr result (AddsNothing (state g old) (state g new))
-  -- A crash leaves what it could leave before, or what all the statements make, and after the call the migrated rows
-  -- alone.
+  -- A crash in the call leaves what it could leave before, or what all the statements make. A crash after the call
+  -- leaves the migrated rows.
   pub crash : Survives (state g old) (state g new) (MigratesTo g old)
   pub durable : HasCleanDisk (state g new)
       → OnOk result (ForEarlier g old (λ _ old_style F. IsTrue (state g new).is_open

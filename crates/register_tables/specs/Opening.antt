@@ -12,6 +12,8 @@ use Rattle.table_rows.specs.declared.cause.Cause.TheVariants as cause
 use Rattle.filing_model.specs.Request.{Request}
 use Rattle.filing_model.specs.Register.{register}
 use Rattle.table_rows.specs.Standing.{HasCommitted, CommitsNothing, StaysOnOk, KeepsOnErr}
+use Rattle.register_tables.specs.declared.select.reads.TheConstants.{ALL_AMENDS, ALL_FACTS, ALL_FILINGS, ALL_FINDINGS}
+use Rattle.register_tables.specs.declared.select.reads.TheConstants.{ALL_KEPT, ALL_META, ALL_MIGRATED}
 use Rattle.register_tables.specs.declared.opening.Counts.{Counts}
 use Rattle.register_rows.specs.declared.verdict.Verdict.TheVariants as verdict
 use Rattle.register_tables.specs.declared.fault.OpenFault.{OpenFault}
@@ -26,25 +28,25 @@ use Rattle.register_tables.specs.Registers.{ForRows, IsRegisterOf}
 -- ---- the rows of the tables, each in the order of its key
 
 abbrev pub all_meta : List ℕ
-all_meta = codes "SELECT id, kind, form FROM intake_meta ORDER BY id"
+all_meta = ALL_META.now
 
 abbrev pub all_kept : List ℕ
-all_kept = codes "SELECT seq, filer, idem, body, number FROM kept ORDER BY seq"
+all_kept = ALL_KEPT.now
 
 abbrev pub all_findings : List ℕ
-all_findings = codes "SELECT seq, pos, code, place FROM finding ORDER BY seq, pos"
+all_findings = ALL_FINDINGS.now
 
 abbrev pub all_filings : List ℕ
-all_filings = codes "SELECT number, seq FROM filing ORDER BY number"
+all_filings = ALL_FILINGS.now
 
 abbrev pub all_facts : List ℕ
-all_facts = codes "SELECT number, pos, id, concept, dimensions, value, decimals FROM fact ORDER BY number, pos"
+all_facts = ALL_FACTS.now
 
 abbrev pub all_migrated : List ℕ
-all_migrated = codes "SELECT id, last FROM migrated ORDER BY id"
+all_migrated = ALL_MIGRATED.now
 
 abbrev pub all_amends : List ℕ
-all_amends = codes "SELECT seq, target FROM amends ORDER BY seq"
+all_amends = ALL_AMENDS.now
 
 -- the tables with the rows of kept requests
 abbrev pub row_texts : List (List ℕ)
@@ -71,7 +73,7 @@ AreRead g (text ∷ texts) old new [] = ⊥
 AreRead {S} g (text ∷ texts) old new (rows ∷ more) =
     (mid : Held S) × IsRead g text old mid rows × AreRead g texts mid new more
 
--- one of them cannot be run, after those before it, for such a cause
+-- one of the queries cannot be run, after those before it, for this cause
 abbrev pub StopsFor : {S : Type 0} → Ghosts S → Cause → List (List ℕ) → Held S → Held S → Type 0
 StopsFor g why [] old new = ⊥
 StopsFor {S} g why (text ∷ texts) old new =
@@ -85,16 +87,16 @@ pub record Later : Type 0 where
   pub migrated : List Row
   pub amends : List Row
 
--- of so many kept requests the first `old_style` are told what they were told before
+-- of so many kept requests the first `old_style` keep the answers of an earlier version
 pub record SaysOldStyle (kept old_style : ℕ) (later : Later) : Type 0 where
   pub migrated_is : later.migrated ≡ migrated_row old_style ∷ []
   pub within : old_style ≤ kept
 
--- so it is of no number
+-- the row of `migrated` says no such number
 abbrev pub SaysNothing : ℕ → Later → Type 0
 SaysNothing kept later = (old_style : ℕ) → SaysOldStyle kept old_style later → ⊥
 
--- why the rows stand for no register: the first kept row that is not sound, or 0; and 0 where the five tables are
+-- why the rows stand for no register: the first kept row that is not sound, or 0; and 0 also if the five tables are
 -- sound, but not `migrated`
 abbrev pub AreDamaged : List Row → OtherRows → Later → ℕ → Type 0
 AreDamaged kept others later row =
@@ -109,7 +111,7 @@ IsNoRegister g old new =
     StopsFor g cause.Other (all_meta ∷ []) old new
     ⊎ ((rows : List Row) × IsRead g all_meta old new rows × (rows ≢ meta_row ∷ []))
 
--- another table cannot be read so, and the row is 0; or the rows stand for no register, and this row is told
+-- another table cannot be read, and the row is 0; or the rows stand for no register, and this is the row to report
 abbrev pub IsDamagedAt : {S : Type 0} → Ghosts S → ℕ → Held S → Held S → Type 0
 IsDamagedAt g row old new =
     ((row ≡ 0) × StopsFor g cause.Other table_texts old new)
@@ -117,11 +119,11 @@ IsDamagedAt g row old new =
     × AreRead g table_texts old new (later.migrated ∷ later.amends ∷ kept ∷ others.finding ∷ others.filing ∷ others.fact
     ∷ []) × (others.amends ≡ later.amends) × AreDamaged kept others later row)
 
--- so it is where the rows of `intake_meta` are the one row
+-- the rows of `intake_meta` are the one row, and then this row is damaged
 abbrev pub IsDamaged : {S : Type 0} → Ghosts S → ℕ → Held S → Held S → Type 0
 IsDamaged {S} g row old new = (mid : Held S) × IsRead g all_meta old mid (meta_row ∷ []) × IsDamagedAt g row mid new
 
--- the same of the tables with the rows of kept requests, where those of the others were read
+-- what a refusal says of the tables with the rows of kept requests, after the other tables were read
 abbrev pub IsRefusedAfter : {S : Type 0} → Ghosts S → Later → OpenFault → Held S → Held S → Type 0
 IsRefusedAfter g later fault.NotOurs old new = ⊥
 IsRefusedAfter g later (fault.Damaged row) old new =
@@ -137,17 +139,17 @@ IsRefusedAfter g later fault.Disk old new = StopsFor g cause.Disk row_texts old 
 abbrev pub AreAllRead : {S : Type 0} → Ghosts S → Held S → Held S → Type 0
 AreAllRead g old new = (rows : List (List Row)) × AreRead g (all_meta ∷ table_texts) old new rows
 
--- What a refusal says of the database. The disk is blamed where a query of the seven failed by it, and memory where one
--- failed for want of it, or where none failed and the rows were looked through.
+-- What a refusal says of the database. The cause is the disk if it failed under one of the seven queries. It is memory
+-- if memory ran out under one of them, or if none failed and the rows were looked through.
 abbrev pub IsRefused : {S : Type 0} → Ghosts S → OpenFault → Held S → Held S → Type 0
 IsRefused g fault.NotOurs old new = IsNoRegister g old new
 IsRefused g (fault.Damaged row) old new = IsDamaged g row old new
 IsRefused g fault.Memory old new = StopsFor g cause.Memory (all_meta ∷ table_texts) old new ⊎ AreAllRead g old new
 IsRefused g fault.Disk old new = StopsFor g cause.Disk (all_meta ∷ table_texts) old new
 
--- ---- what is told where it is one
+-- ---- what is reported of a register
 
--- The rows stand for these requests, which are committed, these are the counts, and that is said of the filings.
+-- The rows stand for these requests, which are committed, and these are their counts and their catalogue.
 abbrev pub IsCounted : {S : Type 0} → Ghosts S → Held S → Counts → ℕ → List Request → Type 0
 IsCounted g conn counts old_style F =
     (counts.old_style ≡ old_style) × HasCommitted (IsRegisterOf old_style F) (state g conn) × (counts.kept ≡ length F)
@@ -159,10 +161,10 @@ AreWithin counts = (counts.kept ≤ 2 ^ 62) × (counts.filings ≤ counts.kept) 
 
 -- ---- the whole
 
--- What the reading of a register tells of it, and that it writes nothing.
+-- What reading a register reports, and that it writes nothing.
 pub record ReadsRegister {S : Type 0} (g : Ghosts S) (old new : Held S) (result : Result Counts OpenFault)
     : Type 0 where
-  -- The rows stand for requests, and these are counted. Others than those that are counted they don't stand for.
+  -- The rows stand for requests, which are counted, and for no others.
   pub found : HasCleanDisk (state g new) → IsDeclared (state g old).now.schema
       → IfOk result (λ counts. (F : List Request) × IsRegisterOf counts.old_style F (state g old).now
       × HasCommitted (IsRegisterOf counts.old_style F) (state g new) × (counts.kept ≡ length F)
@@ -170,7 +172,7 @@ pub record ReadsRegister {S : Type 0} (g : Ghosts S) (old new : Held S) (result 
       × (view_lines counts.catalogue ≡ catalogue_of F))
   pub only : HasCleanDisk (state g new) → IfOk result (λ counts. ForRows g old (IsCounted g new counts))
   pub few : IfOk result AreWithin
-  -- A refusal says why; where the rows stand for requests, it is by memory or disk.
+  -- A refusal says why. If the rows stand for requests, the cause is memory or the disk.
   pub refused : HasCleanDisk (state g new) → IfErr result (λ fault. IsRefused g fault old new)
   pub sound : HasCleanDisk (state g new) → IfErr result (λ fault. ForRows g old (λ _ _. IsFailure fault))
   -- The connection is as it was, and after a refusal at least what is committed. A crash leaves what it could leave

@@ -16,7 +16,7 @@ use Rattle.register_rows.specs.Schema.{IsDeclared, HasCommon}
 abbrev pub Knows : State → Type 0
 Knows s = IsTrue s.is_open → HasCommon s.now.schema
 
--- so is `amends`
+-- while the connection is open, all tables of a register are declared as ours
 abbrev pub KnowsAll : State → Type 0
 KnowsAll s = IsTrue s.is_open → IsDeclared s.now.schema
 
@@ -36,7 +36,7 @@ by_second row = column row 1 ∷ []
 abbrev pub ReadsWhole : Table → List Row → State → State → Type 0
 ReadsWhole table rows old new = ReadsRows table every by_first whole rows old new
 
--- where the disk is clean at the end, that is why the text, which has no parameter, was refused
+-- if the disk is clean at the end, a refusal is the failure of this text, which has no parameter
 abbrev pub FailsOnErr : {X : Type 0} → List ℕ → State → State → Result X Error → Type 0
 FailsOnErr text old new result = HasCleanDisk new → IfErr result (FailsToQuery text [] old new)
 

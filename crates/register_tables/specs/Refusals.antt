@@ -21,7 +21,7 @@ use Rattle.register_tables.specs.Registers.{ForRows}
 -- ---- the connection comes back
 
 -- No register was made, and the connection comes back as one that may be used again: what is written is what was
--- committed. Another fault than Taken has its cause in a statement or in the commit.
+-- committed. A fault other than Taken has its cause in a statement or in the commit.
 pub record GivesBackMaking {S : Type 0} (g : Ghosts S) (conn : Held S) (fault : CreateFault) (back : Held S)
     : Type 0 where
   pub autocommit : back.in_transaction ≡ false
@@ -40,7 +40,7 @@ pub record GivesBackOpening {S : Type 0} (g : Ghosts S) (conn : Held S) (fault :
   pub unlimited : back.step_limit ≡ None
   pub same : HasCleanDisk (state g back) → AddsNothing (state g conn) (state g back)
   pub why : HasCleanDisk (state g back) → IsRefused g fault conn back
-  -- Where the rows stand for requests, it is by memory or disk.
+  -- If the rows stand for requests, the cause is memory or the disk.
   pub sound : HasCleanDisk (state g back) → ForRows g conn (λ _ _. IsFailure fault)
   -- A crash leaves what it could leave before.
   pub crash : CommitsNothing (state g conn) (state g back)
@@ -53,7 +53,7 @@ pub record GivesBackMigrating {S : Type 0} (g : Ghosts S) (conn : Held S) (fault
   pub unlimited : back.step_limit ≡ None
   pub same : HasCleanDisk (state g back) → AddsNothing (state g conn) (state g back)
   pub why : HasCleanDisk (state g back) → IsNotMigrated g fault conn back
-  -- Where the rows stand for requests in an earlier form, and no name is in the way, it is by memory, or by the disk or
+  -- If the rows stand for requests in an earlier form, and no name is in the way, the cause is memory, the disk or
   -- another failure of a statement that writes.
   pub sound : HasCleanDisk (state g back)
       → (form : Earlier) (old_style : ℕ) (F : List Request) → IsEarlierOf form old_style F (state g conn).now

@@ -42,8 +42,7 @@ pub record Passes (before : List Request) (seq : ℕ) (left tail : Left) (db : D
 
 -- ---- all of them
 
--- so many of all kept requests were walked past, and their rows are those of these requests, where `amends` has these
--- rows
+-- so many of all kept requests were walked past, and their rows are those of these requests, if `amends` has these rows
 pub record Walked (amends_are : List Row) (total count : ℕ) (left : Left) (db : Database)
     (requests : List Request) : Type 0 where
   pub many : length requests ≡ count
@@ -70,7 +69,7 @@ pub record AreAllOf (requests : List Request) (amends_are : List Row) (db : Data
   pub fact_is : TableHas db fact_table (joined_from fact_rows 1 (kept requests))
   pub amends_is : amends_are ≡ joined_from amends_rows 1 (kept requests)
 
--- so they have, so many requests are kept and registered, and that is said of the filings
+-- the tables have the rows of requests, of which so many are kept and registered, and this is their catalogue
 pub record Amounts (counts : Totals) (amends_are : List Row) (db : Database) : Type 0 where
   pub requests : List Request
   pub are : AreAllOf requests amends_are db
@@ -78,8 +77,8 @@ pub record Amounts (counts : Totals) (amends_are : List Row) (db : Database) : T
   pub filings_is : counts.filings ≡ length (register requests)
   pub catalogue_is : view_lines counts.catalogue ≡ catalogue_of requests
 
--- so it is of the rows that were counted, where those of the later tables say how many were kept before there were
--- problem details
+-- the same holds of these counts, and the row of `migrated` says how many requests were kept before there were problem
+-- details
 pub record AreCounted (counts : Counts) (later : Later) (db : Database) : Type 0 where
   pub requests : List Request
   pub are : AreAllOf requests later.amends db

@@ -15,6 +15,7 @@ pub(crate) mod earlier;
 use crate::fault::OpenFault;
 use crate::migrate::earlier::{Earlier, read_earlier};
 use crate::opening::Counts;
+use crate::schema::create::{CREATE_AMENDS, CREATE_MIGRATED};
 use crate::schema::names;
 use sqlite::{Alter, Connection, Error, Transaction, params};
 use std::alloc::Global;
@@ -29,7 +30,11 @@ fn write_fault(error: Error) -> OpenFault
     }
 }
 
-/// Writes what a register of the second form has not.
+const INSERT_OLD_STYLE: &str = "INSERT INTO migrated VALUES (1, ?1)";
+
+const RAISE_FORM: &str = "UPDATE intake_meta SET form = 4 WHERE id = 1";
+
+/// Writes what a register of the second form lacks.
 fn write_second<S: Alter>(tx: &mut Transaction<'_, S>, old_style: u64) -> Result<(), Error>
     requires { old_style < 2 ^ 63 }
     ensures leaves { OnlyWrites S.Store tx.old.conn tx.new.conn }
@@ -40,25 +45,13 @@ fn write_second<S: Alter>(tx: &mut Transaction<'_, S>, old_style: u64) -> Result
         → IfErr result (λ error.
         StopsAt S.Store error (migrating Earlier.Second old_style) tx.old.conn.now tx.new.conn.now) }
 {
-    run(
-        tx,
-        "CREATE TABLE migrated (id INTEGER PRIMARY KEY, last INTEGER NOT NULL) STRICT",
-        &[],
-    )?;
-    run(
-        tx,
-        "CREATE TABLE amends (seq INTEGER PRIMARY KEY, target INTEGER NOT NULL) STRICT",
-        &[],
-    )?;
-    run(
-        tx,
-        "INSERT INTO migrated VALUES (1, ?1)",
-        params![old_style as i64],
-    )?;
-    run(tx, "UPDATE intake_meta SET form = 4 WHERE id = 1", &[])
+    run(tx, CREATE_MIGRATED, &[])?;
+    run(tx, CREATE_AMENDS, &[])?;
+    run(tx, INSERT_OLD_STYLE, params![old_style as i64])?;
+    run(tx, RAISE_FORM, &[])
 }
 
-/// Writes what a register of the third form has not.
+/// Writes what a register of the third form lacks.
 fn write_third<S: Alter>(tx: &mut Transaction<'_, S>) -> Result<(), Error>
     ensures leaves { OnlyWrites S.Store tx.old.conn tx.new.conn }
     ensures done { HasCleanDisk (state S.Store tx.new.conn.now)
@@ -67,12 +60,8 @@ fn write_third<S: Alter>(tx: &mut Transaction<'_, S>) -> Result<(), Error>
         → IsTrue (state S.Store tx.old.conn.now).in_transaction
         → IfErr result (λ error. StopsAt S.Store error (migrating Earlier.Third 0) tx.old.conn.now tx.new.conn.now) }
 {
-    run(
-        tx,
-        "CREATE TABLE amends (seq INTEGER PRIMARY KEY, target INTEGER NOT NULL) STRICT",
-        &[],
-    )?;
-    run(tx, "UPDATE intake_meta SET form = 4 WHERE id = 1", &[])
+    run(tx, CREATE_AMENDS, &[])?;
+    run(tx, RAISE_FORM, &[])
 }
 
 fn write_all<S: Alter>(
@@ -94,7 +83,7 @@ fn write_all<S: Alter>(
     }
 }
 
-/// Writes it in one transaction.
+/// Writes what a register of this form lacks, in one transaction.
 fn write<S: Alter>(conn: &mut Connection<S>, form: Earlier, old_style: u64) -> Result<(), Error>
     requires autocommit { conn.old.in_transaction ≡ false }
     requires old_style { old_style < 2 ^ 63 }
@@ -115,7 +104,7 @@ fn write<S: Alter>(conn: &mut Connection<S>, form: Earlier, old_style: u64) -> R
 }
 
 /// Brings a register in an earlier form into the present one, in one transaction. What is said of the new rows holds
-/// where the database has no other tables.
+/// if the database has no other tables.
 pub fn migrate_register<S: Alter>(
     alloc: Global,
     conn: &mut Connection<S>,

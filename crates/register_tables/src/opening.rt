@@ -1,4 +1,5 @@
-//! What an opening finds in a database.
+//! What an opening finds in a database. The rows are audited by a walk over the requests, and if that does not find
+//! them sound, by an audit of the tables read whole (`docs/DECISIONS.md`, "A register is audited in three ways").
 
 ghost use Rattle.std.specs.Prelude.{◌≡◌, ◌≤◌, ◌<◌, ◌⊎◌, ◌↔◌, ◌∷◌, [], ℕ, length, false, Err, IsTrue, IfOk, IfErr};
 ghost use Rattle.std.specs.Prelude.{IfSome, OnOk, None, Option};
@@ -26,7 +27,8 @@ use crate::fault::OpenFault;
 use crate::opening::walk::{Totals, count_by_walk};
 use crate::opening::watch::Watch;
 use crate::select::reads;
-use register_rows::{Catalogue, Cell, Verdict, audit, is_row, last_in};
+use register_rows::columns::migrated;
+use register_rows::{Catalogue, Cell, Verdict, audit, is_row, number_at};
 use sqlite::types::ValueRef;
 use sqlite::{Alter, Connection, Error, Row};
 use std::alloc::Global;
@@ -140,7 +142,7 @@ fn read_later<S: Alter>(conn: &mut Connection<S>) -> Result<Later, Error>
 }
 
 /// How much a register holds: how many requests are kept, how many of them are registered, how many were kept before
-/// there were problem details, and what is said of the filings.
+/// there were problem details, and the catalogue of the filings.
 #[derive(Debug, Drop)]
 pub struct Counts {
     pub kept: u64,
@@ -149,12 +151,12 @@ pub struct Counts {
     pub catalogue: Catalogue,
 }
 
-/// The number in the row, where it is the row of `migrated` and the number one of so many kept requests.
+/// The number in the row, if it is the row of `migrated` and the number is at most that of the kept requests.
 pub(crate) fn number_of(row: &Row, kept: u64) -> Option<u64>
     ensures some { IfSome result (λ old_style. (row.now ≡ migrated_row old_style) × (old_style ≤ kept)) }
     ensures none { result ≡ None → (old_style : ℕ) → row.now ≡ migrated_row old_style → old_style ≤ kept → ⊥ }
 {
-    match last_in(row) {
+    match number_at(row, migrated::LAST) {
         Some(old_style)
             if old_style <= kept && is_row(row, &[Cell::Int(1), Cell::Int(old_style as i64)]) =>
             Some(old_style),
@@ -162,7 +164,7 @@ pub(crate) fn number_of(row: &Row, kept: u64) -> Option<u64>
     }
 }
 
-/// The number in the row of `migrated`, where it is one of so many kept requests.
+/// The number in the row of `migrated`, if that has one row and the number is at most that of the kept requests.
 fn old_style_in(kept: u64, later: &Later) -> Option<u64>
     ensures some { IfSome result (λ old_style.
         SaysOldStyle kept old_style (record { migrated = later.now.migrated.items; amends = later.now.amends.items })) }
@@ -175,7 +177,7 @@ fn old_style_in(kept: u64, later: &Later) -> Option<u64>
     }
 }
 
-/// Counts what the rows stand for, where they stand for a list of requests.
+/// Counts what the rows stand for, if they stand for a list of requests.
 fn count(
     alloc: Global,
     kept: &[Row],
@@ -222,7 +224,7 @@ fn count(
     }
 }
 
-/// So much is held, where the rows of the later tables are those of so many kept requests.
+/// How much a register holds with these totals, if the row of `migrated` fits them.
 fn counts_of(totals: Totals, later: &Later) -> Option<Counts>
     ensures { IfSome result (λ counts.
         (counts.kept ≡ totals.kept) × (counts.filings ≡ totals.filings) × (counts.catalogue ≡ totals.catalogue)
@@ -239,8 +241,8 @@ fn counts_of(totals: Totals, later: &Later) -> Option<Counts>
     })
 }
 
-/// Counts what the rows stand for with one kept request in memory at a time. `None` says nothing of the rows: the
-/// tables are then read whole, and say what is refused.
+/// Counts what the rows stand for, with one kept request in memory at a time. `None` says nothing of the rows: the
+/// tables are then read whole, and decide what is refused.
 fn count_one_by_one<S: Alter, W: Watch>(
     alloc: Global,
     conn: &mut Connection<S>,
@@ -271,7 +273,7 @@ fn count_one_by_one<S: Alter, W: Watch>(
     }
 }
 
-/// Counts what the rows stand for beside those of the later tables.
+/// Counts what the rows stand for, with these rows of the later tables.
 fn count_all<S: Alter, W: Watch>(
     alloc: Global,
     conn: &mut Connection<S>,
@@ -308,7 +310,7 @@ fn count_all<S: Alter, W: Watch>(
     }
 }
 
-/// Reads how much the register holds that the database is, and tells `watch` how far it is: nothing is written,
+/// Reads how much the register holds that the database is, and reports to `watch` how far it is. Nothing is written,
 /// whatever the answer is. How the tables are declared is not tested.
 pub fn read_register<S: Alter, W: Watch>(
     alloc: Global,

@@ -8,9 +8,9 @@ use sqlite_disk::Disk;
 use table_rows::StoreFault;
 
 impl<D: Disk + Drop> Outbox<FileStore<D>> {
-    /// The files, with what was committed in the database file. They come wherever the close succeeds, also after a
-    /// call was refused as Store. A refusal is that of the close, and gives the files up: no clause can name them, and
-    /// `close` gives them back.
+    /// The files, with what was committed in the database file. They come if the close succeeds, also after a call was
+    /// refused as Store. A refusal is that of the close, and gives the files up: no clause can name them, and `close`
+    /// gives them back.
     pub fn into_files(self) -> Result<Files<D>, StoreFault>
         ensures { GivesFilesBack D.Disk self result (λ fault. (last : _) × IsNotCopied self.conn last fault) }
     {
@@ -20,8 +20,8 @@ impl<D: Disk + Drop> Outbox<FileStore<D>> {
         }
     }
 
-    /// The same, where a refusal gives the files back as well, as the close left them: an outcome of a crash is one of
-    /// before.
+    /// As `into_files`, but a refusal gives the files back too, as the close left them. A crash leaves what one before
+    /// the call could leave.
     pub fn close(self) -> Result<Files<D>, (StoreFault, Files<D>)>
         ensures { GivesFilesBack D.Disk self result (λ refusal. AreLeft self.conn refusal.0 refusal.1) }
     {

@@ -79,7 +79,7 @@ fn is_state(code: ValueRef<'_>, number: ValueRef<'_>) -> bool
     }
 }
 
-/// Whether the row, of the columns `id`, `idem`, `body`, `state` and `number`, is that of an entry of this id.
+/// Whether the row, of the columns `id`, `idem`, `body`, `state` and `number`, is that of an entry with this id.
 fn is_entry(id: u64, row: &Row) -> bool
     requires { id < 2 ^ 63 }
     ensures { result ≡ is_entry id row.now }
@@ -128,7 +128,7 @@ pub(crate) fn filer_in<'a>(rows: &'a [Row], form: u64) -> Option<&'a str>
     }
 }
 
-/// Whether the row of the entry of this id is sound, and so is what is said of its target.
+/// Whether the row of the entry with this id is sound, and so are the rows of its target.
 pub(crate) fn is_sound(id: u64, row: &Row, said: Said) -> bool
     requires { id < 2 ^ 63 }
     ensures { (targets : List Stored) → said ≡ said_by (with_id id targets) → result ≡ is_sound targets id row.now }
@@ -136,7 +136,7 @@ pub(crate) fn is_sound(id: u64, row: &Row, said: Said) -> bool
     is_entry(id, row) && said != Said::Unsound
 }
 
-/// The first row that is not sound as that of the entry of its count, which is from 1.
+/// The id, from 1, of the first row that is not sound as that of the entry with this id.
 fn first_damaged(rows: &[Row], said: &[Said]) -> Option<u64>
     requires { length said.now ≡ length rows.now }
     ensures { (targets : List Stored)
@@ -154,8 +154,8 @@ fn first_damaged(rows: &[Row], said: &[Said]) -> Option<u64>
     None
 }
 
-/// The row of the first entry that is not sound; or 0, where each is and a row of `target` is that of no entry. It
-/// fails where memory runs out.
+/// The row of the first entry that is not sound; or 0, if each is sound and a row of `target` belongs to no entry. It
+/// fails if memory runs out.
 pub(crate) fn damaged_row(
     alloc: Global,
     targets: &[Row],

@@ -10,6 +10,9 @@ ghost use Rattle.outbox_tables.specs.Schema.{HasCommon, entry_table};
 use sqlite::{Alter, Connection, Error, Row, params};
 use table_rows::{count_in, select};
 
+const ENTRY_WITH_ID: &str =
+    "SELECT id, idem, body, state, number FROM entry WHERE id = ?1 ORDER BY id";
+
 /// The entries with this id.
 pub(crate) fn rows_at<S: Alter>(conn: &mut Connection<S>, id: u64) -> Result<Vec<Row>, Error>
     requires { id < 2 ^ 63 }
@@ -17,19 +20,17 @@ pub(crate) fn rows_at<S: Alter>(conn: &mut Connection<S>, id: u64) -> Result<Vec
         → IfOk result (λ rows. Picks entry_table (has_number id) rows.items (state S.Store conn.old).now) }
     ensures leaves { OnlyQueries S.Store conn.old conn.new result }
 {
-    select(
-        conn,
-        "SELECT id, idem, body, state, number FROM entry WHERE id = ?1 ORDER BY id",
-        params![id as i64],
-    )
+    select(conn, ENTRY_WITH_ID, params![id as i64])
 }
 
-/// How many entries there are, or `None` where there are more than are counted.
+const COUNT_ENTRIES: &str = "SELECT count(*) FROM entry";
+
+/// How many entries there are, or `None` if there are more than SQLite counts.
 pub(crate) fn count_rows<S: Alter>(conn: &mut Connection<S>) -> Result<Option<u64>, Error>
     ensures counted { HasCleanDisk (state S.Store conn.new) → HasCommon (state S.Store conn.old).now.schema
         → IfOk result (λ found. IfSome found (λ count. CountsTo entry_table count (state S.Store conn.old).now)) }
     ensures leaves { OnlyQueries S.Store conn.old conn.new result }
 {
-    let rows = select(conn, "SELECT count(*) FROM entry", &[])?;
+    let rows = select(conn, COUNT_ENTRIES, &[])?;
     Ok(count_in(&rows))
 }

@@ -1,4 +1,4 @@
-//! What the rows of `target` say of each entry, looked up once for all.
+//! What the rows of `target` say of each entry. They are gone through once for all entries.
 
 ghost use Rattle.std.specs.Prelude.{◌≡◌, ◌<◌, ◌^◌, ◌++◌, ◌∷◌, [], ℕ, List, suc, pos, false, get_or, vec_len, IfOk};
 ghost use Rattle.std.specs.Prelude.{MatchOption};
@@ -13,18 +13,18 @@ use sqlite::Row;
 use sqlite::types::ValueRef;
 use std::alloc::{AllocError, Global};
 
-/// What the rows of its id say of an entry.
+/// What the rows of `target` with an entry's id say of it.
 #[derive(Clone, Copy, PartialEq, Eq)]
 pub(crate) enum Said {
-    /// There is none.
+    /// There is no such row.
     Nothing,
-    /// There is one, with the number of a filing.
+    /// There is one row, with the number of a filing.
     Number,
-    /// There is another one, or more than one.
+    /// There is one row with another value, or more than one row.
     Unsound,
 }
 
-/// What is said with one row more, which may have the number of a filing.
+/// What is said after one row more, which `fits` if it has the number of a filing.
 fn after(said: Said, fits: bool) -> Said
     ensures { (rows : List Stored) (row : Stored) → said ≡ said_by rows → fits ≡ is_number (column row 1)
         → result ≡ said_by (rows ++ row ∷ []) }
@@ -35,7 +35,7 @@ fn after(said: Said, fits: bool) -> Said
     }
 }
 
-/// The place, from 0, of the entry among so many that the row is of.
+/// The place, from 0, of the row's entry among so many, if it is one of them.
 fn place_of(row: &Row, count: usize) -> Option<usize>
     requires { count < 2 ^ 63 }
     ensures { MatchOption result (is_id_to count (column row.now 0) ≡ false) (λ place.
@@ -53,7 +53,7 @@ fn place_of(row: &Row, count: usize) -> Option<usize>
     }
 }
 
-/// What the rows say of each of so many entries. It fails where memory runs out.
+/// What the rows say of each of so many entries. It fails if memory runs out.
 pub(crate) fn said_of(alloc: Global, targets: &[Row], count: usize) -> Result<Vec<Said>, AllocError>
     requires { count < 2 ^ 63 }
     ensures long { IfOk result (λ said. vec_len said ≡ count) }
@@ -71,7 +71,7 @@ pub(crate) fn said_of(alloc: Global, targets: &[Row], count: usize) -> Result<Ve
     Ok(said)
 }
 
-/// Whether a row is that of none of so many entries.
+/// Whether a row belongs to none of so many entries.
 pub(crate) fn is_left_over(targets: &[Row], count: usize) -> bool
     requires { count < 2 ^ 63 }
     ensures { result ≡ is_left_over count targets.now }

@@ -21,7 +21,7 @@ use std::alloc::Global;
 /// No outbox has more entries.
 pub const MAX_ENTRIES: u64 = 1 << 62;
 
-/// Whether the rows are the one of a sound entry of this id.
+/// Whether these rows are exactly one, a sound entry with this id.
 fn is_sound_one(rows: &[Row], id: u64, said: Said) -> bool
     requires { id < 2 ^ 63 }
     ensures { (targets : List Stored) → said ≡ said_by (with_id id targets) → IsTrue result
@@ -33,7 +33,7 @@ fn is_sound_one(rows: &[Row], id: u64, said: Said) -> bool
     }
 }
 
-/// Whether there is one entry of this id, and it is sound.
+/// Whether `entry` has exactly one row with this id, and it is sound.
 fn has_sound<S: Alter>(conn: &mut Connection<S>, id: u64, said: Said) -> Result<bool, Error>
     requires { id < 2 ^ 63 }
     ensures found { HasCleanDisk (state S.Store conn.new) → HasCommon (state S.Store conn.old).now.schema
@@ -48,7 +48,7 @@ fn has_sound<S: Alter>(conn: &mut Connection<S>, id: u64, said: Said) -> Result<
     Ok(is_sound_one(&rows, id, said))
 }
 
-/// Whether there is one entry of each id from 1 to the number of these, and it is sound.
+/// Whether `entry` has exactly one row with each id from 1 to the number of these, and each is sound.
 fn walk<S: Alter>(conn: &mut Connection<S>, said: &[Said]) -> Result<bool, Error>
     requires { length said.now ≤ 2 ^ 62 }
     ensures walked { HasCleanDisk (state S.Store conn.new) → HasCommon (state S.Store conn.old).now.schema
@@ -70,8 +70,8 @@ fn walk<S: Alter>(conn: &mut Connection<S>, said: &[Said]) -> Result<bool, Error
     Ok(true)
 }
 
-/// Whether the entries, of which there are so many, are sound, and no row of `target` is left over. Where memory is
-/// short it is said not to be so.
+/// Whether the entries, of which there are so many, are sound, and no row of `target` is left over. It is `false` also
+/// if memory is short.
 fn are_sound<S: Alter>(
     alloc: Global,
     conn: &mut Connection<S>,
@@ -91,7 +91,7 @@ fn are_sound<S: Alter>(
     Ok(sound && !is_left_over(targets, count as usize))
 }
 
-/// How many entries an outbox has whose rows are sound, where `target` has these. `None` says nothing of the rows.
+/// How many entries an outbox has whose rows are sound, if `target` has these rows. `None` says nothing of the rows.
 pub(crate) fn count_by_walk<S: Alter>(
     alloc: Global,
     conn: &mut Connection<S>,

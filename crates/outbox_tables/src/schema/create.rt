@@ -28,31 +28,26 @@ fn is_taken(schema: &Schema) -> bool
     is_used(schema, b"outbox_meta") || is_used(schema, b"entry") || is_used(schema, b"target")
 }
 
+const CREATE_META: &str = "CREATE TABLE outbox_meta (id INTEGER PRIMARY KEY, kind TEXT NOT NULL, \
+    form INTEGER NOT NULL, filer TEXT NOT NULL) STRICT";
+
+const CREATE_ENTRY: &str = "CREATE TABLE entry (id INTEGER PRIMARY KEY, idem TEXT NOT NULL UNIQUE, \
+    body BLOB NOT NULL, state INTEGER NOT NULL, number INTEGER) STRICT";
+
+pub(crate) const CREATE_TARGET: &str =
+    "CREATE TABLE target (id INTEGER PRIMARY KEY, number INTEGER NOT NULL) STRICT";
+
+const INSERT_META: &str = "INSERT INTO outbox_meta VALUES (1, 'outbox', 2, ?1)";
+
 fn make_tables<S: Alter>(tx: &mut Transaction<'_, S>, filer: &str) -> Result<(), Error>
     ensures ran { HasCleanDisk (state S.Store tx.new.conn.now)
         → OnOk result (RunsAll S.Store filer.now tx.old.conn.now tx.new.conn.now) }
     ensures leaves { OnlyWrites S.Store tx.old.conn tx.new.conn }
 {
-    run(
-        tx,
-        "CREATE TABLE outbox_meta (id INTEGER PRIMARY KEY, kind TEXT NOT NULL, form INTEGER NOT NULL, filer TEXT NOT NULL) STRICT",
-        &[],
-    )?;
-    run(
-        tx,
-        "CREATE TABLE entry (id INTEGER PRIMARY KEY, idem TEXT NOT NULL UNIQUE, body BLOB NOT NULL, state INTEGER NOT NULL, number INTEGER) STRICT",
-        &[],
-    )?;
-    run(
-        tx,
-        "CREATE TABLE target (id INTEGER PRIMARY KEY, number INTEGER NOT NULL) STRICT",
-        &[],
-    )?;
-    run(
-        tx,
-        "INSERT INTO outbox_meta VALUES (1, 'outbox', 2, ?1)",
-        params![filer],
-    )
+    run(tx, CREATE_META, &[])?;
+    run(tx, CREATE_ENTRY, &[])?;
+    run(tx, CREATE_TARGET, &[])?;
+    run(tx, INSERT_META, params![filer])
 }
 
 /// Makes the tables of an outbox that has no entry, in one transaction.

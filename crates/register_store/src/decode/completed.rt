@@ -8,19 +8,20 @@ ghost use Rattle.register_rows.specs.Register.{kept_row, amends_rows, joined_fro
 ghost use Rattle.register_rows.specs.Columns.{request_in, number_in};
 
 use filing_model::{Completed, Registered};
+use register_rows::columns::kept;
 use register_rows::target_of;
 use sqlite::Row;
 use std::alloc::Global;
 use table_rows::StoreFault;
 
-/// The request of a row with the columns `seq`, `filer`, `idem`, `body` and `number`, where it is to replace this
-/// filing, if any.
+/// The request of a row with the columns `seq`, `filer`, `idem`, `body` and `number`. It is to replace this filing, if
+/// any.
 fn read_request(row: &Row, target: Option<u64>) -> Result<Completed, StoreFault>
     ensures { IfOk result (λ r. r ≡ request_in target row.now) }
 {
-    let filer = row.get(1)?;
-    let key = row.get(2)?;
-    let body = row.get(3)?;
+    let filer = row.get(kept::FILER)?;
+    let key = row.get(kept::KEY)?;
+    let body = row.get(kept::BODY)?;
     Ok(Completed {
         filer,
         key,
@@ -35,7 +36,7 @@ fn read_filing(row: &Row, replaces: Option<u64>) -> Result<Option<Registered>, S
         f ≡ option_map (λ n. record { number = n; request = request_in replaces row.now })
         (number_in (column row.now 4))) }
 {
-    let number: Option<u64> = row.get(4)?;
+    let number: Option<u64> = row.get(kept::NUMBER)?;
     let Some(number) = number else {
         return Ok(None);
     };
@@ -73,7 +74,7 @@ pub(crate) fn read_requests(
     Ok(list)
 }
 
-/// The filings among them.
+/// The filings among the requests of such rows.
 pub(crate) fn read_filings(
     alloc: Global,
     rows: &[Row],

@@ -1,9 +1,10 @@
-//! The facts of a filing, as the rows have them.
+//! How rows read as the facts of a filing.
 
 ghost use Rattle.std.specs.Prelude.{◌≡◌, map, option_map, string_bytes, IfOk};
 ghost use Rattle.sqlite.specs.Order.{column};
 ghost use Rattle.register_rows.specs.Columns.{bytes_in, maybe_bytes_in, fact_in};
 
+use crate::columns::fact;
 use sqlite::Row;
 use std::alloc::Global;
 use table_rows::StoreFault;
@@ -41,11 +42,11 @@ fn read_optional_text(row: &Row, at: usize) -> Result<Option<String>, StoreFault
 fn read_fact(row: &Row) -> Result<Fact, StoreFault>
     ensures { IfOk result (λ fact. fact ≡ fact_in row.now) }
 {
-    let id = read_text(row, 0)?;
-    let concept = read_text(row, 1)?;
-    let dimensions = read_text(row, 2)?;
-    let value = read_optional_text(row, 3)?;
-    let decimals = row.get(4)?;
+    let id = read_text(row, fact::ID)?;
+    let concept = read_text(row, fact::CONCEPT)?;
+    let dimensions = read_text(row, fact::DIMENSIONS)?;
+    let value = read_optional_text(row, fact::VALUE)?;
+    let decimals = row.get(fact::DECIMALS)?;
     Ok(Fact {
         id,
         concept,

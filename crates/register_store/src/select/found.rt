@@ -1,4 +1,4 @@
-//! What is kept of a filer and key: its row, and the findings where it was refused.
+//! What is kept of a filer and key: the row of its request, and the findings if that was refused.
 
 ghost use Rattle.std.specs.Prelude.{◌≡◌, ℕ, pos, List, map, Option, IfOk};
 ghost use Rattle.sqlite.specs.Held.{state};
@@ -15,6 +15,7 @@ ghost use Rattle.register_store.specs.Outcomes.{kept_as, style_at};
 ghost use Rattle.register_store.specs.Found.{FindsKept, IsFound, IsLookUp, IsPlaced, IsReading, found_row, finding_in};
 ghost use Rattle.register_store.specs.Found.{target_alone};
 
+use crate::columns::{finding, found};
 use crate::decode::facts::read_text;
 use crate::kept_body::KeptBody;
 use crate::outcome::KeptRow;
@@ -25,7 +26,7 @@ use std::alloc::Global;
 use table_rows::StoreFault;
 use xbrl_report::{Code, Finding, Findings};
 
-/// A kept row without its filer and key: its place, the body, and its number where it was registered.
+/// A kept row without its filer and key: its place, its body, and its number if it was registered.
 #[derive(Drop)]
 pub struct FoundRow {
     pub seq: i64,
@@ -39,8 +40,8 @@ fn read_found(row: Row) -> Result<FoundRow, StoreFault>
         (seq : ℕ) (k : Kept) → row ≡ found_row seq k
         → (found.seq ≡ pos seq) × (found.body ≡ k.request.body) × (found.number ≡ number_of k.outcome)) }
 {
-    let seq = row.get(0)?;
-    let number = row.get(2)?;
+    let seq = row.get(found::SEQ)?;
+    let number = row.get(found::NUMBER)?;
     let body = KeptBody::of_row(row)?;
     Ok(FoundRow { seq, body, number })
 }
@@ -59,9 +60,9 @@ fn code_of(number: i64) -> Result<Code, StoreFault>
 fn read_finding(row: &Row) -> Result<Finding, StoreFault>
     ensures { IfOk result (λ finding. finding ≡ finding_in row.now) }
 {
-    let number: i64 = row.get(0)?;
+    let number: i64 = row.get(finding::CODE)?;
     let code = code_of(number)?;
-    let place = read_text(row, 1)?;
+    let place = read_text(row, finding::PLACE)?;
     Ok(Finding { place, code })
 }
 
@@ -76,7 +77,7 @@ fn read_list(alloc: Global, rows: &[Row]) -> Result<Vec<Finding>, StoreFault>
     Ok(list)
 }
 
-/// The same, as they stand in a refusal.
+/// The findings of such rows, of which a refused request has at least one.
 fn read_findings(alloc: Global, rows: &[Row]) -> Result<Findings, StoreFault>
     ensures { IfOk result (λ findings. findings ≡ map finding_in rows.now) }
 {
@@ -97,7 +98,7 @@ fn read_first(rows: Vec<Row>) -> Result<Option<FoundRow>, StoreFault>
 }
 
 /// The row that is kept for a filer and key.
-fn look_up<S: Alter>(
+fn find_row<S: Alter>(
     conn: &mut Connection<S>,
     filer: &str,
     key: &str,
@@ -124,7 +125,7 @@ fn findings_at<S: Alter>(
     read_findings(alloc, &rows)
 }
 
-/// The number in such a row's one column, if there is a row.
+/// The number in the one column of the first row, if there is a row.
 fn read_target(rows: &[Row]) -> Result<Option<u64>, StoreFault>
     ensures { IfOk result (λ target.
         (seq : ℕ) (wanted : Option ℕ) → rows.now ≡ map target_alone (amends_rows_by seq wanted) → target ≡ wanted) }
@@ -149,7 +150,7 @@ pub(crate) fn target_at<S: Alter>(
     read_target(&rows)
 }
 
-/// The style in which the request at this place is answered, where the first so many are answered as before.
+/// The style in which the request at this place is answered: the earlier one for the first `old_style` requests.
 fn style_at(old_style: u64, seq: i64) -> Style
     ensures { (place : ℕ) → seq ≡ pos place → result ≡ style_at old_style place }
 {
@@ -159,9 +160,9 @@ fn style_at(old_style: u64, seq: i64) -> Style
     }
 }
 
-/// A kept row whole, with the filing that it is to replace, if any: with its number, or with its findings where it has
-/// none.
-fn complete<S: Alter>(
+/// The kept row with its target and its outcome: registered under its number, or, if it has none, refused with its
+/// findings.
+fn with_outcome<S: Alter>(
     conn: &mut Connection<S>,
     alloc: Global,
     old_style: u64,
@@ -195,8 +196,8 @@ fn complete<S: Alter>(
     }
 }
 
-/// A kept row whole.
-fn complete_found<S: Alter>(
+/// The kept row with its target and its outcome, which are read.
+fn read_kept_row<S: Alter>(
     conn: &mut Connection<S>,
     alloc: Global,
     old_style: u64,
@@ -209,11 +210,11 @@ fn complete_found<S: Alter>(
     ensures leaves { OnlyReads S.Store conn.old conn.new result }
 {
     let target = target_at(conn, found.seq)?;
-    complete(conn, alloc, old_style, target, found)
+    with_outcome(conn, alloc, old_style, target, found)
 }
 
-/// What is kept of a filer and key, or `None` where they are new. The first `old_style` requests are answered as
-/// before.
+/// What is kept of a filer and key, or `None` if they are new. The first `old_style` requests are answered in the
+/// earlier style.
 pub fn find_kept<S: Alter>(
     conn: &mut Connection<S>,
     alloc: Global,
@@ -223,9 +224,9 @@ pub fn find_kept<S: Alter>(
 ) -> Result<Option<KeptRow>, StoreFault>
     ensures { FindsKept S.Store old_style filer.now key.now conn.old conn.new result }
 {
-    match look_up(conn, filer, key)? {
+    match find_row(conn, filer, key)? {
         Some(found) => {
-            let row = complete_found(conn, alloc, old_style, found)?;
+            let row = read_kept_row(conn, alloc, old_style, found)?;
             Ok(Some(row))
         }
         None => Ok(None),

@@ -44,7 +44,7 @@ fn read_both<S: Alter>(conn: &mut Connection<S>) -> Result<Both, StoreFault>
     Ok(Both { kept, amends })
 }
 
-// Of each call: the rows are those of before, whatever the answer is, and a crash leaves what it could leave before.
+// Each call leaves the rows as they were, whatever the answer is, and a crash leaves what it could leave before.
 impl<S: Alter> Store<S> {
     /// The kept requests, in the order in which they were completed.
     pub fn requests(&mut self) -> Result<Vec<Completed>, StoreFault>
@@ -92,7 +92,7 @@ impl<S: Alter> Store<S> {
         }
     }
 
-    /// The facts of the filing of this number, in the byte order of their identifiers, or `None` where there is no such
+    /// The facts of the filing of this number, in the byte order of their identifiers, or `None` if there is no such
     /// filing.
     pub fn facts(&mut self, number: u64) -> Result<Option<Vec<Fact>>, StoreFault>
         ensures facts { ForRequests S.Store self.old self.new (λ F.

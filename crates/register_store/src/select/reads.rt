@@ -14,6 +14,8 @@ ghost use Rattle.table_rows.specs.Picking.{has_number};
 use sqlite::{Alter, Connection, Error, Row, params};
 use table_rows::select;
 
+const PLACES_OF: &str = "SELECT seq FROM kept WHERE filer = ?1 ORDER BY seq";
+
 /// The places of the filer's kept requests, ascending.
 pub(crate) fn places_of<S: Alter>(conn: &mut Connection<S>, filer: &str) -> Result<Vec<Row>, Error>
     ensures read { HasCleanDisk (state S.Store conn.new) → Knows (state S.Store conn.old)
@@ -22,12 +24,10 @@ pub(crate) fn places_of<S: Alter>(conn: &mut Connection<S>, filer: &str) -> Resu
         (state S.Store conn.new)) }
     ensures leaves { OnlyQueries S.Store conn.old conn.new result }
 {
-    select(
-        conn,
-        "SELECT seq FROM kept WHERE filer = ?1 ORDER BY seq",
-        params![filer],
-    )
+    select(conn, PLACES_OF, params![filer])
 }
+
+const FILER_AT: &str = "SELECT filer FROM kept WHERE seq = ?1 ORDER BY seq";
 
 /// The filer of the kept row at this place.
 pub(crate) fn filer_at<S: Alter>(conn: &mut Connection<S>, seq: i64) -> Result<Vec<Row>, Error>
@@ -37,12 +37,11 @@ pub(crate) fn filer_at<S: Alter>(conn: &mut Connection<S>, seq: i64) -> Result<V
         (state S.Store conn.new)) }
     ensures leaves { OnlyQueries S.Store conn.old conn.new result }
 {
-    select(
-        conn,
-        "SELECT filer FROM kept WHERE seq = ?1 ORDER BY seq",
-        params![seq],
-    )
+    select(conn, FILER_AT, params![seq])
 }
+
+const FACTS_OF_FILING: &str =
+    "SELECT id, concept, dimensions, value, decimals FROM fact WHERE number = ?1 ORDER BY pos";
 
 /// What the filing's facts say, by `pos`.
 pub(crate) fn facts_of_filing<S: Alter>(
@@ -56,9 +55,5 @@ pub(crate) fn facts_of_filing<S: Alter>(
         (state S.Store conn.new)) }
     ensures leaves { OnlyQueries S.Store conn.old conn.new result }
 {
-    select(
-        conn,
-        "SELECT id, concept, dimensions, value, decimals FROM fact WHERE number = ?1 ORDER BY pos",
-        params![number as i64],
-    )
+    select(conn, FACTS_OF_FILING, params![number as i64])
 }

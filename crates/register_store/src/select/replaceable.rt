@@ -62,7 +62,7 @@ pub(crate) fn has_filing<S: Alter>(
     match place_of(catalogue, number) {
         Some(place) => is_filers(conn, filer, in_column(place)?),
         None => {
-            // The database is asked all the same, since an answer says that it is open. No request has the place 0.
+            // The database is asked even so, since an answer says that it is open. No request has the place 0.
             is_filers(conn, filer, 0)?;
             Ok(false)
         }

@@ -1,4 +1,4 @@
-//! What is read of a register in a form before this one.
+//! What is read of a register in an earlier form.
 
 ghost use Rattle.std.specs.Prelude.{◌≡◌, ◌≢◌, ◌≤◌, ◌^◌, ◌⊎◌, ◌↔◌, ◌∷◌, [], ℕ, pos, length, IsTrue, IfOk, IfErr, IfSome};
 ghost use Rattle.std.specs.Prelude.{None};
@@ -23,12 +23,12 @@ use sqlite::{Alter, Connection, Row};
 use std::alloc::Global;
 use table_rows::Cause;
 
-/// The forms in which registers were kept before this one.
+/// The forms in which earlier versions kept registers.
 #[derive(Clone, Copy, Debug, PartialEq, Eq)]
 pub enum Earlier {
     /// With the tables of every form alone: all kept requests are from before there were problem details.
     Second,
-    /// With a row beside them that says which of the kept requests are: the first so many.
+    /// With `migrated`, whose row says how many of the kept requests are, from the first on.
     Third,
 }
 
@@ -153,7 +153,7 @@ fn count_whole<S: Alter>(alloc: Global, conn: &mut Connection<S>) -> Result<Tota
     }
 }
 
-/// Counts what they stand for with one kept request in memory at a time. `None` says nothing of the rows.
+/// Counts what the four tables stand for, with one kept request in memory at a time. `None` says nothing of the rows.
 fn count_walked<S: Alter>(
     alloc: Global,
     conn: &mut Connection<S>,
@@ -192,7 +192,7 @@ fn count_four<S: Alter>(alloc: Global, conn: &mut Connection<S>) -> Result<Total
     }
 }
 
-/// The number in the rows of `migrated`, where it is one of so many kept requests.
+/// The number in the one row of `migrated`, if it is at most that of the kept requests.
 fn old_style_of(rows: &[Row], kept: u64) -> Option<u64>
     ensures some { IfSome result (λ old_style. (rows.now ≡ migrated_row old_style ∷ []) × (old_style ≤ kept)) }
     ensures none { result ≡ None → SaysNone kept rows.now }
@@ -221,7 +221,7 @@ fn count_second<S: Alter>(alloc: Global, conn: &mut Connection<S>) -> Result<Cou
     })
 }
 
-/// So much is held in the third form, where the rows of `migrated` are these.
+/// How much is held in the third form with these totals, if the rows of `migrated` fit them.
 fn counts_with(totals: Totals, migrated: &[Row]) -> Result<Counts, OpenFault>
     ensures told { IfOk result (λ counts.
         (counts.kept ≡ totals.kept) × (counts.filings ≡ totals.filings) × (counts.catalogue ≡ totals.catalogue)

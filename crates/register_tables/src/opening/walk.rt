@@ -25,6 +25,7 @@ ghost use Rattle.register_tables.specs.Walk.{Amounts, Beyond, Passes, Walked};
 use crate::opening::watch::Watch;
 use crate::select::picks;
 use filing_model::is_target;
+use register_rows::columns::kept;
 use register_rows::{
     Catalogue, Filed, MAX_KEPT, RowItem, after_filing, after_items, bytes_at, filer_of,
     is_kept_row, target_of, text_at,
@@ -33,8 +34,8 @@ use sqlite::{Alter, Connection, Error, Row};
 use std::alloc::Global;
 use xbrl_report::{Fact, Finding, Judged};
 
-/// How many rows of the tables beside `kept` are left behind the requests that were walked past, those of `amends`
-/// themselves, and the number of the next filing.
+/// What is left of the tables beside `kept` behind the requests that were walked past: the rows of `amends`, and of the
+/// other tables the number of rows. And the number of the next filing.
 #[derive(Clone, Copy)]
 pub(crate) struct Left<'a> {
     pub(crate) amends: &'a [Row],
@@ -122,11 +123,11 @@ fn is_alone<S: Alter>(conn: &mut Connection<S>, row: &Row) -> Result<bool, Error
         ≡ 1) }
     ensures leaves { OnlyQueries S.Store conn.old conn.new result }
 {
-    let count = picks::count_with_key(conn, text_at(row, 1), text_at(row, 2))?;
+    let count = picks::count_with_key(conn, text_at(row, kept::FILER), text_at(row, kept::KEY))?;
     Ok(count == 1)
 }
 
-/// What is left with so many findings less.
+/// What is left behind so many findings, if there are as many.
 fn without_findings<'a>(left: Left<'a>, count: u64) -> Option<Left<'a>>
     ensures { IfSome result (λ tail.
         (left.entry.findings ≡ tail.findings + count) × (tail.filings ≡ left.entry.filings)
@@ -137,7 +138,7 @@ fn without_findings<'a>(left: Left<'a>, count: u64) -> Option<Left<'a>>
     Some(Left { findings, ..left })
 }
 
-/// What is left with a filing less that has so many facts.
+/// What is left behind a filing and so many facts, if there are as many.
 fn without_filing<'a>(left: Left<'a>, count: u64) -> Option<Left<'a>>
     requires { left.number < 2 ^ 63 }
     ensures { IfSome result (λ tail.
@@ -249,8 +250,8 @@ fn pass_as<'a, S: Alter>(
     }
 }
 
-/// What is left behind a kept row of this filer, where its row of `amends` was read, if its rows are those that judging
-/// its request gives. Where memory is short it is `None`.
+/// What is left behind this kept row, whose filer and target were read, if its rows are those that judging its request
+/// gives. It is `None` also if memory is short.
 fn pass_filed<'a, S: Alter>(
     alloc: Global,
     conn: &mut Connection<S>,
@@ -281,7 +282,7 @@ fn pass_filed<'a, S: Alter>(
         IfSome passed (λ tail. (tail.number ≤ left.entry.number + 1) × (tail.amends.now ≡ left.entry.amends.now))) }
     ensures leaves { MayQuery S.Store conn.old conn.new result }
 {
-    let Ok(judged) = filed.judge(alloc, filer, target, bytes_at(row, 3)) else {
+    let Ok(judged) = filed.judge(alloc, filer, target, bytes_at(row, kept::BODY)) else {
         return Ok(None);
     };
     let Some(tail) = pass_as(conn, row, seq, &judged, left)? else {
@@ -293,8 +294,8 @@ fn pass_filed<'a, S: Alter>(
     }
 }
 
-/// What is left behind a kept row, if its rows are those that judging its request gives. Where memory is short it is
-/// `None`.
+/// What is left behind this kept row, if its rows are those that judging its request gives. It is `None` also if memory
+/// is short.
 fn pass_judged<'a, S: Alter>(
     alloc: Global,
     conn: &mut Connection<S>,
@@ -362,7 +363,7 @@ fn pass<'a, S: Alter>(
     }
 }
 
-/// What is left behind all kept requests, if their rows are those of requests, and what is said of their filings.
+/// What is left behind all kept requests, if their rows are those of requests, and the catalogue of their filings.
 fn walk<'a, S: Alter, W: Watch>(
     alloc: Global,
     conn: &mut Connection<S>,
@@ -442,7 +443,7 @@ fn sizes_of<'a>(
     })
 }
 
-/// How many requests are kept, how many of them are registered, and what is said of these filings.
+/// How many requests are kept, how many of them are registered, and the catalogue of these filings.
 #[derive(Drop)]
 pub(crate) struct Totals {
     pub(crate) kept: u64,
@@ -473,7 +474,8 @@ fn counts_of(kept: u64, left: Left<'_>, catalogue: Catalogue) -> Option<Totals>
     }
 }
 
-/// How much a register holds whose rows stand for requests, where `amends` has these. `None` says nothing of the rows.
+/// How much a register holds whose rows stand for requests, if `amends` has these rows. `None` says nothing of the
+/// rows.
 pub(crate) fn count_by_walk<S: Alter, W: Watch>(
     alloc: Global,
     conn: &mut Connection<S>,

@@ -1,12 +1,12 @@
 //! How far an opening is.
 
-/// Is told how far an opening is, which takes long where many requests are kept. It decides nothing.
+/// Follows an opening, which takes long if many requests are kept. It decides nothing.
 pub trait Watch {
-    /// So many of all kept requests were found sound.
+    /// So many requests of all the kept ones were found sound.
     fn passed(&mut self, requests: u64, all: u64);
 }
 
-/// Nobody waits for the opening.
+/// Nobody follows the opening.
 #[derive(Clone, Copy)]
 pub struct Unwatched;
 

@@ -1,4 +1,4 @@
-//! The tables of a register are made.
+//! Making the tables of a register.
 
 ghost use Rattle.std.specs.Prelude.{◌≡◌, ◌≢◌, ◌↔◌, false, Err, IsTrue, IfErr, OnOk};
 ghost use Rattle.sqlite.specs.Held.{state};
@@ -15,6 +15,25 @@ use crate::schema::names;
 use sqlite::{Alter, Connection, Error, Transaction};
 use table_rows::{is_settled, run};
 
+const CREATE_META: &str =
+    "CREATE TABLE intake_meta (id INTEGER PRIMARY KEY, kind TEXT NOT NULL, form INTEGER NOT NULL) STRICT";
+
+const CREATE_KEPT: &str =
+    "CREATE TABLE kept (seq INTEGER PRIMARY KEY, filer TEXT NOT NULL, idem TEXT NOT NULL, \
+    body BLOB NOT NULL, number INTEGER, UNIQUE (filer, idem)) STRICT";
+
+const CREATE_FINDING: &str =
+    "CREATE TABLE finding (seq INTEGER NOT NULL, pos INTEGER NOT NULL, code INTEGER NOT NULL, \
+    place BLOB NOT NULL, PRIMARY KEY (seq, pos)) STRICT";
+
+const CREATE_FILING: &str =
+    "CREATE TABLE filing (number INTEGER PRIMARY KEY, seq INTEGER NOT NULL UNIQUE) STRICT";
+
+const CREATE_FACT: &str =
+    "CREATE TABLE fact (number INTEGER NOT NULL, pos INTEGER NOT NULL, id BLOB NOT NULL, \
+    concept BLOB NOT NULL, dimensions BLOB NOT NULL, value BLOB, decimals INTEGER, \
+    PRIMARY KEY (number, pos)) STRICT";
+
 /// Makes the tables of every form.
 fn make_common<S: Alter>(tx: &mut Transaction<'_, S>) -> Result<(), Error>
     ensures leaves { OnlyWrites S.Store tx.old.conn tx.new.conn }
@@ -26,32 +45,22 @@ fn make_common<S: Alter>(tx: &mut Transaction<'_, S>) -> Result<(), Error>
     ensures inside { HasCleanDisk (state S.Store tx.new.conn.now)
         → OnOk result (IsTrue (state S.Store tx.new.conn.now).in_transaction) }
 {
-    run(
-        tx,
-        "CREATE TABLE intake_meta (id INTEGER PRIMARY KEY, kind TEXT NOT NULL, form INTEGER NOT NULL) STRICT",
-        &[],
-    )?;
-    run(
-        tx,
-        "CREATE TABLE kept (seq INTEGER PRIMARY KEY, filer TEXT NOT NULL, idem TEXT NOT NULL, body BLOB NOT NULL, number INTEGER, UNIQUE (filer, idem)) STRICT",
-        &[],
-    )?;
-    run(
-        tx,
-        "CREATE TABLE finding (seq INTEGER NOT NULL, pos INTEGER NOT NULL, code INTEGER NOT NULL, place BLOB NOT NULL, PRIMARY KEY (seq, pos)) STRICT",
-        &[],
-    )?;
-    run(
-        tx,
-        "CREATE TABLE filing (number INTEGER PRIMARY KEY, seq INTEGER NOT NULL UNIQUE) STRICT",
-        &[],
-    )?;
-    run(
-        tx,
-        "CREATE TABLE fact (number INTEGER NOT NULL, pos INTEGER NOT NULL, id BLOB NOT NULL, concept BLOB NOT NULL, dimensions BLOB NOT NULL, value BLOB, decimals INTEGER, PRIMARY KEY (number, pos)) STRICT",
-        &[],
-    )
+    run(tx, CREATE_META, &[])?;
+    run(tx, CREATE_KEPT, &[])?;
+    run(tx, CREATE_FINDING, &[])?;
+    run(tx, CREATE_FILING, &[])?;
+    run(tx, CREATE_FACT, &[])
 }
+
+pub(crate) const CREATE_MIGRATED: &str =
+    "CREATE TABLE migrated (id INTEGER PRIMARY KEY, last INTEGER NOT NULL) STRICT";
+
+pub(crate) const CREATE_AMENDS: &str =
+    "CREATE TABLE amends (seq INTEGER PRIMARY KEY, target INTEGER NOT NULL) STRICT";
+
+const INSERT_META: &str = "INSERT INTO intake_meta VALUES (1, 'register', 4)";
+
+const INSERT_NO_OLD_STYLE: &str = "INSERT INTO migrated VALUES (1, 0)";
 
 /// Makes the other tables, and the rows that every register has.
 fn make_later<S: Alter>(tx: &mut Transaction<'_, S>) -> Result<(), Error>
@@ -64,18 +73,10 @@ fn make_later<S: Alter>(tx: &mut Transaction<'_, S>) -> Result<(), Error>
     ensures inside { HasCleanDisk (state S.Store tx.new.conn.now)
         → OnOk result (IsTrue (state S.Store tx.new.conn.now).in_transaction) }
 {
-    run(
-        tx,
-        "CREATE TABLE migrated (id INTEGER PRIMARY KEY, last INTEGER NOT NULL) STRICT",
-        &[],
-    )?;
-    run(
-        tx,
-        "CREATE TABLE amends (seq INTEGER PRIMARY KEY, target INTEGER NOT NULL) STRICT",
-        &[],
-    )?;
-    run(tx, "INSERT INTO intake_meta VALUES (1, 'register', 4)", &[])?;
-    run(tx, "INSERT INTO migrated VALUES (1, 0)", &[])
+    run(tx, CREATE_MIGRATED, &[])?;
+    run(tx, CREATE_AMENDS, &[])?;
+    run(tx, INSERT_META, &[])?;
+    run(tx, INSERT_NO_OLD_STYLE, &[])
 }
 
 fn make_tables<S: Alter>(tx: &mut Transaction<'_, S>) -> Result<(), Error>
@@ -110,7 +111,7 @@ pub fn make_register<S: Alter>(conn: &mut Connection<S>) -> Result<(), CreateFau
     requires autocommit { conn.old.in_transaction ≡ false }
     ensures makes { MakesRegister S.Store conn.old conn.new result }
 
-    // Taken comes where one of the names is in use, and always there. Another refusal has its cause in a statement or
+    // The answer is Taken if and only if one of the names is in use. Any other refusal has its cause in a statement or
     // in the commit.
     ensures taken { (result ≡ Err CreateFault.Taken) ↔ IsTrue (is_taken (state S.Store conn.old).now.schema) }
     ensures failed { HasCleanDisk (state S.Store conn.new)

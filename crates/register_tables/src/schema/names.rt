@@ -22,7 +22,7 @@ pub fn is_taken(schema: &Schema) -> bool
         || is_used(schema, b"amends")
 }
 
-/// Whether one has the name of a table that a register in this form has not, and a register has.
+/// Whether a table, an index or a view has the name of a table that a register in this form lacks.
 pub fn is_blocked(schema: &Schema, form: Earlier) -> bool
     ensures { result ≡ is_blocked schema.now form }
 {

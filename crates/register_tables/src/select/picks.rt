@@ -1,5 +1,5 @@
-//! The SELECTs of a walk over a register's tables: the rows of one table with a key, by what is left of its key, or how
-//! many rows it has.
+//! The SELECTs of a walk over a register's tables: the rows of one table with the first column of its key, in the order
+//! of the rest of the key, or how many rows it has.
 
 ghost use Rattle.std.specs.Prelude.{◌≡◌, ◌<◌, ◌^◌, ◌-◌, pos, length, filter, [], IfOk, IfSome};
 ghost use Rattle.sqlite.specs.Held.{state};
@@ -13,6 +13,8 @@ use sqlite::types::ValueRef;
 use sqlite::{Alter, Connection, Error, Row, params};
 use table_rows::{count_in, select};
 
+const KEPT_AT: &str = "SELECT seq, filer, idem, body, number FROM kept WHERE seq = ?1 ORDER BY seq";
+
 /// The kept rows with this place.
 pub(crate) fn kept_at<S: Alter>(conn: &mut Connection<S>, seq: u64) -> Result<Vec<Row>, Error>
     requires { seq < 2 ^ 63 }
@@ -20,12 +22,10 @@ pub(crate) fn kept_at<S: Alter>(conn: &mut Connection<S>, seq: u64) -> Result<Ve
         → IfOk result (λ rows. Picks kept_table (has_number seq) rows.items (state S.Store conn.old).now) }
     ensures leaves { OnlyQueries S.Store conn.old conn.new result }
 {
-    select(
-        conn,
-        "SELECT seq, filer, idem, body, number FROM kept WHERE seq = ?1 ORDER BY seq",
-        params![seq as i64],
-    )
+    select(conn, KEPT_AT, params![seq as i64])
 }
+
+const FINDINGS_AT: &str = "SELECT seq, pos, code, place FROM finding WHERE seq = ?1 ORDER BY pos";
 
 /// The findings of the request at this place, by `pos`.
 pub(crate) fn findings_at<S: Alter>(conn: &mut Connection<S>, seq: u64) -> Result<Vec<Row>, Error>
@@ -34,12 +34,10 @@ pub(crate) fn findings_at<S: Alter>(conn: &mut Connection<S>, seq: u64) -> Resul
         → IfOk result (λ rows. Picks finding_table (has_number seq) rows.items (state S.Store conn.old).now) }
     ensures leaves { OnlyQueries S.Store conn.old conn.new result }
 {
-    select(
-        conn,
-        "SELECT seq, pos, code, place FROM finding WHERE seq = ?1 ORDER BY pos",
-        params![seq as i64],
-    )
+    select(conn, FINDINGS_AT, params![seq as i64])
 }
+
+const FILINGS_NUMBERED: &str = "SELECT number, seq FROM filing WHERE number = ?1 ORDER BY number";
 
 /// The filings with this number.
 pub(crate) fn filings_numbered<S: Alter>(
@@ -51,12 +49,11 @@ pub(crate) fn filings_numbered<S: Alter>(
         → IfOk result (λ rows. Picks filing_table (has_number number) rows.items (state S.Store conn.old).now) }
     ensures leaves { OnlyQueries S.Store conn.old conn.new result }
 {
-    select(
-        conn,
-        "SELECT number, seq FROM filing WHERE number = ?1 ORDER BY number",
-        params![number as i64],
-    )
+    select(conn, FILINGS_NUMBERED, params![number as i64])
 }
+
+const FACTS_NUMBERED: &str =
+    "SELECT number, pos, id, concept, dimensions, value, decimals FROM fact WHERE number = ?1 ORDER BY pos";
 
 /// The facts of the filing with this number, by `pos`.
 pub(crate) fn facts_numbered<S: Alter>(
@@ -68,12 +65,10 @@ pub(crate) fn facts_numbered<S: Alter>(
         → IfOk result (λ rows. Picks fact_table (has_number number) rows.items (state S.Store conn.old).now) }
     ensures leaves { OnlyQueries S.Store conn.old conn.new result }
 {
-    select(
-        conn,
-        "SELECT number, pos, id, concept, dimensions, value, decimals FROM fact WHERE number = ?1 ORDER BY pos",
-        params![number as i64],
-    )
+    select(conn, FACTS_NUMBERED, params![number as i64])
 }
+
+const PLACES_WITH_KEY: &str = "SELECT seq FROM kept WHERE filer = ?1 AND idem = ?2 ORDER BY seq";
 
 /// How many kept rows have this filer and key.
 pub(crate) fn count_with_key<S: Alter>(
@@ -88,48 +83,56 @@ pub(crate) fn count_with_key<S: Alter>(
 {
     let rows = select(
         conn,
-        "SELECT seq FROM kept WHERE filer = ?1 AND idem = ?2 ORDER BY seq",
+        PLACES_WITH_KEY,
         &[ValueRef::Text(filer), ValueRef::Text(key)],
     )?;
     Ok(rows.len())
 }
 
-/// How many rows `kept` has, or `None` where it has more than are counted.
+const COUNT_KEPT: &str = "SELECT count(*) FROM kept";
+
+/// How many rows `kept` has, or `None` if it has more than SQLite counts.
 pub(crate) fn count_kept<S: Alter>(conn: &mut Connection<S>) -> Result<Option<u64>, Error>
     ensures counted { HasCleanDisk (state S.Store conn.new) → HasCommon (state S.Store conn.old).now.schema
         → IfOk result (λ found. IfSome found (λ count. CountsTo kept_table count (state S.Store conn.old).now)) }
     ensures leaves { OnlyQueries S.Store conn.old conn.new result }
 {
-    let rows = select(conn, "SELECT count(*) FROM kept", &[])?;
+    let rows = select(conn, COUNT_KEPT, &[])?;
     Ok(count_in(&rows))
 }
 
-/// How many rows `finding` has, or `None` where it has more than are counted.
+const COUNT_FINDINGS: &str = "SELECT count(*) FROM finding";
+
+/// How many rows `finding` has, or `None` if it has more than SQLite counts.
 pub(crate) fn count_findings<S: Alter>(conn: &mut Connection<S>) -> Result<Option<u64>, Error>
     ensures counted { HasCleanDisk (state S.Store conn.new) → HasCommon (state S.Store conn.old).now.schema
         → IfOk result (λ found. IfSome found (λ count. CountsTo finding_table count (state S.Store conn.old).now)) }
     ensures leaves { OnlyQueries S.Store conn.old conn.new result }
 {
-    let rows = select(conn, "SELECT count(*) FROM finding", &[])?;
+    let rows = select(conn, COUNT_FINDINGS, &[])?;
     Ok(count_in(&rows))
 }
 
-/// How many rows `filing` has, or `None` where it has more than are counted.
+const COUNT_FILINGS: &str = "SELECT count(*) FROM filing";
+
+/// How many rows `filing` has, or `None` if it has more than SQLite counts.
 pub(crate) fn count_filings<S: Alter>(conn: &mut Connection<S>) -> Result<Option<u64>, Error>
     ensures counted { HasCleanDisk (state S.Store conn.new) → HasCommon (state S.Store conn.old).now.schema
         → IfOk result (λ found. IfSome found (λ count. CountsTo filing_table count (state S.Store conn.old).now)) }
     ensures leaves { OnlyQueries S.Store conn.old conn.new result }
 {
-    let rows = select(conn, "SELECT count(*) FROM filing", &[])?;
+    let rows = select(conn, COUNT_FILINGS, &[])?;
     Ok(count_in(&rows))
 }
 
-/// How many rows `fact` has, or `None` where it has more than are counted.
+const COUNT_FACTS: &str = "SELECT count(*) FROM fact";
+
+/// How many rows `fact` has, or `None` if it has more than SQLite counts.
 pub(crate) fn count_facts<S: Alter>(conn: &mut Connection<S>) -> Result<Option<u64>, Error>
     ensures counted { HasCleanDisk (state S.Store conn.new) → HasCommon (state S.Store conn.old).now.schema
         → IfOk result (λ found. IfSome found (λ count. CountsTo fact_table count (state S.Store conn.old).now)) }
     ensures leaves { OnlyQueries S.Store conn.old conn.new result }
 {
-    let rows = select(conn, "SELECT count(*) FROM fact", &[])?;
+    let rows = select(conn, COUNT_FACTS, &[])?;
     Ok(count_in(&rows))
 }

@@ -12,6 +12,8 @@ ghost use Rattle.register_tables.specs.Reads.{Knows, KnowsAll, FailsOnErr, Reads
 use sqlite::{Alter, Connection, Error, Row};
 use table_rows::select;
 
+const ALL_META: &str = "SELECT id, kind, form FROM intake_meta ORDER BY id";
+
 /// The rows of `intake_meta`, by `id`.
 pub(crate) fn meta_rows<S: Alter>(conn: &mut Connection<S>) -> Result<Vec<Row>, Error>
     ensures shown { HasCleanDisk (state S.Store conn.new)
@@ -19,12 +21,10 @@ pub(crate) fn meta_rows<S: Alter>(conn: &mut Connection<S>) -> Result<Vec<Row>, 
     ensures failed { FailsOnErr all_meta (state S.Store conn.old) (state S.Store conn.new) result }
     ensures leaves { OnlyQueries S.Store conn.old conn.new result }
 {
-    select(
-        conn,
-        "SELECT id, kind, form FROM intake_meta ORDER BY id",
-        &[],
-    )
+    select(conn, ALL_META, &[])
 }
+
+const ALL_KEPT: &str = "SELECT seq, filer, idem, body, number FROM kept ORDER BY seq";
 
 /// All kept rows, by `seq`.
 pub fn kept_rows<S: Alter>(conn: &mut Connection<S>) -> Result<Vec<Row>, Error>
@@ -35,12 +35,10 @@ pub fn kept_rows<S: Alter>(conn: &mut Connection<S>) -> Result<Vec<Row>, Error>
         → IfOk result (λ rows. ReadsWhole kept_table rows.items (state S.Store conn.old) (state S.Store conn.new)) }
     ensures leaves { OnlyQueries S.Store conn.old conn.new result }
 {
-    select(
-        conn,
-        "SELECT seq, filer, idem, body, number FROM kept ORDER BY seq",
-        &[],
-    )
+    select(conn, ALL_KEPT, &[])
 }
+
+const ALL_FINDINGS: &str = "SELECT seq, pos, code, place FROM finding ORDER BY seq, pos";
 
 /// All findings, by `seq` and `pos`.
 pub(crate) fn finding_rows<S: Alter>(conn: &mut Connection<S>) -> Result<Vec<Row>, Error>
@@ -49,12 +47,10 @@ pub(crate) fn finding_rows<S: Alter>(conn: &mut Connection<S>) -> Result<Vec<Row
     ensures failed { FailsOnErr all_findings (state S.Store conn.old) (state S.Store conn.new) result }
     ensures leaves { OnlyQueries S.Store conn.old conn.new result }
 {
-    select(
-        conn,
-        "SELECT seq, pos, code, place FROM finding ORDER BY seq, pos",
-        &[],
-    )
+    select(conn, ALL_FINDINGS, &[])
 }
+
+const ALL_FILINGS: &str = "SELECT number, seq FROM filing ORDER BY number";
 
 /// All filings, by `number`.
 pub(crate) fn filing_rows<S: Alter>(conn: &mut Connection<S>) -> Result<Vec<Row>, Error>
@@ -63,8 +59,11 @@ pub(crate) fn filing_rows<S: Alter>(conn: &mut Connection<S>) -> Result<Vec<Row>
     ensures failed { FailsOnErr all_filings (state S.Store conn.old) (state S.Store conn.new) result }
     ensures leaves { OnlyQueries S.Store conn.old conn.new result }
 {
-    select(conn, "SELECT number, seq FROM filing ORDER BY number", &[])
+    select(conn, ALL_FILINGS, &[])
 }
+
+const ALL_FACTS: &str =
+    "SELECT number, pos, id, concept, dimensions, value, decimals FROM fact ORDER BY number, pos";
 
 /// All facts, by `number` and `pos`.
 pub(crate) fn fact_rows<S: Alter>(conn: &mut Connection<S>) -> Result<Vec<Row>, Error>
@@ -73,12 +72,10 @@ pub(crate) fn fact_rows<S: Alter>(conn: &mut Connection<S>) -> Result<Vec<Row>, 
     ensures failed { FailsOnErr all_facts (state S.Store conn.old) (state S.Store conn.new) result }
     ensures leaves { OnlyQueries S.Store conn.old conn.new result }
 {
-    select(
-        conn,
-        "SELECT number, pos, id, concept, dimensions, value, decimals FROM fact ORDER BY number, pos",
-        &[],
-    )
+    select(conn, ALL_FACTS, &[])
 }
+
+const ALL_MIGRATED: &str = "SELECT id, last FROM migrated ORDER BY id";
 
 /// The rows of `migrated`, by `id`.
 pub(crate) fn migrated_rows<S: Alter>(conn: &mut Connection<S>) -> Result<Vec<Row>, Error>
@@ -87,8 +84,10 @@ pub(crate) fn migrated_rows<S: Alter>(conn: &mut Connection<S>) -> Result<Vec<Ro
     ensures failed { FailsOnErr all_migrated (state S.Store conn.old) (state S.Store conn.new) result }
     ensures leaves { OnlyQueries S.Store conn.old conn.new result }
 {
-    select(conn, "SELECT id, last FROM migrated ORDER BY id", &[])
+    select(conn, ALL_MIGRATED, &[])
 }
+
+const ALL_AMENDS: &str = "SELECT seq, target FROM amends ORDER BY seq";
 
 /// The rows of `amends`, by `seq`.
 pub fn amends_rows<S: Alter>(conn: &mut Connection<S>) -> Result<Vec<Row>, Error>
@@ -99,5 +98,5 @@ pub fn amends_rows<S: Alter>(conn: &mut Connection<S>) -> Result<Vec<Row>, Error
         → IfOk result (λ rows. ReadsWhole amends_table rows.items (state S.Store conn.old) (state S.Store conn.new)) }
     ensures leaves { OnlyQueries S.Store conn.old conn.new result }
 {
-    select(conn, "SELECT seq, target FROM amends ORDER BY seq", &[])
+    select(conn, ALL_AMENDS, &[])
 }

@@ -19,8 +19,8 @@ returns-then-has_more c F are number place completed fresh =
     more_if F row c.args.seq target c.args.rest o is c.in-Some.tail (c.in-Some.ensures target) (sym c.has_more.ensures
     ∙ c.if-has_more.true)
 
-pub returns-in-Some : goal.returns-in-Some
-returns-in-Some c F are number place completed fresh =
+pub returns : goal.returns
+returns c F are number place completed fresh =
     let target = c.args.target in
     let row = c.args.row.now in
     let o = outcome_of c.args.rest.number c.in_ok-judged.judged in
@@ -33,7 +33,7 @@ returns-in-Some c F are number place completed fresh =
       sound_if F row c.args.seq target c.args.rest o is completed fresh c.in-Some.tail (c.in-Some.ensures target)
           (sym c.has_more.ensures ∙ c.if-has_more.false),
       filed_more F row c.args.seq target c.args.rest o is fresh _
-          (c.in_ok-note-in-Some.ensures F (request_in target row) are (sym c.requires.filer) refl
+          (c.in_ok-note.ensures F (request_in target row) are (sym c.requires.filer) refl
           (rw c.bytes_at.ensures at c.in_ok-judged.ensures.facts) place was),
       number_more F row c.args.seq target c.args.rest o is fresh c.args.rest.number c.in-Some.tail.number number
           (c.in-Some.ensures target).2,

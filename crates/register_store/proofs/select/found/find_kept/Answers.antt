@@ -11,15 +11,15 @@ use Rattle.register_store.proofs.select.found.find_kept.Goals as goal
 pub returns-in_ok-row-in-Some : goal.returns-in_ok-row-in-Some
 returns-in_ok-row-in-Some g c = record {
   found = λ clean e F was target body.
-      let was_clean : HasCleanDisk (state g.S.Store c.look_up.new.conn) =
-      clean_before c.complete_found.ensures.leaves clean in
+      let was_clean : HasCleanDisk (state g.S.Store c.find_row.new.conn) =
+      clean_before c.read_kept_row.ensures.leaves clean in
       let is : IsFound c.args.filer.now c.args.key.now F c.in-Some.found =
       rw c.in-Some.is at (c.in_ok-found.ensures.found was_clean e F was) in
       ap Some (c.in_ok-row-in-Some.ensures.found clean c.args.filer.now c.args.key.now e F
       (stands c.in_ok-found.ensures.leaves was_clean was) is) ∙ sym (is.is target body);
   style = λ clean F was target body.
-      let before : HasCleanDisk (state g.S.Store c.look_up.new.conn) =
-      clean_before c.complete_found.ensures.leaves clean in
+      let before : HasCleanDisk (state g.S.Store c.find_row.new.conn) =
+      clean_before c.read_kept_row.ensures.leaves clean in
       let old_style = c.args.old_style in
       let is : IsFound c.args.filer.now c.args.key.now F c.in-Some.found =
       rw c.in-Some.is at (c.in_ok-found.ensures.found before old_style F was) in

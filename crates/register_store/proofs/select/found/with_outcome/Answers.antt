@@ -6,7 +6,7 @@ use Rattle.filing_model.specs.Views.{the_request}
 use Rattle.register_rows.specs.Register.{number_of, findings_of}
 use Rattle.table_rows.proofs.LeavingLemmas.{none_yet, passed}
 use Rattle.sqlite.specs.Held.{state}
-use Rattle.register_store.proofs.select.found.complete.Goals as goal
+use Rattle.register_store.proofs.select.found.with_outcome.Goals as goal
 
 -- one without a number was refused, for its findings
 refused_for : (o : Outcome) (findings : List Pair) → number_of o ≡ None → findings ≡ findings_of o

@@ -3,7 +3,7 @@ use Rattle.sqlite.specs.Held.{state}
 use Rattle.register_store.proofs.ListLemmas.{knows}
 use Rattle.register_store.proofs.FindLemmas.{key_found}
 use Rattle.table_rows.proofs.OutcomeLemmas.{concluded}
-use Rattle.register_store.proofs.select.found.look_up.Goals as goal
+use Rattle.register_store.proofs.select.found.find_row.Goals as goal
 
 pub returns-clause-found : goal.returns-clause-found
 returns-clause-found g c clean e F was =
