@@ -9,11 +9,9 @@ use crate::event::{Crash, Event};
 use crate::put::{read_amend, read_put};
 use crate::stranger::read_stranger;
 use crate::words::{read_amount, read_arrival, read_number, read_number_up_to, split_words};
+use filing_model::MAX_KEPT;
 use key_string::is_filer;
 use std::alloc::{AllocError, Global};
-
-/// The greatest limit that a register can have.
-const MAX_LIMIT: u64 = 1 << 62;
 
 /// `limit N`.
 #[tactic(auto, unfolding(crate::specs::Lines::line_limit))]
@@ -21,7 +19,7 @@ pub(crate) fn read_limit_line(line: &str) -> Option<u64>
     ensures { result ≡ line_limit line.now }
 {
     match line.split_once(' ')? {
-        ("limit", limit) => read_number_up_to(MAX_LIMIT, limit),
+        ("limit", limit) => read_number_up_to(MAX_KEPT, limit),
         _ => None,
     }
 }

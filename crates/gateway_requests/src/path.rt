@@ -8,13 +8,11 @@ ghost use Rattle.http_messages.specs.Posting.{IsTarget};
 ghost use Rattle.filing_model.specs.Text.{target_in, resource_in, resource_of_path};
 ghost use Rattle.gateway_requests.specs.Path.{view_path, is_decimal};
 
+use filing_model::MAX_FILING_NUMBER;
 use http_wire::split_at_first;
 use key_string::read_filer;
 
 const FILINGS: &[u8] = b"/filings/";
-
-/// The greatest number that a filing may have.
-const MAX_NUMBER: u64 = (1 << 63) - 1;
 
 /// What a path has behind `/filings/`: a filer's code, and the number of a filing if there is one.
 #[derive(Clone, Copy)]
@@ -75,7 +73,7 @@ fn read_number(text: &[u8]) -> Option<u64>
         return None;
     };
     match digits.parse() {
-        Ok(number) if number <= MAX_NUMBER => Some(number),
+        Ok(number) if number <= MAX_FILING_NUMBER => Some(number),
         _ => None,
     }
 }

@@ -2,8 +2,7 @@
 
 ghost use Rattle.std.specs.Prelude.{◌≡◌, ◌≤◌, ◌<◌, ◌^◌, MatchOption};
 
-/// The greatest limit.
-const MOST_KEPT: u64 = 1 << 62;
+use filing_model::MAX_KEPT;
 
 /// How many keys are kept at most.
 #[derive(Clone, Copy)]
@@ -17,7 +16,7 @@ impl Limit {
     pub fn new(keys: u64) -> Option<Limit>
         ensures { MatchOption result (2 ^ 62 < keys) (λ limit. limit.keys ≡ keys) }
     {
-        if keys <= MOST_KEPT {
+        if keys <= MAX_KEPT {
             Some(Limit { keys })
         } else {
             None

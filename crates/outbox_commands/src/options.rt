@@ -5,12 +5,10 @@ use clap::{Arg, ArgAction, ArgMatches, Command, Error, value_parser};
 use command_line::{
     ToArg, VERSION, Word, database_option, filer_option, option, port_option, tasks,
 };
+use filing_model::MAX_FILING_NUMBER;
 use outbox_process::{Target, Which};
 use report_tasks::Form;
 use std::alloc::{AllocError, Global};
-
-/// The greatest number that a filing may have.
-const MAX_TARGET: u64 = i64::MAX as u64;
 
 /// What the command line asks for.
 #[derive(Drop)]
@@ -392,7 +390,7 @@ fn peer_of<'a>(values: &ArgMatches<'a>) -> Option<Peer<'a>> {
 /// What `--amend` says. Other numbers are refused as the words are read.
 fn target_of(values: &ArgMatches<'_>) -> Target {
     match values.get_one("amend") {
-        Some(number) if 1 <= number && number <= MAX_TARGET => Target {
+        Some(number) if 1 <= number && number <= MAX_FILING_NUMBER => Target {
             number: Some(number),
         },
         _ => Target { number: None },

@@ -8,12 +8,10 @@ ghost use Rattle.filing_model.specs.Outbox.{has_word, has_status, refuses, confi
 ghost use Rattle.outbox_tables.specs.Entries.{FitsNumber};
 ghost use Rattle.filing_model.specs.Views.{view_state};
 
-use filing_model::State;
+use filing_model::{MAX_FILING_NUMBER, State};
 use http_messages::Reply;
 use serde_json::Value;
 use std::alloc::{AllocError, Global};
-
-const NUMBER_LIMIT: u64 = 1 << 63;
 
 /// Whether the member of this name is this word.
 fn has_word(tree: &Value, name: &str, word: &str) -> bool
@@ -43,7 +41,7 @@ fn confirmed_by(number: Option<u64>) -> State
     ensures fits { FitsNumber (view_state result) }
 {
     match number {
-        Some(number) if 1 <= number && number < NUMBER_LIMIT => State::Confirmed(number),
+        Some(number) if 1 <= number && number <= MAX_FILING_NUMBER => State::Confirmed(number),
         _ => State::Open,
     }
 }

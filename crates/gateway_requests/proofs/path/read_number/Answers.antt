@@ -23,7 +23,7 @@ returns-in-Ok-parse-clause-value c =
     let value =
     value_is c.args.text.now c.in-Ok.digits.now c.in-Ok.ensures.cases.0 is c.parse.result c.parse.ensures.value.0
     c.in-Ok-parse.number c.in-Ok-parse.is in
-    ap Some value ∙ sym (number-read c.args.text.now is (omega (arith, value, c.if-number-le-MAX_NUMBER.true)))
+    ap Some value ∙ sym (number-read c.args.text.now is (omega (arith, value, c.if-number-le-MAX_FILING_NUMBER.true)))
 
 pub returns-in-Ok-parse-clause-number : goal.returns-in-Ok-parse-clause-number
 returns-in-Ok-parse-clause-number c =
@@ -31,8 +31,8 @@ returns-in-Ok-parse-clause-number c =
     let value =
     value_is c.args.text.now c.in-Ok.digits.now c.in-Ok.ensures.cases.0 is c.parse.result c.parse.ensures.value.0
     c.in-Ok-parse.number c.in-Ok-parse.is in
-    let above = number-above c.args.text.now is (omega (arith, value, c.if-number-le-MAX_NUMBER.true)) in
-    (omega (arith, value, above), omega (arith, c.if-number-le-MAX_NUMBER.true))
+    let above = number-above c.args.text.now is (omega (arith, value, c.if-number-le-MAX_FILING_NUMBER.true)) in
+    (omega (arith, value, above), omega (arith, c.if-number-le-MAX_FILING_NUMBER.true))
 
 pub returns-in_default-parse-2-clause-value : goal.returns-in_default-parse-2-clause-value
 returns-in_default-parse-2-clause-value c =
