@@ -6,10 +6,10 @@
 mod fault;
 mod lines;
 mod options;
+mod playing;
 mod tasks;
-mod world;
 
 pub use fault::Fault;
 pub use lines::shown;
+pub use playing::played;
 pub use tasks::{main, perform};
-pub use world::played;

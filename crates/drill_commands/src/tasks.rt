@@ -8,7 +8,7 @@ ghost use Rattle.drill_commands.specs.Shown.{IsShownOf};
 use crate::fault::Fault;
 use crate::lines::shown;
 use crate::options;
-use crate::world::played;
+use crate::playing::played;
 use command_line::{DONE, read_whole, show, show_refusal, words};
 use http_wire::{Device, Source};
 use schedule::{Durable, Honest, World};

@@ -1,7 +1,7 @@
 //! A file in memory that keeps what is written to it at once.
 
 ghost use Rattle.std.specs.Prelude.{◌≡◌, [], length, true, false, refl, is_ok, OnOk};
-ghost use Rattle.sqlite_disk.specs.Disk.{Holds, Torn, Cut, CountsFault};
+ghost use Rattle.sqlite_disk.specs.Disk.{Holds, Torn, CountsFault};
 ghost use Rattle.sqlite_disk.specs.Refusal.{finds_no_room};
 
 use sqlite_disk::{Disk, Tally, digest_of};

@@ -1,5 +1,5 @@
 -- What a cache remembers under a name is kept for one filer's key alone, and gives the answer to a repeat.
-use Rattle.std.proofs.Common.{◌≡◌, ◌⊎◌, ℕ, Bool, true, false, List, [], ◌∷◌, Option, Some, ◌++◌, Result, Ok, Err}
+use Rattle.std.proofs.Common.{◌≡◌, ◌⊎◌, ℕ, Bool, true, false, List, [], ◌∷◌, Some, ◌++◌, Result, Ok, Err}
 use Rattle.std.proofs.Common.{IsTrue, IfOk, IfSome, OnOk, OnErr, refl, sym, ap, ◌∙◌, subst, inl, inr, Contains, String}
 use Rattle.std.proofs.Common.{string_bytes, string_eq}
 use Rattle.std.proofs.lemmas.Bool.{false≢true}
@@ -14,7 +14,7 @@ use Rattle.filing_model.specs.Answer.{KeyReused, answer_by, answer_from}
 use Rattle.filing_model.specs.Style.{style_of, HasStyle}
 use Rattle.filing_model.specs.declared.served.Style.{Style}
 use Rattle.filing_model.specs.declared.answer.Answer.{Answer as Given}
-use Rattle.filing_model.specs.Views.{the_request, view_answer}
+use Rattle.filing_model.specs.Views.{view_answer}
 use Rattle.filing_model.proofs.Answers.{answer_kept, kept_for_grows}
 use Rattle.filing_model.proofs.Keeping.{kept_has_key}
 use Rattle.lru.specs.LruCache.{LruCache, lru_cache, promoted, put_entries}
@@ -54,27 +54,25 @@ IsKnownIn-named old_style requests filer key name r named is styled = λ f k oth
     × (r.style ≡ style_of old_style (kept_of filer k r).request)) same.1 (is, styled))
 
 -- an answer that was made from what is known is the answer to a request of this filer's key, which is a repeat
-pub if_some-known : {E : Type 0} (old_style requests : List Request) (filer key : List ℕ) (target : Option ℕ)
-    (body : List ℕ) (r : Remembered) (result : Result Given E)
-    → IsKeptIn requests (kept_of filer key r) × (r.style ≡ style_of old_style (kept_of filer key r).request)
-    → IfOk result (λ a. (view_answer a ≡ answer_from (Some (kept_of filer key r)) (the_request filer key target body)
-    true) × HasStyle r.style a)
-    → IfSome (result_ok result) (λ a. IsAnswerTo old_style requests (the_request filer key target body) a
-    × (has_key requests (the_request filer key target body) ≡ true))
-if_some-known old_style requests filer key target body r (Ok a) known told =
-    let asked : Request = the_request filer key target body in
-    let k = kept_of filer key r in (
+pub if_some-known : {E : Type 0} (old_style requests : List Request) (asked : Request) (r : Remembered)
+    (result : Result Given E) → IsKeptIn requests (kept_of asked.filer asked.key r)
+    × (r.style ≡ style_of old_style (kept_of asked.filer asked.key r).request)
+    → IfOk result (λ a. (view_answer a ≡ answer_from (Some (kept_of asked.filer asked.key r)) asked true)
+    × HasStyle r.style a)
+    → IfSome (result_ok result) (λ a. IsAnswerTo old_style requests asked a × (has_key requests asked ≡ true))
+if_some-known old_style requests asked r (Ok a) known told =
+    let k = kept_of asked.filer asked.key r in (
       (told.0 ∙ sym (answer_kept requests asked k known.0), subst (λ (s : Style). HasStyle s a) known.1 told.1),
       kept_has_key requests asked k known.0,
     )
-if_some-known old_style requests filer key target body r (Err e) known told = tt
+if_some-known old_style requests asked r (Err e) known told = tt
 
--- a request that asks for the same is told what was kept
+-- a request that asks for the same is answered by what was kept
 pub told_same : (k : Kept) (r : Request) (repeat : Bool) → same_content k.request r ≡ true
     → answer_by k.outcome repeat ≡ answer_from (Some k) r repeat
 told_same k r repeat same = rw same refl
 
--- and another one that its key was used
+-- and another one by the fault that its key was used
 pub told_other : (k : Kept) (r : Request) (repeat : Bool) → same_content k.request r ≡ false
     → KeyReused ≡ answer_from (Some k) r repeat
 told_other k r repeat other = rw other refl
@@ -83,7 +81,7 @@ told_other k r repeat other = rw other refl
 pub IsKeptIn-more : (old new : List Request) (k : Kept) → IsKeptIn old k → IsKeptIn (old ++ new) k
 IsKeptIn-more old new k is = kept_for_grows old new k.request k is
 
--- one more that is known
+-- entries are known with one more that is known
 pub AreKnownIn-put : {X E : Type 0} (old_style requests : List Request) (s t : LruCache (String Global) Remembered)
     (name : String Global) (v : Remembered) (r : Result X E)
     → OnOk r (t ≡ lru_cache (put_entries string_eq s name v) s.cap) → OnErr r (t ≡ s)
@@ -105,7 +103,7 @@ AreKnownIn-put old_style requests s t name v (Ok x) put same h new =
 AreKnownIn-put old_style requests s t name v (Err x) put same h new =
     λ e within. h e (subst (λ (c : LruCache (String Global) Remembered). Contains c.entries e) same within)
 
--- the same, once one was used last
+-- known entries stay known once one of them was used last
 pub AreKnownIn-promoted : (test : String Global
     → Bool) (old_style requests : List Request) (s t : LruCache (String Global) Remembered)
     → t ≡ lru_cache (promoted test s.entries) s.cap → AreKnownIn old_style requests s.entries

@@ -6,7 +6,7 @@ use Rattle.filing_model.specs.Request.{Request}
 use Rattle.filing_model.specs.Style.{style_of, HasStyle}
 use Rattle.filing_model.specs.Views.{view_answer}
 
--- It is the answer to the request after these, in the style of its filer and key; the old-style requests were kept
--- before there were problem details.
+-- This is the answer to a request that comes after these, in the style of its filer and key. The old-style requests
+-- were kept before there were problem details.
 abbrev pub IsAnswerTo : List Request → List Request → Request → Given → Type 0
 IsAnswerTo old_style requests r a = (view_answer a ≡ answer requests r) × HasStyle (style_of old_style r) a

@@ -6,8 +6,7 @@ use Rattle.filing_model.specs.Request.{Request}
 use Rattle.filing_model.specs.Register.{Kept, kept}
 use Rattle.filing_model.specs.Answer.{kept_for}
 use Rattle.filing_model.specs.Style.{style_of}
-use Rattle.filing_model.specs.Views.{the_request}
-use Rattle.filing_model.specs.Views.{view_outcome}
+use Rattle.filing_model.specs.Views.{the_request, view_outcome}
 use Rattle.intake_answers.specs.declared.cache.Cache.{Cache}
 use Rattle.intake_answers.specs.declared.cache.Remembered.{Remembered}
 
@@ -16,9 +15,9 @@ pub record IsNameOf (filer key name : List ℕ) : Type 0 where
   pub key' : IsKey key
   pub joined : name ≡ key ++ 10 ∷ filer
 
--- a name that may be there is that of this filer's key
-abbrev pub IsNameIfAny : List ℕ → List ℕ → Option (String Global) → Type 0
-IsNameIfAny filer key name = IfSome name (λ text. IsNameOf filer key (string_bytes text))
+-- a name that may be there is that of the request's filer and key
+abbrev pub IsNameIfAny : Request → Option (String Global) → Type 0
+IsNameIfAny r name = IfSome name (λ text. IsNameOf r.filer r.key (string_bytes text))
 
 -- a request of this filer and key with its outcome
 abbrev pub kept_of : List ℕ → List ℕ → Remembered → Kept
@@ -35,7 +34,7 @@ IsKnownIn old_style requests name r =
     (filer key : List ℕ) → IsNameOf filer key name
     → IsKeptIn requests (kept_of filer key r) × (r.style ≡ style_of old_style (kept_of filer key r).request)
 
--- each of the entries is, for the name that it stands under
+-- each of the entries is known so, for the name that it stands under
 abbrev pub AreKnownIn : List Request → List Request → List (String Global × Remembered) → Type 0
 AreKnownIn old_style requests es = (e : String Global × Remembered) → Contains es e
     → IsKnownIn old_style requests (string_bytes e.0) e.1
@@ -44,6 +43,6 @@ AreKnownIn old_style requests es = (e : String Global × Remembered) → Contain
 abbrev pub Remembers : List Request → List Request → Cache → Type 0
 Remembers old_style requests c = AreKnownIn old_style requests c.answers.entries
 
--- what a cache remembers that may be there
+-- what a cache remembers is known, if there is a cache
 abbrev pub RemembersIfAny : List Request → List Request → Option Cache → Type 0
 RemembersIfAny old_style requests cache = IfSome cache (Remembers old_style requests)

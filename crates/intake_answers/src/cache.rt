@@ -1,16 +1,16 @@
 //! A cache of answers: what the tables would answer, for the requests that came last.
 
-ghost use Rattle.std.specs.Prelude.{◌≡◌, ◌&&◌, ℕ, true, List, IfOk, IfSome, bytes_eq, string_bytes};
+ghost use Rattle.std.specs.Prelude.{◌≡◌, true, List, IfOk, IfSome, Some, string_bytes};
 ghost use Rattle.filing_model.specs.declared.served.Style.{Style};
-ghost use Rattle.filing_model.specs.Request.{Request, same_target, has_key};
+ghost use Rattle.filing_model.specs.Request.{Request, has_key};
 ghost use Rattle.filing_model.specs.Answer.{answer_by, answer_from};
 ghost use Rattle.filing_model.specs.Style.{style_of, HasStyle};
-ghost use Rattle.filing_model.specs.Views.{view_answer, view_outcome, the_request};
+ghost use Rattle.filing_model.specs.Views.{view_answer, view_outcome};
 ghost use Rattle.intake_answers.specs.Answered.{IsAnswerTo};
 ghost use Rattle.intake_answers.specs.Cache.{kept_of, IsKeptIn, IsNameOf, Remembers};
 
+use crate::request::Request;
 use filing_model::{Answer, Outcome, Style};
-use key_string::KeyText;
 use lru::LruCache;
 use std::alloc::{AllocError, Global};
 use std::num::NonZeroUsize;
@@ -33,22 +33,20 @@ pub(crate) struct Remembered {
 impl Remembered {
     fn new(
         alloc: Global,
-        target: Option<u64>,
-        body: &[u8],
+        request: &Request<'_>,
         outcome: &Outcome,
         style: Style,
     ) -> Result<Remembered, AllocError>
-        ensures { (filer key : List ℕ)
-            → IfOk result (λ r.
-            (kept_of filer key r ≡ record {
-              request = the_request filer key target body.now;
+        ensures { IfOk result (λ r.
+            (kept_of request.now.filer request.now.key r ≡ record {
+              request = request.now;
               outcome = view_outcome outcome.now;
             })
             × (r.style ≡ style)) }
     {
         Ok(Remembered {
-            target,
-            body: Vec::from_slice(alloc, body)?,
+            target: request.target,
+            body: Vec::from_slice(alloc, request.body)?,
             outcome: copied(alloc, outcome)?,
             style,
         })
@@ -56,27 +54,25 @@ impl Remembered {
 
     /// The answer to a request with its filer and key: what the first got, or that the key was used for another body,
     /// in its style.
-    fn answer_to(
-        &self,
-        alloc: Global,
-        target: Option<u64>,
-        body: &[u8],
-    ) -> Result<Answer, AllocError>
-        ensures { (filer key : List ℕ)
-            → IfOk result (λ a.
+    fn answer_to(&self, alloc: Global, request: &Request<'_>) -> Result<Answer, AllocError>
+        ensures { IfOk result (λ a.
             (view_answer a
-            ≡ answer_from (Some (kept_of filer key self.now)) (the_request filer key target body.now) true)
+            ≡ answer_from (Some (kept_of request.now.filer request.now.key self.now)) request.now true)
             × HasStyle self.now.style a) }
     {
-        if !asks_the_same(self.target, self.body.as_slice(), target, body) {
+        let first = Request {
+            target: self.target,
+            body: self.body.as_slice(),
+            ..*request
+        };
+        if !first.asks_the_same(request) {
             return Ok(Answer::KeyReused { style: self.style });
         }
         Ok(answer_by(copied(alloc, &self.outcome)?, true, self.style))
     }
 }
 
-/// The last answers, 64 at most, each under the name of its filer's key. A request that is not used for longest goes
-/// first.
+/// The last answers, 64 at most, each under the name of its filer's key. The one that was used longest ago goes first.
 #[derive(Drop)]
 pub struct Cache {
     answers: LruCache<String, Remembered>,
@@ -94,77 +90,55 @@ impl Cache {
     }
 
     /// The answer to a request whose filer's key has this name, if it is remembered and there is memory for it.
-    pub fn recall(
-        &mut self,
-        alloc: Global,
-        name: &str,
-        target: Option<u64>,
-        body: &[u8],
-    ) -> Option<Answer>
+    pub fn recall(&mut self, alloc: Global, name: &str, request: &Request<'_>) -> Option<Answer>
         ensures answer { (old_style requests : List Request) → Remembers old_style requests self.old
-            → (filer key : List ℕ) → IsNameOf filer key name.now
+            → IsNameOf request.now.filer request.now.key name.now
             → IfSome result (λ a.
-            IsAnswerTo old_style requests (the_request filer key target body.now) a
-            × (has_key requests (the_request filer key target body.now) ≡ true)) }
+            IsAnswerTo old_style requests request.now a × (has_key requests request.now ≡ true)) }
         ensures same { (old_style requests : List Request) → Remembers old_style requests self.old
             → Remembers old_style requests self.new }
     {
-        self.answers.get(name)?.answer_to(alloc, target, body).ok()
+        self.answers.get(name)?.answer_to(alloc, request).ok()
     }
 
-    /// Remembers a kept request under the name of its filer's key, where its body has at most 65,536 bytes and there is
+    /// Remembers a kept request under the name of its filer's key, if its body has at most 65,536 bytes and there is
     /// memory for it.
     pub fn remember(
         &mut self,
         alloc: Global,
         name: String,
-        target: Option<u64>,
-        body: &[u8],
+        request: &Request<'_>,
         outcome: &Outcome,
         style: Style,
     )
         ensures { (old_style requests : List Request) → Remembers old_style requests self.old
-            → (filer key : List ℕ) → IsNameOf filer key (string_bytes name)
-            → IsKeptIn requests (record {
-              request = the_request filer key target body.now;
-              outcome = view_outcome outcome.now;
-            })
-            → style ≡ style_of old_style (the_request filer key target body.now)
+            → IsNameOf request.now.filer request.now.key (string_bytes name)
+            → IsKeptIn requests (record { request = request.now; outcome = view_outcome outcome.now })
+            → style ≡ style_of old_style request.now
             → Remembers old_style requests self.new }
     {
-        if body.len() > MAX_CACHED_LEN {
+        if request.body.len() > MAX_CACHED_LEN {
             return;
         }
-        // Where there is no room, it is not remembered.
-        if let Ok(request) = Remembered::new(alloc, target, body, outcome, style) {
-            let _ = self.answers.put(name, request);
+        // If there is no memory, the request is not remembered.
+        if let Ok(remembered) = Remembered::new(alloc, request, outcome, style) {
+            let _ = self.answers.put(name, remembered);
         }
     }
 }
 
-/// The name of a filer's key. No key has a line feed, so no other filer's key has this name.
-pub fn name_of(alloc: Global, filer: &str, key: &KeyText) -> Result<String, AllocError>
-    ensures { IfOk result (λ name. IsNameOf filer.now key.now (string_bytes name)) }
+/// The name of a request's filer and key. No key has a line feed, so no other filer's key has this name.
+pub fn name_of(alloc: Global, request: &Request<'_>) -> Result<String, AllocError>
+    ensures { IfOk result (λ name. IsNameOf request.now.filer request.now.key (string_bytes name)) }
 {
-    let key = key.as_str();
+    let filer = request.filer;
+    let key = request.key.as_str();
     let length = filer.len().saturating_add(key.len()).saturating_add(1);
     let mut name = String::with_capacity(alloc, length)?;
     name.push_str(key)?;
     name.push_str("\n")?;
     name.push_str(filer)?;
     Ok(name)
-}
-
-/// Whether a request asks for what is kept under its key: to replace the same filing, or none, with the same body.
-pub fn asks_the_same(
-    kept_target: Option<u64>,
-    kept_body: &[u8],
-    target: Option<u64>,
-    body: &[u8],
-) -> bool
-    ensures { result ≡ bytes_eq kept_body.now body.now && same_target kept_target target }
-{
-    kept_body == body && kept_target == target
 }
 
 /// A copy of an outcome.

@@ -21,7 +21,7 @@ use Rattle.intake_answers.specs.Cache.{IsKeptIn, RemembersIfAny}
 use Rattle.intake_core.specs.Held.{HoldsRequests, old_style_of, old_style_in}
 use Rattle.intake_answers.proofs.CacheLemmas.{IsKeptIn-more}
 
--- what holds of what was made holds of it where it is there
+-- what holds of a value that was made holds of it as an option
 pub IfSome-made : {X E : Type 0} (made : Result X E) (P : X → Type 0) → IfOk made P → IfSome (result_ok made) P
 IfSome-made (Ok x) P h = h
 IfSome-made (Err e) P h = tt
@@ -67,13 +67,13 @@ has_key-take (suc n) (s ∷ requests) r new = by_first (same_key s r) (has_key-t
     by_first true more e = absurd (cc)
     by_first false more e = more e
 
--- so it is told in the new style
+-- a new key is answered in the new style
 pub style_of-new : (n : ℕ) (requests : List Request) (r : Request) → has_key requests r ≡ false
     → style_of (take n requests) r ≡ Problem
 style_of-new n requests r new = rw (has_key-take n requests r new) refl
 
 module _ {S : Type 0} {g : Ghosts S} (requests : List Request) (r : Request) where
-  -- what was kept in the old style stays so after a request
+  -- the requests that were kept in the old style stay these after another request
   pub old_style_in-after : (old new : Intake S) → old_style_of new ≡ old_style_of old → HoldsRequests g old requests
       → old_style_in new (firsts (requests ++ r ∷ [])) ≡ old_style_in old requests
   old_style_in-after old new same h =
@@ -86,7 +86,7 @@ module _ {S : Type 0} {g : Ghosts S} (requests : List Request) (r : Request) whe
           ap (take (old_style_of old)) (firsts-more requests r h.firsts' fresh)
           ∙ take-append-le (old_style_of old) requests (r ∷ []) h.rows.within
 
-  -- after a new request
+  -- what is held after a new request
   pub HoldsRequests-more : (old new : Intake S) → has_key requests r ≡ false → HoldsRequests g old requests
       → new.cache ≡ old.cache → old_style_of new ≡ old_style_of old → HasRequests g new.store (requests ++ r ∷ [])
       → HoldsRequests g new (requests ++ r ∷ [])
@@ -100,12 +100,12 @@ module _ {S : Type 0} {g : Ghosts S} (requests : List Request) (r : Request) whe
         (RemembersIfAny-more (old_style_in old requests) requests (r ∷ []) old.cache h.known));
   }
 
-  -- after a repeat
+  -- what is held after a repeat
   pub HoldsRequests-repeat : (new : Intake S) → has_key requests r ≡ true → HoldsRequests g new requests
       → HoldsRequests g new (firsts (requests ++ r ∷ []))
   HoldsRequests-repeat new known h = subst (HoldsRequests g new) (sym (firsts_repeat requests r known ∙ h.firsts')) h
 
-  -- of a new one it is the same
+  -- what is held after a new request, in the words of a repeat
   pub HoldsRequests-new : (new : Intake S) → firsts requests ≡ requests → has_key requests r ≡ false
       → HoldsRequests g new (requests ++ r ∷ []) → HoldsRequests g new (firsts (requests ++ r ∷ []))
   HoldsRequests-new new are fresh h = subst (HoldsRequests g new) (sym (firsts-more requests r are fresh)) h

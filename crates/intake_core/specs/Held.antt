@@ -21,15 +21,15 @@ shows g i = register.shows g i.store
 abbrev pub limit_of : {S : Type 0} → Intake S → ℕ
 limit_of i = i.limit.keys
 
--- the database refused a call for another cause than memory, and nothing is asked of it any more
+-- whether the database refused a call for another cause than memory, and so is asked nothing any more
 abbrev pub has_stopped : {S : Type 0} → Intake S → Bool
 has_stopped i = i.is_down
 
--- how many of the first kept requests are told what they were told before there were problem details
+-- how many of the first kept requests are answered as they were before there were problem details
 abbrev pub old_style_of : {S : Type 0} → Intake S → ℕ
 old_style_of i = i.store.old_style
 
--- these, where it holds such requests
+-- the old-style ones among the requests that it holds
 abbrev pub old_style_in : {S : Type 0} → Intake S → List Request → List Request
 old_style_in i requests = take i.store.old_style requests
 
@@ -39,7 +39,7 @@ pub record HoldsRequests {S : Type 0} (g : Ghosts S) (intake : Intake S) (reques
   pub rows : HasRequests g intake.store requests
   pub known : RemembersIfAny (take intake.store.old_style requests) requests intake.cache
 
--- So far the disk gave back what was written. What is said of rows holds where it is so at the end.
+-- So far the disk gave back what was written. What is said of rows holds if it is so at the end.
 abbrev pub IsClean : {S : Type 0} → Ghosts S → Intake S → Type 0
 IsClean g intake = HasCleanDisk (shows g intake)
 
@@ -50,7 +50,13 @@ pub record KeepsSetting {S : Type 0} (g : Ghosts S) (old new : Intake S) : Type 
   pub limit : limit_of new ≡ limit_of old
   pub old_style : old_style_of new ≡ old_style_of old
 
--- Whatever requests it held before: where the disk is clean at the end, this holds of them.
+-- Of all that an intake has, only its cache changes.
+pub record ChangesOnlyCache {S : Type 0} (old new : Intake S) : Type 0 where
+  pub store : store_of new ≡ store_of old
+  pub limit : limit_of new ≡ limit_of old
+  pub stopped : has_stopped new ≡ has_stopped old
+
+-- Whatever requests it held before: if the disk is clean at the end, this holds of them.
 abbrev pub ForRequests : {S : Type 0} → Ghosts S → Intake S → Intake S → (List Request → Type 0) → Type 0
 ForRequests g old new Holds = IsClean g new → (requests : List Request) → HoldsRequests g old requests → Holds requests
 
@@ -68,8 +74,8 @@ SurvivesAs g old new Leaves =
     Survives (shows g old) (shows g new) (λ trees. (requests : List Request) → HoldsRequests g old requests
     → IsTrue (shows g old).is_open → Leaves requests trees)
 
--- Whatever requests it held, where the disk is clean at the end it holds such as this says. The old-style ones, of
--- which this is told first, are those of before.
+-- Whatever requests it held: if the disk is clean at the end, it holds such as this says of the old-style requests, of
+-- those that it held and of those that it holds. The old-style requests stay what they were.
 abbrev pub IsTransition : {S : Type 0} → Ghosts S → Intake S → Intake S
     → (List Request → List Request → List Request → Type 0) → Type 0
 IsTransition g old new Into =

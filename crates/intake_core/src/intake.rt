@@ -1,14 +1,14 @@
 //! The intake: its register, and the answer to the next request.
 
-ghost use Rattle.std.specs.Prelude.{◌≡◌, ◌↔◌, ◌<◌, ◌≤◌, ◌^◌, ◌+◌, ◌++◌, ◌∷◌, ◌⊎◌, [], ℕ, List, length, map, true};
-ghost use Rattle.std.specs.Prelude.{false, Err, None, Some, IsTrue, IfOk, IfSome, OnOk, OnErr, ◌≢◌};
+ghost use Rattle.std.specs.Prelude.{◌≡◌, ◌≢◌, ◌↔◌, ◌<◌, ◌≤◌, ◌^◌, ◌⊎◌, ℕ, List, length, map, true, false, Err, None};
+ghost use Rattle.std.specs.Prelude.{Some, IfSome, OnOk};
 ghost use Rattle.std.specs.Option.{option_to_list};
 ghost use Rattle.key_string.specs.Filer.{is_filer};
 ghost use Rattle.http_messages.specs.Head.{max_body_len};
 ghost use Rattle.http_messages.specs.Posting.{IsTarget};
 ghost use Rattle.xbrl_report.specs.Judgement.{HasFacts};
 ghost use Rattle.filing_model.specs.Request.{Request, firsts, has_key};
-ghost use Rattle.filing_model.specs.Register.{is_free, kept, judged, register};
+ghost use Rattle.filing_model.specs.Register.{is_free, register};
 ghost use Rattle.filing_model.specs.Listing.{listings};
 ghost use Rattle.filing_model.specs.Answer.{answer_from};
 ghost use Rattle.filing_model.specs.Style.{style_of, HasStyle};
@@ -16,12 +16,10 @@ ghost use Rattle.filing_model.specs.Views.{view_answer, view_outcome, view_row, 
 ghost use Rattle.register_store.specs.Outcomes.{kept_as};
 ghost use Rattle.register_store.specs.Store.{HasRequests};
 ghost use Rattle.register_store.specs.Calls.{AddsRequest};
-ghost use Rattle.register_tables.specs.Registers.{LeavesRegister};
 ghost use Rattle.intake_core.specs.declared.intake.Unavailable.TheVariants.{Down, Full, Memory, Store as StoreFailed};
-ghost use Rattle.table_rows.specs.Standing.{CommitsNothing};
 
 use filing_model::{Answer, FilingRow, Outcome, Registered, Style};
-use intake_answers::{Cache, answer_by, asks_the_same, name_of};
+use intake_answers::{Cache, Request, answer_by, name_of};
 use key_string::KeyText;
 use register_store::{KeptRow, NewRow, Store, StoreFault};
 use sqlite::Alter;
@@ -149,11 +147,11 @@ impl<S: Alter> Intake<S> {
         self.is_down
     }
 
-    /// Decides a request (own rule): the first of a filer and key is judged and kept, whether it is
-    /// valid or not, and a later one gets what the first got, or that the key was used for another
-    /// body or to replace another filing. With a target the report is to replace that filing of the filer, which is
-    /// told by a finding where it can't be. The filer is a filer code, and the body has at most 1,048,576 bytes. An
-    /// answer to a filer's key that was kept before there were problem details is in the old style.
+    /// Decides a request (own rule): the first of a filer and key is judged and kept, whether it is valid or not, and a
+    /// later one gets what the first got, or that the key was used for another body or to replace another filing. With
+    /// a target the report is to replace that filing of the filer, and a finding says so if it can't be replaced. The
+    /// filer is a filer code, and the body has at most 1,048,576 bytes. An answer to a filer's key that was kept before
+    /// there were problem details is in the old style.
     pub fn submit(
         &mut self,
         filer: &str,
@@ -170,11 +168,17 @@ impl<S: Alter> Intake<S> {
         if self.is_down {
             return Err(Unavailable::Down);
         }
-        let name = name_of(self.alloc, filer, key).ok();
-        if let Some(answer) = self.recall(&name, target, body) {
+        let request = Request {
+            filer,
+            key,
+            target,
+            body,
+        };
+        let name = name_of(self.alloc, &request).ok();
+        if let Some(answer) = self.recall(&request, &name) {
             return Ok(answer);
         }
-        let result = self.decide(filer, target, key, body, name);
+        let result = self.decide(&request, name);
         self.is_down = store_failed(&result);
         result
     }
@@ -183,7 +187,7 @@ impl<S: Alter> Intake<S> {
 impl<S: Alter> Intake<S> {
     ghost use Rattle.intake_core.specs.Calls.{TellsOfRequests};
 
-    /// The filings of a filer, ascending by number. Full never comes here.
+    /// The filings of a filer, ascending by number. Never answers `Full`.
     pub fn list(&mut self, filer: &str) -> Result<Vec<FilingRow>, Unavailable>
         ensures { TellsOfRequests S.Store self.old self.new result (λ requests rows.
             map view_row rows.items ≡ listings filer.now None (register requests)) }
@@ -196,8 +200,8 @@ impl<S: Alter> Intake<S> {
         Ok(result?)
     }
 
-    /// The filer's filing of this number as `list` has it, or `None` if the filer has no such filing. Full never comes
-    /// here.
+    /// The filer's filing of this number as `list` has it, or `None` if the filer has no such filing. Never answers
+    /// `Full`.
     pub fn filing(&mut self, filer: &str, number: u64) -> Result<Option<FilingRow>, Unavailable>
         ensures { TellsOfRequests S.Store self.old self.new result (λ requests row.
             map view_row (option_to_list row) ≡ listings filer.now (Some number) (register requests)) }
@@ -210,7 +214,7 @@ impl<S: Alter> Intake<S> {
         Ok(result?)
     }
 
-    /// The registered requests under their numbers, ascending. Full never comes here.
+    /// The registered requests under their numbers, ascending. Never answers `Full`.
     pub fn register(&mut self) -> Result<Vec<Registered>, Unavailable>
         ensures { TellsOfRequests S.Store self.old self.new result (λ requests rows.
             rows.items ≡ register requests) }
@@ -227,24 +231,23 @@ impl<S: Alter> Intake<S> {
 impl<S: Alter> Intake<S> {
     ghost use Rattle.intake_answers.specs.Answered.{IsAnswerTo};
     ghost use Rattle.intake_answers.specs.Cache.{IsKeptIn, IsNameIfAny};
-    ghost use Rattle.intake_core.specs.Held.{store_of, shows, limit_of, old_style_of, old_style_in, has_stopped};
-    ghost use Rattle.intake_core.specs.Held.{HoldsRequests, KeepsSetting, ForRequests, SurvivesAs, with_request};
+    ghost use Rattle.intake_core.specs.Calls.{AnswersIf, IsRequest, TellsIfFree};
+    ghost use Rattle.intake_core.specs.Held.{store_of, limit_of, old_style_in, has_stopped};
+    ghost use Rattle.intake_core.specs.Held.{HoldsRequests, ForRequests, ChangesOnlyCache};
 
-    /// The answer to a request whose filer's key has this name, where the cache remembers it. The cache is made here,
-    /// where there is memory for it.
-    fn recall(&mut self, name: &Option<String>, target: Option<u64>, body: &[u8]) -> Option<Answer>
+    /// The answer to a request whose filer and key have this name, if the cache remembers it. The cache is made here,
+    /// if there is memory for it.
+    fn recall(&mut self, request: &Request<'_>, name: &Option<String>) -> Option<Answer>
         ensures answer { (requests : List Request) → HoldsRequests S.Store self.old requests
-            → (filer key : List ℕ) → IsNameIfAny filer key name.now
-            → IfSome result (λ a.
-            IsAnswerTo (old_style_in self.old requests) requests (the_request filer key target body.now) a
-            × (has_key requests (the_request filer key target body.now) ≡ true)) }
+            → IsNameIfAny request.now name.now
+            → IfSome result (λ a. IsAnswerTo (old_style_in self.old requests) requests request.now a
+            × (has_key requests request.now ≡ true)) }
         ensures same { (requests : List Request) → HoldsRequests S.Store self.old requests
             → HoldsRequests S.Store self.new requests }
-        ensures rest { (store_of self.new ≡ store_of self.old) × (limit_of self.new ≡ limit_of self.old)
-            × (has_stopped self.new ≡ has_stopped self.old) }
+        ensures rest { ChangesOnlyCache self.old self.new }
     {
         match (&mut self.cache, name) {
-            (Some(cache), Some(name)) => cache.recall(self.alloc, name.as_str(), target, body),
+            (Some(cache), Some(name)) => cache.recall(self.alloc, name.as_str(), request),
             (Some(_), None) => None,
             (None, _) => {
                 self.cache = Cache::new(self.alloc).ok();
@@ -253,123 +256,73 @@ impl<S: Alter> Intake<S> {
         }
     }
 
-    /// Remembers a kept request under the name of its filer's key, where it has one.
+    /// Remembers a kept request under the name of its filer and key, if they have one.
     fn remember(
         &mut self,
+        request: &Request<'_>,
         name: Option<String>,
-        target: Option<u64>,
-        body: &[u8],
         outcome: &Outcome,
         style: Style,
     )
         ensures same { (requests : List Request) → HoldsRequests S.Store self.old requests
-            → (filer key : List ℕ) → IsNameIfAny filer key name
-            → IsKeptIn requests (record {
-              request = the_request filer key target body.now;
-              outcome = view_outcome outcome.now;
-            })
-            → style ≡ style_of (old_style_in self.old requests) (the_request filer key target body.now)
+            → IsNameIfAny request.now name
+            → IsKeptIn requests (record { request = request.now; outcome = view_outcome outcome.now })
+            → style ≡ style_of (old_style_in self.old requests) request.now
             → HoldsRequests S.Store self.new requests }
-        ensures rest { (store_of self.new ≡ store_of self.old) × (limit_of self.new ≡ limit_of self.old)
-            × (has_stopped self.new ≡ has_stopped self.old) }
+        ensures rest { ChangesOnlyCache self.old self.new }
     {
         if let (Some(cache), Some(name)) = (&mut self.cache, name) {
-            cache.remember(self.alloc, name, target, body, outcome, style);
+            cache.remember(self.alloc, name, request, outcome, style);
         }
     }
 
     /// Decides a request by the register.
-    fn decide(
-        &mut self,
-        filer: &str,
-        target: Option<u64>,
-        key: &KeyText,
-        body: &[u8],
-        name: Option<String>,
-    ) -> Result<Answer, Unavailable>
-        requires filer { is_filer filer.now ≡ true }
-        requires name { IsNameIfAny filer.now key.now name }
-        requires target { IsTarget target }
-        requires body { length body.now ≤ max_body_len }
-        ensures answer { ForRequests S.Store self.old self.new (λ requests.
-            IfOk result (λ a.
-            IsAnswerTo (old_style_in self.old requests) requests (the_request filer.now key.now target body.now) a
-            × HoldsRequests S.Store self.new
-            (with_request requests (the_request filer.now key.now target body.now)))) }
-        ensures err { ForRequests S.Store self.old self.new (λ requests.
-            OnErr result (HoldsRequests S.Store self.new requests)) }
-        ensures setting { KeepsSetting S.Store self.old self.new }
-        ensures stopped { has_stopped self.new ≡ has_stopped self.old }
-        ensures full { ForRequests S.Store self.old self.new (λ requests.
-            (k : ℕ) → result ≡ Err (Full k)
-            → (has_key requests (the_request filer.now key.now target body.now) ≡ false) × (limit_of self.old ≤ k)
-            × (k ≡ length requests)) }
+    fn decide(&mut self, request: &Request<'_>, name: Option<String>) -> Result<Answer, Unavailable>
+        requires request { IsRequest request.now }
+        requires name { IsNameIfAny request.now name }
+        ensures decided { AnswersIf S.Store request.now (λ _. Unit {0}) self.old self.new result }
+        ensures full { ForRequests S.Store self.old self.new (λ requests. (k : ℕ) → result ≡ Err (Full k)
+            → (has_key requests request.now ≡ false) × (limit_of self.old ≤ k) × (k ≡ length requests)) }
         ensures room { ForRequests S.Store self.old self.new (λ requests.
-            OnOk result (has_key requests (the_request filer.now key.now target body.now) ≡ false
-            → length requests < limit_of self.old)) }
-        ensures running { result ≢ Err Down }
-        ensures crash { SurvivesAs S.Store self.old self.new (λ requests trees.
-            LeavesRegister (old_style_of self.old)
-            (with_request requests (the_request filer.now key.now target body.now)) trees) }
-        ensures open { ForRequests S.Store self.old self.new (λ requests.
-            OnOk result (IsTrue (shows S.Store self.new).is_open)) }
+            OnOk result (has_key requests request.now ≡ false → length requests < limit_of self.old)) }
     {
-        match self.store.find(filer, key)? {
-            Some(row) => Ok(self.repeat(name, target, body, row)),
-            None => self.keep(filer, target, key, body, name),
+        match self.store.find(request.filer, request.key)? {
+            Some(row) => Ok(self.repeat(request, name, row)),
+            None => self.keep(request, name),
         }
     }
 
     /// Answers a request whose filer and key are kept with this row.
-    fn repeat(
-        &mut self,
-        name: Option<String>,
-        target: Option<u64>,
-        body: &[u8],
-        row: KeptRow,
-    ) -> Answer
-        ensures answer { (filer key : List ℕ)
-            → (view_answer result
-            ≡ answer_from (Some (kept_as filer key row)) (the_request filer key target body.now) true)
+    fn repeat(&mut self, request: &Request<'_>, name: Option<String>, row: KeptRow) -> Answer
+        ensures answer { (view_answer result
+            ≡ answer_from (Some (kept_as request.now.filer request.now.key row)) request.now true)
             × HasStyle row.style result }
         ensures same { (requests : List Request) → HoldsRequests S.Store self.old requests
-            → (filer key : List ℕ) → IsNameIfAny filer key name
-            → IsKeptIn requests (kept_as filer key row)
-            → row.style ≡ style_of (old_style_in self.old requests) (the_request filer key target body.now)
+            → IsNameIfAny request.now name → IsKeptIn requests (kept_as request.now.filer request.now.key row)
+            → row.style ≡ style_of (old_style_in self.old requests) request.now
             → HoldsRequests S.Store self.new requests }
-        ensures rest { (store_of self.new ≡ store_of self.old) × (limit_of self.new ≡ limit_of self.old)
-            × (has_stopped self.new ≡ has_stopped self.old) }
+        ensures rest { ChangesOnlyCache self.old self.new }
     {
-        self.remember(
-            name,
-            row.target,
-            row.body.as_slice(),
-            &row.outcome,
-            row.style,
-        );
-        if asks_the_same(row.target, row.body.as_slice(), target, body) {
+        let first = Request {
+            target: row.target,
+            body: row.body.as_slice(),
+            ..*request
+        };
+        self.remember(&first, name, &row.outcome, row.style);
+        if first.asks_the_same(request) {
             answer_by(row.outcome, true, row.style)
         } else {
             Answer::KeyReused { style: row.style }
         }
     }
 
-    /// Whether a request that is to replace this filing of the filer may do so; one without a target may.
-    fn is_free(&mut self, filer: &str, target: Option<u64>) -> Result<bool, Unavailable>
-        ensures answer { ForRequests S.Store self.old self.new (λ requests.
-            IfOk result (λ free. free ≡ is_free (register requests) filer.now target)) }
-        ensures same { ForRequests S.Store self.old self.new (HoldsRequests S.Store self.new) }
-        ensures setting { KeepsSetting S.Store self.old self.new }
-        ensures stopped { has_stopped self.new ≡ has_stopped self.old }
-        ensures count { (store_of self.new).kept ≡ (store_of self.old).kept }
-        ensures running { (result ≢ Err Down) × ((k : ℕ) → result ≢ Err (Full k)) }
-        ensures crash { CommitsNothing (shows S.Store self.old) (shows S.Store self.new) }
-        ensures open { ForRequests S.Store self.old self.new (λ requests.
-            IsTrue (shows S.Store self.old).is_open → OnOk result (IsTrue (shows S.Store self.new).is_open)) }
+    /// Whether the filing that a request names may be replaced. A request that names none is free.
+    fn is_free(&mut self, request: &Request<'_>) -> Result<bool, Unavailable>
+        ensures { TellsIfFree S.Store request.now self.old self.new result }
     {
-        match target {
+        match request.target {
             None => Ok(true),
-            Some(number) => Ok(self.store.replaceable(filer, number)?),
+            Some(number) => Ok(self.store.replaceable(request.filer, number)?),
         }
     }
 
@@ -387,96 +340,48 @@ impl<S: Alter> Intake<S> {
         self.store.add(row)
     }
 
-    /// Judges a request of a new key, which is free to do what it is to do or not, and keeps it.
+    /// Judges and keeps the first request under a key; `free` says whether the filing that it names may be replaced.
     fn keep_judged(
         &mut self,
-        filer: &str,
-        target: Option<u64>,
-        key: &KeyText,
-        body: &[u8],
+        request: &Request<'_>,
         name: Option<String>,
         free: bool,
     ) -> Result<Answer, Unavailable>
-        requires filer { is_filer filer.now ≡ true }
-        requires name { IsNameIfAny filer.now key.now name }
-        requires target { IsTarget target }
-        requires body { length body.now ≤ max_body_len }
+        requires request { IsRequest request.now }
+        requires name { IsNameIfAny request.now name }
         requires room { (store_of self.old).kept < 2 ^ 62 }
-        ensures answer { ForRequests S.Store self.old self.new (λ requests.
-            has_key requests (the_request filer.now key.now target body.now) ≡ false
-            → free ≡ is_free (register requests) filer.now target
-            → IfOk result (λ a.
-            IsAnswerTo (old_style_in self.old requests) requests (the_request filer.now key.now target body.now) a
-            × HoldsRequests S.Store self.new
-            (requests ++ the_request filer.now key.now target body.now ∷ []))) }
-        ensures err { ForRequests S.Store self.old self.new (λ requests.
-            OnErr result (HoldsRequests S.Store self.new requests)) }
-        ensures setting { KeepsSetting S.Store self.old self.new }
-        ensures stopped { has_stopped self.new ≡ has_stopped self.old }
-        ensures running { (result ≢ Err Down) × ((k : ℕ) → result ≢ Err (Full k)) }
-        ensures crash { SurvivesAs S.Store self.old self.new (λ requests trees.
-            has_key requests (the_request filer.now key.now target body.now) ≡ false
-            → free ≡ is_free (register requests) filer.now target
-            → LeavesRegister (old_style_of self.old) (requests ++ the_request filer.now key.now target body.now ∷ [])
-            trees) }
-        ensures open { ForRequests S.Store self.old self.new (λ requests.
-            has_key requests (the_request filer.now key.now target body.now) ≡ false
-            → free ≡ is_free (register requests) filer.now target
-            → OnOk result (IsTrue (shows S.Store self.new).is_open)) }
+        ensures kept { AnswersIf S.Store request.now (λ requests. (has_key requests request.now ≡ false)
+            × (free ≡ is_free (register requests) request.now.filer request.now.target)) self.old self.new result }
+        ensures full { (k : ℕ) → result ≢ Err (Full k) }
     {
-        let judged = judge_amendment(self.alloc, filer, body, free)?;
+        let judged = judge_amendment(self.alloc, request.filer, request.body, free)?;
         let outcome = self.add(&NewRow {
-            filer,
-            key,
-            target,
-            body,
+            filer: request.filer,
+            key: request.key,
+            target: request.target,
+            body: request.body,
             judged: &judged,
         })?;
-        self.remember(name, target, body, &outcome, Style::Problem);
+        self.remember(request, name, &outcome, Style::Problem);
         Ok(answer_by(outcome, false, Style::Problem))
     }
 
-    /// Judges and keeps a request of a new key, where there is room.
-    fn keep(
-        &mut self,
-        filer: &str,
-        target: Option<u64>,
-        key: &KeyText,
-        body: &[u8],
-        name: Option<String>,
-    ) -> Result<Answer, Unavailable>
-        requires filer { is_filer filer.now ≡ true }
-        requires name { IsNameIfAny filer.now key.now name }
-        requires target { IsTarget target }
-        requires body { length body.now ≤ max_body_len }
-        ensures answer { ForRequests S.Store self.old self.new (λ requests.
-            has_key requests (the_request filer.now key.now target body.now) ≡ false
-            → IfOk result (λ a.
-            IsAnswerTo (old_style_in self.old requests) requests (the_request filer.now key.now target body.now) a
-            × HoldsRequests S.Store self.new
-            (requests ++ the_request filer.now key.now target body.now ∷ []))) }
-        ensures err { ForRequests S.Store self.old self.new (λ requests.
-            OnErr result (HoldsRequests S.Store self.new requests)) }
-        ensures setting { KeepsSetting S.Store self.old self.new }
-        ensures stopped { has_stopped self.new ≡ has_stopped self.old }
+    /// Judges and keeps the first request under a key, if there is room.
+    fn keep(&mut self, request: &Request<'_>, name: Option<String>) -> Result<Answer, Unavailable>
+        requires request { IsRequest request.now }
+        requires name { IsNameIfAny request.now name }
+        ensures kept { AnswersIf S.Store request.now (λ requests. has_key requests request.now ≡ false)
+            self.old self.new result }
         ensures full { (requests : List Request) → HoldsRequests S.Store self.old requests → (k : ℕ)
             → result ≡ Err (Full k) → (limit_of self.old ≤ k) × (k ≡ length requests) }
         ensures room { (requests : List Request) → HoldsRequests S.Store self.old requests
             → OnOk result (length requests < limit_of self.old) }
-        ensures running { result ≢ Err Down }
-        ensures crash { SurvivesAs S.Store self.old self.new (λ requests trees.
-            has_key requests (the_request filer.now key.now target body.now) ≡ false
-            → LeavesRegister (old_style_of self.old) (requests ++ the_request filer.now key.now target body.now ∷ [])
-            trees) }
-        ensures open { ForRequests S.Store self.old self.new (λ requests.
-            has_key requests (the_request filer.now key.now target body.now) ≡ false
-            → OnOk result (IsTrue (shows S.Store self.new).is_open)) }
     {
         let kept = self.store.kept_count()?;
         if kept >= self.limit.keys {
             return Err(Unavailable::Full { kept });
         }
-        let free = self.is_free(filer, target)?;
-        self.keep_judged(filer, target, key, body, name, free)
+        let free = self.is_free(request)?;
+        self.keep_judged(request, name, free)
     }
 }

@@ -6,11 +6,12 @@ use Rattle.intake_answers.proofs.CacheLemmas.{AreKnownIn-put, IsKnownIn-named}
 use Rattle.intake_answers.proofs.cache.Cache.remember.Goals as goal
 
 pub returns-in-Ok : goal.returns-in-Ok
-returns-in-Ok c = λ old_style requests h filer key named new styled.
-    let r = c.in-Ok.request in
-    let made = c.in-Ok.ensures filer key in
+returns-in-Ok c = λ old_style requests h named new styled.
+    let asked = c.args.request.now in
+    let r = c.in-Ok.remembered in
+    let made = c.in-Ok.ensures in
     AreKnownIn-put old_style requests c.args.self.now.answers c.put.new.self c.args.name r c.put.result
     c.put.ensures.entries c.put.ensures.err h
-    (IsKnownIn-named old_style requests filer key (string_bytes c.args.name) r named
+    (IsKnownIn-named old_style requests asked.filer asked.key (string_bytes c.args.name) r named
     (subst (IsKeptIn requests) (sym made.0) new) (made.1 ∙ styled
     ∙ ap (λ (k : Kept). style_of old_style k.request) (sym made.0)))

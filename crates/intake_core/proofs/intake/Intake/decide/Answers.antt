@@ -1,189 +1,149 @@
-use Rattle.std.proofs.Common.{◌≡◌, List, [], ◌∷◌, ◌++◌, take, Some, IsTrue, true≢false, refl, sym, ap, ◌∙◌, subst}
+use Rattle.std.proofs.Common.{◌≡◌, List, take, false, Some, None, IsTrue, IfOk, true≢false, refl, sym, ap, ◌∙◌, subst}
 use Rattle.std.proofs.Common.{arith}
-use Rattle.std.proofs.lemmas.Result.{IfOk-weaker, on_ok_weaker}
 use Rattle.sqlite.specs.State.{HasCleanDisk}
 use Rattle.sqlite.proofs.StateLemmas.{survives_then, survives_weaker}
-use Rattle.filing_model.specs.Request.{Request}
+use Rattle.filing_model.specs.Request.{Request, has_key}
 use Rattle.filing_model.specs.Register.{kept}
 use Rattle.filing_model.specs.Answer.{kept_for}
 use Rattle.filing_model.specs.Style.{style_of, HasStyle}
 use Rattle.filing_model.specs.declared.served.Style.{Style}
-use Rattle.filing_model.specs.Views.{the_request}
 use Rattle.filing_model.proofs.Answers.{answer_kept}
 use Rattle.filing_model.proofs.Keeping.{kept_has_key}
 use Rattle.register_store.specs.Outcomes.{kept_as}
-use Rattle.register_store.specs.Store.{shows}
+use Rattle.register_store.specs.Store.{shows, HasRequests}
 use Rattle.register_tables.specs.Registers.{LeavesRegister}
 use Rattle.intake_answers.specs.Answered.{IsAnswerTo}
-use Rattle.intake_core.specs.Held.{store_of, limit_of, has_stopped, old_style_of, old_style_in}
-use Rattle.intake_core.proofs.Deciding.{has_key-none, firsts-more, HoldsRequests-asked, HoldsRequests-repeat}
-use Rattle.intake_core.proofs.Deciding.{HoldsRequests-new}
+use Rattle.intake_core.specs.Held.{HoldsRequests, old_style_in, with_request}
+use Rattle.intake_core.proofs.Deciding.{has_key-none, HoldsRequests-asked, HoldsRequests-repeat}
 use Rattle.intake_core.proofs.intake.Intake.decide.Given.{Over}
-use Rattle.intake_core.proofs.intake.Intake.decide.Goals.{After-repeat}
+use Rattle.intake_core.proofs.intake.Intake.decide.Goals.{In-Some, In-None}
 use Rattle.intake_core.proofs.intake.Intake.decide.Goals as goal
 
--- what was kept is told, and the register is as it was found
-told : (g : Over) (c : After-repeat g) → (store_of c.repeat.new.self ≡ c.find.new.self)
-    × (limit_of c.repeat.new.self ≡ limit_of c.args.self.now)
-    × (has_stopped c.repeat.new.self ≡ has_stopped c.args.self.now)
-told g c = c.repeat.ensures.rest
-
-pub returns-in-Some-clause-answer : goal.returns-in-Some-clause-answer
-returns-in-Some-clause-answer g c = λ clean requests h.
-    let r : Request = the_request c.args.filer.now c.args.key.now c.args.target c.args.body.now in
-    let cleaned : HasCleanDisk (shows g.S.Store c.find.new.self) =
-    subst (λ s. HasCleanDisk (shows g.S.Store s))
-    (told g (goal.at.returns-in-Some-clause-answer g c).After-repeat).0 clean in
-    let k = kept_as c.args.filer.now c.args.key.now c.in-Some.row in
-    let found : kept_for (kept requests) r ≡ Some k =
-    sym (rw c.in-Some.is at (c.in_ok-row.ensures.found cleaned requests h.rows c.args.target c.args.body.now)) in
-    let styled : c.in-Some.row.style ≡ style_of (old_style_in c.args.self.now requests) r =
-    rw c.in-Some.is at (c.in_ok-row.ensures.style cleaned requests h.rows c.args.target c.args.body.now) in
-    let answered = c.repeat.ensures.answer c.args.filer.now c.args.key.now in (
-      (
-        answered.0 ∙ sym (answer_kept requests r k found),
-        subst (λ (s : Style). HasStyle s c.repeat.result) styled answered.1,
-      ),
-      HoldsRequests-repeat requests r c.repeat.new.self (kept_has_key requests r k found)
-          (c.repeat.ensures.same requests (HoldsRequests-asked requests c.args.self.now _ h refl
-          c.in_ok-row.ensures.keeps.old_style (c.in_ok-row.ensures.keeps.same cleaned requests h.rows))
-          c.args.filer.now c.args.key.now c.requires.name found (styled
-          ∙ ap (λ n. style_of (take n requests) r) (sym c.in_ok-row.ensures.keeps.old_style))),
+-- what is kept of the request's filer and key
+found : (g : Over) (c : In-Some g) → HasCleanDisk (shows g.S.Store c.find.new.self) → (requests : List Request)
+    → HasRequests g.S.Store c.args.self.now.store requests
+    → (kept_for (kept requests) c.args.request.now
+    ≡ Some (kept_as c.args.request.now.filer c.args.request.now.key c.in-Some.row))
+    × (c.in-Some.row.style ≡ style_of (old_style_in c.args.self.now requests) c.args.request.now)
+found g c cleaned requests rows =
+    let parts = c.request.inside in
+    subst (λ (r : Request). (kept_for (kept requests) r ≡ Some (kept_as r.filer r.key c.in-Some.row))
+    × (c.in-Some.row.style ≡ style_of (old_style_in c.args.self.now requests) r)) c.request.view_is (
+      sym (rw c.in-Some.is at (c.in_ok-row.ensures.found cleaned requests rows parts.target parts.body.now)),
+      rw c.in-Some.is at (c.in_ok-row.ensures.style cleaned requests rows parts.target parts.body.now),
     )
 
-pub returns-in-Some-clause-room : goal.returns-in-Some-clause-room
-returns-in-Some-clause-room g c = λ clean requests h new.
-    let r : Request = the_request c.args.filer.now c.args.key.now c.args.target c.args.body.now in
-    let cleaned : HasCleanDisk (shows g.S.Store c.find.new.self) =
-    subst (λ s. HasCleanDisk (shows g.S.Store s)) (told g (goal.at.returns-in-Some-clause-room g c).After-repeat).0
-    clean in
-    let k = kept_as c.args.filer.now c.args.key.now c.in-Some.row in
-    let found : kept_for (kept requests) r ≡ Some k =
-    sym (rw c.in-Some.is at (c.in_ok-row.ensures.found cleaned requests h.rows c.args.target c.args.body.now)) in
-    absurd (true≢false (sym (kept_has_key requests r k found) ∙ new))
+-- nothing is kept of them
+new : (g : Over) (c : In-None g) → HasCleanDisk (shows g.S.Store c.find.new.self) → (requests : List Request)
+    → HasRequests g.S.Store c.args.self.now.store requests → has_key requests c.args.request.now ≡ false
+new g c cleaned requests rows =
+    let parts = c.request.inside in
+    has_key-none requests c.args.request.now
+    (subst (λ (r : Request). kept_for (kept requests) r ≡ None) c.request.view_is
+    (sym (rw c.in-None.is at (c.in_ok-row.ensures.found cleaned requests rows parts.target parts.body.now))))
 
-pub returns-in-Some-clause-err : goal.returns-in-Some-clause-err
-returns-in-Some-clause-err g c = λ clean requests h. tt
-
-pub returns-in-Some-clause-setting : goal.returns-in-Some-clause-setting
-returns-in-Some-clause-setting g c =
-    let rest = told g (goal.at.returns-in-Some-clause-setting g c).After-repeat in
+pub returns-in-Some-clause-decided : goal.returns-in-Some-clause-decided
+returns-in-Some-clause-decided g c =
+    let r = c.args.request.now in
+    let k = kept_as r.filer r.key c.in-Some.row in
+    let at_row = (goal.at.returns-in-Some-clause-decided g c).In-Some in
+    let rest = c.repeat.ensures.rest in
     record {
-      clean = λ clean. let cleaned : HasCleanDisk (shows g.S.Store c.find.new.self) =
-          subst (λ s. HasCleanDisk (shows g.S.Store s)) rest.0 clean in omega (arith, c.find.ensures.keeps.crash.clean);
-      limit = rest.1;
-      old_style = ap (λ s. s.old_style) rest.0 ∙ c.in_ok-row.ensures.keeps.old_style;
+      answer = λ clean requests h _.
+          let cleaned : HasCleanDisk (shows g.S.Store c.find.new.self) =
+          subst (λ s. HasCleanDisk (shows g.S.Store s)) rest.store clean in
+          let is = found g at_row cleaned requests h.rows in (
+            (
+              c.repeat.ensures.answer.0 ∙ sym (answer_kept requests r k is.0),
+              subst (λ (s : Style). HasStyle s c.repeat.result) is.1 c.repeat.ensures.answer.1,
+            ),
+            HoldsRequests-repeat requests r c.repeat.new.self (kept_has_key requests r k is.0)
+                (c.repeat.ensures.same requests (HoldsRequests-asked requests c.args.self.now _ h refl
+                c.in_ok-row.ensures.keeps.old_style (c.in_ok-row.ensures.keeps.same cleaned requests h.rows))
+                c.requires.name is.0 (is.1
+                ∙ ap (λ n. style_of (take n requests) r) (sym c.in_ok-row.ensures.keeps.old_style))),
+          );
+      err = λ clean requests h. tt;
+      setting = record {
+        clean = λ clean. let cleaned : HasCleanDisk (shows g.S.Store c.find.new.self) =
+            subst (λ s. HasCleanDisk (shows g.S.Store s)) rest.store clean in
+            omega (arith, c.find.ensures.keeps.crash.clean);
+        limit = rest.limit;
+        old_style = ap (λ s. s.old_style) rest.store ∙ c.in_ok-row.ensures.keeps.old_style;
+      };
+      stopped = rest.stopped;
+      running = λ e. cc;
+      crash = rw rest.store
+          (survives_weaker (shows g.S.Store c.args.self.now.store) (shows g.S.Store c.find.new.self) _ _
+          (λ clean trees none. absurd none) c.find.ensures.keeps.crash);
+      is_open = λ clean requests h _.
+          let cleaned : HasCleanDisk (shows g.S.Store c.find.new.self) =
+          subst (λ s. HasCleanDisk (shows g.S.Store s)) rest.store clean in
+          subst (λ s. IsTrue (shows g.S.Store s).is_open) (sym rest.store)
+          (c.in_ok-row.ensures.durable cleaned requests h.rows).0;
     }
 
-pub returns-in-Some-clause-stopped : goal.returns-in-Some-clause-stopped
-returns-in-Some-clause-stopped g c = (told g (goal.at.returns-in-Some-clause-stopped g c).After-repeat).2
-
-pub returns-in-Some-clause-full : goal.returns-in-Some-clause-full
-returns-in-Some-clause-full g c = λ clean requests h k e. cc
-
-pub returns-in-Some-clause-running : goal.returns-in-Some-clause-running
-returns-in-Some-clause-running g c = λ e. cc
-
-pub returns-in-Some-clause-open : goal.returns-in-Some-clause-open
-returns-in-Some-clause-open g c = λ clean requests h.
+pub returns-in-Some-clause-room : goal.returns-in-Some-clause-room
+returns-in-Some-clause-room g c = λ clean requests h fresh.
+    let r = c.args.request.now in
     let cleaned : HasCleanDisk (shows g.S.Store c.find.new.self) =
-    subst (λ s. HasCleanDisk (shows g.S.Store s)) (told g (goal.at.returns-in-Some-clause-open g c).After-repeat).0
-    clean in
-    subst (λ s. IsTrue (shows g.S.Store s).is_open)
-    (sym (told g (goal.at.returns-in-Some-clause-open g c).After-repeat).0)
-    (c.in_ok-row.ensures.durable cleaned requests h.rows).0
+    subst (λ s. HasCleanDisk (shows g.S.Store s)) c.repeat.ensures.rest.store clean in
+    let is = found g (goal.at.returns-in-Some-clause-room g c).In-Some cleaned requests h.rows in
+    let k = kept_as r.filer r.key c.in-Some.row in
+    absurd (true≢false (sym (kept_has_key requests r k is.0) ∙ fresh))
 
-pub returns-in-None-clause-answer : goal.returns-in-None-clause-answer
-returns-in-None-clause-answer g c = λ clean requests h.
-    let r : Request = the_request c.args.filer.now c.args.key.now c.args.target c.args.body.now in
-    let cleaned = c.keep.ensures.setting.clean clean in
-    let fresh =
-    has_key-none requests r (sym (rw c.in-None.is
-    at (c.in_ok-row.ensures.found cleaned requests h.rows c.args.target c.args.body.now))) in
-    let asked =
-    HoldsRequests-asked requests c.args.self.now _ h refl c.in_ok-row.ensures.keeps.old_style
-    (c.in_ok-row.ensures.keeps.same cleaned requests h.rows) in
-    IfOk-weaker c.keep.result _ _
-    (λ a told. (
-      subst (λ n. IsAnswerTo (take n requests) requests r a) c.in_ok-row.ensures.keeps.old_style told.0,
-      HoldsRequests-new requests r c.keep.new.self h.firsts' fresh told.1,
-    ))
-    (c.keep.ensures.answer clean requests asked fresh)
-
-pub returns-in-None-clause-err : goal.returns-in-None-clause-err
-returns-in-None-clause-err g c = λ clean requests h.
-    let cleaned = c.keep.ensures.setting.clean clean in
-    let asked =
-    HoldsRequests-asked requests c.args.self.now _ h refl c.in_ok-row.ensures.keeps.old_style
-    (c.in_ok-row.ensures.keeps.same cleaned requests h.rows) in
-    c.keep.ensures.err clean requests asked
-
-pub returns-in-None-clause-setting : goal.returns-in-None-clause-setting
-returns-in-None-clause-setting g c = record {
-  clean = λ clean. let cleaned = c.keep.ensures.setting.clean clean in omega (arith, c.find.ensures.keeps.crash.clean);
-  limit = c.keep.ensures.setting.limit;
-  old_style = c.keep.ensures.setting.old_style ∙ c.in_ok-row.ensures.keeps.old_style;
-}
-
-pub returns-in-None-clause-room : goal.returns-in-None-clause-room
-returns-in-None-clause-room g c = λ clean requests h.
-    let cleaned = c.keep.ensures.setting.clean clean in
-    let asked =
-    HoldsRequests-asked requests c.args.self.now _ h refl c.in_ok-row.ensures.keeps.old_style
-    (c.in_ok-row.ensures.keeps.same cleaned requests h.rows) in
-    on_ok_weaker c.keep.result (λ less new. less) (c.keep.ensures.room requests asked)
-
-pub returns-in-None-clause-running : goal.returns-in-None-clause-running
-returns-in-None-clause-running g c = c.keep.ensures.running
+pub returns-in-None-clause-decided : goal.returns-in-None-clause-decided
+returns-in-None-clause-decided g c =
+    let r = c.args.request.now in
+    let at_none = (goal.at.returns-in-None-clause-decided g c).In-None in
+    let keeps = c.in_ok-row.ensures.keeps in
+    let kept = c.keep.ensures.kept in
+    record {
+      answer = λ clean requests h _.
+          let cleaned = kept.setting.clean clean in
+          let fresh = new g at_none cleaned requests h.rows in
+          let asked =
+          HoldsRequests-asked requests c.args.self.now _ h refl keeps.old_style (keeps.same cleaned requests h.rows) in
+          subst (λ n. IfOk c.keep.result (λ a. IsAnswerTo (take n requests) requests r a
+          × HoldsRequests g.S.Store c.keep.new.self (with_request requests r))) keeps.old_style
+          (kept.answer clean requests asked fresh);
+      err = λ clean requests h.
+          let cleaned = kept.setting.clean clean in
+          let asked =
+          HoldsRequests-asked requests c.args.self.now _ h refl keeps.old_style (keeps.same cleaned requests h.rows) in
+          kept.err clean requests asked;
+      setting = record {
+        clean = λ clean. let cleaned = kept.setting.clean clean in omega (arith, c.find.ensures.keeps.crash.clean);
+        limit = kept.setting.limit;
+        old_style = kept.setting.old_style ∙ keeps.old_style;
+      };
+      stopped = kept.stopped;
+      running = kept.running;
+      crash = survives_then (shows g.S.Store c.args.self.now.store) (shows g.S.Store c.find.new.self)
+          (shows g.S.Store c.keep.new.self.store) _ _ _
+          (λ clean trees none. absurd none)
+          (λ clean trees left requests h alive.
+          let cleaned = kept.setting.clean clean in
+          let fresh = new g at_none cleaned requests h.rows in
+          let asked =
+          HoldsRequests-asked requests c.args.self.now _ h refl keeps.old_style (keeps.same cleaned requests h.rows) in
+          let still = (c.in_ok-row.ensures.durable cleaned requests h.rows).0 in
+          λ _. subst (λ n. LeavesRegister n (with_request requests r) trees) keeps.old_style
+          (left requests asked still fresh))
+          c.find.ensures.keeps.crash kept.crash;
+      is_open = λ clean requests h _.
+          let cleaned = kept.setting.clean clean in
+          let asked =
+          HoldsRequests-asked requests c.args.self.now _ h refl keeps.old_style (keeps.same cleaned requests h.rows) in
+          kept.is_open clean requests asked (new g at_none cleaned requests h.rows);
+    }
 
 pub returns-in-None-clause-full : goal.returns-in-None-clause-full
 returns-in-None-clause-full g c = λ clean requests h k e.
-    let r : Request = the_request c.args.filer.now c.args.key.now c.args.target c.args.body.now in
-    let cleaned = c.keep.ensures.setting.clean clean in
-    let fresh =
-    has_key-none requests r (sym (rw c.in-None.is
-    at (c.in_ok-row.ensures.found cleaned requests h.rows c.args.target c.args.body.now))) in
+    let cleaned = c.keep.ensures.kept.setting.clean clean in
+    let fresh = new g (goal.at.returns-in-None-clause-full g c).In-None cleaned requests h.rows in
     let asked =
     HoldsRequests-asked requests c.args.self.now _ h refl c.in_ok-row.ensures.keeps.old_style
     (c.in_ok-row.ensures.keeps.same cleaned requests h.rows) in
     let full = c.keep.ensures.full requests asked k e in
     (fresh, full.0, full.1)
-
-pub returns-in-None-clause-crash : goal.returns-in-None-clause-crash
-returns-in-None-clause-crash g c =
-    let r : Request = the_request c.args.filer.now c.args.key.now c.args.target c.args.body.now in
-    survives_then (shows g.S.Store c.args.self.now.store) (shows g.S.Store c.find.new.self)
-    (shows g.S.Store c.keep.new.self.store) _ _ _
-    (λ clean trees none. absurd none)
-    (λ clean trees left requests h alive.
-    let cleaned = c.keep.ensures.setting.clean clean in
-    let fresh =
-    has_key-none requests r (sym (rw c.in-None.is
-    at (c.in_ok-row.ensures.found cleaned requests h.rows c.args.target c.args.body.now))) in
-    let asked =
-    HoldsRequests-asked requests c.args.self.now _ h refl c.in_ok-row.ensures.keeps.old_style
-    (c.in_ok-row.ensures.keeps.same cleaned requests h.rows) in
-    let still = (c.in_ok-row.ensures.durable cleaned requests h.rows).0 in
-    subst (λ (rs : List Request). LeavesRegister (old_style_of c.args.self.now) rs trees)
-    (sym (firsts-more requests r h.firsts' fresh))
-    (subst (λ n. LeavesRegister n (requests ++ r ∷ []) trees) c.in_ok-row.ensures.keeps.old_style
-    (left requests asked still fresh)))
-    c.find.ensures.keeps.crash c.keep.ensures.crash
-
-pub returns-in-None-clause-open : goal.returns-in-None-clause-open
-returns-in-None-clause-open g c = λ clean requests h.
-    let r : Request = the_request c.args.filer.now c.args.key.now c.args.target c.args.body.now in
-    let cleaned = c.keep.ensures.setting.clean clean in
-    let fresh =
-    has_key-none requests r (sym (rw c.in-None.is
-    at (c.in_ok-row.ensures.found cleaned requests h.rows c.args.target c.args.body.now))) in
-    let asked =
-    HoldsRequests-asked requests c.args.self.now _ h refl c.in_ok-row.ensures.keeps.old_style
-    (c.in_ok-row.ensures.keeps.same cleaned requests h.rows) in
-    c.keep.ensures.open clean requests asked fresh
-
-pub returns-in-Some-clause-crash : goal.returns-in-Some-clause-crash
-returns-in-Some-clause-crash g c =
-    rw (told g (goal.at.returns-in-Some-clause-crash g c).After-repeat).0
-    (survives_weaker (shows g.S.Store c.args.self.now.store) (shows g.S.Store c.find.new.self) _ _
-    (λ clean trees none. absurd none) c.find.ensures.keeps.crash)

@@ -22,9 +22,9 @@ pub returns-in-Some : goal.returns-in-Some
 returns-in-Some g c = record {
   answer = λ clean requests h.
       let r : Request = the_request c.args.filer.now c.args.key.now c.args.target c.args.body.now in
-      let named : IsNameIfAny c.args.filer.now c.args.key.now c.ok-name.result =
+      let named : IsNameIfAny r c.ok-name.result =
       rw c.ok-name.ensures.value (IfSome-made c.name_of.result _ c.name_of.ensures) in
-      let known = c.in-Some.ensures.answer requests h c.args.filer.now c.args.key.now named in
+      let known = c.in-Some.ensures.answer requests h named in
       (known.0, HoldsRequests-repeat requests r c.recall.new.self known.1 (c.recall.ensures.same requests h));
   err = search rules;
   setting = search rules;
@@ -34,15 +34,15 @@ returns-in-Some g c = record {
   -- no call was made, and what was committed last is all that a crash leaves
   durable = λ clean requests h alive.
       let r : Request = the_request c.args.filer.now c.args.key.now c.args.target c.args.body.now in
-      let named : IsNameIfAny c.args.filer.now c.args.key.now c.ok-name.result =
+      let named : IsNameIfAny r c.ok-name.result =
       rw c.ok-name.ensures.value (IfSome-made c.name_of.result _ c.name_of.ensures) in
-      let known = c.in-Some.ensures.answer requests h c.args.filer.now c.args.key.now named in
+      let known = c.in-Some.ensures.answer requests h named in
       let held : HoldsRequests g.S.Store c.recall.new.self requests = c.recall.ensures.same requests h in
       let still : IsTrue (shows g.S.Store c.recall.new.self.store).is_open =
-      subst (λ s. IsTrue (shows g.S.Store s).is_open) (sym c.recall.ensures.rest.0) alive in (
+      subst (λ s. IsTrue (shows g.S.Store s).is_open) (sym c.recall.ensures.rest.store) alive in (
         still,
         λ trees left. subst (λ n. LeavesRegister n (firsts (requests ++ r ∷ [])) trees)
-            (ap (λ s. s.old_style) c.recall.ensures.rest.0)
+            (ap (λ s. s.old_style) c.recall.ensures.rest.store)
             (subst (λ (rs : List Request). LeavesRegister (old_style_of c.recall.new.self) rs trees)
             (sym (firsts_repeat requests r known.1 ∙ h.firsts'))
             (leaves (old_style_of c.recall.new.self) requests (shows g.S.Store c.recall.new.self.store) held.rows.stands
@@ -63,35 +63,36 @@ returns g c = record {
   setting = search rules;
   full = λ clean requests h k e.
       let full = c.decide-result.ensures.full clean requests (c.recall.ensures.same requests h) k e in
-      (full.0, subst (λ (limit : ℕ). limit ≤ k) c.recall.ensures.rest.1 full.1, full.2);
+      (full.0, subst (λ (limit : ℕ). limit ≤ k) c.recall.ensures.rest.limit full.1, full.2);
   room = λ clean requests h.
       let r : Request = the_request c.args.filer.now c.args.key.now c.args.target c.args.body.now in
       subst (λ (limit : ℕ). OnOk c.decide-result.result (has_key requests r ≡ false → length requests < limit))
-      c.recall.ensures.rest.1
+      c.recall.ensures.rest.limit
       (c.decide-result.ensures.room clean requests (c.recall.ensures.same requests h));
   crash =
       let r : Request = the_request c.args.filer.now c.args.key.now c.args.target c.args.body.now in
       let new = shows g.S.Store c.decide-result.new.self.store in
       subst (λ s. Survives (shows g.S.Store s) new (λ trees. (requests : List Request)
       → HoldsRequests g.S.Store c.args.self.now requests → IsTrue (shows g.S.Store s).is_open
-      → LeavesRegister s.old_style (firsts (requests ++ r ∷ [])) trees)) c.recall.ensures.rest.0
+      → LeavesRegister s.old_style (firsts (requests ++ r ∷ [])) trees)) c.recall.ensures.rest.store
       (survives_weaker (shows g.S.Store c.recall.new.self.store) new _ _
-      (λ _ trees left requests h alive. left requests (c.recall.ensures.same requests h) alive)
-      c.decide-result.ensures.crash);
+      (λ _ trees left requests h alive. left requests (c.recall.ensures.same requests h) alive tt)
+      c.decide-result.ensures.decided.crash);
   -- the requests that are kept are committed
   durable = λ clean requests h alive.
       let r : Request = the_request c.args.filer.now c.args.key.now c.args.target c.args.body.now in
       let held = c.recall.ensures.same requests h in
       let new = c.decide-result.new.self in
       let same : old_style_of new ≡ old_style_of c.args.self.now =
-      c.decide-result.ensures.setting.old_style ∙ ap (λ s. s.old_style) c.recall.ensures.rest.0 in
+      c.decide-result.ensures.decided.setting.old_style ∙ ap (λ s. s.old_style) c.recall.ensures.rest.store in
       on_both c.decide-result.result _ _ _ (λ still _ told. (
         still,
         λ trees left. subst (λ n. LeavesRegister n (firsts (requests ++ r ∷ [])) trees) same
             (leaves (old_style_of new) (firsts (requests ++ r ∷ [])) (shows g.S.Store new.store) told.1.rows.stands
             still trees (g.met.S.Store.settled new.store.conn.store trees still left)),
       ))
-      (c.decide-result.ensures.open clean requests held) (c.decide-result.ensures.answer clean requests held);
+      (c.decide-result.ensures.decided.is_open clean requests held tt)
+      (c.decide-result.ensures.decided.answer clean requests held tt);
   down = search rules;
   stops = search rules;
   up = search rules;

@@ -3,7 +3,7 @@ use Rattle.event_script.specs.Events.{HaveTargets}
 use Rattle.event_script.specs.Scripts.{script_of, view_script, IsFaultOf}
 use Rattle.event_script.proofs.Restarting.{restarted_targets}
 use Rattle.drill_commands.specs.declared.fault.Fault.TheVariants as fault
-use Rattle.drill_commands.proofs.world.read.Goals as goal
+use Rattle.drill_commands.proofs.playing.read.Goals as goal
 
 pub returns-clause-said : goal.returns-clause-said
 returns-clause-said c =
