@@ -22,7 +22,7 @@ def send_all(port, keys, body, keep):
     for key in keys:
         if not keep:
             peer, held = connect(port), b""
-        peer.sendall(request(key, body, not keep))
+        peer.sendall(request(key, body, close=not keep))
         status, held = read_reply(peer, held)
         if status != 201:
             sys.exit(f"status {status}")
@@ -37,7 +37,7 @@ def measure(port, count, server):
     """Sends new keys and repeats, kept alive and not, and prints what they took."""
     body = example()
     for keep, how in ((True, "one connection"), (False, "a connection for each request")):
-        keys = [b"%s-%06d" % (b"kept" if keep else b"each", at) for at in range(count)]
+        keys = [f"{'kept' if keep else 'each'}-{at:06d}" for at in range(count)]
         for what in ("new keys", "repeats"):
             before = server.processor_time() if server else 0
             wall = send_all(port, keys, body, keep)

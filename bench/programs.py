@@ -10,9 +10,12 @@ import subprocess
 import sys
 import tempfile
 import threading
-import time
 
 TOP = os.path.dirname(os.path.dirname(os.path.abspath(__file__)))
+sys.path.insert(0, os.path.join(TOP, "tools"))
+
+from trials import Serving, request
+
 BODY_BYTES = 393
 CALLGRIND = ["valgrind", "--tool=callgrind", "--callgrind-out-file=/dev/null"]
 # Callgrind counts each byte that `rep movsb` copies, by which glibc makes large copies on some processors and not on others.
@@ -33,27 +36,14 @@ def example():
         return it.read()[-BODY_BYTES:]
 
 
-def request(key, body, close=False, replaces=None):
-    """A POST of the body under the key, which is to replace the filing of this number where one is given."""
-    closing = b"Connection: close\r\n" if close else b""
-    target = b"/filings/ACME" if replaces is None else b"/filings/ACME/%d" % replaces
-    return b'POST %s HTTP/1.1\r\nHost: localhost\r\nIdempotency-Key: "%s"\r\n%sContent-Length: %d\r\n\r\n%s' % (
-        target,
-        key,
-        closing,
-        len(body),
-        body,
-    )
-
-
 def pipelined(numbers, body):
     """A request for each number, under a key that has it."""
-    return b"".join(request(b"k-%06d" % number, body) for number in numbers)
+    return b"".join(request(f"k-{number:06d}", body, close=False) for number in numbers)
 
 
 def amendments(numbers, body):
     """A request for each number, to replace the filing of it, under a key that has it."""
-    return b"".join(request(b"a-%06d" % number, body, replaces=number) for number in numbers)
+    return b"".join(request(f"a-{number:06d}", body, close=False, replaces=number) for number in numbers)
 
 
 def time_of_children():
@@ -128,49 +118,22 @@ def exchange(peer, given, count, expected=201):
     sender.join()
 
 
-def free_port():
-    """A port of 127.0.0.1 that nobody listens on."""
-    with socket.socket() as it:
-        it.bind(("127.0.0.1", 0))
-        return it.getsockname()[1]
-
-
 def folder():
     """A folder in memory, where there is one, so that no disk is waited for."""
     return tempfile.TemporaryDirectory(dir="/dev/shm" if os.path.isdir("/dev/shm") else None)
 
 
-class Server:
-    """An intake that serves the register in a folder, a new one if there is none, for so many connections and one that is spent on waiting
-    for it."""
-
-    # The server is asked every 50 ms whether it listens. It opens its register first.
-    WAITS = 1_200
+class Server(Serving):
+    """An intake that serves the register in a folder, a new one if there is none, for so many connections."""
 
     def __init__(self, place, connections, under=(), env=None):
+        built("intake")
         self.cost = None
-        self.port = free_port()
         self.database = os.path.join(place, "register.db")
         new = [] if os.path.exists(self.database) else ["--new"]
-        self.errors = tempfile.TemporaryFile()
-        self.process = subprocess.Popen(
-            [*under, built("intake"), "serve", "--db", self.database, "--port", str(self.port)]
-            + ["--connections", str(connections + 1), *new],
-            stderr=self.errors,
-            env=env,
-        )
-        self._wait()
-
-    def _wait(self):
-        for _ in range(self.WAITS):
-            try:
-                connect(self.port).close()
-                return
-            except ConnectionRefusedError:
-                if self.process.poll() is not None:
-                    sys.exit("the server ended")
-                time.sleep(0.05)
-        sys.exit("the server does not listen")
+        super().__init__(self.database, connections, *new, under=under, env=env)
+        if not self.ready:
+            sys.exit("the server ended")
 
     def processor_time(self):
         """The seconds of processor time that the server took so far."""
@@ -193,12 +156,11 @@ class Server:
         return self
 
     def __exit__(self, *_):
-        self.process.wait(timeout=60)
-        self.errors.close()
+        self.process.communicate(timeout=60)
 
 
 class CountedServer(Server):
-    """The same, with a `cost` in instructions, which is known once the server has ended."""
+    """A server whose `cost` is in instructions, and is known once it has ended."""
 
     def __init__(self, place, connections):
         super().__init__(place, connections, [*CALLGRIND, "--instr-atstart=no"], NO_REP)
@@ -213,7 +175,5 @@ class CountedServer(Server):
         subprocess.run(["callgrind_control", f"--instr={state}", str(self.process.pid)], check=True, capture_output=True)
 
     def __exit__(self, *_):
-        self.process.wait(timeout=600)
-        self.errors.seek(0)
-        self.cost = collected(self.errors.read())
-        self.errors.close()
+        _, errors = self.process.communicate(timeout=600)
+        self.cost = collected(errors)

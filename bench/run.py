@@ -193,7 +193,7 @@ def unit():
 def bodies():
     """What a body costs by its length and by the reads that it comes in, and its judgement by facts and findings."""
     held = []
-    padded = request(b"k-1", SMALLEST.ljust(BODY_BYTES))
+    padded = request("k-1", SMALLEST.ljust(BODY_BYTES), close=False)
     for most in (1, 16, 4096):
         print(f"one body of 1 MiB, {most} bytes a read: {seconds_in_pieces(padded, most):.3f} s")
     for size in (100_000, 1_000_000):

@@ -1,4 +1,4 @@
-"""What the scripts share that try the built programs from outside."""
+"""What the scripts share that try the built programs from outside, and those that measure them."""
 import pathlib
 import socket
 import sqlite3
@@ -69,14 +69,16 @@ def said(done, folder):
     return done.returncode, *texts
 
 
-def request(key, body, filer="ACME", close=True):
-    """A POST of the body under the key."""
+def request(key, body, filer="ACME", close=True, replaces=None):
+    """A POST of the body under the key, which is to replace the filing of this number if one is given."""
+    target = f"/filings/{filer}" if replaces is None else f"/filings/{filer}/{replaces}"
     closing = "Connection: close\r\n" if close else ""
-    head = f'POST /filings/{filer} HTTP/1.1\r\nHost: h\r\nIdempotency-Key: "{key}"\r\n{closing}Content-Length: {len(body)}\r\n\r\n'
+    head = f'POST {target} HTTP/1.1\r\nHost: h\r\nIdempotency-Key: "{key}"\r\n{closing}Content-Length: {len(body)}\r\n\r\n'
     return head.encode() + body
 
 
 def free_port():
+    """A port of 127.0.0.1 that nobody listens on."""
     with socket.socket() as it:
         it.bind(("127.0.0.1", 0))
         return it.getsockname()[1]
@@ -99,16 +101,19 @@ def statuses(replies):
 
 
 class Serving:
-    """An intake that serves a register, for so many connections."""
+    """An intake that serves a register, for so many connections. `under` are the words of a program that runs it, and what valgrind
+    prints before the program's own first line, `ready`, is passed over."""
 
-    def __init__(self, database, connections, *words):
+    def __init__(self, database, connections, *words, under=(), env=None):
         self.port = free_port()
         self.process = subprocess.Popen(
-            [INTAKE, "serve", "--db", database, "--port", str(self.port), "--connections", str(connections), *words],
+            [*under, INTAKE, "serve", "--db", database, "--port", str(self.port), "--connections", str(connections), *words],
             stdout=subprocess.PIPE,
             stderr=subprocess.PIPE,
+            env=env,
         )
-        self.ready = self.process.stderr.readline().decode()
+        lines = map(bytes.decode, self.process.stderr)
+        self.ready = next((line for line in lines if not line.startswith("==")), "")
 
     def end(self):
         """The status, what was printed, and what was told behind the first line, once all connections were served."""
