@@ -5,7 +5,7 @@ ghost use Rattle.filer_client.specs.Calls.{HandsOver, Exchanges};
 use crate::fault::ExchangeFault;
 use crate::request::{ToSend, open_request};
 use http_wire::{Sink, Source, read_reply, write_all};
-use outbox_core::{Outbox, State, TakeFault};
+use outbox_core::{Outbox, State};
 use sqlite::Alter;
 use std::alloc::Global;
 

@@ -11,7 +11,7 @@ ghost use Rattle.filer_client.specs.Exchange.{request_at, IsToSend};
 ghost use Rattle.filer_client.specs.Calls.{AnswersOf};
 
 use http_wire::append_request;
-use outbox_core::{Entry, Outbox, State, StoreFault, TakeFault};
+use outbox_core::{Entry, Outbox, State, TakeFault};
 use sqlite::Alter;
 use std::alloc::Global;
 

@@ -1,10 +1,9 @@
 -- A settled entry that is asked about.
-use Rattle.std.proofs.Common.{◌≡◌, ◌≢◌, ◌∙◌, ℕ, ◌≤◌, List, [], ◌∷◌, length, take, Option, Some, None, option_map}
+use Rattle.std.proofs.Common.{◌≡◌, ◌≢◌, ◌∙◌, ℕ, ◌≤◌, List, [], ◌∷◌, take, Option, Some, option_map}
 use Rattle.std.proofs.Common.{Result, Ok, Err, true, false, true≢false, Vec, refl, sym, ap, subst, inl, inr}
 use Rattle.std.specs.Global.{Global}
 use Rattle.std.specs.Io.KnownBytes.{Appends}
 use Rattle.sqlite.specs.Store.{Ghosts}
-use Rattle.sqlite.specs.State.{HasCleanDisk}
 use Rattle.table_rows.specs.Standing.{CommitsNothing}
 use Rattle.table_rows.proofs.StepLemmas.{nothing_left}
 use Rattle.http_messages.specs.Replies.{reply_parts}
@@ -15,7 +14,6 @@ use Rattle.http_wire.specs.Wire.{wire}
 use Rattle.filing_model.specs.Outbox.{Entry, State as Shown, Open, Confirmed, Refused, Clashed, bytes_of, request_of}
 use Rattle.filing_model.specs.Views.{view_state}
 use Rattle.filing_model.specs.declared.state.State.{State}
-use Rattle.outbox_tables.specs.Entries.{entry_at}
 use Rattle.outbox_core.specs.Entries.{found_at, is_open_state}
 use Rattle.outbox_core.specs.Reading.{view_entry}
 use Rattle.outbox_core.specs.declared.entry.Entry.{Entry as Read}
@@ -25,11 +23,10 @@ use Rattle.filer_client.specs.Calls.{AnswersOf}
 use Rattle.filer_client.specs.Exchange.{request_at, HearsFrom, IsFaultOf}
 use Rattle.filer_client.specs.declared.fault.ExchangeFault.{ExchangeFault}
 use Rattle.filer_client.specs.declared.fault.ExchangeFault.TheVariants.{Write, Reply as Unread, Take}
-use Rattle.outbox_tasks.specs.declared.asking.Question.{Question}
 use Rattle.outbox_tasks.specs.declared.fault.SendFault.TheVariants.{Exchange}
 use Rattle.outbox_tasks.specs.declared.fault.TaskFault.TheVariants.{IsOpen, Send}
-use Rattle.outbox_tasks.specs.Asking.{IsAbout, OnlyReads, FindsQuestion, WritesQuestion, IsReplied}
-use Rattle.outbox_tasks.specs.Dials.{Output, Traffic, Takes, IsUnwritten, Adds}
+use Rattle.outbox_tasks.specs.Asking.{OnlyReads, FindsQuestion, WritesQuestion, IsReplied}
+use Rattle.outbox_tasks.specs.Dials.{Traffic, Takes, IsUnwritten, Adds}
 use Rattle.outbox_tasks.specs.Sending.{IsOpenAt}
 use Rattle.outbox_tasks.proofs.Looks.{entry_found}
 use Rattle.outbox_tasks.proofs.Opens.{open_state}

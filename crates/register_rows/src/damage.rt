@@ -20,7 +20,6 @@ ghost use Rattle.register_rows.specs.Outcomes.{outcome_of, filings_by};
 ghost use Rattle.register_rows.specs.Register.{IsCompleted, amends_rows_by};
 ghost use Rattle.register_rows.specs.Spans.{AreSpansOf, AgreeAt};
 
-use crate::cells::{Cell, is_row};
 use crate::columns::{amends, fact, filing, finding, kept};
 use crate::filed::Filed;
 use crate::items::RowItem;

@@ -20,4 +20,4 @@ pub use filed::Filed;
 pub use items::RowItem;
 pub use segments::{after_filing, after_items, target_of};
 pub use values::{bytes_at, number_at, text_at};
-pub use verdict::{MAX_KEPT, Verdict, audit, filer_of, is_kept_row};
+pub use verdict::{Verdict, audit, filer_of, is_kept_row};

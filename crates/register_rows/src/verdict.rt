@@ -27,7 +27,7 @@ use crate::damage::{OtherTables, first_unsound};
 use crate::filed::Filed;
 use crate::segments::{after_filing, after_items, target_of};
 use crate::values::{bytes_at, text_at};
-use filing_model::is_target;
+use filing_model::{MAX_KEPT, is_target};
 use http_messages::MAX_BODY_LEN;
 use key_string::{is_key, read_filer};
 use sqlite::Row;
@@ -35,9 +35,6 @@ use sqlite::types::ValueRef;
 use std::alloc::{AllocError, Global};
 use std::collections::BTreeSet;
 use xbrl_report::{Fact, Finding, Judged};
-
-/// The most requests that a register keeps.
-pub const MAX_KEPT: u64 = 1 << 62;
 
 /// The rows of the tables beside `kept` that no kept row has accounted for, and the number of the next filing.
 #[derive(Clone, Copy)]

@@ -29,7 +29,6 @@ use crate::opening::watch::Watch;
 use crate::select::reads;
 use register_rows::columns::migrated;
 use register_rows::{Catalogue, Cell, Verdict, audit, is_row, number_at};
-use sqlite::types::ValueRef;
 use sqlite::{Alter, Connection, Error, Row};
 use std::alloc::Global;
 use table_rows::{Cause, is_settled};

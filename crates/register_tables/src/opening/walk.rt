@@ -24,11 +24,11 @@ ghost use Rattle.register_tables.specs.Walk.{Amounts, Beyond, Passes, Walked};
 
 use crate::opening::watch::Watch;
 use crate::select::picks;
-use filing_model::is_target;
+use filing_model::{MAX_KEPT, is_target};
 use register_rows::columns::kept;
 use register_rows::{
-    Catalogue, Filed, MAX_KEPT, RowItem, after_filing, after_items, bytes_at, filer_of,
-    is_kept_row, target_of, text_at,
+    Catalogue, Filed, RowItem, after_filing, after_items, bytes_at, filer_of, is_kept_row,
+    target_of, text_at,
 };
 use sqlite::{Alter, Connection, Error, Row};
 use std::alloc::Global;
