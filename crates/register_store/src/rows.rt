@@ -37,7 +37,7 @@ fn signed(number: Option<u64>) -> Option<i64>
 const INSERT_KEPT: &str = "INSERT INTO kept VALUES (?1, ?2, ?3, ?4, ?5)";
 
 /// Adds the row of a kept request, with its place and its number, if it has one.
-pub fn insert_kept<S: Alter>(
+pub(crate) fn insert_kept<S: Alter>(
     tx: &mut Transaction<'_, S>,
     seq: u64,
     row: &NewRow<'_>,
@@ -61,7 +61,7 @@ pub fn insert_kept<S: Alter>(
 const INSERT_FILING: &str = "INSERT INTO filing VALUES (?1, ?2)";
 
 /// Adds the row of a filing, with its number and the place of its request.
-pub fn insert_filing<S: Alter>(
+pub(crate) fn insert_filing<S: Alter>(
     tx: &mut Transaction<'_, S>,
     number: u64,
     seq: u64,
@@ -77,7 +77,7 @@ pub fn insert_filing<S: Alter>(
 const INSERT_AMENDS: &str = "INSERT INTO amends VALUES (?1, ?2)";
 
 /// Adds the row that says which filing the request at this place is to replace.
-pub fn insert_amends<S: Alter>(
+pub(crate) fn insert_amends<S: Alter>(
     tx: &mut Transaction<'_, S>,
     seq: u64,
     target: u64,
@@ -91,7 +91,7 @@ pub fn insert_amends<S: Alter>(
 }
 
 /// What has a row of its own in a table.
-pub trait InsertItem: RowItem {
+pub(crate) trait InsertItem: RowItem {
     // The table that has its row.
     ghost table: { Table };
 
@@ -170,7 +170,7 @@ fn bytes_of(text: &Option<String>) -> Option<&[u8]>
 }
 
 /// Adds the rows of the items of the request or filing of this number.
-pub fn insert_items<S: Alter, T: InsertItem>(
+pub(crate) fn insert_items<S: Alter, T: InsertItem>(
     tx: &mut Transaction<'_, S>,
     number: u64,
     items: &[T],
@@ -194,7 +194,7 @@ pub fn insert_items<S: Alter, T: InsertItem>(
 const KEPT_WITH_KEY: &str = "SELECT seq, body, number FROM kept WHERE filer = ?1 AND idem = ?2";
 
 /// The columns `seq`, `body` and `number` of the rows kept for a filer and key.
-pub fn rows_with_key<S: Alter>(
+pub(crate) fn rows_with_key<S: Alter>(
     conn: &mut Connection<S>,
     filer: &str,
     key: &str,
@@ -211,7 +211,10 @@ pub fn rows_with_key<S: Alter>(
 const FINDINGS_AT: &str = "SELECT code, place FROM finding WHERE seq = ?1 ORDER BY pos";
 
 /// The columns `code` and `place` of the findings of the request at this place, in order.
-pub fn rows_of_findings<S: Alter>(conn: &mut Connection<S>, seq: i64) -> Result<Vec<Row>, Error>
+pub(crate) fn rows_of_findings<S: Alter>(
+    conn: &mut Connection<S>,
+    seq: i64,
+) -> Result<Vec<Row>, Error>
     ensures read { HasCleanDisk (state S.Store conn.new) → Knows (state S.Store conn.old)
         → IfOk result (λ rows.
         ReadsRows finding_table (has_seq seq) by_second pair_in rows.items (state S.Store conn.old)
@@ -224,7 +227,10 @@ pub fn rows_of_findings<S: Alter>(conn: &mut Connection<S>, seq: i64) -> Result<
 const TARGET_AT: &str = "SELECT target FROM amends WHERE seq = ?1";
 
 /// The column `target` of the rows of `amends` with this place.
-pub fn rows_of_target<S: Alter>(conn: &mut Connection<S>, seq: i64) -> Result<Vec<Row>, Error>
+pub(crate) fn rows_of_target<S: Alter>(
+    conn: &mut Connection<S>,
+    seq: i64,
+) -> Result<Vec<Row>, Error>
     ensures read { HasCleanDisk (state S.Store conn.new) → KnowsAll (state S.Store conn.old)
         → IfOk result (λ rows.
         ReadsRows amends_table (has_seq seq) unsorted target_alone rows.items (state S.Store conn.old)

@@ -1,6 +1,6 @@
 //! The store of a register: its connection, and how much it holds.
 
-ghost use Rattle.std.specs.Prelude.{◌≡◌, ◌≤◌, ◌<◌, ◌^◌, true, length, None, Ok};
+ghost use Rattle.std.specs.Prelude.{◌≡◌, ◌≤◌, ◌<◌, ◌^◌, true, length, Ok};
 ghost use Rattle.key_string.specs.Filer.{is_filer};
 ghost use Rattle.http_messages.specs.Head.{max_body_len};
 ghost use Rattle.http_messages.specs.Posting.{IsTarget};
@@ -172,10 +172,7 @@ impl<S: Alter + Drop> Store<S> {
         requires { IsAtRest conn }
         ensures { CreatesStore S.Store conn result }
     {
-        match Store::create_or_back(alloc, conn) {
-            Ok(store) => Ok(store),
-            Err((fault, _conn)) => Err(fault),
-        }
+        Store::create_or_back(alloc, conn).map_err(|(fault, _conn)| fault)
     }
 
     /// As `open_or_back`, but a refusal gives the connection up.
@@ -183,10 +180,7 @@ impl<S: Alter + Drop> Store<S> {
         requires { IsAtRest conn }
         ensures { OpensStore S.Store conn result }
     {
-        match Store::open_or_back(alloc, conn) {
-            Ok(store) => Ok(store),
-            Err((fault, _conn)) => Err(fault),
-        }
+        Store::open_or_back(alloc, conn).map_err(|(fault, _conn)| fault)
     }
 
     /// As `migrate_or_back`, but a refusal gives the connection up.
@@ -194,10 +188,7 @@ impl<S: Alter + Drop> Store<S> {
         requires { IsAtRest conn }
         ensures { MigratesStore S.Store conn result }
     {
-        match Store::migrate_or_back(alloc, conn) {
-            Ok(store) => Ok(store),
-            Err((fault, _conn)) => Err(fault),
-        }
+        Store::migrate_or_back(alloc, conn).map_err(|(fault, _conn)| fault)
     }
 }
 

@@ -123,7 +123,7 @@ fn write<S: Alter>(
 }
 
 /// Keeps a request at its place, in one transaction; `number` is that of the next filing.
-pub fn keep<S: Alter>(
+pub(crate) fn keep<S: Alter>(
     conn: &mut Connection<S>,
     seq: u64,
     number: u64,

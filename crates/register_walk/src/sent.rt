@@ -54,10 +54,7 @@ fn read_first(rows: &[Row]) -> Result<Sent, StoreFault>
 fn in_column(place: u64) -> Result<i64, StoreFault>
     ensures { IfOk result (λ seq. (seq ≡ pos place) × (place < 2 ^ 63)) }
 {
-    match i64::try_from(place) {
-        Ok(seq) => Ok(seq),
-        Err(_) => Err(StoreFault::Store),
-    }
+    i64::try_from(place).map_err(|_| StoreFault::Store)
 }
 
 /// What was sent by the request whose row has this place.

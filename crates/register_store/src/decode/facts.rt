@@ -14,10 +14,7 @@ use xbrl_report::Fact;
 fn text_of(bytes: Vec<u8>) -> Result<String, StoreFault>
     ensures { IfOk result (λ text. string_bytes text ≡ bytes.items) }
 {
-    match String::from_utf8(bytes) {
-        Ok(text) => Ok(text),
-        Err(_) => Err(StoreFault::Store),
-    }
+    String::from_utf8(bytes).map_err(|_| StoreFault::Store)
 }
 
 /// The text of a column of bytes.

@@ -28,10 +28,10 @@ use xbrl_report::{Code, Finding, Findings};
 
 /// A kept row without its filer and key: its place, its body, and its number if it was registered.
 #[derive(Drop)]
-pub struct FoundRow {
-    pub seq: i64,
-    pub body: KeptBody,
-    pub number: Option<u64>,
+pub(crate) struct FoundRow {
+    pub(crate) seq: i64,
+    pub(crate) body: KeptBody,
+    pub(crate) number: Option<u64>,
 }
 
 /// What a row with the columns `seq`, `body` and `number` says.
@@ -50,10 +50,7 @@ fn read_found(row: Row) -> Result<FoundRow, StoreFault>
 fn code_of(number: i64) -> Result<Code, StoreFault>
     ensures { IfOk result (λ code. number ≡ pos (code_number code)) }
 {
-    match Code::of_number(number) {
-        Some(code) => Ok(code),
-        None => Err(StoreFault::Store),
-    }
+    Code::of_number(number).ok_or(StoreFault::Store)
 }
 
 /// The finding of a row with the columns `code` and `place`.
@@ -81,10 +78,7 @@ fn read_list(alloc: Global, rows: &[Row]) -> Result<Vec<Finding>, StoreFault>
 fn read_findings(alloc: Global, rows: &[Row]) -> Result<Findings, StoreFault>
     ensures { IfOk result (λ findings. findings ≡ map finding_in rows.now) }
 {
-    match Findings::from_list(read_list(alloc, rows)?) {
-        Some(findings) => Ok(findings),
-        None => Err(StoreFault::Store),
-    }
+    Findings::from_list(read_list(alloc, rows)?).ok_or(StoreFault::Store)
 }
 
 /// What the first row says, if there is one.
@@ -215,7 +209,7 @@ fn read_kept_row<S: Alter>(
 
 /// What is kept of a filer and key, or `None` if they are new. The first `old_style` requests are answered in the
 /// earlier style.
-pub fn find_kept<S: Alter>(
+pub(crate) fn find_kept<S: Alter>(
     conn: &mut Connection<S>,
     alloc: Global,
     old_style: u64,

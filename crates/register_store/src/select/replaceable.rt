@@ -30,10 +30,7 @@ fn is_text(rows: &[Row], text: &str) -> bool
 fn in_column(place: u64) -> Result<i64, StoreFault>
     ensures { IfOk result (λ seq. (seq ≡ pos place) × (place < 2 ^ 63)) }
 {
-    match i64::try_from(place) {
-        Ok(seq) => Ok(seq),
-        Err(_) => Err(StoreFault::Store),
-    }
+    i64::try_from(place).map_err(|_| StoreFault::Store)
 }
 
 /// Whether the kept request at this place is the filer's.
