@@ -11,13 +11,13 @@ use Rattle.filing_model.specs.Serving.{keeping, IsCutShort}
 use Rattle.filing_model.specs.Stopping.{Crash}
 use Rattle.table_rows.proofs.CleanLemmas.{always_clean}
 use Rattle.intake_core.specs.declared.intake.Intake.{Intake}
+use Rattle.database_places.specs.Places.{IsHonest}
 use Rattle.programs.specs.Deliveries.{Delivery}
 use Rattle.intake_process.specs.declared.begun.Totals.{Totals}
 use Rattle.intake_process.specs.Begun.{HoldsAs, AreTotals, FindsIntake}
 use Rattle.programs.specs.Happenings.{Situation, Serving, Killing}
 use Rattle.crash_recovery.specs.Deciding.{StopsIn}
 use Rattle.crash_recovery.specs.Killed.{ComesOn, read_on, cut_off, HappenedIn}
-use Rattle.crash_recovery.specs.Left.{IsHonest}
 use Rattle.crash_recovery.specs.Registers.{HoldRegisterWithLog, OpensAsRegister}
 
 module _ {D : Type 0} (g : Ghosts D) where

@@ -28,7 +28,8 @@ use Rattle.sqlite.specs.declared.error.Error.{Error}
 use Rattle.sqlite.specs.Files.{image_of, file_state, HoldsDatabase}
 use Rattle.table_rows.proofs.CleanLemmas.{are_clean}
 use Rattle.database_places.specs.Closing.{IsNotClosed}
-use Rattle.crash_recovery.specs.Left.{IsHonest, AreLeftByKill, AreLeftByStop, AreLeftBy, IsNumbered, IsLastOf, EndsIn}
+use Rattle.database_places.specs.Places.{IsHonest}
+use Rattle.crash_recovery.specs.Left.{AreLeftByKill, AreLeftByStop, AreLeftBy, IsNumbered, IsLastOf, EndsIn}
 
 -- the pages that an image recovers to are known, since there is one such map at most
 pages_of : {X : PageMap → Type 0} (size : ℕ) (left : Image)

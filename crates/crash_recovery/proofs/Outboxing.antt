@@ -23,7 +23,8 @@ use Rattle.outbox_core.specs.Entries.{with_state}
 use Rattle.outbox_core.specs.OutboxParts.{OutboxParts, HasEntries, LeavesMoved}
 use Rattle.outbox_core.specs.Files.{HoldOutbox}
 use Rattle.outbox_core.specs.HandedOut.{FindsOrGivesBack}
-use Rattle.crash_recovery.specs.Left.{IsHonest, EndsIn}
+use Rattle.database_places.specs.Places.{IsHonest}
+use Rattle.crash_recovery.specs.Left.{EndsIn}
 use Rattle.crash_recovery.specs.Outboxes.{HoldOutboxWithLog, HoldEitherOutbox, HoldMovedOutbox, OpensAsOutbox}
 use Rattle.crash_recovery.proofs.Finding.{found_there}
 use Rattle.crash_recovery.proofs.Leaving.{ends_with_one, leaves_now}

@@ -20,7 +20,8 @@ use Rattle.register_store.specs.Store.{StoreParts, HasRequests}
 use Rattle.register_store.specs.Files.{HoldRegister}
 use Rattle.register_store.specs.Calls.{OpensOrGivesBack}
 use Rattle.database_places.specs.Opening.{IsFoundIn}
-use Rattle.crash_recovery.specs.Left.{IsHonest, EndsIn}
+use Rattle.database_places.specs.Places.{IsHonest}
+use Rattle.crash_recovery.specs.Left.{EndsIn}
 use Rattle.crash_recovery.specs.Registers.{HoldRegisterWithLog, HoldEitherRegister, OpensAsRegister}
 use Rattle.crash_recovery.proofs.Finding.{found_there}
 use Rattle.crash_recovery.proofs.Leaving.{ends_with_one, leaves_now}

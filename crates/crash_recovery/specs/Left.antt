@@ -1,5 +1,5 @@
 -- What a store leaves in its two files if its process ends before it is closed; own rules.
-use Rattle.std.specs.Prelude.{◌≡◌, ◌⊎◌, true, IsTrue}
+use Rattle.std.specs.Prelude.{◌≡◌, ◌⊎◌, IsTrue}
 use Rattle.sqlite_disk.specs.declared.Disk.{Ghosts}
 use Rattle.sqlite_disk.specs.declared.Files.{Files}
 use Rattle.sqlite_disk.specs.Disk.{MoreFaults}
@@ -12,10 +12,6 @@ use Rattle.sqlite.specs.declared.error.Error.{Error}
 use Rattle.sqlite.specs.declared.error.Error.TheVariants.{SqliteFailure}
 use Rattle.sqlite.specs.declared.error.ErrorCode.TheVariants.{OutOfMemory}
 use Rattle.sqlite.specs.declared.file.Leftover.{Leftover}
-
--- each read of such a disk gave what was written
-abbrev pub IsHonest : {D : Type 0} → Ghosts D → Type 0
-IsHonest {D} g = (disk : D) → g.is_clean disk ≡ true
 
 module _ {D : Type 0} {g : Ghosts D} where
   -- The process was killed: a read of each file returns what it returned before. Nothing was copied, cut or synced

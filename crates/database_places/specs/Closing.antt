@@ -1,5 +1,5 @@
 -- What closing a database leaves in its files.
-use Rattle.std.specs.Prelude.{◌≡◌}
+use Rattle.std.specs.Prelude.{◌≡◌, Option, Some, None}
 use Rattle.sqlite_disk.specs.declared.Disk.{Ghosts}
 use Rattle.sqlite_disk.specs.declared.Files.{Files}
 use Rattle.sqlite_store.specs.declared.store.FileStore.{FileStore}
@@ -36,3 +36,8 @@ module _ {D : Type 0} {g : Ghosts D} where
     pub same : store.files last ≡ (files.log, files.db)
     pub closed : IsClosed conn last
     pub failed : IsClean (view last) → FailsToClose conn last error
+
+  -- the files lie in the place, if that is known, as the connection that was given up left them
+  abbrev pub LieGivenUp : Option (Option (Files D)) → Option (Option (Files D)) → Held (FileStore D g) → Type 0
+  LieGivenUp None new conn = Unit {0}
+  LieGivenUp (Some there) new conn = (files : Files D) × (new ≡ Some (Some files)) × IsGivenUp conn files

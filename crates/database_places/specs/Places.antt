@@ -5,6 +5,10 @@ use Rattle.sqlite_disk.specs.declared.Disk.{Ghosts}
 use Rattle.sqlite_disk.specs.declared.Files.{Files}
 use Rattle.sqlite.specs.Files.{image_of, IsNothing}
 
+-- each read of such a disk gave what was written
+abbrev pub IsHonest : {D : Type 0} → Ghosts D → Type 0
+IsHonest {D} g = (disk : D) → g.is_clean disk ≡ true
+
 -- the answer says whether no files lie there
 abbrev pub TellsMissing : {D : Type 0} → Option (Option (Files D)) → Bool → Type 0
 TellsMissing None told = ⊤

@@ -16,9 +16,9 @@ use Rattle.http_wire.specs.Wire.{Wire}
 use Rattle.table_rows.proofs.CleanLemmas.{always_clean, are_clean}
 use Rattle.table_rows.proofs.FileLemmas.{finds}
 use Rattle.command_line.specs.declared.fault.DatabaseFault.{DatabaseFault}
-use Rattle.database_places.specs.Closing.{IsClosedIn, IsNotClosed, IsGivenUp}
+use Rattle.database_places.specs.Closing.{IsClosedIn, IsNotClosed, IsGivenUp, LieGivenUp}
 use Rattle.database_places.specs.Opening.{ComesFrom, StaysIn}
-use Rattle.database_places.specs.Places.{KeepsLying}
+use Rattle.database_places.specs.Places.{KeepsLying, IsHonest}
 use Rattle.database_places.specs.Places as place
 use Rattle.intake_process.specs.declared.begun.Totals.{Totals}
 use Rattle.intake_process.specs.declared.fault.OpeningFault.{OpeningFault}
@@ -28,7 +28,7 @@ use Rattle.intake_process.specs.declared.process.Closed.{Closed}
 use Rattle.intake_process.specs.declared.process.Outcome.{Outcome}
 use Rattle.intake_process.specs.declared.process.Outcome.TheVariants as outcome
 use Rattle.intake_process.specs.Begun.{HoldsAs, AreTotals, FindsIntake, MakesIntake, IsNotBegun}
-use Rattle.intake_process.specs.Process.{Parts, IsAwake, IsUp, AnswersBy, IsHonest, KeepsBy, LieGivenUp, IsNotOpened}
+use Rattle.intake_process.specs.Process.{Parts, IsAwake, IsUp, AnswersBy, KeepsBy, IsNotOpened}
 use Rattle.intake_process.specs.Process.{IsLeftBy, Leaves, OpensProcess, ClosesProcess}
 
 pub none_of : {A : Type 0} (o : Option A) → is_some o ≡ false → o ≡ None

@@ -17,11 +17,12 @@ use Rattle.gateway_ports.proofs.Turns.{came_none, grows_none, came_one, counted_
 use Rattle.gateway_ports.proofs.Turns.{counted_join, grows_join}
 use Rattle.gateway_ports.proofs.Turns as ports
 use Rattle.table_rows.proofs.CleanLemmas.{always_clean}
+use Rattle.database_places.specs.Places.{IsHonest}
 use Rattle.intake_process.specs.declared.begun.Totals.{Totals}
 use Rattle.intake_process.specs.declared.process.Answered.{Answered}
 use Rattle.intake_process.specs.declared.process.Closed.{Closed}
 use Rattle.intake_process.specs.Begun.{HoldsAs}
-use Rattle.intake_process.specs.Process.{Parts, IsHonest, IsUnrefused, StaysUp, KeepsBy, Leaves, AnswersBy, AnswersWire}
+use Rattle.intake_process.specs.Process.{Parts, IsUnrefused, StaysUp, KeepsBy, Leaves, AnswersBy, AnswersWire}
 use Rattle.intake_process.specs.Process.{IsUp, OpensProcess, ClosesProcess}
 use Rattle.intake_process.specs.Turns.{Turn, Served, TurnedAway, connection_of, connections_of, served_in}
 use Rattle.intake_process.specs.Turns.{AreTurnedAway, AreAnswered, AnswersSome}

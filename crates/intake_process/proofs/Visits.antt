@@ -19,14 +19,14 @@ use Rattle.register_store.specs.Files.{HoldRegister}
 use Rattle.command_line.specs.declared.fault.DatabaseFault.{DatabaseFault}
 use Rattle.database_places.specs.Closing.{IsClosedIn, IsGivenUp, IsNotClosed}
 use Rattle.database_places.specs.Opening.{ComesFrom, OpensPlace}
-use Rattle.database_places.specs.Places.{KeepsLying}
+use Rattle.database_places.specs.Places.{KeepsLying, IsHonest}
 use Rattle.database_places.specs.Places as place
 use Rattle.intake_tasks.specs.declared.errand.Errand.{Errand}
 use Rattle.intake_tasks.specs.declared.errand.Errand.TheVariants as asked
 use Rattle.intake_process.specs.declared.errand.ErrandFault.TheVariants as fault
 use Rattle.intake_process.specs.declared.visiting.Visited.{Visited}
 use Rattle.intake_process.specs.Errands.{IsRegisterFor, MayFail, Tells, is_for_pages, is_refused}
-use Rattle.intake_process.specs.Process.{Parts, IsHonest, KeepsBy}
+use Rattle.intake_process.specs.Process.{Parts, KeepsBy}
 use Rattle.intake_process.proofs.Errands.{no_print}
 use Rattle.intake_process.specs.Visits.{Outputs, LiesFor, is_doubtful, IsLeftIn, GoesOn, VisitsPlace, VisitsRegister}
 

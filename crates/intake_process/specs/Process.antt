@@ -14,9 +14,9 @@ use Rattle.register_store.specs.Files.{HoldRegister}
 use Rattle.intake_core.specs.declared.intake.Intake.{Intake}
 use Rattle.intake_core.specs.Held.{store_of, has_stopped}
 use Rattle.gateway_server.specs.Progress.{ServesToEnd}
-use Rattle.database_places.specs.Closing.{IsGivenUp, IsClosedIn, IsNotClosed}
+use Rattle.database_places.specs.Closing.{IsClosedIn, IsNotClosed, LieGivenUp}
 use Rattle.database_places.specs.Opening.{ComesFrom, OpensPlace}
-use Rattle.database_places.specs.Places.{Lie}
+use Rattle.database_places.specs.Places.{Lie, IsHonest}
 use Rattle.database_places.specs.Places as place
 use Rattle.intake_process.specs.declared.begun.Totals.{Totals}
 use Rattle.intake_process.specs.declared.fault.OpeningFault.{OpeningFault}
@@ -46,10 +46,6 @@ parts lying process =
       refused_calls =
           process.refused_calls;
     }
-
--- each read of such a disk gave what was written
-abbrev pub IsHonest : {D : Type 0} → Ghosts D → Type 0
-IsHonest {D} g = (disk : D) → g.is_clean disk ≡ true
 
 -- the intake is open and holds these requests, or it is closed and the files in the place hold them
 abbrev pub KeepsBy : {D : Type 0} {g : Ghosts D} → Option (Intake (FileStore D g)) → Option (Option (Files D)) → ℕ → ℕ
@@ -96,12 +92,6 @@ pub record StaysUp {D : Type 0} {g : Ghosts D} (old new : Parts g) : Type 0 wher
   pub certain : IsUnrefused old new → new.is_certain ≡ old.is_certain
 
 -- ---- it is opened
-
--- the files lie in the place, if that is known, as the connection that was given up left them
-abbrev pub LieGivenUp : {D : Type 0} {g : Ghosts D} → Option (Option (Files D)) → Option (Option (Files D))
-    → Held (FileStore D g) → Type 0
-LieGivenUp None new conn = Unit {0}
-LieGivenUp (Some there) new conn = (files : Files _) × (new ≡ Some (Some files)) × IsGivenUp conn files
 
 -- Why the process was not opened: the place gave no database; or no intake began over this connection to the database
 -- that lay there or was made, and the connection was given up.

@@ -7,11 +7,12 @@ use Rattle.filing_model.specs.Request.{Request}
 use Rattle.filing_model.specs.Serving.{Keeping, keeping}
 use Rattle.gateway_ports.specs.InTurn.{Connection, outputs_of, ServeInTurn, Came, AreCounted}
 use Rattle.gateway_ports.specs.Ports.{Traffic, Grows}
+use Rattle.database_places.specs.Places.{IsHonest}
 use Rattle.intake_process.specs.declared.begun.Totals.{Totals}
 use Rattle.intake_process.specs.declared.process.Closed.{Closed}
 use Rattle.intake_process.specs.declared.serving.ServingFault.{ServingFault}
 use Rattle.intake_process.specs.declared.serving.ServingFault.TheVariants.{Register, Port}
-use Rattle.intake_process.specs.Process.{Parts, IsHonest, Keeps, KeepsBy, IsUnrefused, StaysUp, OpensProcess}
+use Rattle.intake_process.specs.Process.{Parts, Keeps, KeepsBy, IsUnrefused, StaysUp, OpensProcess}
 use Rattle.intake_process.specs.Process.{ClosesProcess}
 use Rattle.intake_process.specs.Turning.{IsTurnedAway}
 

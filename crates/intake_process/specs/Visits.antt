@@ -15,13 +15,13 @@ use Rattle.register_pages.specs.Pages.{WritesSite}
 use Rattle.command_line.specs.declared.fault.DatabaseFault.{DatabaseFault}
 use Rattle.database_places.specs.Closing.{IsClosedIn, IsGivenUp, IsNotClosed}
 use Rattle.database_places.specs.Opening.{OpensPlace}
-use Rattle.database_places.specs.Places.{Lie}
+use Rattle.database_places.specs.Places.{Lie, IsHonest}
 use Rattle.database_places.specs.Places as place
 use Rattle.intake_tasks.specs.declared.errand.Errand.{Errand}
 use Rattle.intake_process.specs.declared.errand.ErrandFault.TheVariants as fault
 use Rattle.intake_process.specs.declared.visiting.Visited.{Visited}
 use Rattle.intake_process.specs.Errands.{FillsFolder, IsRegisterFor, RunsErrand, Tells, is_for_pages, is_refused}
-use Rattle.intake_process.specs.Process.{Parts, IsHonest, KeepsBy}
+use Rattle.intake_process.specs.Process.{Parts, KeepsBy}
 
 -- what an output has, and which pages were written into a folder, if that is known
 pub record Outputs : Type 0 where

@@ -2,7 +2,8 @@
 
 ghost use Rattle.std.specs.Prelude.{◌≡◌, ◌≢◌, ◌≤◌, ◌^◌, ℕ, None, OnOk, option_map};
 ghost use Rattle.std.specs.Result.{result_ok};
-ghost use Rattle.intake_process.specs.Process.{parts, IsAwake, IsHonest, Leaves, StaysUp};
+ghost use Rattle.database_places.specs.Places.{IsHonest};
+ghost use Rattle.intake_process.specs.Process.{parts, IsAwake, Leaves, StaysUp};
 ghost use Rattle.intake_process.specs.Turns.{AnswersSome, ServesRegister};
 ghost use Rattle.database_places.specs.Opening.{is_found};
 

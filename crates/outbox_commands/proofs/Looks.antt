@@ -5,7 +5,8 @@ use Rattle.sqlite_store.specs.declared.store.FileStore.{FileStore}
 use Rattle.sqlite.specs.Files.{over_files}
 use Rattle.table_rows.proofs.CleanLemmas.{always_clean}
 use Rattle.outbox_core.specs.OutboxParts.{OutboxParts}
-use Rattle.outbox_process.specs.Process.{Parts, IsHonest, KeepsBy, Leaves}
+use Rattle.database_places.specs.Places.{IsHonest}
+use Rattle.outbox_process.specs.Process.{Parts, KeepsBy, Leaves}
 use Rattle.outbox_commands.specs.Looking.{KeepsEntries}
 
 module _ {D : Type 0} {g : Ghosts D} (old new : Parts g) (honest : IsHonest g) (lying : new.lying ≡ old.lying)

@@ -9,13 +9,14 @@ use Rattle.outbox_tables.specs.declared.fault.OutboxFault.{OutboxFault}
 use Rattle.outbox_tables.specs.declared.fault.OutboxFault.TheVariants as made
 use Rattle.outbox_tasks.specs.Dials.{Traffic}
 use Rattle.outbox_tasks.specs.declared.fault.TaskFault.{TaskFault}
+use Rattle.database_places.specs.Places.{IsHonest}
 use Rattle.outbox_process.specs.declared.begun.Beginning.{Beginning}
 use Rattle.outbox_process.specs.declared.begun.Beginning.TheVariants.{Found}
 use Rattle.outbox_process.specs.declared.errand.Done.{Done}
 use Rattle.outbox_process.specs.declared.errand.Errand.{Errand}
 use Rattle.outbox_process.specs.declared.fault.OpeningFault.{OpeningFault}
 use Rattle.outbox_process.specs.declared.fault.OpeningFault.TheVariants as fault
-use Rattle.outbox_process.specs.Process.{Parts, IsHonest, Leaves, OpensProcess, PerformsErrand, ClosesProcess}
+use Rattle.outbox_process.specs.Process.{Parts, Leaves, OpensProcess, PerformsErrand, ClosesProcess}
 use Rattle.outbox_commands.specs.Status.{opening_status, done_status}
 
 -- ---- it is opened

@@ -1,7 +1,8 @@
 //! Opens the outbox of a task, does an errand on it, and closes it.
 
 ghost use Rattle.std.specs.Prelude.{◌≡◌, None};
-ghost use Rattle.outbox_process.specs.Process.{parts, IsHonest, Leaves, ClosesProcess};
+ghost use Rattle.database_places.specs.Places.{IsHonest};
+ghost use Rattle.outbox_process.specs.Process.{parts, Leaves, ClosesProcess};
 ghost use Rattle.outbox_commands.specs.Looking.{KeepsEntries};
 ghost use Rattle.outbox_commands.specs.Status.{status_by, done_status};
 ghost use Rattle.outbox_commands.specs.Visits.{OpensTold, VisitsOutbox};
@@ -21,7 +22,7 @@ use std::io::Write;
 const MOST_COMPARED: u64 = 16;
 
 /// Opens an outbox that begins like this. If a refusal depends on the pages of the file, the first page says more.
-pub fn open<D: Disk + Drop, P: Place<D> + Drop>(
+pub(crate) fn open<D: Disk + Drop, P: Place<D> + Drop>(
     alloc: Global,
     process: &mut OutboxProcess<D, P>,
     beginning: Beginning<'_>,
@@ -38,7 +39,7 @@ pub fn open<D: Disk + Drop, P: Place<D> + Drop>(
 
 /// Closes the outbox of the file with this name, and reports on the standard error if its files are not closed. What
 /// was reported is kept then, in the log beside the file.
-pub fn close<D: Disk + Drop, P: Place<D> + Drop, E: Write>(
+pub(crate) fn close<D: Disk + Drop, P: Place<D> + Drop, E: Write>(
     process: &mut OutboxProcess<D, P>,
     name: &str,
     errors: &mut E,
@@ -54,7 +55,7 @@ pub fn close<D: Disk + Drop, P: Place<D> + Drop, E: Write>(
 /// Opens the outbox of the file with this name, does this errand on it, and closes it. What was reported stays whether
 /// or not the files are then closed. If the key of a report was drawn at random, it is reported on the standard error
 /// if one of the last entries has the same report.
-pub fn run_errand<'a, D: Disk + Drop, P: Place<D> + Drop, N: Network, O: Write, E: Write>(
+pub(crate) fn run_errand<'a, D: Disk + Drop, P: Place<D> + Drop, N: Network, O: Write, E: Write>(
     alloc: Global,
     process: &mut OutboxProcess<D, P>,
     network: &mut N,

@@ -16,10 +16,10 @@ use Rattle.outbox_tables.specs.Earlier.{IsAlone, IsEarlierOf}
 use Rattle.outbox_tables.specs.Entries.{Contents, contents_of}
 use Rattle.outbox_tables.specs.Rows.{IsOutboxOf}
 use Rattle.outbox_core.specs.OutboxParts.{OutboxParts}
-use Rattle.database_places.specs.Closing.{IsClosedIn, IsGivenUp, IsNotClosed}
+use Rattle.database_places.specs.Closing.{IsClosedIn, IsGivenUp, IsNotClosed, LieGivenUp}
 use Rattle.command_line.specs.declared.fault.DatabaseFault.{DatabaseFault}
 use Rattle.database_places.specs.Opening.{ComesFrom, StaysIn}
-use Rattle.database_places.specs.Places.{KeepsLying}
+use Rattle.database_places.specs.Places.{KeepsLying, IsHonest}
 use Rattle.database_places.specs.Places as place
 use Rattle.outbox_process.specs.declared.begun.Beginning.{Beginning}
 use Rattle.outbox_process.specs.declared.begun.Beginning.TheVariants.{Found, Made, Migrated}
@@ -27,7 +27,7 @@ use Rattle.outbox_process.specs.declared.fault.OpeningFault.{OpeningFault}
 use Rattle.outbox_process.specs.declared.fault.OpeningFault.TheVariants.{Files as Unopened, Taken, Create, Open}
 use Rattle.outbox_process.specs.declared.fault.OpeningFault.TheVariants.{IsCurrent, Migrate}
 use Rattle.outbox_process.specs.Begun.{HasContents, BeginsOutbox}
-use Rattle.outbox_process.specs.Process.{Parts, IsHonest, KeepsBy, Keeps, BeginsWith, LieGivenUp, IsNotOpened, IsUp}
+use Rattle.outbox_process.specs.Process.{Parts, KeepsBy, Keeps, BeginsWith, IsNotOpened, IsUp}
 use Rattle.outbox_process.specs.Process.{OpensProcess, IsLeftOpen, ClosesProcess}
 use Rattle.outbox_process.specs.Refusals.{RefusesOutbox}
 

@@ -12,9 +12,9 @@ use Rattle.outbox_tables.specs.Earlier.{IsAlone, IsEarlierOf}
 use Rattle.outbox_tables.specs.Entries.{Contents, empty}
 use Rattle.outbox_core.specs.Files.{HoldOutbox}
 use Rattle.outbox_core.specs.OutboxParts.{OutboxParts}
-use Rattle.database_places.specs.Closing.{IsGivenUp, IsNotClosed}
+use Rattle.database_places.specs.Closing.{IsNotClosed, LieGivenUp}
 use Rattle.database_places.specs.Opening.{ComesFrom, OpensPlace}
-use Rattle.database_places.specs.Places.{Lie}
+use Rattle.database_places.specs.Places.{Lie, IsHonest}
 use Rattle.database_places.specs.Places as place
 use Rattle.outbox_tasks.specs.Dials.{Traffic}
 use Rattle.outbox_tasks.specs.declared.fault.TaskFault.{TaskFault}
@@ -38,10 +38,6 @@ pub record Parts {D : Type 0} (g : Ghosts D) : Type 0 where
 
 abbrev pub parts : {D P : Type 0} {g : Ghosts D} → (P → Option (Option (Files D))) → OutboxProcess D P g → Parts g
 parts lying process = record { outbox = process.outbox; lying = lying process.place; is_certain = process.is_certain }
-
--- each read of such a disk gave what was written
-abbrev pub IsHonest : {D : Type 0} → Ghosts D → Type 0
-IsHonest {D} g = (disk : D) → g.is_clean disk ≡ true
 
 -- ---- what it keeps
 
@@ -83,12 +79,6 @@ abbrev pub BeginsWith : {D : Type 0} {g : Ghosts D} → Beginning → Parts g �
 BeginsWith Found old it = Keeps old it
 BeginsWith (Made filer) old it = (old.outbox ≡ None) × IsSome old.lying × (it ≡ empty filer.now)
 BeginsWith {D} {g} Migrated old it = (old.outbox ≡ None) × Lie old.lying (λ files. HoldEarlier g files it)
-
--- the files lie there, if that is known, as this connection, which was given up, left them
-abbrev pub LieGivenUp : {D : Type 0} {g : Ghosts D} → Option (Option (Files D)) → Option (Option (Files D))
-    → Held (FileStore D g) → Type 0
-LieGivenUp None new conn = Unit {0}
-LieGivenUp (Some there) new conn = (files : Files _) × (new ≡ Some (Some files)) × IsGivenUp conn files
 
 -- why the process was not opened: the files gave no database; or this connection to them gave no outbox, and was given
 -- up

@@ -25,11 +25,12 @@ use Rattle.gateway_server.specs.declared.serving.Partly.{Partly}
 use Rattle.gateway_server.specs.declared.stop.Stop.{Stop}
 use Rattle.gateway_server.specs.Progress.{ServesToEnd, ServesConnection}
 use Rattle.gateway_server.specs.Stopping.{ServesConnectionUntil, ServesUpTo, IsEndedOrStoppedBy, view_stop}
+use Rattle.database_places.specs.Places.{IsHonest}
 use Rattle.intake_process.specs.declared.fault.OpeningFault.{OpeningFault}
 use Rattle.intake_process.specs.declared.fault.OpeningFault.TheVariants as opening
 use Rattle.intake_process.specs.declared.process.Answered.{Answered}
 use Rattle.intake_process.specs.Begun.{HoldsAs}
-use Rattle.intake_process.specs.Process.{IsHonest, IsNotOpened, IsLeftBy, KeepsBy, AnswersBy}
+use Rattle.intake_process.specs.Process.{IsNotOpened, IsLeftBy, KeepsBy, AnswersBy}
 use Rattle.database_places.specs.Places as place
 use Rattle.end_processes.specs.Causes.{files_cause, register_cause, opening_cause, close_cause}
 use Rattle.end_processes.specs.declared.cause.Cause.TheVariants as cause

@@ -1,5 +1,6 @@
 use Rattle.std.proofs.Common.{Some}
-use Rattle.intake_process.specs.Process.{parts, IsAwake, IsHonest, StaysUp}
+use Rattle.database_places.specs.Places.{IsHonest}
+use Rattle.intake_process.specs.Process.{parts, IsAwake, StaysUp}
 use Rattle.intake_process.specs.Turns.{AnswersSome}
 use Rattle.intake_process.proofs.serving.serve_port.Given as goal
 

@@ -1,6 +1,7 @@
 use Rattle.std.proofs.Common.{refl, sym, ◌∙◌, subst, inl, inr}
+use Rattle.database_places.specs.Places.{IsHonest}
 use Rattle.outbox_process.specs.declared.begun.Beginning.TheVariants.{Found}
-use Rattle.outbox_process.specs.Process.{parts, IsHonest, Leaves, PerformsErrand}
+use Rattle.outbox_process.specs.Process.{parts, Leaves, PerformsErrand}
 use Rattle.outbox_commands.proofs.Opened.{refused, opened}
 use Rattle.outbox_commands.proofs.errand.run_errand.Goals as goal
 use Rattle.outbox_commands.proofs.errand.run_errand.Goals.{then-is_random, else-is_random}
