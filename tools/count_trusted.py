@@ -46,7 +46,7 @@ class Definition:
 
     def words(self):
         text = re.sub(r'"[^"]*"', " ", "\n".join(self.lines))
-        if re.match(r"(pub )?enum ", text):
+        if re.match(r"(pub(\(crate\))? )?enum ", text):
             text = re.sub(r"^ +[A-Z]\w*", " ", text, flags=re.MULTILINE)  # the variants' own names
         return re.findall(r"[^\s(){}\[\],;&<>]+", text)
 
@@ -151,7 +151,7 @@ class RustFile:
 
     def contract(self, name):
         """What a function promises: its head and its clauses, without its body."""
-        start = self.find(rf"\s*(?:pub )?fn {name}\b")[-1]
+        start = self.find(rf"\s*(?:pub(?:\(crate\))? )?fn {name}\b")[-1]
         indent = self.lines[start][: len(self.lines[start]) - len(self.lines[start].lstrip())]
         end = next(i for i in range(start, len(self.lines)) if self.lines[i] in (indent + "{", indent + "{}"))
         return Definition(self.path, name, self.lines[start:end], self.imports)

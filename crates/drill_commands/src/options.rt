@@ -20,7 +20,7 @@ fn command<'a>(alloc: Global) -> Command<'a> {
 
 /// Reads these words, of which the first is the program's name. No other word is allowed, except one that asks for help
 /// or the version, which is answered as an error.
-pub fn read(alloc: Global, words: &[String]) -> Result<(), Error> {
+pub(crate) fn read(alloc: Global, words: &[String]) -> Result<(), Error> {
     command(alloc).try_get_matches_from(words)?;
     Ok(())
 }

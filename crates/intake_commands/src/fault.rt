@@ -16,9 +16,9 @@ use thiserror::Error;
 
 /// Why a database gave no register, and what it holds.
 #[derive(Clone, Copy, Debug)]
-pub struct Refusal {
-    pub fault: OpenFault,
-    pub holding: Holding,
+pub(crate) struct Refusal {
+    pub(crate) fault: OpenFault,
+    pub(crate) holding: Holding,
 }
 
 impl Refusal {
@@ -119,7 +119,7 @@ fn error_text(error: DatabaseError) -> &'static str {
 
 /// What went wrong in a visit to the register of a file.
 #[derive(Clone, Copy, Debug, Error)]
-pub enum VisitFault {
+pub(crate) enum VisitFault {
     /// No register is made in a database that holds this.
     #[error("{text}", text = has_tables(*.0))]
     Taken(Holding),
@@ -147,7 +147,7 @@ impl VisitFault {
     ghost use Rattle.intake_commands.specs.Status.{visit_status, visit_verdict};
 
     /// Why a task was not done with the register of the file with this name.
-    pub fn at(self, name: &str) -> Fault<'_>
+    pub(crate) fn at(self, name: &str) -> Fault<'_>
         ensures { result ≡ Fault.Register name.entry self }
     {
         Fault::Register { name, fault: self }
@@ -192,7 +192,7 @@ impl VisitFault {
 
 /// Why a task was not done. Its text is one line.
 #[derive(Debug, Drop, Error)]
-pub enum Fault<'a> {
+pub(crate) enum Fault<'a> {
     #[error("{0}")]
     Command(CommandFault<'a>),
     #[error("there is no init: intake serve --new makes a register")]
@@ -245,7 +245,7 @@ impl Fault<'_> {
     }
 
     /// The verdict of the fault on the register, if it has one.
-    pub fn verdict(&self) -> Option<Verdict>
+    pub(crate) fn verdict(&self) -> Option<Verdict>
         ensures { result ≡ fault_verdict self.now }
     {
         match self {
@@ -264,7 +264,7 @@ impl Fault<'_> {
     }
 
     /// Writes the text as a line, and answers the status.
-    pub fn tell<E: Write>(&self, errors: &mut E) -> u8
+    pub(crate) fn tell<E: Write>(&self, errors: &mut E) -> u8
         ensures { result ≡ fault_status self.now }
     {
         // Nothing is left to be done if this text can't be written either.
@@ -275,7 +275,7 @@ impl Fault<'_> {
 
 /// What goes wrong with one connection of a port. The next one is served all the same. Its text is one line.
 #[derive(Debug, Drop, Error)]
-pub enum ConnectionFault {
+pub(crate) enum ConnectionFault {
     #[error("connection {connection}: {fault}")]
     Served { connection: u32, fault: ConnFault },
     #[error("connection {connection}: cut off after {seconds} seconds")]
@@ -299,7 +299,7 @@ impl From<AllocError> for ConnectionFault {
 
 impl ConnectionFault {
     /// Writes the text as a line.
-    pub fn tell<E: Write>(&self, errors: &mut E) {
+    pub(crate) fn tell<E: Write>(&self, errors: &mut E) {
         // Nothing is left to be done if this text can't be written.
         let _ = writeln!(errors, "intake: {self}");
     }

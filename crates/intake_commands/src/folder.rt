@@ -10,7 +10,7 @@ use thiserror::Error;
 
 /// Why a page was not written.
 #[derive(Debug, Drop, Error)]
-pub enum PageFault {
+pub(crate) enum PageFault {
     #[error("{path}: {error}")]
     File { path: String, error: io::Error },
     #[error("out of memory")]
@@ -24,7 +24,7 @@ impl From<AllocError> for PageFault {
 }
 
 /// A folder that knows why a page was not written.
-pub trait SiteFolder: Folder {
+pub(crate) trait SiteFolder: Folder {
     /// Hands out why the last page was not written, if it was not.
     fn take_fault(&mut self) -> PageFault
         ensures { Self.Folder.pages self.new ≡ Self.Folder.pages self.old };
@@ -33,7 +33,7 @@ pub trait SiteFolder: Folder {
 /// A folder of the file system. A page is written under another name first, so that no part of one is left under its
 /// own.
 #[derive(Drop)]
-pub struct SystemFolder<'r, 'a> {
+pub(crate) struct SystemFolder<'r, 'a> {
     rt: &'r HostRuntime,
     path: &'a str,
     fault: Option<PageFault>,
@@ -41,7 +41,7 @@ pub struct SystemFolder<'r, 'a> {
 
 impl<'r, 'a> SystemFolder<'r, 'a> {
     /// The folder with this path.
-    pub fn new(rt: &'r HostRuntime, path: &'a str) -> SystemFolder<'r, 'a> {
+    pub(crate) fn new(rt: &'r HostRuntime, path: &'a str) -> SystemFolder<'r, 'a> {
         SystemFolder {
             rt,
             path,

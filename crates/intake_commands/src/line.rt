@@ -8,11 +8,11 @@ use std::fmt::Write;
 /// The line of a connection in the log, a JSON object: its number, how it ended, the filers of the requests that were
 /// filed, how many requests and refusals there were, and the statuses of the replies.
 #[derive(Clone, Copy)]
-pub struct ConnectionLine<'a> {
-    pub connection: u32,
-    pub served: &'a Served,
-    pub completed: &'a [Completed],
-    pub statuses: &'a [u16],
+pub(crate) struct ConnectionLine<'a> {
+    pub(crate) connection: u32,
+    pub(crate) served: &'a Served,
+    pub(crate) completed: &'a [Completed],
+    pub(crate) statuses: &'a [u16],
 }
 
 fn write_ended<W: fmt::Write>(ended: Ended, f: &mut fmt::Formatter<W>) -> fmt::Result {

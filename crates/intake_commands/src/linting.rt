@@ -7,7 +7,7 @@ use report_tasks::{Form, LintFault, lint_reports};
 use std::io::Write;
 
 /// Prints a line for each finding of the reports of a filer in these files. The status says whether there is one.
-pub fn lint<'a, O: Write>(
+pub(crate) fn lint<'a, O: Write>(
     rt: &HostRuntime,
     form: Form,
     filer: &str,

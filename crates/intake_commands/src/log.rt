@@ -19,7 +19,7 @@ const MOST_NOTED: usize = 1_064_962;
 
 /// A reader whose first bytes are noted.
 #[derive(Drop)]
-pub struct Noted<R> {
+pub(crate) struct Noted<R> {
     inner: R,
     bytes: Vec<u8>,
 }
@@ -59,7 +59,7 @@ impl<R: Source> Source for Noted<R> {
 /// A writer of replies, whose statuses are noted. Each reply has to be given from its front, and after a part was taken
 /// the rest.
 #[derive(Drop)]
-pub struct Statuses<W> {
+pub(crate) struct Statuses<W> {
     inner: W,
     /// The statuses of the replies that were begun, without interim responses.
     statuses: Vec<u16>,
@@ -111,7 +111,7 @@ impl<W: Sink> Sink for Statuses<W> {
 
 /// A port whose connections have each a line on the output once they are over.
 #[derive(Drop)]
-pub struct Logged<P, O> {
+pub(crate) struct Logged<P, O> {
     alloc: Global,
     port: P,
     output: O,
@@ -121,7 +121,7 @@ pub struct Logged<P, O> {
 
 impl<P, O> Logged<P, O> {
     /// The port with its log on this output, in which nothing is written yet.
-    pub fn new(alloc: Global, port: P, output: O) -> Logged<P, O> {
+    pub(crate) fn new(alloc: Global, port: P, output: O) -> Logged<P, O> {
         Logged {
             alloc,
             port,

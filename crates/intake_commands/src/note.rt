@@ -14,7 +14,7 @@ const PAUSED: &str = "and until then a request gets 503 at once";
 
 /// What is reported of a register that is served, each as a line.
 #[derive(Clone, Copy)]
-pub enum Note {
+pub(crate) enum Note {
     /// Connections are taken.
     Ready {
         port: u16,
@@ -70,7 +70,7 @@ impl fmt::Display for Note {
 
 impl Note {
     /// Writes the text as a line.
-    pub fn tell<E: Write>(&self, errors: &mut E) {
+    pub(crate) fn tell<E: Write>(&self, errors: &mut E) {
         // Nothing is left to be done if this text can't be written.
         let _ = writeln!(errors, "intake: {self}");
     }

@@ -11,7 +11,7 @@ use report_tasks::Form;
 use std::alloc::{AllocError, Global};
 
 /// How many keys are kept at most, if the command line does not say so.
-pub const DEFAULT_LIMIT: u64 = 1_000_000;
+pub(crate) const DEFAULT_LIMIT: u64 = 1_000_000;
 
 const MOST_CONNECTIONS: i64 = (1 << 32) - 1;
 
@@ -20,32 +20,32 @@ const MOST_SECONDS: i64 = 86_400;
 
 /// What is served, and how.
 #[derive(Clone, Copy)]
-pub struct Serving<'a> {
-    pub database: &'a str,
-    pub port: u16,
+pub(crate) struct Serving<'a> {
+    pub(crate) database: &'a str,
+    pub(crate) port: u16,
     /// How many connections are served.
-    pub connections: u32,
+    pub(crate) connections: u32,
     /// How many keys are kept at most.
-    pub limit: u64,
+    pub(crate) limit: u64,
     /// How many seconds each connection may take; no limit if none is given.
-    pub patience: Option<u32>,
+    pub(crate) patience: Option<u32>,
     /// Whether the register is made, and not opened.
-    pub new: bool,
+    pub(crate) new: bool,
     /// Whether a line is printed for each connection.
-    pub log: bool,
+    pub(crate) log: bool,
 }
 
 /// What the command line asks for: a task, and how long it waits for its database.
 #[derive(Drop)]
-pub struct Asked<'a> {
-    pub task: Task<'a>,
+pub(crate) struct Asked<'a> {
+    pub(crate) task: Task<'a>,
     /// For how many seconds the task waits while another program has its database open.
-    pub wait: u32,
+    pub(crate) wait: u32,
 }
 
 /// A task of the program.
 #[derive(Drop)]
-pub enum Task<'a> {
+pub(crate) enum Task<'a> {
     /// Serve standard input on a register in memory.
     Run {
         limit: u64,
@@ -437,7 +437,7 @@ fn asked_by<'a>(alloc: Global, matches: &ArgMatches<'a>) -> Result<Option<Asked<
 
 /// What these words ask for. The first word is the program's name; if it is the only one, the task is `run`. `None` if
 /// the words ask for nothing.
-pub fn read<'a>(alloc: Global, words: &'a [String]) -> Result<Option<Asked<'a>>, Error> {
+pub(crate) fn read<'a>(alloc: Global, words: &'a [String]) -> Result<Option<Asked<'a>>, Error> {
     let matches = command(alloc)?.try_get_matches_from(words)?;
     Ok(asked_by(alloc, &matches)?)
 }

@@ -10,7 +10,7 @@ const LONGEST: u64 = 60;
 /// How long a register that failed is left alone before it is read again: not at all after the first failure, and after
 /// each one more twice as long as before, from a second to a minute.
 #[derive(Clone, Copy)]
-pub struct Pause {
+pub(crate) struct Pause {
     seconds: u64,
     /// `None` if the clock could not be read: then the pause is over.
     start: Option<Instant>,
@@ -18,7 +18,7 @@ pub struct Pause {
 
 impl Pause {
     /// The pause after a first failure.
-    pub fn none() -> Pause {
+    pub(crate) fn none() -> Pause {
         Pause {
             seconds: 0,
             start: None,
@@ -26,19 +26,19 @@ impl Pause {
     }
 
     /// The pause after one failure more, from now on.
-    pub fn longer<C: Clock>(self, clock: &C) -> Pause {
+    pub(crate) fn longer<C: Clock>(self, clock: &C) -> Pause {
         Pause {
             seconds: self.seconds.saturating_mul(2).max(FIRST).min(LONGEST),
             start: Instant::now(clock).ok(),
         }
     }
 
-    pub fn seconds(self) -> u64 {
+    pub(crate) fn seconds(self) -> u64 {
         self.seconds
     }
 
     /// Whether the pause is over.
-    pub fn is_over<C: Clock>(self, clock: &C) -> bool {
+    pub(crate) fn is_over<C: Clock>(self, clock: &C) -> bool {
         let Some(start) = self.start else {
             return true;
         };

@@ -13,7 +13,7 @@ use std::net::TcpStream;
 use std::time::Duration;
 
 /// A port of this machine that knows what failed of its connections.
-pub trait StreamPort: Port {
+pub(crate) trait StreamPort: Port {
     /// How many connections were taken.
     fn taken(&self) -> u32;
 
@@ -29,7 +29,7 @@ type Timed<'r> = Device<Patient<'r, TcpStream, HostRuntime>>;
 
 /// A port of 127.0.0.1 whose connections take no longer than their time.
 #[derive(Drop)]
-pub struct TimedPort<'r> {
+pub(crate) struct TimedPort<'r> {
     rt: &'r HostRuntime,
     number: u16,
     port: TcpPort<'r>,
@@ -44,7 +44,7 @@ pub struct TimedPort<'r> {
 
 impl<'r> TimedPort<'r> {
     /// The port of this number, which does not listen yet.
-    pub fn new(rt: &'r HostRuntime, number: u16, patience: Option<u32>) -> TimedPort<'r> {
+    pub(crate) fn new(rt: &'r HostRuntime, number: u16, patience: Option<u32>) -> TimedPort<'r> {
         TimedPort {
             rt,
             number,

@@ -9,13 +9,13 @@ const MANY: u64 = 10_000;
 
 /// Shows on standard error how far the check of many requests is, a hundred times at most, if that is a terminal.
 #[derive(Drop)]
-pub struct TerminalProgress<'a> {
+pub(crate) struct TerminalProgress<'a> {
     rt: &'a HostRuntime,
     has_told: bool,
 }
 
 impl<'a> TerminalProgress<'a> {
-    pub fn new(rt: &'a HostRuntime) -> TerminalProgress<'a> {
+    pub(crate) fn new(rt: &'a HostRuntime) -> TerminalProgress<'a> {
         TerminalProgress {
             rt,
             has_told: false,

@@ -14,7 +14,7 @@ use std::time::Instant;
 /// Reports what fails while a register serves the connections of a port, and that the register is full. It leaves a
 /// register alone for a while that failed again.
 #[derive(Drop)]
-pub struct Reporter<'r, 'a, 'o, E> {
+pub(crate) struct Reporter<'r, 'a, 'o, E> {
     rt: &'r HostRuntime,
     serving: Serving<'a>,
     errors: &'o mut E,
@@ -32,7 +32,7 @@ pub struct Reporter<'r, 'a, 'o, E> {
 
 impl<'r, 'a, 'o, E: Write> Reporter<'r, 'a, 'o, E> {
     /// A reporter on this standard error. The opening of the register begins now.
-    pub fn new(
+    pub(crate) fn new(
         rt: &'r HostRuntime,
         serving: Serving<'a>,
         errors: &'o mut E,
@@ -50,7 +50,7 @@ impl<'r, 'a, 'o, E: Write> Reporter<'r, 'a, 'o, E> {
     }
 
     /// Reports that all connections were served.
-    pub fn tell_served(&mut self) {
+    pub(crate) fn tell_served(&mut self) {
         let connections = self.serving.connections;
         Note::Served { connections }.tell(self.errors);
     }

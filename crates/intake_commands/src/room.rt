@@ -4,7 +4,7 @@ use gateway_server::Mark;
 
 /// How many keys a register may keep, how many it keeps at most, and whether it was found full.
 #[derive(Clone, Copy)]
-pub struct Room {
+pub(crate) struct Room {
     limit: u64,
     kept: u64,
     is_full: bool,
@@ -13,7 +13,7 @@ pub struct Room {
 
 impl Room {
     /// The room of a register that was opened with so many keys.
-    pub fn new(limit: u64, kept: u64) -> Room {
+    pub(crate) fn new(limit: u64, kept: u64) -> Room {
         Room {
             limit,
             kept,
@@ -24,7 +24,7 @@ impl Room {
 
     /// The room after the requests of a connection, which have these marks. The register is full if one was turned
     /// away, and the keys may be as many as the limit. Each request that was done may have brought a key.
-    pub fn after(self, marks: &[Mark]) -> Room {
+    pub(crate) fn after(self, marks: &[Mark]) -> Room {
         let done = marks.iter().filter(|mark| **mark == Mark::Done).count();
         let kept = self.kept.saturating_add(done as u64);
         let is_full = kept >= self.limit && marks.contains(&Mark::Unavailable);
@@ -36,7 +36,7 @@ impl Room {
     }
 
     /// The limit, if the register was found full and that was not answered before.
-    pub fn newly_full(&mut self) -> Option<u64> {
+    pub(crate) fn newly_full(&mut self) -> Option<u64> {
         if self.is_full && !self.is_told {
             self.is_told = true;
             return Some(self.limit);

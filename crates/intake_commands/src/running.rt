@@ -12,7 +12,7 @@ use intake_tasks::run;
 use std::alloc::Global;
 
 /// Serves one connection on a register in memory, which begins empty and keeps at most `limit` keys.
-pub fn run_once<'a, R: Source, W: Sink>(
+pub(crate) fn run_once<'a, R: Source, W: Sink>(
     alloc: Global,
     limit: u64,
     reader: &mut R,

@@ -21,7 +21,7 @@ use std::io::Write;
 
 /// Serves connections of this port by the register of this process. Standard error says when it is ready and when it
 /// ends.
-pub fn serve<'a, D: Disk + Drop, P: Place<D> + Drop, L: StreamPort, E: Write>(
+pub(crate) fn serve<'a, D: Disk + Drop, P: Place<D> + Drop, L: StreamPort, E: Write>(
     rt: &HostRuntime,
     serving: Serving<'a>,
     process: &mut IntakeProcess<D, P>,

@@ -25,7 +25,7 @@ use std::io::Write;
 /// Performs a task, and answers the status. The process is that of the register that the task is for, and closed; the
 /// port is the one that it serves, the folder the one that it writes pages into, and the reader and the writer are the
 /// connection that it runs. A fault's text goes to `errors`.
-pub fn perform_task<
+pub(crate) fn perform_task<
     D: Disk + Drop,
     P: Place<D> + Drop,
     L: StreamPort,

@@ -38,7 +38,7 @@ fn not_migrated(fault: OpenFault, holding: Holding) -> VisitFault
 }
 
 /// Why an errand to the register that lies in this place, in the file with this name, is not done.
-pub fn errand_fault<'a, D: Disk + Drop, P: Place<D>, F: SiteFolder>(
+pub(crate) fn errand_fault<'a, D: Disk + Drop, P: Place<D>, F: SiteFolder>(
     alloc: Global,
     place: &P,
     folder: &mut F,
@@ -62,7 +62,7 @@ pub fn errand_fault<'a, D: Disk + Drop, P: Place<D>, F: SiteFolder>(
 }
 
 /// Why the register that lies in this place, in the file with this name, was not opened.
-pub fn opening_fault<'a, D: Disk + Drop, P: Place<D>>(
+pub(crate) fn opening_fault<'a, D: Disk + Drop, P: Place<D>>(
     alloc: Global,
     place: &P,
     name: &'a str,

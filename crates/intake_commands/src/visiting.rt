@@ -21,7 +21,7 @@ use std::io::Write;
 /// Does an errand to the register of this process, which lies in the file with this name. What was done stays whether
 /// or not the files are then closed; if they are not, that is reported. If the errand judges the register, the output
 /// says what is wrong with it, too.
-pub fn visit<'a, D: Disk + Drop, P: Place<D> + Drop, F: SiteFolder, O: Write, E: Write>(
+pub(crate) fn visit<'a, D: Disk + Drop, P: Place<D> + Drop, F: SiteFolder, O: Write, E: Write>(
     rt: &HostRuntime,
     name: &'a str,
     errand: Errand<'_>,

@@ -12,7 +12,7 @@ use std::fmt;
 use std::io::{self, Write};
 
 /// How many bytes of a reply are noted to see why it settles nothing.
-pub const MOST_NOTED: usize = 8_192;
+pub(crate) const MOST_NOTED: usize = 8_192;
 
 /// How many interim responses are skipped.
 const MOST_INTERIM: usize = 8;
@@ -22,7 +22,7 @@ const MOST_SHOWN: usize = 200;
 
 /// A reader or a writer whose first bytes are noted.
 #[derive(Drop)]
-pub struct Noted<T> {
+pub(crate) struct Noted<T> {
     inner: T,
     /// How many are noted.
     most: usize,
@@ -31,7 +31,7 @@ pub struct Noted<T> {
 
 impl<T: Drop> Noted<T> {
     /// The reader or writer, of which nothing was read or written. So many bytes are noted.
-    pub fn new(alloc: Global, inner: T, most: usize) -> Noted<T> {
+    pub(crate) fn new(alloc: Global, inner: T, most: usize) -> Noted<T> {
         Noted {
             inner,
             most,
@@ -40,7 +40,7 @@ impl<T: Drop> Noted<T> {
     }
 
     /// The bytes that were noted.
-    pub fn into_bytes(self) -> Vec<u8> {
+    pub(crate) fn into_bytes(self) -> Vec<u8> {
         let Noted {
             inner: _,
             most: _,
@@ -189,7 +189,12 @@ fn status_of(block: &[u8]) -> &[u8] {
 }
 
 /// Says on the standard error what was answered for an entry that stays open.
-pub fn tell_open<E: Write>(alloc: Global, id: u64, noted: &[u8], errors: &mut E) -> io::Result<()> {
+pub(crate) fn tell_open<E: Write>(
+    alloc: Global,
+    id: u64,
+    noted: &[u8],
+    errors: &mut E,
+) -> io::Result<()> {
     let Some(answer) = Answer::of(noted) else {
         return writeln!(errors, "outbox: entry {id}: the reply does not settle it");
     };
@@ -204,7 +209,7 @@ pub fn tell_open<E: Write>(alloc: Global, id: u64, noted: &[u8], errors: &mut E)
 }
 
 /// Says on the standard error what to do with an entry that was refused.
-pub fn tell_refused<E: Write>(
+pub(crate) fn tell_refused<E: Write>(
     alloc: Global,
     id: u64,
     noted: &[u8],

@@ -22,7 +22,7 @@ use thiserror::Error;
 
 /// What went wrong in a visit to the outbox of a file.
 #[derive(Clone, Copy, Debug, Error)]
-pub enum VisitFault {
+pub(crate) enum VisitFault {
     /// An outbox is made only in a database without tables.
     #[error("{why}", why = taken(*.0))]
     Taken(Holding),
@@ -127,7 +127,7 @@ impl VisitFault {
     }
 
     /// Why a task was not done that visited the outbox of the file with this name.
-    pub fn at(self, name: &str) -> Fault<'_>
+    pub(crate) fn at(self, name: &str) -> Fault<'_>
         ensures { status_of result ≡ visit_status self }
     {
         Fault::Outbox { name, fault: self }
@@ -136,7 +136,7 @@ impl VisitFault {
     /// The status that the program ends with: 1 for a database that is no outbox or cannot become
     /// one, 2 for a filer, a key or a body that it does not take and for an entry that is open, 3
     /// for a fault of memory or the disk, 4 if an entry is missing.
-    pub fn status(self) -> u8
+    pub(crate) fn status(self) -> u8
         ensures { result ≡ visit_status self }
     {
         match self {
@@ -155,7 +155,7 @@ impl VisitFault {
 
 /// What went wrong in an exchange, in words.
 #[derive(Clone, Copy, Debug)]
-pub struct Cause(pub ExchangeFault);
+pub(crate) struct Cause(pub(crate) ExchangeFault);
 
 impl fmt::Display for Cause {
     fn fmt<W: fmt::Write>(&self, f: &mut fmt::Formatter<W>) -> fmt::Result {
@@ -173,7 +173,7 @@ impl fmt::Display for Cause {
 
 /// Why the receipt of a reply was not written.
 #[derive(Debug, Drop, Error)]
-pub enum NoReceipt {
+pub(crate) enum NoReceipt {
     /// No receipt can be made of what was noted.
     #[error("{0}")]
     Unmade(#[from] ReceiptFault),
@@ -187,7 +187,7 @@ pub enum NoReceipt {
 
 /// Why a task was not done. Its text is one line.
 #[derive(Debug, Drop, Error)]
-pub enum Fault<'a> {
+pub(crate) enum Fault<'a> {
     #[error("{0}")]
     Command(#[from] CommandFault<'a>),
     #[error("--key: {0}")]
@@ -239,7 +239,7 @@ impl From<LineFault> for Fault<'_> {
 }
 
 /// The verdict of a fault on a database that should be migrated, if it has one.
-pub fn verdict_on(fault: OpeningFault) -> Option<Verdict>
+pub(crate) fn verdict_on(fault: OpeningFault) -> Option<Verdict>
     ensures { result ≡ opening_verdict fault }
 {
     match fault {
@@ -266,7 +266,7 @@ fn verdict_on_outbox(fault: OutboxFault) -> Option<Verdict>
 
 impl<'a> Fault<'a> {
     /// Why the outbox of the file with this name was not opened.
-    pub fn of_opening(fault: OpeningFault, name: &'a str) -> Fault<'a>
+    pub(crate) fn of_opening(fault: OpeningFault, name: &'a str) -> Fault<'a>
         ensures { status_of result ≡ opening_status fault }
     {
         match fault {
@@ -283,7 +283,12 @@ impl<'a> Fault<'a> {
 
     /// Why a task was not done on the outbox of the file with this name, which sends to this port, if it sends. `late`
     /// is how many seconds of patience are over, if the last exchange failed by that.
-    pub fn of_task(fault: TaskFault, name: &'a str, port: u16, late: Option<u64>) -> Fault<'a>
+    pub(crate) fn of_task(
+        fault: TaskFault,
+        name: &'a str,
+        port: u16,
+        late: Option<u64>,
+    ) -> Fault<'a>
         ensures { status_of result ≡ task_status fault }
     {
         match fault {
@@ -326,7 +331,7 @@ impl Fault<'_> {
     /// The status that the program ends with: 1 for a database that is no outbox or cannot become
     /// one, 2 for the command line, 3 for a fault of memory, the disk or the network, 4 if an
     /// entry is missing.
-    pub fn status(&self) -> u8
+    pub(crate) fn status(&self) -> u8
         ensures { result ≡ status_of self.now }
     {
         match self {
@@ -346,7 +351,7 @@ impl Fault<'_> {
     }
 
     /// Writes the text as a line, and answers the status.
-    pub fn tell<E: Write>(&self, errors: &mut E) -> u8
+    pub(crate) fn tell<E: Write>(&self, errors: &mut E) -> u8
         ensures { result ≡ status_of self.now }
     {
         // Nothing is left to be done if this text can't be written either.

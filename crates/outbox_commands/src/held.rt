@@ -3,7 +3,7 @@
 use database_places::Holding;
 
 /// Why a database that holds this is no outbox of this version.
-pub fn unfit(held: Holding) -> &'static str {
+pub(crate) fn unfit(held: Holding) -> &'static str {
     match held {
         Holding::Nothing => "it has no tables (outbox init makes an outbox)",
         Holding::Outbox | Holding::EarlierOutbox => {
@@ -15,7 +15,7 @@ pub fn unfit(held: Holding) -> &'static str {
 }
 
 /// Why no outbox is made in a database that holds this.
-pub fn taken(held: Holding) -> &'static str {
+pub(crate) fn taken(held: Holding) -> &'static str {
     match held {
         Holding::Outbox | Holding::EarlierOutbox => "it is an outbox already",
         Holding::Register | Holding::EarlierRegister => "this is a register",

@@ -27,7 +27,7 @@ struct Exchanged {
 }
 
 /// A network on which one peer is called, and which reports why an entry is not confirmed.
-pub trait Network: Dial {
+pub(crate) trait Network: Dial {
     /// Reports why the last entry is not confirmed, if it isn't, and what to do. Its line is printed.
     fn tell(&mut self)
         ensures { Self.Dial.traffic self.new ≡ Self.Dial.traffic self.old };
@@ -42,7 +42,7 @@ pub trait Network: Dial {
 /// A port of this machine, to which a connection takes no longer than the patience with the peer. Once the line of an
 /// entry is printed, it reports on the standard error why the entry is not confirmed.
 #[derive(Drop)]
-pub struct PeerDial<'r, E> {
+pub(crate) struct PeerDial<'r, E> {
     rt: &'r HostRuntime,
     port: u16,
     patience: Option<u64>,
@@ -73,7 +73,7 @@ fn keep_receipt(
 
 impl<'r, E: Write + Drop> PeerDial<'r, E> {
     /// The port of this peer. Receipts of its replies are kept in this folder, if there is one.
-    pub fn new(
+    pub(crate) fn new(
         rt: &'r HostRuntime,
         peer: Peer<'_>,
         receipts: Option<Folder<'r, HostRuntime>>,
@@ -93,7 +93,7 @@ impl<'r, E: Write + Drop> PeerDial<'r, E> {
     }
 
     /// How many receipts could not be written.
-    pub fn lost_receipts(&self) -> u64 {
+    pub(crate) fn lost_receipts(&self) -> u64 {
         self.lost_receipts
     }
 

@@ -12,7 +12,7 @@ use std::alloc::{AllocError, Global};
 
 /// What the command line asks for.
 #[derive(Drop)]
-pub enum Asked<'a> {
+pub(crate) enum Asked<'a> {
     /// A task on the outbox of a file, which waits for so many seconds while another program has the file open.
     Outbox {
         task: Task<'a>,
@@ -28,7 +28,7 @@ pub enum Asked<'a> {
 
 /// What is done with an outbox.
 #[derive(Clone, Copy)]
-pub enum Task<'a> {
+pub(crate) enum Task<'a> {
     /// Make an outbox of this filer.
     Init {
         database: &'a str,
@@ -71,7 +71,7 @@ pub enum Task<'a> {
 
 impl<'a> Task<'a> {
     /// The name of the file that the outbox lies in.
-    pub fn database(&self) -> &'a str {
+    pub(crate) fn database(&self) -> &'a str {
         match *self {
             Task::Init { database, .. }
             | Task::Put { database, .. }
@@ -84,7 +84,7 @@ impl<'a> Task<'a> {
     }
 
     /// The intake to which the task sends; one that is never called if it sends nothing.
-    pub fn peer(&self) -> Peer<'a> {
+    pub(crate) fn peer(&self) -> Peer<'a> {
         match *self {
             Task::Send { peer, .. } | Task::Ask { peer, .. } => peer,
             _ => Peer {
@@ -98,13 +98,13 @@ impl<'a> Task<'a> {
 
 /// The intake to which entries are sent.
 #[derive(Clone, Copy)]
-pub struct Peer<'a> {
+pub(crate) struct Peer<'a> {
     /// Its port of 127.0.0.1.
-    pub port: u16,
+    pub(crate) port: u16,
     /// How many seconds an exchange with it may take, if there is a limit.
-    pub patience: Option<u64>,
+    pub(crate) patience: Option<u64>,
     /// The folder in which receipts of its replies are kept, if they are.
-    pub receipts: Option<&'a str>,
+    pub(crate) receipts: Option<&'a str>,
 }
 
 /// An option that may be missing, whose value is one of these numbers.
@@ -300,10 +300,14 @@ static WORDS: [Word<Argument>; 8] = [
     },
     Word {
         name: "ask",
-        about: "Sends a settled entry's request again, and prints the reply, with a line for each finding; changes nothing",
+        about: concat!(
+            "Sends a settled entry's request again, and prints the reply, ",
+            "with a line for each finding; changes nothing",
+        ),
         example: concat!(
             "Example: outbox ask --db outbox.db --entry 1 --port 8080\n\n",
-            "The register answers the same request as it did at first. An open entry is refused: outbox send sends it.\n",
+            "The register answers the same request as it did at first. ",
+            "An open entry is refused: outbox send sends it.\n",
             "Exit status: 0 the reply was read; 1 not an outbox, or a damaged one; 2 the entry is open; ",
             "3 the exchange failed, nobody listens, or memory or the disk failed; 4 no such entry",
         ),
@@ -327,7 +331,10 @@ static WORDS: [Word<Argument>; 8] = [
     },
     Word {
         name: "show",
-        about: "Prints a line for each entry, or for one: its state, its length, the filing that it replaces, and its key",
+        about: concat!(
+            "Prints a line for each entry, or for one: ",
+            "its state, its length, the filing that it replaces, and its key",
+        ),
         example: "Example: outbox show --db outbox.db --entry 1",
         arguments: &[
             Argument::Database,
@@ -363,7 +370,8 @@ fn command<'a>(alloc: Global) -> Result<Command<'a>, AllocError> {
         .after_help(concat!(
             "Exit status: 0 done;\n",
             "1 not an outbox, a damaged one, one that is there already, or a report with findings;\n",
-            "2 a wrong command line, a key that is in use, a report that is too large or a question about an open entry;\n",
+            "2 a wrong command line, a key that is in use, a report that is too large ",
+            "or a question about an open entry;\n",
             "3 memory, a file, the disk or the network failed; 4 no such entry",
         ))
         .subcommand_required(true)
@@ -467,7 +475,7 @@ fn asked_by<'a>(alloc: Global, matches: &ArgMatches<'a>) -> Result<Option<Asked<
 }
 
 /// What these words ask for. The first word is the program's name. `None` if they ask for nothing.
-pub fn read<'a>(alloc: Global, words: &'a [String]) -> Result<Option<Asked<'a>>, Error> {
+pub(crate) fn read<'a>(alloc: Global, words: &'a [String]) -> Result<Option<Asked<'a>>, Error> {
     let matches = command(alloc)?.try_get_matches_from(words)?;
     Ok(asked_by(alloc, &matches)?)
 }

@@ -162,7 +162,7 @@ fn show_migrated<'a, O: Write>(output: &mut O) -> Result<(), Fault<'a>>
 }
 
 /// Performs a task on the outbox of this process, which is closed. A network makes the connections that it needs.
-pub fn perform_task<'a, D: Disk + Drop, P: Place<D> + Drop, N: Network, O: Write, E: Write>(
+pub(crate) fn perform_task<'a, D: Disk + Drop, P: Place<D> + Drop, N: Network, O: Write, E: Write>(
     rt: &HostRuntime,
     process: &mut OutboxProcess<D, P>,
     network: &mut N,

@@ -16,7 +16,7 @@ const FOUND: u8 = 1;
 
 /// Prints a line for each finding of the report of this filer in the file of this name, and answers whether there is
 /// one.
-pub fn lint<'a, O: Write>(
+pub(crate) fn lint<'a, O: Write>(
     alloc: Global,
     form: Form,
     filer: &str,

@@ -8,18 +8,18 @@ use std::alloc::Global;
 
 /// What came of a script.
 #[derive(Drop)]
-pub struct Outcome {
+pub(crate) struct Outcome {
     /// The register, ascending by number.
-    pub filings: Vec<Registered>,
+    pub(crate) filings: Vec<Registered>,
     /// The lines that the program `drill` prints.
-    pub shown: Vec<u8>,
+    pub(crate) shown: Vec<u8>,
     /// What each delivery wrote.
-    pub written: Vec<Vec<u8>>,
+    pub(crate) written: Vec<Vec<u8>>,
 }
 
 impl Outcome {
     /// Whether the filings have these bodies, in the order of their numbers.
-    pub fn has_bodies(&self, bodies: &[&str]) -> bool {
+    pub(crate) fn has_bodies(&self, bodies: &[&str]) -> bool {
         self.filings.len() == bodies.len()
             && self
                 .filings
@@ -29,7 +29,7 @@ impl Outcome {
     }
 
     /// Whether the deliveries wrote these texts.
-    pub fn has_written(&self, texts: &[&str]) -> bool {
+    pub(crate) fn has_written(&self, texts: &[&str]) -> bool {
         self.written.len() == texts.len()
             && self
                 .written
@@ -40,7 +40,7 @@ impl Outcome {
 }
 
 /// Plays a script over databases in memory, starts each end that is down then, and answers what came of it.
-pub fn play(alloc: Global, script: &str) -> Result<Outcome, Fault> {
+pub(crate) fn play(alloc: Global, script: &str) -> Result<Outcome, Fault> {
     play_on::<Memory>(alloc, script)
 }
 
