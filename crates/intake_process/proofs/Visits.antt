@@ -12,7 +12,6 @@ use Rattle.table_rows.proofs.CleanLemmas.{always_clean, are_clean}
 use Rattle.table_rows.proofs.FileLemmas.{finds}
 use Rattle.table_rows.specs.Standing.{HasCommitted}
 use Rattle.filing_model.specs.Request.{Request}
-use Rattle.filing_model.specs.Register.{register}
 use Rattle.register_pages.specs.Pages.{WritesSite}
 use Rattle.register_tables.specs.Registers.{IsRegisterOf}
 use Rattle.register_store.specs.Files.{HoldRegister}
@@ -124,9 +123,9 @@ module _ {D : Type 0} {g : Ghosts D} where
     filled_by : (opened : Result (Held (FileStore D g)) DatabaseFault) (between : Option (Option (Files D)))
         → OpensPlace g true old between opened → GoesOn errand out out' between new opened visited
         → IsHonest g → (old_style : ℕ) (requests : List Request) → LiesFor g errand old old_style requests
-        → is_for_pages errand ≡ true → OnOk visited.done (WritesSite (register requests) out.pages out'.pages)
+        → is_for_pages errand ≡ true → OnOk visited.done (WritesSite requests out.pages out'.pages)
     filled_by (Err why) between opens goes honest old_style requests lies is =
-        subst (λ done. OnOk done (WritesSite (register requests) out.pages out'.pages)) (sym goes.0) tt
+        subst (λ done. OnOk done (WritesSite requests out.pages out'.pages)) (sym goes.0) tt
     filled_by (Ok conn) between opens goes honest old_style requests lies is =
         goes.2.filled (always_clean honest goes.0) old_style requests lies.0
         (found errand old between conn honest opens.comes old_style requests lies).0 is

@@ -150,6 +150,6 @@ pub record FillsFolder {S X : Type 0} (g : Ghosts S) (errand : Errand) (pages pa
     (old new : Held S) (result : Result X ErrandFault) : Type 0 where
   pub filled : HasCleanDisk (state g new) → (old_style : ℕ) (requests : List Request) → firsts requests ≡ requests
       → IsRegisterFor errand old_style requests (state g old).now
-      → is_for_pages errand ≡ true → OnOk result (WritesSite (register requests) pages pages')
+      → is_for_pages errand ≡ true → OnOk result (WritesSite requests pages pages')
   pub refused : is_refused result ≡ true → pages' ≡ pages
   pub others : is_for_pages errand ≡ false → pages' ≡ pages

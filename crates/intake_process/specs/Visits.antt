@@ -10,7 +10,6 @@ use Rattle.sqlite.specs.Files.{over_files}
 use Rattle.sqlite.specs.Held.{Held}
 use Rattle.table_rows.specs.Files.{HoldsDatabase, AreUsable}
 use Rattle.filing_model.specs.Request.{Request, firsts}
-use Rattle.filing_model.specs.Register.{register}
 use Rattle.register_pages.specs.Pages.{WritesSite}
 use Rattle.command_line.specs.declared.fault.DatabaseFault.{DatabaseFault}
 use Rattle.database_places.specs.Closing.{IsClosedIn, IsGivenUp, IsNotClosed}
@@ -89,7 +88,7 @@ pub record VisitsRegister {D : Type 0} {g : Ghosts D} (errand : Errand) (out out
       → Tells errand requests out.text out'.text visited.done
   pub filled : IsHonest g → (old_style : ℕ) (requests : List Request) → LiesFor g errand old.lying old_style requests
       → is_for_pages errand ≡ true
-      → OnOk visited.done (WritesSite (register requests) out.pages out'.pages)
+      → OnOk visited.done (WritesSite requests out.pages out'.pages)
   pub unfilled : is_for_pages errand ≡ false → out'.pages ≡ out.pages
   pub kept : IsHonest g → new.is_certain ≡ true → (old_style : ℕ) (requests : List Request)
       → LiesFor g errand old.lying old_style requests

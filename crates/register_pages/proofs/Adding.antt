@@ -2,8 +2,12 @@
 use Rattle.std.proofs.Common.{◌≡◌, ℕ, List, [], ◌∷◌, ◌++◌, append-nil, append_assoc, Option, Some, None, Result, Ok}
 use Rattle.std.proofs.Common.{Err, OnOk, sym, ap, subst, ◌∙◌}
 use Rattle.std.proofs.lemmas.List.{map-append}
-use Rattle.std.specs.Prelude.{codes, map}
-use Rattle.filing_model.specs.Register.{Filing}
+use Rattle.std.specs.Prelude.{◌↔◌, Contains, codes, map}
+use Rattle.std.specs.Ordering.{nat_cmp}
+use Rattle.std.specs.Cmp.Lexicographic.{slice_cmp}
+use Rattle.std.specs.List.Sorted.{IsStrictlySortedBy}
+use Rattle.filing_model.specs.Request.{Request}
+use Rattle.filing_model.specs.Register.{Filing, kept, register}
 use Rattle.register_pages.specs.Pages.{Adds, WritesSite, filer_page, filing_page, filing_pages, other_pages}
 
 pub adds_none : (old : Option (List (List ℕ))) → Adds old old []
@@ -33,12 +37,17 @@ filer_added old mid new shown code p q =
     (adds_then old mid new (map filer_page shown) (filer_page code ∷ []) p q)
 
 -- the pages of the filings are written, and then the others
-pub site_written : {X E : Type 0} (filings : List Filing) (old mid new : Option (List (List ℕ))) (r : Result X E)
-    → Adds old mid (filing_pages filings) → OnOk r ((shown : List (List ℕ)) × Adds mid new (other_pages shown))
-    → OnOk r (WritesSite filings old new)
-site_written filings old mid new (Ok x) p q =
-    (q.0, adds_then old mid new (filing_pages filings) (other_pages q.0) p q.1)
-site_written filings old mid new (Err e) p q = tt
+pub site_written : {X E : Type 0} (requests : List Request) (old mid new : Option (List (List ℕ)))
+    (filers : List (List ℕ)) (r : Result X E)
+    → ((filer : List ℕ) → Contains filers filer ↔ Contains (map (λ k. k.request.filer) (kept requests)) filer)
+    → Adds old mid (filing_pages (register requests)) → OnOk r (IsStrictlySortedBy (slice_cmp nat_cmp) filers)
+    → OnOk r (Adds mid new (other_pages filers)) → OnOk r (WritesSite requests old new)
+site_written requests old mid new filers (Ok x) each first ascend then = (
+  filers,
+  record { ascend = ascend; each = each },
+  adds_then old mid new (filing_pages (register requests)) (other_pages filers) first then,
+)
+site_written requests old mid new filers (Err e) each first ascend then = tt
 
 -- the pages of the filers are written, and then three more
 pub others_written : (a b c d e : Option (List (List ℕ))) (shown : List (List ℕ)) → Adds a b (map filer_page shown)

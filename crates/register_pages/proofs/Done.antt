@@ -1,19 +1,19 @@
 -- What the writing of pages did follows from what the reading of the register told, and from what each call after it
 -- did.
-use Rattle.std.proofs.Common.{◌≡◌, List, ℕ, Option, Ok, Err, length}
+use Rattle.std.proofs.Common.{List, ℕ, Option, Ok, Err, sym, ◌∙◌}
 use Rattle.sqlite.specs.Store.{Ghosts}
 use Rattle.sqlite.specs.Held.{Held, state}
 use Rattle.table_rows.specs.Leaving.{Leaves}
 use Rattle.table_rows.specs.Leaving.Ending.{Ended, Passed}
 use Rattle.table_rows.proofs.LeavingLemmas.{asked_before, clean_before}
-use Rattle.filing_model.specs.Register.{register}
-use Rattle.register_rows.specs.Catalogue.{catalogue_of, view_lines}
+use Rattle.register_rows.proofs.MoreRequests.{kept_length}
 use Rattle.register_tables.specs.declared.opening.Counts.{Counts}
 use Rattle.register_tables.specs.Opening.{ReadsRegister}
 use Rattle.register_store.specs.Store.{ForRegister}
 use Rattle.register_walk.proofs.Walks.{found_then, kept_then, nothing_then, opened}
 use Rattle.register_pages.specs.declared.fault.PagesFault.TheVariants as fault
 use Rattle.register_pages.specs.declared.fault.WritingFault.{WritingFault}
+use Rattle.register_pages.specs.Gathering.{AreCountsOf}
 use Rattle.register_pages.specs.Pages.{WritesSite}
 use Rattle.register_pages.specs.Site.{WritesPages}
 
@@ -21,14 +21,17 @@ module _ {S X : Type 0} (g : Ghosts S) (pages pages' : Option (List (List ℕ)))
     (read : ReadsRegister g old mid (Ok counts)) where
   -- all pages are written
   pub done : Leaves Passed (state g mid) (state g new)
-      → ForRegister g mid new (λ _ requests. view_lines counts.catalogue ≡ catalogue_of requests
-      → counts.filings ≡ length (register requests) → WritesSite (register requests) pages pages')
+      → ForRegister g mid new (λ _ requests. AreCountsOf requests counts → WritesSite requests pages pages')
       → (x : X) → WritesPages {S = S} {X = X} g pages pages' old new (Ok x)
   done leaves written x =
       let whole = asked_before (opened g old mid counts read) leaves in record {
         written = λ clean old_style requests rows. let it =
             read.only (clean_before leaves clean) old_style requests rows in
-            written clean old_style requests it.1 it.4 it.3;
+            written clean old_style requests it.1 (record {
+              kept_is = it.2 ∙ sym (kept_length requests rows.rows.distinct);
+              filings_is = it.3;
+              catalogue_is = it.4;
+            });
         found = found_then g old mid counts read new leaves;
         kept = kept_then g old mid counts read new leaves;
         refused = λ _. tt;

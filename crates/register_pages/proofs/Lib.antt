@@ -1,2 +1,5 @@
 pub mod Adding
+pub mod Codes
 pub mod Done
+pub mod Elements
+pub mod Senders

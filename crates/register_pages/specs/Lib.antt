@@ -1,2 +1,3 @@
+pub mod Gathering
 pub mod Pages
 pub mod Site

@@ -7,7 +7,6 @@ use Rattle.sqlite.specs.Held.{Held, state}
 use Rattle.sqlite.specs.State.{HasCleanDisk}
 use Rattle.table_rows.specs.Standing.{HasCommitted, CommitsNothing, StaysOnOk}
 use Rattle.filing_model.specs.Request.{Request}
-use Rattle.filing_model.specs.Register.{register}
 use Rattle.register_rows.specs.Schema.{IsDeclared}
 use Rattle.register_tables.specs.declared.fault.OpenFault.{OpenFault}
 use Rattle.register_tables.specs.Faults.{IsFailure}
@@ -33,7 +32,7 @@ pub record WritesPages {S X : Type 0} (g : Ghosts S) (pages pages' : Option (Lis
     (result : Result X PagesFault) : Type 0 where
   -- The rows stand for requests, and there is one such list at most.
   pub written : HasCleanDisk (state g new)
-      → OnOk result (ForRows g old (λ _ requests. WritesSite (register requests) pages pages'))
+      → OnOk result (ForRows g old (λ _ requests. WritesSite requests pages pages'))
   -- Unless it is refused, a database with the tables of a register is one, and what its rows stand for is still
   -- committed.
   pub found : HasCleanDisk (state g new) → IsDeclared (state g old).now.schema

@@ -6,8 +6,11 @@ use std::alloc::{AllocError, Global};
 use xbrl_report::Code;
 
 /// The caption and the first row of the table of codes.
-const HEAD: &str =
-    "<caption>Findings by code</caption>\n<thead><tr><th scope=\"col\">Code</th><th scope=\"col\" class=\"number\">Findings</th></tr></thead>\n";
+const HEAD: &str = "<caption>Findings by code</caption>\n\
+    <thead><tr>\
+    <th scope=\"col\">Code</th>\
+    <th scope=\"col\" class=\"number\">Findings</th>\
+    </tr></thead>\n";
 
 /// How wide the longest bar is, and how high a row of the chart.
 const WIDEST: u64 = 400;

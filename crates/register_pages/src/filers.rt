@@ -1,5 +1,8 @@
 //! The filers of a register, and the page of each.
 
+ghost use Rattle.std.specs.Prelude.{◌≡◌, ◌∷◌, [], OnOk};
+ghost use Rattle.register_pages.specs.Gathering.{HaveSame, codes_of};
+
 use crate::frame::{
     begin, begin_table, end, end_table, filer_link, filing_cell, number_cell, text_cell,
 };
@@ -9,8 +12,14 @@ use std::alloc::{AllocError, Global};
 use std::collections::BTreeMap;
 
 /// The caption and the first row of the table of a filer's filings.
-const HEAD: &str =
-    "<caption>Filings</caption>\n<thead><tr><th scope=\"col\" class=\"number\">Number</th><th scope=\"col\">Key</th><th scope=\"col\" class=\"number\">Facts</th><th scope=\"col\" class=\"number\">Replaces</th><th scope=\"col\" class=\"number\">Replaced by</th></tr></thead>\n";
+const HEAD: &str = "<caption>Filings</caption>\n\
+    <thead><tr>\
+    <th scope=\"col\" class=\"number\">Number</th>\
+    <th scope=\"col\">Key</th>\
+    <th scope=\"col\" class=\"number\">Facts</th>\
+    <th scope=\"col\" class=\"number\">Replaces</th>\
+    <th scope=\"col\" class=\"number\">Replaced by</th>\
+    </tr></thead>\n";
 
 /// What is shown of a filer: the rows of its filings, and counts.
 #[derive(Drop)]
@@ -86,14 +95,18 @@ pub(crate) struct Filers {
 
 impl Filers {
     /// There is no filer yet.
-    pub(crate) fn new(alloc: Global) -> Filers {
+    pub(crate) fn new(alloc: Global) -> Filers
+        ensures { codes_of result ≡ [] }
+    {
         Filers {
             list: BTreeMap::new(alloc),
         }
     }
 
     /// Takes out what is known of a filer.
-    fn take(&mut self, alloc: Global, filer: &str) -> Filer {
+    fn take(&mut self, alloc: Global, filer: &str) -> Filer
+        ensures { HaveSame (filer.now ∷ codes_of self.new) (filer.now ∷ codes_of self.old) }
+    {
         match self.list.remove(filer) {
             Some(known) => known,
             None => Filer::new(alloc),
@@ -101,7 +114,9 @@ impl Filers {
     }
 
     /// Puts it back.
-    fn put(&mut self, alloc: Global, filer: &str, known: Filer) -> Result<(), AllocError> {
+    fn put(&mut self, alloc: Global, filer: &str, known: Filer) -> Result<(), AllocError>
+        ensures { OnOk result (HaveSame (codes_of self.new) (filer.now ∷ codes_of self.old)) }
+    {
         let code = String::from_str(alloc, filer)?;
         drop(self.list.insert(code, known)?);
         Ok(())
@@ -112,7 +127,9 @@ impl Filers {
         &mut self,
         alloc: Global,
         filing: &WholeFiling,
-    ) -> Result<(), AllocError> {
+    ) -> Result<(), AllocError>
+        ensures { OnOk result (HaveSame (codes_of self.new) (filing.now.filer ∷ codes_of self.old)) }
+    {
         let filer = filing.filer.as_str();
         let mut known = self.take(alloc, filer);
         known.add(alloc, filing)?;
@@ -120,7 +137,9 @@ impl Filers {
     }
 
     /// A report of a filer was refused.
-    pub(crate) fn add_refused(&mut self, alloc: Global, filer: &str) -> Result<(), AllocError> {
+    pub(crate) fn add_refused(&mut self, alloc: Global, filer: &str) -> Result<(), AllocError>
+        ensures { OnOk result (HaveSame (codes_of self.new) (filer.now ∷ codes_of self.old)) }
+    {
         let mut known = self.take(alloc, filer);
         known.refused = known.refused.saturating_add(1);
         self.put(alloc, filer, known)

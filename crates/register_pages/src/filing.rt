@@ -9,8 +9,17 @@ use std::alloc::{AllocError, Global};
 use xbrl_report::Fact;
 
 /// The caption and the first row of the table of facts.
-const HEAD: &str =
-    "<caption>Facts</caption>\n<thead><tr><th scope=\"col\">Fact</th><th scope=\"col\">Concept</th><th scope=\"col\">Period</th><th scope=\"col\">Unit</th><th scope=\"col\">Entity</th><th scope=\"col\">Value</th><th scope=\"col\">Decimals</th><th scope=\"col\">Other dimensions</th></tr></thead>\n";
+const HEAD: &str = "<caption>Facts</caption>\n\
+    <thead><tr>\
+    <th scope=\"col\">Fact</th>\
+    <th scope=\"col\">Concept</th>\
+    <th scope=\"col\">Period</th>\
+    <th scope=\"col\">Unit</th>\
+    <th scope=\"col\">Entity</th>\
+    <th scope=\"col\">Value</th>\
+    <th scope=\"col\">Decimals</th>\
+    <th scope=\"col\">Other dimensions</th>\
+    </tr></thead>\n";
 
 /// The page of a filing: what it is, and its facts.
 pub(crate) fn filing_page(alloc: Global, filing: &WholeFiling) -> Result<Markup, AllocError> {

@@ -4,20 +4,78 @@ use markup::Markup;
 use std::alloc::{AllocError, Global};
 
 /// What a page has before its title. It loads nothing from elsewhere.
-const BEFORE_TITLE: &str =
-    "<!DOCTYPE html>\n<html lang=\"en\">\n<head>\n<meta charset=\"utf-8\">\n<meta name=\"viewport\" content=\"width=device-width, initial-scale=1\">\n<meta http-equiv=\"Content-Security-Policy\" content=\"default-src 'none'; style-src 'unsafe-inline'; script-src 'unsafe-inline'; img-src data:; base-uri 'none'; form-action 'none'\">\n<link rel=\"icon\" href=\"data:,\">\n<title>";
+const BEFORE_TITLE: &str = "<!DOCTYPE html>\n\
+    <html lang=\"en\">\n\
+    <head>\n\
+    <meta charset=\"utf-8\">\n\
+    <meta name=\"viewport\" content=\"width=device-width, initial-scale=1\">\n\
+    <meta http-equiv=\"Content-Security-Policy\" content=\"default-src 'none'; style-src 'unsafe-inline'; \
+    script-src 'unsafe-inline'; img-src data:; base-uri 'none'; form-action 'none'\">\n\
+    <link rel=\"icon\" href=\"data:,\">\n\
+    <title>";
 
 /// What a page has between its title and its heading.
-const AFTER_TITLE: &str =
-    "</title>\n<style>\n:root { color-scheme: light dark; --line: #8888; --link: #0645ad; --bar: #3a6ea5; }\n@media (prefers-color-scheme: dark) { :root { --link: #8ab4f8; --bar: #7fa8d9; } }\nbody { font-family: system-ui, sans-serif; line-height: 1.5; margin: 0 auto; max-width: 80rem; padding: 0 1rem 3rem; }\na { color: var(--link); }\n:focus-visible { outline: 3px solid var(--link); outline-offset: 2px; }\n.skip { position: absolute; left: -100rem; }\n.skip:focus { position: static; }\nnav { border-bottom: 1px solid var(--line); padding: .75rem 0; }\nnav a { margin-right: 1rem; }\n.scroll { overflow-x: auto; }\ntable { border-collapse: collapse; width: 100%; }\ncaption { text-align: left; padding: .5rem 0; }\nth, td { border-bottom: 1px solid var(--line); max-width: 30rem; overflow-wrap: break-word; padding: .25rem .75rem .25rem 0; text-align: left; unicode-bidi: isolate; vertical-align: top; white-space: pre-wrap; }\nh1, dd { overflow-wrap: anywhere; unicode-bidi: isolate; white-space: pre-wrap; }\n.number { text-align: right; white-space: nowrap; }\ninput { font: inherit; max-width: 100%; padding: .25rem; width: 24rem; }\nsvg { height: auto; max-width: 100%; }\nsvg text { fill: currentColor; font: 14px system-ui, sans-serif; }\nsvg rect { fill: var(--bar); }\n</style>\n</head>\n<body>\n<a class=\"skip\" href=\"#main\">Skip to the content</a>\n<nav aria-label=\"Pages\"><a href=\"index.html\">Filers</a> <a href=\"refused.html\">Refused reports</a> <a href=\"findings.html\">Findings</a></nav>\n<main id=\"main\">\n<h1>";
+const AFTER_TITLE: &str = "</title>\n\
+    <style>\n\
+    :root { color-scheme: light dark; --line: #8888; --link: #0645ad; --bar: #3a6ea5; }\n\
+    @media (prefers-color-scheme: dark) { :root { --link: #8ab4f8; --bar: #7fa8d9; } }\n\
+    body { font-family: system-ui, sans-serif; line-height: 1.5; margin: 0 auto; max-width: 80rem; \
+    padding: 0 1rem 3rem; }\n\
+    a { color: var(--link); }\n\
+    :focus-visible { outline: 3px solid var(--link); outline-offset: 2px; }\n\
+    .skip { position: absolute; left: -100rem; }\n\
+    .skip:focus { position: static; }\n\
+    nav { border-bottom: 1px solid var(--line); padding: .75rem 0; }\n\
+    nav a { margin-right: 1rem; }\n\
+    .scroll { overflow-x: auto; }\n\
+    table { border-collapse: collapse; width: 100%; }\n\
+    caption { text-align: left; padding: .5rem 0; }\n\
+    th, td { border-bottom: 1px solid var(--line); max-width: 30rem; overflow-wrap: break-word; \
+    padding: .25rem .75rem .25rem 0; text-align: left; unicode-bidi: isolate; vertical-align: top; \
+    white-space: pre-wrap; }\n\
+    h1, dd { overflow-wrap: anywhere; unicode-bidi: isolate; white-space: pre-wrap; }\n\
+    .number { text-align: right; white-space: nowrap; }\n\
+    input { font: inherit; max-width: 100%; padding: .25rem; width: 24rem; }\n\
+    svg { height: auto; max-width: 100%; }\n\
+    svg text { fill: currentColor; font: 14px system-ui, sans-serif; }\n\
+    svg rect { fill: var(--bar); }\n\
+    </style>\n\
+    </head>\n\
+    <body>\n\
+    <a class=\"skip\" href=\"#main\">Skip to the content</a>\n\
+    <nav aria-label=\"Pages\"><a href=\"index.html\">Filers</a> <a href=\"refused.html\">Refused reports</a> \
+    <a href=\"findings.html\">Findings</a></nav>\n\
+    <main id=\"main\">\n\
+    <h1>";
 
 /// The search box. It is shown if the page's script runs.
-const SEARCH: &str =
-    "<p id=\"search-box\" hidden><label for=\"search\">Search this table</label> <input id=\"search\" type=\"search\" autocomplete=\"off\"> <span id=\"found\" role=\"status\"></span></p>\n";
+const SEARCH: &str = "<p id=\"search-box\" hidden><label for=\"search\">Search this table</label> \
+    <input id=\"search\" type=\"search\" autocomplete=\"off\"> <span id=\"found\" role=\"status\"></span></p>\n";
 
 /// The end of a page, with the script of the search box: a row is shown if it has each of the words.
-const END: &str =
-    "</main>\n<script>\n(function () {\n  \"use strict\";\n  var box = document.getElementById(\"search\");\n  if (!box) { return; }\n  document.getElementById(\"search-box\").hidden = false;\n  var found = document.getElementById(\"found\");\n  var rows = Array.prototype.slice.call(document.querySelectorAll(\"tbody tr\"));\n  box.addEventListener(\"input\", function () {\n    var words = box.value.toLowerCase().split(/\\s+/).filter(Boolean);\n    var shown = 0;\n    rows.forEach(function (row) {\n      var text = row.textContent.toLowerCase();\n      row.hidden = !words.every(function (word) { return text.includes(word); });\n      if (!row.hidden) { shown += 1; }\n    });\n    found.textContent = words.length ? shown + \" of \" + rows.length : \"\";\n  });\n})();\n</script>\n</body>\n</html>\n";
+const END: &str = "</main>\n\
+    <script>\n\
+    (function () {\n  \
+      \"use strict\";\n  \
+      var box = document.getElementById(\"search\");\n  \
+      if (!box) { return; }\n  \
+      document.getElementById(\"search-box\").hidden = false;\n  \
+      var found = document.getElementById(\"found\");\n  \
+      var rows = Array.prototype.slice.call(document.querySelectorAll(\"tbody tr\"));\n  \
+      box.addEventListener(\"input\", function () {\n    \
+        var words = box.value.toLowerCase().split(/\\s+/).filter(Boolean);\n    \
+        var shown = 0;\n    \
+        rows.forEach(function (row) {\n      \
+          var text = row.textContent.toLowerCase();\n      \
+          row.hidden = !words.every(function (word) { return text.includes(word); });\n      \
+          if (!row.hidden) { shown += 1; }\n    \
+        });\n    \
+        found.textContent = words.length ? shown + \" of \" + rows.length : \"\";\n  \
+      });\n\
+    })();\n\
+    </script>\n\
+    </body>\n\
+    </html>\n";
 
 /// A page that is begun: its head, and its heading, which is its title too.
 pub(crate) fn begin(alloc: Global, title: &str) -> Result<Markup, AllocError> {

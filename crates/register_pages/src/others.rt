@@ -1,6 +1,10 @@
 //! The pages that are written once all requests were read.
 
-ghost use Rattle.std.specs.Prelude.{ℕ, List, map, OnOk};
+ghost use Rattle.std.specs.Prelude.{map, OnOk};
+ghost use Rattle.std.specs.Ordering.{nat_cmp};
+ghost use Rattle.std.specs.Cmp.Lexicographic.{slice_cmp};
+ghost use Rattle.std.specs.List.Sorted.{IsStrictlySortedBy};
+ghost use Rattle.register_pages.specs.Gathering.{codes_of};
 ghost use Rattle.register_pages.specs.Pages.{Adds, filer_page, other_pages};
 
 use crate::chart::findings_page;
@@ -13,8 +17,13 @@ use markup::Markup;
 use std::alloc::{AllocError, Global};
 
 /// The caption and the first row of the table of filers.
-const HEAD: &str =
-    "<caption>Filers</caption>\n<thead><tr><th scope=\"col\">Filer</th><th scope=\"col\" class=\"number\">Filings</th><th scope=\"col\" class=\"number\">Not replaced</th><th scope=\"col\" class=\"number\">Refused reports</th></tr></thead>\n";
+const HEAD: &str = "<caption>Filers</caption>\n\
+    <thead><tr>\
+    <th scope=\"col\">Filer</th>\
+    <th scope=\"col\" class=\"number\">Filings</th>\
+    <th scope=\"col\" class=\"number\">Not replaced</th>\
+    <th scope=\"col\" class=\"number\">Refused reports</th>\
+    </tr></thead>\n";
 
 /// The page of all filers.
 fn index_page(
@@ -44,8 +53,9 @@ fn write_filers<F: Folder>(
     filers: &Filers,
     folder: &mut F,
 ) -> Result<(), WritingFault>
-    ensures { OnOk result ((codes : List (List ℕ))
-        × Adds (F.pages folder.old) (F.pages folder.new) (map filer_page codes)) }
+    ensures ascend { OnOk result (IsStrictlySortedBy (slice_cmp nat_cmp) (codes_of filers.now)) }
+    ensures written { OnOk result
+        (Adds (F.pages folder.old) (F.pages folder.new) (map filer_page (codes_of filers.now))) }
 {
     for (code, filer) in filers.list.iter() {
         let name = format!(in alloc; "filer-{code}.html")?;
@@ -63,8 +73,9 @@ pub(crate) fn write_others<F: Folder>(
     refused: &Refused,
     folder: &mut F,
 ) -> Result<(), WritingFault>
-    ensures { OnOk result ((codes : List (List ℕ))
-        × Adds (F.pages folder.old) (F.pages folder.new) (other_pages codes)) }
+    ensures ascend { OnOk result (IsStrictlySortedBy (slice_cmp nat_cmp) (codes_of filers.now)) }
+    ensures written { OnOk result
+        (Adds (F.pages folder.old) (F.pages folder.new) (other_pages (codes_of filers.now))) }
 {
     write_filers(alloc, filers, folder)?;
     folder.write("refused.html", &refused.page(alloc)?)?;

@@ -9,7 +9,13 @@ use xbrl_report::Finding;
 
 /// The caption and the first row of the table of refused reports.
 const HEAD: &str =
-    "<caption>Refused reports, with the line and the column of each finding</caption>\n<thead><tr><th scope=\"col\">Filer</th><th scope=\"col\">Key</th><th scope=\"col\" class=\"number\">Sent to replace</th><th scope=\"col\">Findings</th></tr></thead>\n";
+    "<caption>Refused reports, with the line and the column of each finding</caption>\n\
+    <thead><tr>\
+    <th scope=\"col\">Filer</th>\
+    <th scope=\"col\">Key</th>\
+    <th scope=\"col\" class=\"number\">Sent to replace</th>\
+    <th scope=\"col\">Findings</th>\
+    </tr></thead>\n";
 
 /// The refused reports, and how often each code was found.
 #[derive(Drop)]

@@ -1,12 +1,15 @@
 //! The pages of a register.
 
-ghost use Rattle.std.specs.Prelude.{◌≡◌, ◌∷◌, [], length, Some, OnOk};
-ghost use Rattle.filing_model.specs.Register.{Filing, register};
+ghost use Rattle.std.specs.Prelude.{◌≡◌, ◌∷◌, [], ◌++◌, ◌==◌, Some, OnOk, false};
+ghost use Rattle.std.specs.Option.{option_map_or};
+ghost use Rattle.filing_model.specs.Register.{Filing, Kept, kept, register};
 ghost use Rattle.table_rows.specs.Leaving.{MayRead};
 ghost use Rattle.table_rows.specs.Standing.{IsAtRest};
-ghost use Rattle.register_rows.specs.Catalogue.{catalogue_of, view_lines};
+ghost use Rattle.register_rows.specs.Catalogue.{catalogue_of, entry_numbered, view_lines};
+ghost use Rattle.register_store.specs.Found.{IsPlaced};
 ghost use Rattle.register_store.specs.Numbered.{filing_numbered};
 ghost use Rattle.register_store.specs.Store.{ForRegister};
+ghost use Rattle.register_pages.specs.Gathering.{AreCountsOf, HaveSame, codes_of, filers_of, senders_of};
 ghost use Rattle.register_pages.specs.Pages.{Adds, WritesSite, filing_page, filing_pages};
 ghost use Rattle.register_pages.specs.Site.{WritesPages};
 
@@ -47,8 +50,8 @@ fn write_all<S: Alter, F: Folder>(
     folder: &mut F,
 ) -> Result<(), WritingFault>
     ensures written { ForRegister S.Store conn.old conn.new (λ _ requests.
-        view_lines counts.now.catalogue ≡ catalogue_of requests → counts.now.filings ≡ length (register requests)
-        → OnOk result (WritesSite (register requests) (F.pages folder.old) (F.pages folder.new))) }
+        AreCountsOf requests counts.now
+        → OnOk result (WritesSite requests (F.pages folder.old) (F.pages folder.new))) }
     ensures leaves { MayRead S.Store conn.old conn.new result }
 {
     let mut filers = Filers::new(alloc);
@@ -67,8 +70,9 @@ fn write_filings<S: Alter, F: Folder>(
     filers: &mut Filers,
 ) -> Result<(), WritingFault>
     ensures written { ForRegister S.Store conn.old conn.new (λ _ requests.
-        view_lines counts.now.catalogue ≡ catalogue_of requests → counts.now.filings ≡ length (register requests)
-        → OnOk result (Adds (F.pages folder.old) (F.pages folder.new) (filing_pages (register requests)))) }
+        AreCountsOf requests counts.now
+        → OnOk result (Adds (F.pages folder.old) (F.pages folder.new) (filing_pages (register requests))
+        × HaveSame (codes_of filers.new) (codes_of filers.old ++ filers_of (register requests)))) }
     ensures leaves { MayRead S.Store conn.old conn.new result }
 {
     for at in 0..counts.filings {
@@ -89,7 +93,8 @@ fn write_numbered<S: Alter, F: Folder>(
     ensures written { ForRegister S.Store conn.old conn.new (λ _ requests.
         (f : Filing) → view_lines catalogue.now ≡ catalogue_of requests
         → filing_numbered number (register requests) ≡ Some f
-        → OnOk result (Adds (F.pages folder.old) (F.pages folder.new) (filing_page f.number ∷ []))) }
+        → OnOk result (Adds (F.pages folder.old) (F.pages folder.new) (filing_page f.number ∷ [])
+        × HaveSame (codes_of filers.new) (f.request.filer ∷ codes_of filers.old))) }
     ensures leaves { MayRead S.Store conn.old conn.new result }
 {
     match filing_at(alloc, conn, catalogue, number)? {
@@ -105,7 +110,8 @@ fn write_filing<F: Folder>(
     folder: &mut F,
     filers: &mut Filers,
 ) -> Result<(), WritingFault>
-    ensures { OnOk result (Adds (F.pages folder.old) (F.pages folder.new) (filing_page filing.now.number ∷ [])) }
+    ensures { OnOk result (Adds (F.pages folder.old) (F.pages folder.new) (filing_page filing.now.number ∷ [])
+        × HaveSame (codes_of filers.new) (filing.now.filer ∷ codes_of filers.old)) }
 {
     let number = filing.number;
     let name = format!(in alloc; "filing-{number}.html")?;
@@ -115,7 +121,10 @@ fn write_filing<F: Folder>(
 }
 
 /// Whether the kept request at this place is the filing with this number.
-fn is_filing(catalogue: &Catalogue, number: u64, place: u64) -> bool {
+fn is_filing(catalogue: &Catalogue, number: u64, place: u64) -> bool
+    ensures { result
+        ≡ option_map_or (λ line. line.seq == place) (entry_numbered (view_lines catalogue.now) number) false }
+{
     match catalogue.line(number) {
         Some(line) => line.seq() == place,
         None => false,
@@ -132,7 +141,7 @@ fn target_at<'a>(rows: &'a [Row], place: u64) -> (Option<u64>, &'a [Row]) {
     }
 }
 
-/// Reads the refused reports.
+/// Reads the refused reports, once the filers of the filings are known.
 fn gather_refused<S: Alter>(
     alloc: Global,
     conn: &mut Connection<S>,
@@ -140,7 +149,10 @@ fn gather_refused<S: Alter>(
     filers: &mut Filers,
     refused: &mut Refused,
 ) -> Result<(), WritingFault>
-    ensures { MayRead S.Store conn.old conn.new result }
+    ensures gathered { ForRegister S.Store conn.old conn.new (λ _ requests.
+        AreCountsOf requests counts.now → HaveSame (codes_of filers.old) (filers_of (register requests))
+        → OnOk result (HaveSame (codes_of filers.new) (senders_of (kept requests)))) }
+    ensures leaves { MayRead S.Store conn.old conn.new result }
 {
     let amends = targets(conn)?;
     let mut rest = amends.as_slice();
@@ -167,7 +179,10 @@ fn gather<S: Alter>(
     filers: &mut Filers,
     refused: &mut Refused,
 ) -> Result<(), WritingFault>
-    ensures { MayRead S.Store conn.old conn.new result }
+    ensures gathered { ForRegister S.Store conn.old conn.new (λ _ requests.
+        (k : Kept) → IsPlaced 1 place (kept requests) k
+        → OnOk result (HaveSame (codes_of filers.new) (k.request.filer ∷ codes_of filers.old))) }
+    ensures leaves { MayRead S.Store conn.old conn.new result }
 {
     let sent = sent_at(conn, place)?;
     let findings = findings_at(alloc, conn, place)?;

@@ -1,23 +1,27 @@
-use Rattle.std.proofs.Common.{◌≡◌, ◌+◌, ◌<◌, length, subst, arith}
+use Rattle.std.proofs.Common.{◌≡◌, ◌+◌, ◌<◌, List, ◌++◌, append-nil, length, sym, subst, arith}
 use Rattle.std.proofs.lemmas.List.{take_all}
 use Rattle.sqlite.specs.Held.{state}
 use Rattle.sqlite.specs.State.{HasCleanDisk}
-use Rattle.filing_model.specs.Register.{register}
+use Rattle.filing_model.specs.Register.{Filing, register}
 use Rattle.filing_model.proofs.Keeping.{register_numbered}
 use Rattle.register_tables.proofs.Calls.{refuses}
 use Rattle.register_walk.proofs.Steps.{next_filing}
 use Rattle.table_rows.proofs.LeavingLemmas.{clean_before, none_yet, passed_then, stands}
 use Rattle.table_rows.specs.Leaving.Ending.{Passed}
+use Rattle.register_pages.specs.Gathering.{HaveSame, codes_of, filers_of}
 use Rattle.register_pages.specs.Pages.{Adds, filing_pages}
 use Rattle.register_pages.proofs.Adding.{adds_none, filing_added}
+use Rattle.register_pages.proofs.Elements.{gathered, same_itself}
 use Rattle.register_pages.proofs.site.write_filings.Goals as goal
 
 pub loop-at-init : goal.loop-at-init
 loop-at-init g c =
     record {
       leaves = none_yet (state g.S.Store c.args.conn.now);
-      written =
-          λ clean old_style requests was is count. adds_none (g.F.Folder.pages c.args.folder.now);
+      written = λ clean old_style requests was are. (
+        adds_none (g.F.Folder.pages c.args.folder.now),
+        subst (HaveSame (codes_of c.args.filers.now)) (sym (append-nil (codes_of c.args.filers.now))) same_itself,
+      );
     }
 
 pub loop-at-preserved : goal.loop-at-preserved
@@ -25,22 +29,29 @@ loop-at-preserved g c =
     let had = c.loop-at.invariant in
     let more = c.in_ok-write_numbered.ensures in record {
       leaves = passed_then had.leaves more.leaves;
-      written = λ clean old_style requests was is count.
+      written = λ clean old_style requests was are.
           let before : HasCleanDisk (state g.S.Store c.loop-at.conn) = clean_before more.leaves clean in
-          let low : c.loop-at.at < length (register requests) = omega (arith, c.loop-at-test.true, count) in
+          let low : c.loop-at.at < length (register requests) = omega (arith, c.loop-at-test.true, are.filings_is) in
           let next = next_filing 1 c.loop-at.at (register requests) (register_numbered requests) low in
           let number : 1 + c.loop-at.at ≡ c.loop-at.at + 1 = omega arith in
-          filing_added _ _ _ _ _ next.0 next.2 (had.written before old_style requests was is count)
-          (more.written clean old_style requests (stands had.leaves before was) next.0 is (rw number at next.1));
+          let first = had.written before old_style requests was are in
+          let then =
+          more.written clean old_style requests (stands had.leaves before was) next.0 are.catalogue_is
+          (rw number at next.1) in (
+            filing_added _ _ _ _ _ next.0 next.2 first.0 then.0,
+            gathered (λ (f : Filing). f.request.filer) (codes_of c.args.filers.now) _ _ next.0 next.2 first.1 then.1,
+          );
     }
 
 pub returns : goal.returns
 returns g c =
     let had = c.loop-at.invariant in record {
-      written = λ clean old_style requests was is count.
-          subst (λ fs. Adds (g.F.Folder.pages c.args.folder.now) (g.F.Folder.pages c.loop-at.folder) (filing_pages fs))
-          (take_all c.loop-at.at (register requests) (omega (arith, c.loop-at-test.false, count)))
-          (had.written clean old_style requests was is count);
+      written = λ clean old_style requests was are.
+          subst (λ (fs : List Filing).
+          Adds (g.F.Folder.pages c.args.folder.now) (g.F.Folder.pages c.loop-at.folder) (filing_pages fs)
+          × HaveSame (codes_of c.loop-at.filers) (codes_of c.args.filers.now ++ filers_of fs))
+          (take_all c.loop-at.at (register requests) (omega (arith, c.loop-at-test.false, are.filings_is)))
+          (had.written clean old_style requests was are);
       leaves = had.leaves;
     }
 
