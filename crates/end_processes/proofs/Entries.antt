@@ -16,7 +16,7 @@ use Rattle.outbox_tables.specs.Entries.{numbered_from, numbered as with_ids}
 use Rattle.outbox_core.specs.Entries.{has_text, opened}
 use Rattle.outbox_core.specs.Reading.{view_pair, id_and_state}
 use Rattle.end_processes.specs.Listed.{listed}
-use Rattle.end_processes.specs.Outboxes.{up_with}
+use Rattle.end_processes.specs.Outboxes.{after_answer, up_with}
 
 -- ---- whether an entry is taken
 
@@ -67,6 +67,11 @@ short_enough false size most able short = ⊎_elim
     (cases_Bool (nat_le size most))
 
 -- ---- the states of all entries
+
+-- a call that only reads leaves what was there, whether it is refused or not
+pub after_same : {A E X : Type 0} (answer : Result A E) (old : X) → after_answer answer old (λ _. old) ≡ old
+after_same (Ok a) old = refl
+after_same (Err e) old = refl
 
 -- what an outbox tells of its entries is what the world tells of them
 pub states_told : (outbox id : ℕ) (states : List (ℕ × Stored)) (entries : List Entry)

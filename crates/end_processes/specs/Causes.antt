@@ -1,9 +1,7 @@
 -- The causes by which an end reports the refusals below it. Lack of memory is reported as `Memory`, and nothing else
 -- is.
 use Rattle.sqlite.specs.declared.error.Error.{Error}
-use Rattle.table_rows.specs.declared.cause.Cause.{Cause as Refusal}
-use Rattle.table_rows.specs.declared.cause.Cause.TheVariants as refusal
-use Rattle.table_rows.specs.Causes.{cause_of, store_fault}
+use Rattle.table_rows.specs.Causes.{store_fault}
 use Rattle.table_rows.specs.declared.fault.StoreFault.{StoreFault}
 use Rattle.table_rows.specs.declared.fault.StoreFault.TheVariants as store
 use Rattle.register_tables.specs.declared.fault.OpenFault.{OpenFault}
@@ -16,24 +14,17 @@ use Rattle.register_tables.specs.declared.fault.CreateFault.{CreateFault}
 use Rattle.register_tables.specs.declared.fault.CreateFault.TheVariants as making
 use Rattle.intake_process.specs.declared.fault.OpeningFault.{OpeningFault}
 use Rattle.intake_process.specs.declared.fault.OpeningFault.TheVariants as opening
+use Rattle.outbox_process.specs.declared.fault.OpeningFault.{OpeningFault as OutboxOpening}
+use Rattle.outbox_process.specs.declared.fault.OpeningFault.TheVariants as beginning
 use Rattle.end_processes.specs.declared.cause.Cause.{Cause}
 use Rattle.end_processes.specs.declared.cause.Cause.TheVariants as cause
-
-abbrev pub reopen_cause_by : Refusal → Cause
-reopen_cause_by refusal.Memory = cause.Memory
-reopen_cause_by refusal.Disk = cause.Reopen
-reopen_cause_by refusal.Other = cause.Reopen
 
 -- the cause if a call on a store was refused
 abbrev pub store_cause : StoreFault → Cause
 store_cause store.Memory = cause.Memory
 store_cause store.Store = cause.Store
 
--- the cause if a database was not opened
-abbrev pub reopen_cause : Error → Cause
-reopen_cause error = reopen_cause_by (cause_of error)
-
--- of a register that was not opened
+-- the cause if a register was not opened
 abbrev pub register_cause : OpenFault → Cause
 register_cause register.NotOurs = cause.Reopen
 register_cause (register.Damaged row) = cause.Reopen
@@ -66,6 +57,20 @@ outbox_cause outbox.NotOurs = cause.Reopen
 outbox_cause (outbox.Damaged row) = cause.Reopen
 outbox_cause outbox.Memory = cause.Memory
 outbox_cause outbox.Disk = cause.Reopen
+
+-- the cause if an outbox was not made
+abbrev pub outbox_making_cause : OutboxFault → Cause
+outbox_making_cause outbox.Memory = cause.Memory
+outbox_making_cause _ = cause.Store
+
+-- the cause if an outbox was not opened, or not made, in its place
+abbrev pub outbox_opening_cause : OutboxOpening → Cause
+outbox_opening_cause (beginning.Files fault) = files_cause fault
+outbox_opening_cause (beginning.Taken holding) = cause.Reopen
+outbox_opening_cause (beginning.Create fault) = outbox_making_cause fault
+outbox_opening_cause (beginning.Open fault holding) = outbox_cause fault
+outbox_opening_cause beginning.IsCurrent = cause.Reopen
+outbox_opening_cause (beginning.Migrate fault holding) = outbox_cause fault
 
 -- the cause if a store did not give its files back
 abbrev pub closing_cause : StoreFault → Cause

@@ -1,6 +1,5 @@
 pub mod Causes
 pub mod Durable
 pub mod Listed
-pub mod OutboxProcess
+pub mod OutboxEnd
 pub mod Outboxes
-pub mod Refusals

@@ -1,37 +1,23 @@
 -- What contracts see of an outbox in files.
-use Rattle.std.specs.Prelude.{◌≡◌, ℕ, true, List, Option, Some, None, Result, Ok, Err}
-use Rattle.key_string.specs.Filer.{is_filer}
+use Rattle.std.specs.Prelude.{ℕ, true, List, Option, Some, None, Result, Ok, Err}
 use Rattle.http_messages.specs.declared.refusal.ReplyFault.TheVariants.{Cut, Malformed, NoLength, TooLarge, Read}
 use Rattle.http_messages.specs.declared.refusal.ReplyFault.TheVariants.{ReadLimit, Memory}
 use Rattle.filing_model.specs.Outbox.{Entry, State}
 use Rattle.filing_world.specs.World.{Outbox}
 use Rattle.outbox_core.specs.declared.fault.TakeFault.TheVariants as take
 use Rattle.filing_model.specs.declared.state.State.{State as Stored}
-use Rattle.outbox_tables.specs.Entries.{Contents, empty}
 use Rattle.outbox_core.specs.Entries.{set_state}
 use Rattle.filing_model.specs.Views.{view_state}
 use Rattle.filer_client.specs.declared.fault.ExchangeFault.{ExchangeFault}
 use Rattle.filer_client.specs.declared.fault.ExchangeFault.TheVariants.{Write, Reply, Take}
 use Rattle.table_rows.specs.declared.fault.StoreFault.{StoreFault}
 use Rattle.table_rows.specs.declared.fault.StoreFault.TheVariants as store
-use Rattle.end_processes.specs.declared.outboxes.Origin.{Origin}
-use Rattle.end_processes.specs.declared.outboxes.Origin.TheVariants.{Made, Found}
 
 -- an outbox that is up
 abbrev pub up_with : List ℕ → List Entry → Outbox
 up_with filer entries = record { filer = filer; entries = entries; up = true }
 
--- ---- what it has
-
--- the filer and the entries with which it begins: no entries if it is made, otherwise those in the database
-abbrev pub ComesWith : Origin → Type 0 → Contents → Type 0
-ComesWith (Made filer) Lies it = it ≡ empty filer.now
-ComesWith Found Lies it = Lies
-
--- if it is made, the code of its filer is one
-abbrev pub IsForFiler : Origin → Type 0
-IsForFiler (Made filer) = is_filer filer.now ≡ true
-IsForFiler Found = Unit {0}
+-- ---- calls
 
 -- what is there after a call: what the answer leaves, or, after a refusal, what was there
 abbrev pub after_answer : {A E X : Type 0} → Result A E → X → (A → X) → X

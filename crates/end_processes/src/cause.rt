@@ -1,12 +1,11 @@
 //! Why an end did not do what it was asked.
 
 use command_line::DatabaseFault;
-use intake_process::OpeningFault;
 use outbox_core::OutboxFault;
 use register_store::{CreateFault, OpenFault};
 use sqlite::Error as DatabaseError;
 use std::alloc::AllocError;
-use table_rows::{Cause as Refusal, StoreFault};
+use table_rows::StoreFault;
 
 /// Why an end was not made, opened, asked or closed.
 #[derive(Clone, Copy, Debug, PartialEq, Eq)]
@@ -44,26 +43,44 @@ impl From<StoreFault> for Cause {
     }
 }
 
-impl From<OpeningFault> for Cause {
+impl From<intake_process::OpeningFault> for Cause {
     ghost use Rattle.std.specs.Prelude.{◌≡◌};
     ghost use Rattle.end_processes.specs.Causes.{opening_cause};
 
     ghost from_gives = { λ fault cause. cause ≡ opening_cause fault };
 
-    fn from(fault: OpeningFault) -> Cause {
+    fn from(fault: intake_process::OpeningFault) -> Cause {
         match fault {
-            OpeningFault::Files(fault) => Cause::of_files(fault),
-            OpeningFault::Taken(_) => Cause::Reopen,
-            OpeningFault::Create(fault) => Cause::of_making(fault),
-            OpeningFault::Open(fault, _) => Cause::of_register(fault),
+            intake_process::OpeningFault::Files(fault) => Cause::of_files(fault),
+            intake_process::OpeningFault::Taken(_) => Cause::Reopen,
+            intake_process::OpeningFault::Create(fault) => Cause::of_making(fault),
+            intake_process::OpeningFault::Open(fault, _) => Cause::of_register(fault),
+        }
+    }
+}
+
+impl From<outbox_process::OpeningFault> for Cause {
+    ghost use Rattle.std.specs.Prelude.{◌≡◌};
+    ghost use Rattle.end_processes.specs.Causes.{outbox_opening_cause};
+
+    ghost from_gives = { λ fault cause. cause ≡ outbox_opening_cause fault };
+
+    fn from(fault: outbox_process::OpeningFault) -> Cause {
+        match fault {
+            outbox_process::OpeningFault::Files(fault) => Cause::of_files(fault),
+            outbox_process::OpeningFault::Taken(_) => Cause::Reopen,
+            outbox_process::OpeningFault::Create(fault) => Cause::of_making_outbox(fault),
+            outbox_process::OpeningFault::Open(fault, _) => Cause::of_outbox(fault),
+            outbox_process::OpeningFault::IsCurrent => Cause::Reopen,
+            outbox_process::OpeningFault::Migrate(fault, _) => Cause::of_outbox(fault),
         }
     }
 }
 
 impl Cause {
     ghost use Rattle.std.specs.Prelude.{◌≡◌};
-    ghost use Rattle.end_processes.specs.Causes.{reopen_cause, files_cause, making_cause, register_cause, outbox_cause};
-    ghost use Rattle.end_processes.specs.Causes.{closing_cause, close_cause};
+    ghost use Rattle.end_processes.specs.Causes.{files_cause, making_cause, register_cause, outbox_making_cause};
+    ghost use Rattle.end_processes.specs.Causes.{outbox_cause, closing_cause, close_cause};
 
     /// The cause if a place gave no database.
     fn of_files(fault: DatabaseFault) -> Cause
@@ -93,16 +110,6 @@ impl Cause {
         Cause::of_closing(StoreFault::from(error))
     }
 
-    /// The cause if a database was not opened.
-    pub(crate) fn of_opening(error: DatabaseError) -> Cause
-        ensures { result ≡ reopen_cause error }
-    {
-        match Refusal::from(error) {
-            Refusal::Memory => Cause::Memory,
-            Refusal::Disk | Refusal::Other => Cause::Reopen,
-        }
-    }
-
     /// The cause if a register was not opened.
     fn of_register(fault: OpenFault) -> Cause
         ensures { result ≡ register_cause fault }
@@ -113,8 +120,22 @@ impl Cause {
         }
     }
 
+    /// The cause if no outbox was made.
+    fn of_making_outbox(fault: OutboxFault) -> Cause
+        ensures { result ≡ outbox_making_cause fault }
+    {
+        match fault {
+            OutboxFault::Memory => Cause::Memory,
+            OutboxFault::BadFiler
+            | OutboxFault::Taken
+            | OutboxFault::NotOurs
+            | OutboxFault::Damaged { .. }
+            | OutboxFault::Disk => Cause::Store,
+        }
+    }
+
     /// The cause if an outbox was not opened.
-    pub(crate) fn of_outbox(fault: OutboxFault) -> Cause
+    fn of_outbox(fault: OutboxFault) -> Cause
         ensures { result ≡ outbox_cause fault }
     {
         match fault {
@@ -128,7 +149,7 @@ impl Cause {
     }
 
     /// The cause if a store did not give its files back.
-    pub(crate) fn of_closing(fault: StoreFault) -> Cause
+    fn of_closing(fault: StoreFault) -> Cause
         ensures { result ≡ closing_cause fault }
     {
         match fault {

@@ -1,4 +1,4 @@
-//! The filer's end: the process that its outbox runs in, with a copy of its entries.
+//! The filer's end: its outbox, with a copy of its entries.
 
 ghost use Rattle.std.specs.Prelude.{◌≡◌, ◌≢◌, ◌↔◌, ℕ, map, true, false, Option, Some, option_map, IsSome, IfOk, IfSome};
 ghost use Rattle.std.specs.Prelude.{OnOk, Err};
@@ -19,36 +19,35 @@ ghost use Rattle.filer_client.specs.Exchange.{request_at};
 ghost use Rattle.end_processes.specs.Listed.{listed};
 
 use crate::report::{Report, set_state};
-use end_processes::{Cause, Honest, OutboxProcess};
+use end_processes::{Cause, Honest, OutboxEnd};
 use event_script::Crash;
 use key_string::KeyText;
 use outbox_core::{Outbox, State, StoreFault};
 use sqlite::FileStore;
 use std::alloc::Global;
 use std::marker::Model;
-use std::mem;
 
 /// The outbox of a filer with copies of its entries, whether it is up or down.
-pub struct Filer<D: Honest> {
+pub(crate) struct Filer<D: Honest> {
     alloc: Global,
     code: String,
     entries: Vec<Report>,
-    process: OutboxProcess<D>,
+    end: OutboxEnd<D>,
 }
 
 impl<D: Honest> Model for Filer<D> {
     ghost use Rattle.std.specs.Prelude.{string_bytes};
-    ghost use Rattle.end_processes.specs.OutboxProcess.{Keeps, is_up, is_asleep};
+    ghost use Rattle.end_processes.specs.OutboxEnd.{Keeps, is_up, is_asleep};
     ghost use Rattle.world.specs.Filers.{FilerParts};
 
     ghost Value = { FilerParts };
 
     ghost view = { λ f. record {
-      box = record { filer = string_bytes f.code; entries = f.entries.items; up = is_up f.process };
-      asleep = is_asleep f.process;
+      box = record { filer = string_bytes f.code; entries = f.entries.items; up = is_up f.end };
+      asleep = is_asleep f.end;
     } };
 
-    ghost invariant = { λ f. Keeps f.process (string_bytes f.code) f.entries.items };
+    ghost invariant = { λ f. Keeps f.end (string_bytes f.code) f.entries.items };
 }
 
 impl<D: Honest> Drop for Filer<D> {
@@ -57,7 +56,7 @@ impl<D: Honest> Drop for Filer<D> {
             alloc: _,
             code: _,
             entries: _,
-            process: _,
+            end: _,
         } = self;
     }
 }
@@ -65,7 +64,7 @@ impl<D: Honest> Drop for Filer<D> {
 impl<D: Honest> Filer<D> {
     /// A filer with an outbox that is up and has no entry. For another cause than memory it answers `Reopen` if its
     /// files were not opened, and `Store` if its tables were not made.
-    pub fn new(alloc: Global, code: &str) -> Result<Filer<D>, Cause>
+    pub(crate) fn new(alloc: Global, code: &str) -> Result<Filer<D>, Cause>
         requires { is_filer code.now ≡ true }
         ensures made { IfOk result (λ f. f.box ≡ new_outbox code.now) }
     {
@@ -73,20 +72,25 @@ impl<D: Honest> Filer<D> {
             alloc,
             code: String::from_str(alloc, code)?,
             entries: Vec::new(alloc),
-            process: OutboxProcess::new(alloc, code)?,
+            end: OutboxEnd::new(alloc, code)?,
         })
     }
 
     /// Whether the outbox is up.
-    pub fn is_up(&self) -> bool
+    pub(crate) fn is_up(&self) -> bool
         ensures { result ≡ self.now.box.up }
     {
-        matches!(self.process, OutboxProcess::Up(_))
+        self.end.is_up()
     }
 
     /// Puts a report into the outbox. One whose body is too long, or whose key is used, is not taken, and that is no
     /// error. Answers `Store` if the outbox refused for another cause than memory.
-    pub fn put(&mut self, key: &KeyText, target: Option<u64>, body: &[u8]) -> Result<(), StoreFault>
+    pub(crate) fn put(
+        &mut self,
+        key: &KeyText,
+        target: Option<u64>,
+        body: &[u8],
+    ) -> Result<(), StoreFault>
         requires up { self.old.box.up ≡ true }
         requires target { IsTarget target }
         ensures put { OnOk result (self.new.box ≡ with_entry self.old.box (opened key.now target body.now)) }
@@ -94,7 +98,7 @@ impl<D: Honest> Filer<D> {
     {
         let report = Report::open(self.alloc, key, target, body)?;
         self.entries.reserve(1)?;
-        let taken = self.process.put(self.alloc, key, target, body)?;
+        let taken = self.end.put(self.alloc, key, target, body)?;
         if taken {
             self.entries.push_reserved(report);
         }
@@ -103,19 +107,19 @@ impl<D: Honest> Filer<D> {
 
     /// The bytes of the request of the entry of this number, whatever its state, or `None` if there is no such entry.
     /// Answers `Store` if the outbox refused for another cause than memory.
-    pub fn request(&mut self, entry: u64) -> Result<Option<Vec<u8>>, StoreFault>
+    pub(crate) fn request(&mut self, entry: u64) -> Result<Option<Vec<u8>>, StoreFault>
         requires { self.old.box.up ≡ true }
         ensures bytes { IfOk result (λ text.
             option_map (λ t. t.items) text ≡ request_at self.old.box.filer self.old.box.entries entry) }
         ensures same { OnOk result (self.new.box ≡ self.old.box) }
     {
-        self.process.request(self.alloc, entry)
+        self.end.request(self.alloc, entry)
     }
 
     /// Hands these bytes to the entry of this number as the reply to its request. Bytes that give no reply move
     /// nothing, and are no error. Before a stop nothing is read of them. For another cause than memory it answers
     /// `Store` if the outbox did not take the reply, and `Reopen` if it did not give its files.
-    pub fn hand(&mut self, entry: u64, bytes: &[u8], crash: Crash) -> Result<(), Cause>
+    pub(crate) fn hand(&mut self, entry: u64, bytes: &[u8], crash: Crash) -> Result<(), Cause>
         requires { self.old.box.up ≡ true }
         ensures heard { OnOk result ((what : Item) → numbered self.old.box.entries entry ≡ Some what
             → (heard : Option ReplyParts) × Hears bytes.now (view_crash crash) heard
@@ -140,54 +144,48 @@ impl<D: Honest> Filer<D> {
             → (heard : Option ReplyParts) × Hears bytes.now No heard
             × (self.new.box ≡ box_after self.old.box entry what heard No)) }
     {
-        if let Some(state) = self.process.hear(self.alloc, entry, bytes)? {
+        if let Some(state) = self.end.hear(self.alloc, entry, bytes)? {
             set_state(&mut self.entries, entry, state);
         }
         Ok(())
     }
 
-    /// Takes the files, if it is up. Answers `Reopen` if they were not given for another cause than memory.
+    /// Closes the outbox, if it is up. Answers `Reopen` if it was not closed for another cause than memory.
     fn stop(&mut self) -> Result<(), Cause>
         ensures down { OnOk result (self.new.box ≡ record self.old.box { up = false }) }
         ensures store { result ≢ Err Cause.Store }
     {
-        let process = mem::replace(&mut self.process, OutboxProcess::Gone);
-        self.process = process.stopped()?;
-        Ok(())
+        self.end.stop()
     }
 
-    /// Takes the files, if it is up, and opens them. The outbox then has the entries that it had. Answers `Reopen` if
-    /// it was not closed or opened for another cause than memory.
-    pub fn restart(&mut self) -> Result<(), Cause>
+    /// Closes the outbox, if it is up, and opens it again, with the entries that it had. Answers `Reopen` if it was not
+    /// closed or opened for another cause than memory.
+    pub(crate) fn restart(&mut self) -> Result<(), Cause>
         ensures restarted { OnOk result (self.new.box ≡ record self.old.box { up = true }) }
         ensures store { result ≢ Err Cause.Store }
     {
-        let process = mem::replace(&mut self.process, OutboxProcess::Gone);
-        self.process = process.stopped()?.started(self.alloc)?;
-        Ok(())
+        self.end.stop()?;
+        self.end.start(self.alloc)
     }
 
     /// The number and the state of each entry, in the order of the numbers. Answers `Store` if the outbox is down, and
     /// otherwise only if its database refused.
-    pub fn states(&mut self) -> Result<Vec<(u64, State)>, StoreFault>
+    pub(crate) fn states(&mut self) -> Result<Vec<(u64, State)>, StoreFault>
         ensures same { self.new.box ≡ self.old.box }
         ensures list { IfOk result (λ s.
             (number : ℕ) → map (listed number) s.items ≡ states_of number 1 self.old.box.entries) }
         ensures down { self.old.box.up ≡ false → result ≡ Err StoreFault.Store }
         ensures store { result ≡ Err StoreFault.Store → self.new.asleep ≡ true }
     {
-        self.process.states(self.alloc)
+        self.end.states(self.alloc)
     }
 
     /// The outbox, if it is up.
-    pub fn outbox(&self) -> Option<&Outbox<FileStore<D>>>
+    pub(crate) fn outbox(&self) -> Option<&Outbox<FileStore<D>>>
         ensures lent { IsSome result ↔ (self.now.box.up ≡ true) }
         ensures keeps { IfSome result (λ b.
             HasEntries over_files b.now self.now.box.entries × (b.now.filer ≡ self.now.box.filer)) }
     {
-        match &self.process {
-            OutboxProcess::Up(outbox) => Some(outbox),
-            OutboxProcess::Down(_) | OutboxProcess::Gone => None,
-        }
+        self.end.outbox()
     }
 }

@@ -1,8 +1,8 @@
 //! The intake, the outboxes of its filers and the network between them, on which events are played. What may live here:
 //! the two ends as a world sees them, up or down, with what was completed and kept; the world that they are in; and
-//! what one event does to it. How the databases of an outbox are made, stopped and opened again is known by
-//! `end_processes`, those of the intake by `intake_process`. What an event may do is defined in `filing_world`; that
-//! the world does nothing else is the contract of `World::play`.
+//! what one event does to it. How the process of an outbox is made, asked, closed and opened again is known by
+//! `end_processes`; that of the intake is asked here. What an event may do is defined in `filing_world`; that the world
+//! does nothing else is the contract of `World::play`.
 #![tactic(auto)]
 
 mod deliver;

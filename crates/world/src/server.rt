@@ -29,7 +29,7 @@ use std::alloc::{AllocError, Global};
 use std::marker::Model;
 
 /// The intake with the requests that it completed.
-pub struct Server<D: Honest> {
+pub(crate) struct Server<D: Honest> {
     alloc: Global,
     limit: u64,
     done: Vec<Completed>,
@@ -63,15 +63,15 @@ impl<D: Honest> Drop for Server<D> {
 
 /// What became of one delivery.
 #[derive(Drop)]
-pub struct Delivered {
+pub(crate) struct Delivered {
     /// How many requests were completed before it.
-    pub before: usize,
+    pub(crate) before: usize,
     /// The marks of its requests, in order.
-    pub marks: Vec<Mark>,
+    pub(crate) marks: Vec<Mark>,
     /// How its connection ended, unless it was stopped.
-    pub ended: Option<Ended>,
+    pub(crate) ended: Option<Ended>,
     /// The bytes that were written.
-    pub text: Vec<u8>,
+    pub(crate) text: Vec<u8>,
 }
 
 /// Where serving a delivery stops.
@@ -123,7 +123,7 @@ impl<D: Honest> Server<D> {
     ghost use Rattle.world.specs.Delivery.{IsDelivered};
 
     /// An intake that is up, over an empty register, which keeps at most `limit` keys.
-    pub fn new(alloc: Global, limit: u64) -> Result<Server<D>, Cause>
+    pub(crate) fn new(alloc: Global, limit: u64) -> Result<Server<D>, Cause>
         requires { limit ≤ 2 ^ 62 }
         ensures made { IfOk result (λ s. s ≡ record { limit = limit; done = []; up = true }) }
     {
@@ -136,7 +136,7 @@ impl<D: Honest> Server<D> {
     }
 
     /// Whether the intake is up.
-    pub fn is_up(&self) -> bool
+    pub(crate) fn is_up(&self) -> bool
         ensures { result ≡ self.now.up }
     {
         match &self.process {
@@ -146,14 +146,14 @@ impl<D: Honest> Server<D> {
     }
 
     /// The requests that were completed so far.
-    pub fn done(&self) -> &[Completed]
+    pub(crate) fn done(&self) -> &[Completed]
         ensures { result.now ≡ self.now.done }
     {
         self.done.as_slice()
     }
 
     /// The intake, if it is up.
-    pub fn intake(&self) -> Option<&Intake<FileStore<D>>>
+    pub(crate) fn intake(&self) -> Option<&Intake<FileStore<D>>>
         ensures lent { IsSome result ↔ (self.now.up ≡ true) }
         ensures keeps { IfSome result (λ intake. HoldsRequests over_files intake.now (firsts self.now.done)) }
     {
@@ -164,7 +164,7 @@ impl<D: Honest> Server<D> {
     }
 
     /// Serves the bytes of a delivery, and stops where the crash says.
-    pub fn deliver(&mut self, bytes: &[u8], crash: Crash) -> Result<Delivered, Cause>
+    pub(crate) fn deliver(&mut self, bytes: &[u8], crash: Crash) -> Result<Delivered, Cause>
         requires { self.old.up ≡ true }
         ensures delivered { IfOk result (IsDelivered self.old self.new bytes.now (view_crash crash)) }
         ensures store { result ≢ Err Cause.Store }
@@ -188,7 +188,7 @@ impl<D: Honest> Server<D> {
     }
 
     /// Closes the register, if it is open, and opens it again.
-    pub fn restart(&mut self) -> Result<(), Cause>
+    pub(crate) fn restart(&mut self) -> Result<(), Cause>
         ensures restarted { OnOk result (self.new ≡ record self.old { up = true }) }
         ensures store { result ≢ Err Cause.Store }
     {
@@ -203,7 +203,7 @@ impl<D: Honest> Server<D> {
 
     /// The registered requests under their numbers, ascending. Answers `Down` if the intake is down, and after `Store`;
     /// never answers `Full`.
-    pub fn register(&mut self) -> Result<Vec<Registered>, Unavailable>
+    pub(crate) fn register(&mut self) -> Result<Vec<Registered>, Unavailable>
         ensures list { IfOk result (λ rows. rows.items ≡ register self.old.done) }
         ensures down { self.old.up ≡ false → result ≡ Err Unavailable.Down }
         ensures room { (k : ℕ) → result ≢ Err (Unavailable.Full k) }

@@ -1,21 +1,18 @@
-use Rattle.table_rows.proofs.CleanLemmas.{always_clean}
-use Rattle.table_rows.proofs.FileLemmas.{finds}
+use Rattle.std.proofs.Common.{sym, ◌∙◌}
+use Rattle.outbox_tables.specs.Entries.{contents_of}
+use Rattle.end_processes.specs.OutboxEnd.{lying_in}
+use Rattle.end_processes.proofs.Causes.{of_opening}
 use Rattle.end_processes.proofs.opening.open.Goals as goal
 
-pub returns-in-Ok-clause-found : goal.returns-in-Ok-clause-found
-returns-in-Ok-clause-found g c = λ db holds.
-    let clean = always_clean g.met.D.Honest.honest c.in-Ok.conn in
-    finds c.args.files c.in-Ok.conn (c.in-Ok.ensures.found clean) (c.in-Ok.ensures.opened clean) db holds
-
-pub returns-in-Ok-clause-lies : goal.returns-in-Ok-clause-lies
-returns-in-Ok-clause-lies g c = c.in-Ok.ensures.found (always_clean g.met.D.Honest.honest c.in-Ok.conn)
+pub returns-in-Ok-clause-kept : goal.returns-in-Ok-clause-kept
+returns-in-Ok-clause-kept g c = λ filer entries keeps.
+    let certain = c.in-Ok.ensures.certain ∙ keeps.0 in
+    (certain, c.in-Ok.ensures.keeps g.met.D.Honest.honest (contents_of filer entries) (λ _. keeps.1) certain)
 
 pub returns-in-Err-clause-refused : goal.returns-in-Err-clause-refused
-returns-in-Err-clause-refused g c =
-    record {
-      error = c.in-Err.error;
-      left = c.in-Err._left;
-      failed = c.in-Err.ensures.cause;
-      told =
-          c.of_opening.ensures;
-    }
+returns-in-Err-clause-refused g c = (c.in-Err.fault, c.in-Err.ensures.refused.0, c.from.ensures)
+
+pub returns-in-Err-clause-store : goal.returns-in-Err-clause-store
+returns-in-Err-clause-store g c = λ e.
+    of_opening g.D.Disk (lying_in c.args.process.now.place) (lying_in c.open.new.self.place) c.in-Err.fault
+    c.in-Err.ensures.refused.0 (sym c.from.ensures ∙ (cc e))

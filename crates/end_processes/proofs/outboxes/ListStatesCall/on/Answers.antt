@@ -1,4 +1,6 @@
-use Rattle.end_processes.proofs.Entries.{states_listed}
+use Rattle.std.proofs.Common.{subst, sym}
+use Rattle.outbox_core.specs.OutboxParts.{HasEntries}
+use Rattle.end_processes.proofs.Entries.{after_same, states_listed}
 use Rattle.end_processes.proofs.outboxes.ListStatesCall.on.Goals as goal
 
 pub returns-clause-answer : goal.returns-clause-answer
@@ -7,4 +9,6 @@ returns-clause-answer g c = λ entries has.
     entries has)
 
 pub returns-clause-rows : goal.returns-clause-rows
-returns-clause-rows g c = c.states.ensures.kept (g.met.S.Faithful.faithful c.states.new.self.conn)
+returns-clause-rows g c = λ entries has.
+    subst (HasEntries g.S.Store c.states.new.self) (sym (after_same c.states.result entries))
+    (c.states.ensures.kept (g.met.S.Faithful.faithful c.states.new.self.conn) entries has)

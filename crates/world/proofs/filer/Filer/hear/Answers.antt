@@ -1,7 +1,7 @@
 use Rattle.std.proofs.Common.{◌∙◌, ap, Some, None, refl}
 use Rattle.std.specs.String.{string_bytes}
 use Rattle.filing_world.specs.World.{Outbox}
-use Rattle.end_processes.specs.OutboxProcess.{is_up}
+use Rattle.end_processes.specs.OutboxEnd.{is_up}
 use Rattle.world.specs.Filers.{FilerParts}
 use Rattle.world.proofs.Entries.{box_heard}
 use Rattle.world.proofs.filer.Filer.hear.Goals as goal
@@ -10,7 +10,7 @@ pub returns-in-Some : goal.returns-in-Some
 returns-in-Some g c =
     let inside = c.self.inside in
     let box : Outbox =
-    record { filer = string_bytes inside.code; entries = inside.entries.items; up = is_up inside.process } in
+    record { filer = string_bytes inside.code; entries = inside.entries.items; up = is_up inside.end } in
     let still = c.hear.ensures.up ∙ ap (λ (f : FilerParts). f.box.up) c.self.view_is ∙ c.requires in
     rw (← c.self.view_is)
     (λ what here.
@@ -26,7 +26,7 @@ pub returns-in_default : goal.returns-in_default
 returns-in_default g c =
     let inside = c.self.inside in
     let box : Outbox =
-    record { filer = string_bytes inside.code; entries = inside.entries.items; up = is_up inside.process } in
+    record { filer = string_bytes inside.code; entries = inside.entries.items; up = is_up inside.end } in
     let still = c.hear.ensures.up ∙ ap (λ (f : FilerParts). f.box.up) c.self.view_is ∙ c.requires in
     rw (← c.self.view_is)
     (λ what here.

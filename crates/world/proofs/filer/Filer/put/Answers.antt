@@ -3,7 +3,7 @@ use Rattle.std.specs.String.{string_bytes}
 use Rattle.filing_world.specs.World.{Outbox}
 use Rattle.filing_world.specs.Step.{takes}
 use Rattle.outbox_core.specs.Entries.{opened}
-use Rattle.end_processes.specs.OutboxProcess.{is_up}
+use Rattle.end_processes.specs.OutboxEnd.{is_up}
 use Rattle.world.proofs.Entries.{box_taken, box_not_taken}
 use Rattle.world.proofs.filer.Filer.put.Goals as goal
 
@@ -12,7 +12,7 @@ returns-then-taken-clause-put g c =
     let inside = c.self.inside in
     let code = string_bytes inside.code in
     let entries = inside.entries.items in
-    let box : Outbox = record { filer = code; entries = entries; up = is_up inside.process } in
+    let box : Outbox = record { filer = code; entries = entries; up = is_up inside.end } in
     let entry = opened c.args.key.now c.args.target c.args.body.now in
     let taken : takes box entry ≡ true =
     sym (c.in_ok-taken.ensures.taken code entries c.self.invariant) ∙ c.if-taken.true in
@@ -26,7 +26,7 @@ returns-else-taken-clause-put g c =
     let inside = c.self.inside in
     let code = string_bytes inside.code in
     let entries = inside.entries.items in
-    let box : Outbox = record { filer = code; entries = entries; up = is_up inside.process } in
+    let box : Outbox = record { filer = code; entries = entries; up = is_up inside.end } in
     let entry = opened c.args.key.now c.args.target c.args.body.now in
     let taken : takes box entry ≡ false =
     sym (c.in_ok-taken.ensures.taken code entries c.self.invariant) ∙ c.if-taken.false in

@@ -1,21 +1,19 @@
-use Rattle.std.proofs.Common.{sym, subst}
 use Rattle.std.specs.String.{string_bytes}
-use Rattle.end_processes.specs.OutboxProcess.{Keeps}
+use Rattle.world.proofs.Entries.{then_ok}
 use Rattle.world.proofs.filer.Filer.stop.Goals as goal
 
 pub returns-clause-down : goal.returns-clause-down
 returns-clause-down g c =
     let inside = c.self.inside in
-    rw (← c.self.view_is) (λ i. record {
+    rw (← c.self.view_is)
+    (then_ok c.stop.result (λ down. λ i. record {
       filer = string_bytes inside.code;
       entries = inside.entries.items;
       up =
-          c.in_ok-self-inside.ensures.down i;
+          down i;
     })
+    c.stop.ensures.down)
 
-pub invariant_of-self-2 : goal.invariant_of-self-2
-invariant_of-self-2 g c =
-    let code = string_bytes c.self.inside.code in
-    let entries = c.self.inside.entries.items in
-    c.in_ok-self-inside.ensures.kept code entries
-    (subst (λ p. Keeps p code entries) (sym c.replace-process.ensures.value) c.self.invariant)
+pub invariant_of-self : goal.invariant_of-self
+invariant_of-self g c =
+    c.stop.ensures.kept (string_bytes c.self.inside.code) c.self.inside.entries.items c.self.invariant
