@@ -3,20 +3,45 @@ use Rattle.std.proofs.Common.{◌≡◌, List, ℕ, Option, Ok, Err, length}
 use Rattle.std.specs.Io.KnownBytes.{Appends}
 use Rattle.sqlite.specs.Store.{Ghosts}
 use Rattle.sqlite.specs.Held.{Held, state}
+use Rattle.sqlite.specs.State.{HasCleanDisk}
 use Rattle.table_rows.specs.Leaving.{Leaves}
 use Rattle.table_rows.specs.Leaving.Ending.{Ended, Passed}
 use Rattle.table_rows.proofs.LeavingLemmas.{asked_before, clean_before}
 use Rattle.fact_records.specs.declared.record.Form.{Form}
+use Rattle.filing_model.specs.Request.{Request}
 use Rattle.filing_model.specs.Register.{register}
 use Rattle.register_rows.specs.Catalogue.{catalogue_of, view_lines}
 use Rattle.register_tables.specs.declared.opening.Counts.{Counts}
 use Rattle.register_tables.specs.Opening.{ReadsRegister}
+use Rattle.register_tables.specs.Registers.{ForRows}
 use Rattle.register_store.specs.Store.{ForRegister}
 use Rattle.register_walk.proofs.Walks.{found_then, kept_then, nothing_then, opened}
 use Rattle.register_export.specs.declared.fault.ExportFault.TheVariants as fault
 use Rattle.register_export.specs.declared.fault.RecordsFault.{RecordsFault}
-use Rattle.register_export.specs.Exports.{ExportsFacts}
-use Rattle.register_export.specs.Records.{export_text}
+use Rattle.register_export.specs.declared.fault.RecordsFault.TheVariants as records
+use Rattle.register_export.specs.Exports.{ExportsFacts, UnlessOutput}
+use Rattle.register_export.specs.Records.{export_begun, export_text}
+
+-- the records of the first filings are written, so many
+abbrev pub Begun : Form → Option (List ℕ) → Option (List ℕ) → Option (List ℕ) → List Request → Type 0
+Begun form filer out out' F = (many : ℕ) × Appends out out' (export_begun many form filer (register F))
+
+pub unless : {P : Type 0} (why : RecordsFault) → P → UnlessOutput P why
+unless (records.Store fault) p = p
+unless records.Memory p = p
+unless records.Output p = tt
+
+module _ {S : Type 0} (g : Ghosts S) (form : Form) (filer : Option (List ℕ)) (out out' : Option (List ℕ))
+    (old mid new : Held S) (counts : Counts) (read : ReadsRegister g old mid (Ok counts)) where
+  begun_by : Leaves Ended (state g mid) (state g new) → HasCleanDisk (state g new) → (why : RecordsFault)
+      → ForRegister g mid new (λ _ F. view_lines counts.catalogue ≡ catalogue_of F
+      → counts.filings ≡ length (register F) → UnlessOutput (Begun form filer out out' F) why)
+      → UnlessOutput (ForRows g old (λ _ F. Begun form filer out out' F)) why
+  begun_by leaves clean (records.Store fault) begun = λ old_style F rows.
+      let it = read.only (clean_before leaves clean) old_style F rows in begun clean old_style F it.1 it.4 it.3
+  begun_by leaves clean records.Memory begun = λ old_style F rows.
+      let it = read.only (clean_before leaves clean) old_style F rows in begun clean old_style F it.1 it.4 it.3
+  begun_by leaves clean records.Output begun = tt
 
 module _ {S X : Type 0} (g : Ghosts S) (form : Form) (filer : Option (List ℕ)) (out out' : Option (List ℕ))
     (old mid new : Held S) (counts : Counts) (read : ReadsRegister g old mid (Ok counts)) where
@@ -29,6 +54,7 @@ module _ {S X : Type 0} (g : Ghosts S) (form : Form) (filer : Option (List ℕ))
       let whole = asked_before (opened g old mid counts read) leaves in record {
         exported = λ clean old_style F rows. let it = read.only (clean_before leaves clean) old_style F rows in
             exported clean old_style F it.1 it.4 it.3;
+        begun = λ _. tt;
         found = found_then g old mid counts read new leaves;
         kept = kept_then g old mid counts read new leaves;
         refused = λ _. tt;
@@ -41,9 +67,12 @@ module _ {S X : Type 0} (g : Ghosts S) (form : Form) (filer : Option (List ℕ))
 
   -- the database, memory or the output failed before that
   pub broken_off : Leaves Ended (state g mid) (state g new) → (why : RecordsFault)
+      → ForRegister g mid new (λ _ F. view_lines counts.catalogue ≡ catalogue_of F
+      → counts.filings ≡ length (register F) → UnlessOutput (Begun form filer out out' F) why)
       → ExportsFacts {S = S} {X = X} g form filer out out' old new (Err (fault.Records why))
-  broken_off leaves why = record {
+  broken_off leaves why begun = record {
     exported = λ _. tt;
+    begun = λ clean. begun_by g form filer out out' old mid new counts read leaves clean why begun;
     found = found_then g old mid counts read new leaves;
     kept = kept_then g old mid counts read new leaves;
     refused = λ _. tt;

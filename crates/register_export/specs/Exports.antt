@@ -15,12 +15,24 @@ use Rattle.register_tables.specs.Opening.{IsRefused}
 use Rattle.register_tables.specs.Registers.{ForRows, IsRegisterOf}
 use Rattle.register_export.specs.declared.fault.ExportFault.{ExportFault}
 use Rattle.register_export.specs.declared.fault.ExportFault.TheVariants as fault
-use Rattle.register_export.specs.Records.{export_text}
+use Rattle.register_export.specs.declared.fault.RecordsFault.{RecordsFault}
+use Rattle.register_export.specs.declared.fault.RecordsFault.TheVariants as records
+use Rattle.register_export.specs.Records.{export_begun, export_text}
 
 -- this holds of the fault by which an opening was refused; nothing is said of the faults of a sound register
 abbrev pub IfOpen : (OpenFault → Type 0) → ExportFault → Type 0
 IfOpen Holds (fault.Open why) = Holds why
 IfOpen Holds (fault.Records why) = Unit {0}
+
+-- this holds unless the output failed
+abbrev pub UnlessOutput : Type 0 → RecordsFault → Type 0
+UnlessOutput Holds records.Output = Unit {0}
+UnlessOutput Holds _ = Holds
+
+-- this holds if the writing was broken off, and not by the output
+abbrev pub IfBrokenOff : Type 0 → ExportFault → Type 0
+IfBrokenOff Holds (fault.Open why) = Unit {0}
+IfBrokenOff Holds (fault.Records why) = UnlessOutput Holds why
 
 -- this holds unless the register is refused: also if it is sound, and not all its records are written
 abbrev pub UnlessRefused : {X : Type 0} → Result X ExportFault → Type 0 → Type 0
@@ -34,6 +46,10 @@ pub record ExportsFacts {S X : Type 0} (g : Ghosts S) (form : Form) (filer : Opt
   -- The rows stand for requests, and there is one such list at most.
   pub exported : HasCleanDisk (state g new)
       → OnOk result (ForRows g old (λ _ requests. Appends out out' (export_text form filer (register requests))))
+  -- If the writing is broken off, and not by the output, the records of the first filings are written, and no others.
+  pub begun : HasCleanDisk (state g new)
+      → IfErr result (IfBrokenOff (ForRows g old (λ _ requests.
+      (many : ℕ) × Appends out out' (export_begun many form filer (register requests)))))
   -- Unless it is refused, a database with the tables of a register is one, and what its rows stand for is still
   -- committed.
   pub found : HasCleanDisk (state g new) → IsDeclared (state g old).now.schema

@@ -1,5 +1,5 @@
 -- The records of a register.
-use Rattle.std.specs.Prelude.{ℕ, List, [], ◌++◌, Bool, true, bytes_eq, Option, Some, None, if◌then◌else◌}
+use Rattle.std.specs.Prelude.{ℕ, List, [], ◌++◌, take, Bool, true, bytes_eq, Option, Some, None, if◌then◌else◌}
 use Rattle.std.specs.List.{flat_map}
 use Rattle.fact_records.specs.declared.record.Form.{Form}
 use Rattle.fact_records.specs.Fields.{Head, first_line, record_text}
@@ -26,6 +26,11 @@ wanted_records form filer f = if is_wanted filer f.filer then records form f els
 -- the records of a filing, with what replaces it among these
 abbrev pub filing_records : Form → Option (List ℕ) → List Filing → Filing → List ℕ
 filing_records form filer filings f = wanted_records form filer (whole filings f)
+
+-- what is written before the first record, and then the records of the first filings, so many
+abbrev pub export_begun : ℕ → Form → Option (List ℕ) → List Filing → List ℕ
+export_begun many form filer filings =
+    first_line form ++ flat_map (filing_records form filer filings) (take many filings)
 
 -- what is written before the first record, and then the records of each filing, in order
 abbrev pub export_text : Form → Option (List ℕ) → List Filing → List ℕ

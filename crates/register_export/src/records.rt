@@ -1,6 +1,6 @@
 //! The records of one filing.
 
-ghost use Rattle.std.specs.Prelude.{◌≡◌, option_map, IfOk, OnOk};
+ghost use Rattle.std.specs.Prelude.{◌≡◌, ◌⊎◌, option_map, IfOk, IfErr, OnOk};
 ghost use Rattle.std.specs.List.{flat_map};
 ghost use Rattle.std.specs.Io.KnownBytes.{Appends};
 ghost use Rattle.fact_records.specs.Fields.{record_text, view_head};
@@ -16,7 +16,8 @@ use xbrl_report::Fact;
 
 /// Writes a text whole.
 pub(crate) fn print<O: Write>(output: &mut O, text: &[u8]) -> Result<(), RecordsFault>
-    ensures { OnOk result (Appends (O.contents output.old) (O.contents output.new) text.now) }
+    ensures written { OnOk result (Appends (O.contents output.old) (O.contents output.new) text.now) }
+    ensures failed { IfErr result (λ fault. fault ≡ RecordsFault.Output) }
 {
     match show(output, text) {
         Ok(()) => Ok(()),
@@ -79,7 +80,9 @@ pub(crate) fn write_filing<O: Write>(
     filing: &WholeFiling,
     output: &mut O,
 ) -> Result<(), RecordsFault>
-    ensures { OnOk result (Appends (O.contents output.old) (O.contents output.new)
+    ensures quiet { IfErr result (λ fault.
+        (fault ≡ RecordsFault.Output) ⊎ (O.contents output.new ≡ O.contents output.old)) }
+    ensures written { OnOk result (Appends (O.contents output.old) (O.contents output.new)
         (wanted_records form (option_map (λ s. s.now) filer.entry) filing.now)) }
 {
     if !is_wanted(filer, filing.filer.as_str()) {

@@ -1,6 +1,6 @@
 //! The records of a register.
 
-ghost use Rattle.std.specs.Prelude.{◌≡◌, length, option_map, Some, OnOk};
+ghost use Rattle.std.specs.Prelude.{◌≡◌, ◌⊎◌, ℕ, length, option_map, Some, IfErr, OnOk};
 ghost use Rattle.std.specs.Io.KnownBytes.{Appends};
 ghost use Rattle.filing_model.specs.Register.{Filing, register};
 ghost use Rattle.table_rows.specs.Leaving.{MayRead};
@@ -8,8 +8,8 @@ ghost use Rattle.table_rows.specs.Standing.{IsAtRest};
 ghost use Rattle.register_rows.specs.Catalogue.{catalogue_of, view_lines};
 ghost use Rattle.register_store.specs.Numbered.{filing_numbered};
 ghost use Rattle.register_store.specs.Store.{ForRegister};
-ghost use Rattle.register_export.specs.Records.{export_text, filing_records};
-ghost use Rattle.register_export.specs.Exports.{ExportsFacts};
+ghost use Rattle.register_export.specs.Records.{export_begun, export_text, filing_records};
+ghost use Rattle.register_export.specs.Exports.{ExportsFacts, UnlessOutput};
 
 use crate::fault::{ExportFault, RecordsFault};
 use crate::records::{print, write_filing};
@@ -53,6 +53,10 @@ fn write_records<S: Alter, O: Write>(
         view_lines counts.now.catalogue ≡ catalogue_of F → counts.now.filings ≡ length (register F)
         → OnOk result (Appends (O.contents output.old) (O.contents output.new)
         (export_text form (option_map (λ s. s.now) filer.entry) (register F)))) }
+    ensures begun { ForRegister S.Store conn.old conn.new (λ _ F.
+        view_lines counts.now.catalogue ≡ catalogue_of F → counts.now.filings ≡ length (register F)
+        → IfErr result (UnlessOutput ((many : ℕ) × Appends (O.contents output.old) (O.contents output.new)
+        (export_begun many form (option_map (λ s. s.now) filer.entry) (register F))))) }
     ensures leaves { MayRead S.Store conn.old conn.new result }
 {
     print(output, first_line(form).as_bytes())?;
@@ -77,6 +81,8 @@ fn write_numbered<S: Alter, O: Write>(
         → filing_numbered number (register F) ≡ Some f
         → OnOk result (Appends (O.contents output.old) (O.contents output.new)
         (filing_records form (option_map (λ s. s.now) filer.entry) (register F) f))) }
+    ensures quiet { IfErr result (λ fault.
+        (fault ≡ RecordsFault.Output) ⊎ (O.contents output.new ≡ O.contents output.old)) }
     ensures leaves { MayRead S.Store conn.old conn.new result }
 {
     match filing_at(alloc, conn, catalogue, number)? {

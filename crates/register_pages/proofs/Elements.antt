@@ -87,7 +87,8 @@ module _ {X : Type 0} where
         ap (λ l. before ++ l) (ap (map gives) is ∙ map-append gives ys (y ∷ []))
         ∙ sym (append_assoc before (map gives ys) (gives y ∷ [])) in
         subst (HaveSame new) (sym all)
-        (same_then then (same_then (same_behind (gives y) had) (same_back (same_last (gives y) (before ++ map gives ys)))))
+        (same_then then (same_then (same_behind (gives y) had)
+        (same_back (same_last (gives y) (before ++ map gives ys)))))
 
     -- what it gives was there before
     pub gathered_before : (ys more : List Y) (y : Y) → more ≡ ys ++ y ∷ [] → Contains before (gives y)

@@ -15,7 +15,7 @@ returns-in-Some-clause-written g c clean old_style F was f is there =
     subst (λ filing. OnOk c.write_filing.result (Appends (g.O.Write.contents c.args.output.now)
     (g.O.Write.contents c.write_filing.new.output)
     (wanted_records c.args.form (option_map (λ s. s.now) c.args.filer) filing)))
-    same c.write_filing.ensures
+    same c.write_filing.ensures.written
 
 pub returns-in-None-clause-written : goal.returns-in-None-clause-written
 returns-in-None-clause-written g c clean old_style F was f is there =

@@ -1,7 +1,8 @@
 use Rattle.std.proofs.Common.{◌≡◌, ◌<◌, ◌+◌, ◌++◌, append-nil, append_assoc, length, take, ap, sym, subst, ◌∙◌, arith}
+use Rattle.std.proofs.Common.{Err, rules, ⊎_elim}
 use Rattle.std.proofs.KnownBytes.{Appends-trans}
 use Rattle.std.proofs.lemmas.List.{take_all}
-use Rattle.std.specs.Prelude.{option_map}
+use Rattle.std.specs.Prelude.{option_map, IfErr}
 use Rattle.std.specs.List.{flat_map}
 use Rattle.std.specs.Io.KnownBytes.{Appends}
 use Rattle.sqlite.specs.Held.{state}
@@ -12,7 +13,10 @@ use Rattle.filing_model.proofs.Keeping.{register_numbered}
 use Rattle.register_tables.proofs.Calls.{refuses}
 use Rattle.table_rows.proofs.LeavingLemmas.{clean_before, ended, none_yet, passed_then, stands}
 use Rattle.table_rows.specs.Leaving.Ending.{Passed}
-use Rattle.register_export.specs.Records.{filing_records}
+use Rattle.register_export.specs.declared.fault.RecordsFault.TheVariants as records
+use Rattle.register_export.specs.Exports.{UnlessOutput}
+use Rattle.register_export.specs.Records.{export_begun, filing_records}
+use Rattle.register_export.proofs.Done.{Begun, unless}
 use Rattle.register_walk.proofs.Steps.{next_filing, next_written}
 use Rattle.register_export.proofs.writing.write_records.Goals as goal
 
@@ -22,7 +26,7 @@ loop-at-init g c = record {
   written = λ clean old_style F was is count.
       subst (Appends (g.O.Write.contents c.args.output.now) (g.O.Write.contents c.print.new.output))
       (c.as_bytes.ensures.value ∙ c.first_line.ensures
-      ∙ sym (append-nil (first_line c.args.form))) c.in_ok-print.ensures;
+      ∙ sym (append-nil (first_line c.args.form))) c.in_ok-print.ensures.written;
 }
 
 pub loop-at-preserved : goal.loop-at-preserved
@@ -54,6 +58,7 @@ returns g c =
           (first_line c.args.form ++ flat_map text fs))
           (take_all c.loop-at.at (register F) (omega (arith, c.loop-at-test.false, count)))
           (had.written clean old_style F was is count);
+      begun = λ clean old_style F was is count. tt;
       leaves = had.leaves;
     }
 
@@ -65,3 +70,26 @@ pub returns-in_err-write_numbered-clause-leaves : goal.returns-in_err-write_numb
 returns-in_err-write_numbered-clause-leaves g c =
     refuses Passed c.from_residual-in_err-write_numbered.result c.from_residual-in_err-write_numbered.ensures.0
     (passed_then c.loop-at.invariant.leaves c.in_err-write_numbered.ensures.leaves)
+
+pub returns-in_err-print-clause-begun : goal.returns-in_err-print-clause-begun
+returns-in_err-print-clause-begun g c = λ clean old_style F was is count.
+    let came : Err records.Output ≡ c.from_residual.result =
+    search (rules, c.in_err-print.ensures.failed) in
+    subst (λ r. IfErr r (UnlessOutput (Begun c.args.form (option_map (λ s. s.now) c.args.filer)
+    (g.O.Write.contents c.args.output.now) (g.O.Write.contents c.print.new.output) F))) came tt
+
+pub returns-in_err-write_numbered-clause-begun : goal.returns-in_err-write_numbered-clause-begun
+returns-in_err-write_numbered-clause-begun g c = λ clean old_style F was is count.
+    let told = c.in_err-write_numbered.ensures in
+    let why = c.in_err-write_numbered.field-0.0 in
+    let out = g.O.Write.contents c.args.output.now in
+    let filer = option_map (λ s. s.now) c.args.filer in
+    let came : Err why ≡ c.from_residual-in_err-write_numbered.result = search rules in
+    let Written : Type 0 = Begun c.args.form filer out (g.O.Write.contents c.write_numbered.new.output) F in
+    subst (λ r. IfErr r (UnlessOutput Written)) came
+    (⊎_elim (λ output. subst (UnlessOutput Written) (sym output) tt)
+    (λ same. unless why (
+      c.loop-at.at,
+      subst (λ o. Appends out o (export_begun c.loop-at.at c.args.form filer (register F))) (sym same)
+          (c.loop-at.invariant.written (clean_before told.leaves clean) old_style F was is count),
+    )) told.quiet)

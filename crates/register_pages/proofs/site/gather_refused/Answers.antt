@@ -31,8 +31,8 @@ loop-at-preserved g c =
                 let skipped =
                 sender_skipped requests c.loop-at.number (c.loop-at.at + 1) next.0 (rw are.catalogue_is at line)
                 (rw place at next.1) in
-                gathered_before (λ (k : Kept). k.request.filer) (filers_of (register requests)) _ _ next.0 next.2 skipped
-                (had.gathered clean old_style requests was are known);
+                gathered_before (λ (k : Kept). k.request.filer) (filers_of (register requests)) _ _ next.0 next.2
+                skipped (had.gathered clean old_style requests was are known);
           })
       | else-is_filing+in_ok-gather w ↦
           let more = w.in_ok-gather.ensures in
