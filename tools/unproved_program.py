@@ -3,8 +3,9 @@
 
     tools/unproved_program.py CLONE NAME FILE       writes the program NAME (intake, outbox or drill) of a clone to FILE
 
-`rt try` compiles a program with checks, runs it and throws it away. So this has it do something that lasts, copies its executable from /proc, and
-stops it. Nothing is proved of that program; it is for trials alone, and slower than the one that `rt run` builds. Status 1 if it can't be had.
+`rt try` compiles a program with checks, runs it, maybe by a loader of the kit's, and throws it away. So this has it do something that lasts, copies
+its executable, and stops it. Nothing is proved of that program; it is for trials alone, and slower than the one that `rt run` builds. Status 1 if it
+can't be had.
 """
 import contextlib
 import os
@@ -73,13 +74,23 @@ def descends(process, ancestor):
     return False
 
 
+def program_of(process):
+    """What a process runs, and the file to copy it from: its executable, or, if that is a loader (ld.so), the program that the loader was given."""
+    path = pathlib.Path(os.readlink(process / "exe"))
+    if not path.name.startswith("ld-"):
+        return path, process / "exe"
+    given = (pathlib.Path(os.fsdecode(word)) for word in (process / "cmdline").read_bytes().split(b"\0")[1:])
+    program = next((it for it in given if it.is_absolute() and it.is_file()), path)
+    return program, program
+
+
 def built_program(ancestor, others):
     """An open executable of a process below this one that is none of the others', or None."""
     for process in pathlib.Path("/proc").glob("[0-9]*"):
         try:
-            path = pathlib.Path(os.readlink(process / "exe"))
+            path, file = program_of(process)
             if not any(path.is_relative_to(it) for it in others) and descends(int(process.name), ancestor):
-                return open(process / "exe", "rb")
+                return open(file, "rb")
         except OSError:
             continue
     return None
