@@ -1,6 +1,6 @@
 -- What reading up to a length does, and why it fails. Own rules, over those of a reader. The first arguments are what
 -- contracts see of the reader: the bytes that it has left, and how many of its reads have failed.
-use Rattle.std.specs.Prelude.{◌≡◌, ℕ, zero, suc, ◌+◌, ◌<◌, ◌≤◌, List, length, Option}
+use Rattle.std.specs.Prelude.{◌≡◌, ℕ, zero, suc, ◌<◌, ◌≤◌, List, length, Option}
 use Rattle.std.specs.Io.KnownBytes.{Consumes, IsAtEnd}
 use Rattle.http_messages.specs.Reads.{max_reads}
 use Rattle.http_wire.specs.Device.{HasFailed}

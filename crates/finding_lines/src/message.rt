@@ -1,5 +1,5 @@
 //! The sentence of a finding.
-ghost use Rattle.std.specs.Prelude.{◌≡◌, drop, option_map, IfOk};
+ghost use Rattle.std.specs.Prelude.{◌≡◌, option_map, IfOk};
 ghost use Rattle.finding_lines.specs.Messages.{phrase, subject, bracket_words, message, value as value_lem};
 
 use crate::text::copied;

@@ -1,5 +1,5 @@
 //! Where the head of a message ends (RFC 9112, sections 2.1 and 2.2).
-ghost use Rattle.std.specs.Prelude.{◌≡◌, ◌≤◌, ℕ, length, MatchOption};
+ghost use Rattle.std.specs.Prelude.{◌≡◌, ◌≤◌, length, MatchOption};
 ghost use Rattle.http_messages.specs.Block.{max_block_len, skipped_len, from_block, HasNoEndUpTo, BeginsBlock, IsBlock};
 ghost use Rattle.http_messages.specs.Feeds.{HasNoFeedFrom, IsNextFeed};
 

@@ -1,6 +1,6 @@
 -- How the tables of an outbox are made.
 use Rattle.std.specs.Prelude.{◌≡◌, ◌⊎◌, ◌↔◌, ℕ, true, false, List, [], ◌∷◌, Result, Ok, Err, IsTrue, IfOk, IfErr, OnOk}
-use Rattle.std.specs.Prelude.{codes, String, string_bytes}
+use Rattle.std.specs.Prelude.{String, string_bytes}
 use Rattle.std.specs.declared.alloc.Global.{Global}
 use Rattle.sqlite.specs.declared.types.Value.TheVariants.{Text}
 use Rattle.sqlite.specs.Store.{Ghosts}

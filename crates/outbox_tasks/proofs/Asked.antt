@@ -1,5 +1,5 @@
 -- A settled entry that is asked about.
-use Rattle.std.proofs.Common.{◌≡◌, ◌≢◌, ◌∙◌, ℕ, ◌≤◌, List, [], ◌∷◌, take, Option, Some, option_map}
+use Rattle.std.proofs.Common.{◌≡◌, ◌≢◌, ◌∙◌, ℕ, List, [], take, Option, Some, option_map}
 use Rattle.std.proofs.Common.{Result, Ok, Err, true, false, true≢false, Vec, refl, sym, ap, subst, inl, inr}
 use Rattle.std.specs.Global.{Global}
 use Rattle.std.specs.Io.KnownBytes.{Appends}

@@ -1,5 +1,5 @@
 -- What a migration reads and writes, and why a database is not migrated.
-use Rattle.std.specs.Prelude.{◌≡◌, ◌≢◌, ◌⊎◌, ◌≤◌, ℕ, pos, false, List, [], ◌∷◌, length, codes, Result, Ok, Err, IsTrue}
+use Rattle.std.specs.Prelude.{◌≡◌, ◌≢◌, ◌⊎◌, ◌≤◌, ℕ, pos, false, List, [], ◌∷◌, length, Result, Ok, Err, IsTrue}
 use Rattle.std.specs.Prelude.{IfOk, IfErr, OnOk, OnErr}
 use Rattle.sqlite.specs.Order.{Row}
 use Rattle.sqlite.specs.Store.{Ghosts}

@@ -1,6 +1,5 @@
 //! The codes of findings.
-ghost use Rattle.std.specs.Prelude.{◌≡◌, ◌↔◌, ℤ, pos, Some, IfSome, IsNone};
-ghost use Rattle.std.specs.Option.{IfNone};
+ghost use Rattle.std.specs.Prelude.{◌≡◌, pos, Some, IfSome};
 
 /// Why a report is refused at a place. Each variant's meaning is a line of `specs/Finding.antt`, of
 /// `specs/Dimension.antt` for what is wrong with a dimension, or of `specs/Amendment.antt`.

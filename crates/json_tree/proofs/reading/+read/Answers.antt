@@ -35,7 +35,8 @@ read_value-returns-then-depth-eq0-2-clause-not_json t c never =
     let none : c.args.depth ≡ 0 = omega arith in
     ap (converted of_json) (ap₂ value none (first ∙ ap (λ k. token_of k ∷ c.next.new.self) c.in-BeginObject.is))
 
-pub read_value-returns-in_err-read_items-in-BeginArray-clause-not_json : goal.read_value-returns-in_err-read_items-in-BeginArray-clause-not_json
+pub read_value-returns-in_err-read_items-in-BeginArray-clause-not_json
+    : goal.read_value-returns-in_err-read_items-in-BeginArray-clause-not_json
 read_value-returns-in_err-read_items-in-BeginArray-clause-not_json t c refused =
     let first : c.args.reader.now ≡ token_of c.in_ok-token.token ∷ c.next.new.self = grind arith in
     let opened =
@@ -45,7 +46,8 @@ read_value-returns-in_err-read_items-in-BeginArray-clause-not_json t c refused =
     ∙ converted-array (items (value (c.args.depth - 1)) (length c.next.new.self) c.next.new.self) in
     opened ∙ ap (parse_map array) (c.read_items.ensures.not_json (grind arith))
 
-pub read_value-returns-in_err-read_members-in-BeginObject-clause-not_json : goal.read_value-returns-in_err-read_members-in-BeginObject-clause-not_json
+pub read_value-returns-in_err-read_members-in-BeginObject-clause-not_json
+    : goal.read_value-returns-in_err-read_members-in-BeginObject-clause-not_json
 read_value-returns-in_err-read_members-in-BeginObject-clause-not_json t c refused =
     let first : c.args.reader.now ≡ token_of c.in_ok-token.token ∷ c.next.new.self = grind arith in
     let opened =
@@ -99,7 +101,8 @@ read_value-returns-in-EndObject-clause-not_json t c refused =
     rw (value_is c.args.depth c.args.reader.now, first) (grind arith) in
     ap (converted of_json) none
 
-pub read_value-returns-in_ok-read_items-in-BeginArray-clause-ok : goal.read_value-returns-in_ok-read_items-in-BeginArray-clause-ok
+pub read_value-returns-in_ok-read_items-in-BeginArray-clause-ok
+    : goal.read_value-returns-in_ok-read_items-in-BeginArray-clause-ok
 read_value-returns-in_ok-read_items-in-BeginArray-clause-ok t c =
     let first : c.args.reader.now ≡ token_of c.in_ok-token.token ∷ c.next.new.self = grind arith in
     let opened =
@@ -111,7 +114,8 @@ read_value-returns-in_ok-read_items-in-BeginArray-clause-ok t c =
     opened ∙ ap (parse_map array) found.ensures.ok
     ∙ ap (λ d. Some (d, c.read_items.new.reader)) (sym (view-Array found.field-0))
 
-pub read_value-returns-in_ok-read_members-in-BeginObject-clause-ok : goal.read_value-returns-in_ok-read_members-in-BeginObject-clause-ok
+pub read_value-returns-in_ok-read_members-in-BeginObject-clause-ok
+    : goal.read_value-returns-in_ok-read_members-in-BeginObject-clause-ok
 read_value-returns-in_ok-read_members-in-BeginObject-clause-ok t c =
     let first : c.args.reader.now ≡ token_of c.in_ok-token.token ∷ c.next.new.self = grind arith in
     let opened =

@@ -1,4 +1,4 @@
-use Rattle.std.proofs.Common.{refl, ◌∙◌, Ok, Err, inl}
+use Rattle.std.proofs.Common.{refl, Ok, Err, inl}
 use Rattle.std.proofs.lemmas.Result.{err_from_is_err_and}
 use Rattle.outbox_tasks.proofs.asking.ask.Goals as goal
 

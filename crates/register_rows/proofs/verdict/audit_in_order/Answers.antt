@@ -8,10 +8,6 @@ use Rattle.register_rows.proofs.AuditSteps.{requests_first}
 use Rattle.register_rows.proofs.MoreRequests.{kept_length}
 use Rattle.register_rows.proofs.SeenLemmas.{first_is}
 use Rattle.register_rows.proofs.verdict.audit_in_order.Goals as goal
-use Rattle.register_rows.proofs.verdict.audit_in_order.Goals.{else-is_empty-via-then-is_empty+then-is_empty-2+then-is_empty-3+else-is_empty-4}
-use Rattle.register_rows.proofs.verdict.audit_in_order.Goals.{else-is_empty-via-then-is_empty+then-is_empty-2+else-is_empty-3}
-use Rattle.register_rows.proofs.verdict.audit_in_order.Goals.{else-is_empty-via-then-is_empty+else-is_empty-2}
-use Rattle.register_rows.proofs.verdict.audit_in_order.Goals.{else-is_empty-via-else-is_empty}
 
 pub loop-at-init : goal.loop-at-init
 loop-at-init c = (
@@ -111,16 +107,16 @@ returns-else-is_empty c = record {
   }) (view_rows_left c.loop-at.rest) c.loop-at.at c.loop-at.rest.number
       c.loop-at.filed (omega (arith, c.loop-at-test.false, c.loop-at.auto.at-end)) c.loop-at.invariant.0
       (elim c.else-is_empty.branch [
-        | else-is_empty-via-then-is_empty+then-is_empty-2+then-is_empty-3+else-is_empty-4 w ↦
+        | goal.else-is_empty-via-then-is_empty+then-is_empty-2+then-is_empty-3+else-is_empty-4 w ↦
             (let some : (length c.loop-at.rest.amends.now == 0) ≡ false = sym w.if-is_empty-4.ensures in
             grind (arith, nat_tests, some))
-        | else-is_empty-via-then-is_empty+then-is_empty-2+else-is_empty-3 w ↦
+        | goal.else-is_empty-via-then-is_empty+then-is_empty-2+else-is_empty-3 w ↦
             (let some : (length c.loop-at.rest.facts.now == 0) ≡ false = sym w.if-is_empty-3.ensures in
             grind (arith, nat_tests, some))
-        | else-is_empty-via-then-is_empty+else-is_empty-2 w ↦
+        | goal.else-is_empty-via-then-is_empty+else-is_empty-2 w ↦
             (let some : (length c.loop-at.rest.filings.now == 0) ≡ false = sym w.if-is_empty-2.ensures in
             grind (arith, nat_tests, some))
-        | else-is_empty-via-else-is_empty w ↦ (let some : (length c.loop-at.rest.findings.now == 0) ≡ false =
+        | goal.else-is_empty-via-else-is_empty w ↦ (let some : (length c.loop-at.rest.findings.now == 0) ≡ false =
             sym w.if-is_empty.ensures in grind (arith, nat_tests, some))
       ]);
 }
