@@ -20,13 +20,14 @@ use Rattle.register_tables.specs.declared.migrate.earlier.Earlier.TheVariants.{S
 use Rattle.register_tables.specs.declared.fault.OpenFault.{OpenFault}
 use Rattle.register_tables.specs.Earlier.{IsAlone, is_blocked}
 use Rattle.register_tables.specs.Refusals.{GivesBackOpening}
-use Rattle.register_tables.specs.Registers.{IsRegisterOf}
+use Rattle.register_tables.specs.Registers.{ForRows, IsRegisterOf}
 use Rattle.register_store.specs.Calls.{OpensOrGivesBack}
 use Rattle.register_store.specs.Numbered.{facts_numbered}
 use Rattle.register_store.specs.Store.{StoreParts, HasRequests, shows}
 use Rattle.fact_records.specs.declared.record.Form.{Form}
 use Rattle.register_export.specs.Exports.{ExportsFacts}
-use Rattle.register_export.specs.Records.{export_text}
+use Rattle.register_export.specs.Exports.{UnlessOutput}
+use Rattle.register_export.specs.Records.{export_begun, export_text}
 use Rattle.register_export.specs.declared.fault.ExportFault.TheVariants as export
 use Rattle.register_export.specs.declared.fault.RecordsFault.{RecordsFault}
 use Rattle.register_export.specs.declared.fault.RecordsFault.TheVariants as records
@@ -46,13 +47,13 @@ use Rattle.intake_tasks.specs.declared.migrating.Migrated.{Migrated}
 use Rattle.intake_tasks.specs.declared.showing.ShowFault.{ShowFault}
 use Rattle.intake_tasks.specs.declared.showing.ShowFault.TheVariants as showing
 use Rattle.intake_tasks.specs.declared.text.TextFault.{TextFault}
-use Rattle.intake_tasks.specs.declared.text.TextFault.TheVariants.{Output}
+use Rattle.intake_tasks.specs.declared.text.TextFault.TheVariants.{Memory, Output}
 use Rattle.intake_tasks.specs.Lines.{list_line, fact_lines, sound_line, migrated_line}
 use Rattle.intake_tasks.specs.Tasks.{PrintsNothing, ListsFilings, ShowsFiling, ChecksRegister, MigratesRegister}
 use Rattle.intake_process.specs.declared.errand.ErrandFault.{ErrandFault}
 use Rattle.intake_process.specs.declared.errand.ErrandFault.TheVariants as fault
 use Rattle.intake_process.specs.Errands.{text_of, IsRegisterFor, MayFail, Tells, Says, RunsErrand, FillsFolder, IsQuiet}
-use Rattle.intake_process.specs.Errands.{is_for_pages, is_refusal}
+use Rattle.intake_process.specs.Errands.{IsBegun, is_broken_off, is_for_pages, is_refusal}
 use Rattle.intake_process.specs.Outcomes.{listed_as, records_fault, shown_as, printed_as, writing_fault}
 
 -- a disk that is clean after a call was clean before it
@@ -72,6 +73,26 @@ no_print asked.Migrate out out' why same = inr same
 no_print (asked.Export form filer) out out' why same = λ _. same
 no_print (asked.Pages folder) out out' why same = inr same
 
+-- no export was begun, whatever the errand
+pub no_begin : (errand : Errand) (requests : List Request) (out out' : Option (List ℕ)) (why : ErrandFault)
+    → is_broken_off why ≡ false → IsBegun errand requests out out' why
+no_begin (asked.List filer) requests out out' why not = tt
+no_begin (asked.Show number) requests out out' why not = tt
+no_begin asked.Check requests out out' why not = tt
+no_begin asked.Migrate requests out out' why not = tt
+no_begin (asked.Export form filer) requests out out' why not = λ is. absurd (true≢false (sym is ∙ not))
+no_begin (asked.Pages folder) requests out out' why not = tt
+
+refused_whole : (why : ErrandFault) → is_refusal why ≡ true → is_broken_off why ≡ false
+refused_whole (fault.Files why) is = refl
+refused_whole (fault.Open why holding) is = refl
+refused_whole (fault.Migrate why holding) is = refl
+refused_whole (fault.List why) is = refl
+refused_whole (fault.Store why) is = absurd (true≢false (sym is))
+refused_whole (fault.NoFiling number) is = refl
+refused_whole (fault.Text why) is = absurd (true≢false (sym is))
+refused_whole fault.Folder is = refl
+
 module _ {S X : Type 0} (g : Ghosts S) (errand : Errand) (out : Option (List ℕ)) (old new : Held S)
     (why : ErrandFault) where
   pub refuses : is_refusal why ≡ true → (HasCleanDisk (state g new) → (old_style : ℕ) (requests : List Request)
@@ -82,6 +103,7 @@ module _ {S X : Type 0} (g : Ghosts S) (errand : Errand) (out : Option (List ℕ
     told = λ clean old_style requests firsts_are rows. (
       may clean old_style requests rows,
       no_print errand out out why refl,
+      no_begin errand requests out out why (refused_whole why is),
     );
     kept = λ clean not old_style requests firsts_are rows. absurd (true≢false (sym is ∙ not));
     found = λ clean not tables. absurd (true≢false (sym is ∙ not));
@@ -91,12 +113,13 @@ module _ {S X : Type 0} (g : Ghosts S) (errand : Errand) (out : Option (List ℕ
 
 -- ---- an errand is done
 
--- what comes of it, by what its task answered
+-- what comes of an errand that is no export, by what its task answered
 tells : {X : Type 0} (errand : Errand) (requests : List Request) (out out' : Option (List ℕ)) (r : Result X ErrandFault)
     → OnOk r ((text : List ℕ) × (text_of errand requests ≡ Some text) × Appends out out' text)
-    → IfErr r (MayFail errand requests) → IfErr r (IsQuiet errand out out') → Tells errand requests out out' r
-tells errand requests out out' (Ok done) told may quiet = told
-tells errand requests out out' (Err why) told may quiet = (may, quiet)
+    → IfErr r (MayFail errand requests) → IfErr r (IsQuiet errand out out')
+    → ((why : ErrandFault) → IsBegun errand requests out out' why) → Tells errand requests out out' r
+tells errand requests out out' (Ok done) told may quiet begun = told
+tells errand requests out out' (Err why) told may quiet begun = (may, quiet, begun why)
 
 -- ---- list
 
@@ -148,7 +171,7 @@ module _ {S : Type 0} (g : Ghosts S) (filer : Bor (List ℕ)) (out out' : Option
             let held = holds requests firsts_are (opened.outcome.only (was_clean clean) old_style requests rows).1 in
             tells (asked.List filer) requests out out' (listed_as r)
             (list_told filer requests out out' r (does.listed clean requests held)) (list_may filer requests r)
-            quiet;
+            quiet (λ why. tt);
         kept = λ clean not old_style requests firsts_are rows.
             let only = opened.outcome.only (was_clean clean) old_style requests rows in
             let stays = does.kept clean requests (holds requests firsts_are only.1) in
@@ -233,7 +256,7 @@ module _ {S : Type 0} (g : Ghosts S) (number : ℕ) (out out' : Option (List ℕ
             tells (asked.Show number) requests out out' (shown_as number r)
             (show_told number requests out out' r (shows_it.shown clean requests has))
             (show_may number requests r (shows_it.missing clean requests has) (shows_it.found clean requests has))
-            quiet;
+            quiet (λ why. tt);
         kept = λ clean not old_style requests firsts_are rows.
             let only = opened.outcome.only (was_clean clean) old_style requests rows in
             let stays = shows_it.keeps.same clean requests only.1 in
@@ -287,7 +310,7 @@ module _ {S X : Type 0} (g : Ghosts S) (out out' : Option (List ℕ)) (old new :
             let same : fault.Text why ≡ fault.Text Output = cc in inl same)
         | inr none ↦ inr none
       ] in record {
-        told = λ clean old_style requests firsts_are rows. (refl, quiet);
+        told = λ clean old_style requests firsts_are rows. (refl, quiet, tt);
         kept = λ clean not old_style requests firsts_are rows. checks.kept clean old_style requests rows;
         found = λ clean not tables. checks.found clean tables;
         refused = tt;
@@ -304,7 +327,7 @@ module _ {S X : Type 0} (g : Ghosts S) (out out' : Option (List ℕ)) (old new :
             cc)
         | inr none ↦ inr none
       ] in record {
-        told = λ clean old_style requests firsts_are rows. (checks.failed clean old_style requests rows, quiet);
+        told = λ clean old_style requests firsts_are rows. (checks.failed clean old_style requests rows, quiet, tt);
         kept = λ clean not old_style requests firsts_are rows. absurd (true≢false not);
         found = λ clean not tables. absurd (true≢false not);
         refused = (checks.refused, checks.survives);
@@ -323,7 +346,7 @@ module _ {S : Type 0} (g : Ghosts S) (out out' : Option (List ℕ)) (conn : Held
       → OnOk printed (Appends out out' migrated_line) → IfErr printed (λ why. why ≡ Output)
       → Tells asked.Migrate requests out out' (printed_as printed)
   migrated_told requests (Ok done) printed failed = (migrated_line, refl, printed)
-  migrated_told requests (Err why) printed failed = (refl, inl (ap fault.Text failed))
+  migrated_told requests (Err why) printed failed = (refl, inl (ap fault.Text failed), tt)
 
   migrated_quiet : (printed : Result (Unit {0}) TextFault) → IfErr printed (λ why. why ≡ Output)
       → IfErr (printed_as printed) (PrintsNothing (fault.Text Output) out out')
@@ -374,6 +397,15 @@ module _ (form : Form) (filer : Option (Bor (List ℕ))) where
   records_quiet out out' records.Memory = λ is. absurd (true≢false (sym is))
   records_quiet out out' records.Output = λ is. absurd (true≢false (sym is))
 
+  records_begun : {S : Type 0} (g : Ghosts S) (out out' : Option (List ℕ)) (old : Held S) (why : RecordsFault)
+      → UnlessOutput (ForRows g old (λ _ requests.
+      (many : ℕ) × Appends out out' (export_begun many form (option_map (λ f. f.now) filer) (register requests)))) why
+      → (old_style : ℕ) (requests : List Request) → IsRegisterOf old_style requests (state g old).now
+      → IsBegun (asked.Export form filer) requests out out' (records_fault why)
+  records_begun g out out' old (records.Store why) begun old_style requests rows = λ is. begun old_style requests rows
+  records_begun g out out' old records.Memory begun old_style requests rows = λ is. begun old_style requests rows
+  records_begun g out out' old records.Output begun old_style requests rows = λ is. absurd (true≢false (sym is))
+
   records_says : {S : Type 0} (g : Ghosts S) (old new : Held S) (why : RecordsFault)
       → Says g (asked.Export form filer) old new (records_fault why)
   records_says g old new (records.Store why) = tt
@@ -400,7 +432,11 @@ module _ (form : Form) (filer : Option (Bor (List ℕ))) where
         X} g form (option_map (λ f. f.now) filer) out out' old new (Err (export.Records why))
         → RunsErrand {S = S} {X = X} g (asked.Export form filer) out out' old new (Err (records_fault why))
     export_failed why exports = record {
-      told = λ clean old_style requests firsts_are rows. (records_may requests why, records_quiet out out' why);
+      told = λ clean old_style requests firsts_are rows. (
+        records_may requests why,
+        records_quiet out out' why,
+        records_begun g out out' old why (exports.begun clean) old_style requests rows,
+      );
       kept = λ clean not old_style requests firsts_are rows. exports.kept clean old_style requests rows;
       found = λ clean not tables. exports.found clean tables;
       refused = records_says g old new why;
@@ -414,6 +450,7 @@ module _ (form : Form) (filer : Option (Bor (List ℕ))) where
       told = λ clean old_style requests firsts_are rows. (
         exports.failed clean old_style requests rows,
         λ _. exports.quiet,
+        λ is. absurd (true≢false (sym is)),
       );
       kept = λ clean not old_style requests firsts_are rows. absurd (true≢false not);
       found = λ clean not tables. absurd (true≢false not);
@@ -471,7 +508,7 @@ module _ (path : Bor (List ℕ)) where
         → (out : Option (List ℕ)) → RunsErrand {S = S} {X =
         X} g (asked.Pages path) out out old new (Err (writing_fault why))
     site_failed why writes out = record {
-      told = λ clean old_style requests firsts_are rows. (writing_may requests why, inr refl);
+      told = λ clean old_style requests firsts_are rows. (writing_may requests why, inr refl, tt);
       kept = λ clean not old_style requests firsts_are rows. writes.kept clean old_style requests rows;
       found = λ clean not tables. writes.found clean tables;
       refused = writing_says g old new why;
@@ -482,7 +519,7 @@ module _ (path : Bor (List ℕ)) where
         → WritesPages {S = S} {X = X} g pages pages' old new (Err (site.Open why)) → (out : Option (List ℕ))
         → RunsErrand {S = S} {X = X} g (asked.Pages path) out out old new (Err (fault.Open why holding))
     site_refused why holding writes out = record {
-      told = λ clean old_style requests firsts_are rows. (writes.failed clean old_style requests rows, inr refl);
+      told = λ clean old_style requests firsts_are rows. (writes.failed clean old_style requests rows, inr refl, tt);
       kept = λ clean not old_style requests firsts_are rows. absurd (true≢false not);
       found = λ clean not tables. absurd (true≢false not);
       refused = (writes.refused, writes.survives);

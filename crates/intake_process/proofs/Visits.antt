@@ -26,7 +26,7 @@ use Rattle.intake_process.specs.declared.errand.ErrandFault.TheVariants as fault
 use Rattle.intake_process.specs.declared.visiting.Visited.{Visited}
 use Rattle.intake_process.specs.Errands.{IsRegisterFor, MayFail, Tells, is_for_pages, is_refused}
 use Rattle.intake_process.specs.Process.{Parts, KeepsBy}
-use Rattle.intake_process.proofs.Errands.{no_print}
+use Rattle.intake_process.proofs.Errands.{no_begin, no_print}
 use Rattle.intake_process.specs.Visits.{Outputs, LiesFor, is_doubtful, IsLeftIn, GoesOn, VisitsPlace, VisitsRegister}
 
 or_first : (a b : Bool) → (a || b) ≡ false → a ≡ false
@@ -115,6 +115,7 @@ module _ {D : Type 0} {g : Ghosts D} where
         subst (λ done. Tells errand requests out.text out'.text done) (sym goes.0) (
           may_files errand requests why,
           no_print errand out.text out'.text (fault.Files why) (ap (λ o. o.text) goes.3),
+          no_begin errand requests out.text out'.text (fault.Files why) refl,
         )
     told_by (Ok conn) between opens goes honest old_style requests lies =
         goes.1.told (always_clean honest goes.0) old_style requests lies.0

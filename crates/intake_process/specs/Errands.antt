@@ -19,11 +19,11 @@ use Rattle.register_tables.specs.Migrating.{IsNotMigrated, MigratesTo}
 use Rattle.register_tables.specs.Opening.{IsRefused}
 use Rattle.register_tables.specs.Registers.{IsRegisterOf}
 use Rattle.register_store.specs.Numbered.{facts_numbered}
-use Rattle.register_export.specs.Records.{export_text}
+use Rattle.register_export.specs.Records.{export_begun, export_text}
 use Rattle.register_pages.specs.Pages.{WritesSite}
 use Rattle.intake_tasks.specs.declared.errand.Errand.{Errand}
 use Rattle.intake_tasks.specs.declared.errand.Errand.TheVariants as asked
-use Rattle.intake_tasks.specs.declared.text.TextFault.TheVariants.{Output}
+use Rattle.intake_tasks.specs.declared.text.TextFault.TheVariants.{Memory, Output}
 use Rattle.intake_tasks.specs.Lines.{list_line, fact_lines, sound_line, migrated_line}
 use Rattle.intake_tasks.specs.Tasks.{PrintsNothing}
 use Rattle.intake_process.specs.declared.errand.ErrandFault.{ErrandFault}
@@ -90,12 +90,26 @@ abbrev pub IsQuiet : Errand → Option (List ℕ) → Option (List ℕ) → Erra
 IsQuiet (asked.Export form filer) out out' why = is_refusal why ≡ true → out' ≡ out
 IsQuiet errand out out' why = PrintsNothing (fault.Text Output) out out' why
 
--- what comes of an errand: its text is printed, or it failed, and nothing was printed
+-- memory or the database failed under way, and not the output
+abbrev pub is_broken_off : ErrandFault → Bool
+is_broken_off (fault.Store why) = true
+is_broken_off (fault.Text Memory) = true
+is_broken_off other = false
+
+-- An export of the register of these requests that was broken off has printed the records of the first filings, and no
+-- others. Each of them is whole.
+abbrev pub IsBegun : Errand → List Request → Option (List ℕ) → Option (List ℕ) → ErrandFault → Type 0
+IsBegun (asked.Export form filer) requests out out' why = is_broken_off why ≡ true
+    → (many : ℕ) × Appends out out' (export_begun many form (option_map (λ f. f.now) filer) (register requests))
+IsBegun errand requests out out' why = Unit {0}
+
+-- What comes of an errand: its text is printed, or it failed, and nothing was printed, or what an export began with.
 abbrev pub Tells : {X : Type 0} → Errand → List Request → Option (List ℕ) → Option (List ℕ) → Result X ErrandFault
     → Type 0
 Tells errand requests out out' (Ok done) =
     (text : List ℕ) × (text_of errand requests ≡ Some text) × Appends out out' text
-Tells errand requests out out' (Err why) = MayFail errand requests why × IsQuiet errand out out' why
+Tells errand requests out out' (Err why) =
+    MayFail errand requests why × IsQuiet errand out out' why × IsBegun errand requests out out' why
 
 -- ---- an errand to any database
 
