@@ -45,8 +45,11 @@ abbrev pub is_up : {D : Type 0} {g : Ghosts D} → OutboxEnd D g → Bool
 is_up end = is_up_in end.process
 
 -- whether a fault took it
+abbrev pub is_taken_in : {D : Type 0} {g : Ghosts D} → Option (OutboxProcess D (Drawer D) g) → Bool
+is_taken_in process = not (is_some process)
+
 abbrev pub is_taken : {D : Type 0} {g : Ghosts D} → OutboxEnd D g → Bool
-is_taken end = not (is_some end.process)
+is_taken end = is_taken_in end.process
 
 -- whether it gives no answer: the outbox is not open, or its database refused a call
 abbrev pub gives_none : {S : Type 0} → Option (OutboxParts S) → Bool

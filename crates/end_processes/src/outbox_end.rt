@@ -76,7 +76,7 @@ impl<D: Honest> OutboxEnd<D> {
         ensures kept { (filer : List ℕ) (entries : List Item) → Keeps self.old filer entries
             → Keeps self.new filer entries }
         ensures down { OnOk result (is_up self.new ≡ false) }
-        ensures stays { OnOk result (is_taken self.new ≡ false) }
+        ensures stays { OnOk result ((is_taken self.old ≡ false) × (is_taken self.new ≡ false)) }
         ensures refused { IfErr result (IsNotStopped self.old) }
         ensures store { result ≢ Err Cause.Store }
     {
@@ -94,6 +94,7 @@ impl<D: Honest> OutboxEnd<D> {
         ensures kept { (filer : List ℕ) (entries : List Item) → Keeps self.old filer entries
             → Keeps self.new filer entries }
         ensures up { OnOk result (is_up self.new ≡ true) }
+        ensures stays { OnOk result ((is_taken self.old ≡ false) × (is_taken self.new ≡ false)) }
         ensures refused { IfErr result (IsNotStarted self.old) }
         ensures store { result ≢ Err Cause.Store }
     {
@@ -122,6 +123,8 @@ impl<D: Honest> OutboxEnd<D> {
             → Keeps self.new filer
             (after_answer result entries (λ t. if t then entries ++ opened key.now target body.now ∷ [] else entries)) }
         ensures up { is_up self.new ≡ is_up self.old }
+        ensures stays { is_taken self.new ≡ is_taken self.old }
+        ensures down { is_up self.old ≡ false → result ≡ Err StoreFault.Store }
     {
         ask(alloc, &mut self.process, Put { key, target, body })
     }
@@ -134,6 +137,8 @@ impl<D: Honest> OutboxEnd<D> {
         ensures kept { (filer : List ℕ) (entries : List Item) → Keeps self.old filer entries
             → Keeps self.new filer entries }
         ensures up { is_up self.new ≡ is_up self.old }
+        ensures stays { is_taken self.new ≡ is_taken self.old }
+        ensures down { is_up self.old ≡ false → result ≡ Err StoreFault.Store }
     {
         ask(alloc, &mut self.process, WriteRequest { number })
     }
@@ -154,6 +159,8 @@ impl<D: Honest> OutboxEnd<D> {
         ensures kept { (filer : List ℕ) (entries : List Item) → Keeps self.old filer entries
             → Keeps self.new filer (after_answer result entries (entries_after entries number)) }
         ensures up { is_up self.new ≡ is_up self.old }
+        ensures stays { is_taken self.new ≡ is_taken self.old }
+        ensures down { is_up self.old ≡ false → result ≡ Err StoreFault.Store }
     {
         ask(alloc, &mut self.process, HearReply { number, bytes })
     }
@@ -166,6 +173,7 @@ impl<D: Honest> OutboxEnd<D> {
         ensures kept { (filer : List ℕ) (entries : List Item) → Keeps self.old filer entries
             → Keeps self.new filer entries }
         ensures up { is_up self.new ≡ is_up self.old }
+        ensures stays { is_taken self.new ≡ is_taken self.old }
         ensures down { is_up self.old ≡ false → result ≡ Err StoreFault.Store }
         ensures store { result ≡ Err StoreFault.Store → IsTrue (is_asleep self.new) }
     {

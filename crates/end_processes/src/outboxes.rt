@@ -15,7 +15,7 @@ ghost use Rattle.outbox_core.specs.OutboxParts.{HasEntries};
 ghost use Rattle.outbox_core.specs.Entries.{opened};
 ghost use Rattle.table_rows.specs.declared.fault.StoreFault.TheVariants.{Store as Refused};
 ghost use Rattle.end_processes.specs.Listed.{listed};
-ghost use Rattle.end_processes.specs.OutboxEnd.{KeepsSurely, KeepsIn, is_up_in, IfOpen, IfUp};
+ghost use Rattle.end_processes.specs.OutboxEnd.{KeepsSurely, KeepsIn, is_up_in, is_taken_in, IfOpen, IfUp};
 ghost use Rattle.end_processes.specs.Outboxes.{up_with, after_answer, why_unheard, state_or, entries_after};
 
 use crate::faithful::Faithful;
@@ -94,6 +94,7 @@ pub(crate) fn ask<D: Honest, C: Call + Drop>(
     ensures kept { (filer : List ℕ) (entries : List Item) → KeepsIn process.old filer entries
         → KeepsIn process.new filer (after_answer result entries (C.leaves call entries)) }
     ensures up { is_up_in process.new ≡ is_up_in process.old }
+    ensures stays { is_taken_in process.new ≡ is_taken_in process.old }
     ensures down { is_up_in process.old ≡ false → result ≡ Err StoreFault.Store }
     ensures refused { result ≡ Err StoreFault.Store → IfUp process.new (C.may_be_refused call) }
 {

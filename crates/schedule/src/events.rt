@@ -1,6 +1,6 @@
 //! The run of a list of events.
 
-ghost use Rattle.std.specs.Prelude.{◌≡◌, ◌≤◌, ◌^◌, map, None, IfOk, IfErr};
+ghost use Rattle.std.specs.Prelude.{◌≡◌, ◌≤◌, ◌^◌, map, false, None, IfOk, IfErr};
 ghost use Rattle.event_script.specs.Events.{view_event, HaveTargets};
 ghost use Rattle.filing_world.specs.Step.{Run};
 ghost use Rattle.filing_world.specs.Headline.{AreFilers, Holds, start};
@@ -25,6 +25,7 @@ pub fn run<D: Honest>(
         Run (start (map (λ f. f.now) filers.now) limit) (map view_event events.now) w.world) }
     ensures holds { IfOk result (λ w. Holds w.world) }
     ensures fine { IfOk result (λ w. w.fault ≡ None) }
+    ensures there { IfOk result (λ w. w.taken ≡ false) }
     ensures ends { IfErr result (EndsBy (start (map (λ f. f.now) filers.now) limit) (map view_event events.now)) }
 {
     let mut world = World::new(alloc, filers, limit)?;

@@ -13,8 +13,6 @@ use Rattle.filing_model.specs.Serving.{keeping}
 use Rattle.filing_model.specs.Stopping.{Crash, No}
 use Rattle.filing_model.specs.declared.served.Ended.{Ended}
 use Rattle.filing_model.specs.declared.served.Mark.{Mark}
-use Rattle.command_line.specs.declared.fault.DatabaseFault.{DatabaseFault}
-use Rattle.command_line.specs.declared.fault.DatabaseFault.TheVariants as database
 use Rattle.register_tables.specs.declared.fault.OpenFault.{OpenFault}
 use Rattle.register_tables.specs.declared.fault.OpenFault.TheVariants as register
 use Rattle.table_rows.proofs.CleanLemmas.{always_clean}
@@ -32,8 +30,9 @@ use Rattle.intake_process.specs.declared.process.Answered.{Answered}
 use Rattle.intake_process.specs.Begun.{HoldsAs}
 use Rattle.intake_process.specs.Process.{IsNotOpened, IsLeftBy, KeepsBy, AnswersBy}
 use Rattle.database_places.specs.Places as place
-use Rattle.end_processes.specs.Causes.{files_cause, register_cause, opening_cause, close_cause}
+use Rattle.end_processes.specs.Causes.{register_cause, opening_cause, close_cause}
 use Rattle.end_processes.specs.declared.cause.Cause.TheVariants as cause
+use Rattle.end_processes.proofs.Causes.{of_files}
 use Rattle.world.specs.Processes.{IsNotStopped, is_asleep}
 
 -- ---- a part of a connection
@@ -125,10 +124,6 @@ still_up from to None new answered by = ap is_some by.0
 
 -- ---- why it is not opened or closed
 
-files_not : (fault : DatabaseFault) → files_cause fault ≢ cause.Store
-files_not database.Memory e = cc
-files_not _ e = cc
-
 register_not : (fault : OpenFault) → register_cause fault ≢ cause.Store
 register_not register.NotOurs e = cc
 register_not (register.Damaged row) e = cc
@@ -138,7 +133,7 @@ register_not register.Disk e = cc
 -- a register that had to be there is not told as one that was not made
 pub found_not : {D : Type 0} (g : Ghosts D) (old new : Option (Option (Files D))) (fault : OpeningFault)
     → IsNotOpened g true old new fault → opening_cause fault ≢ cause.Store
-found_not g old new (opening.Files why) is = files_not why
+found_not g old new (opening.Files why) is = of_files why
 found_not g old new (opening.Taken holding) is = absurd (true≢false is.3.0)
 found_not g old new (opening.Create why) is = absurd (true≢false is.3.0)
 found_not g old new (opening.Open why holding) is = register_not why

@@ -1,8 +1,10 @@
 -- What each event did to the parts of a world, said as its step.
 use Rattle.std.proofs.Common.{◌≡◌, ℕ, zero, suc, true, false, List, [], ◌∷◌, ◌++◌, Option, Some, None, refl, sym, ap}
 use Rattle.std.proofs.Common.{take, ◌∙◌, subst, ⊎_elim, slice_get, slice_set, slice_index_or, ◌<◌, ◌⊎◌, length, map}
-use Rattle.std.proofs.Common.{option_map, arith, true≢false}
-use Rattle.std.proofs.lemmas.List.{length-map, length-set, map-set, get_or-set_same}
+use Rattle.std.proofs.Common.{option_map, arith, true≢false, ◌||◌}
+use Rattle.std.specs.List.{list_any}
+use Rattle.std.proofs.lemmas.List.{length-map, length-set, map-append, map-set, get_or-set_same}
+use Rattle.std.proofs.lemmas.List.Folds.{list_any-append}
 use Rattle.std.proofs.lemmas.Option.{slice_get_past, slice_get-get_or, slice_get-map, get_or_from_slice_get}
 use Rattle.std.proofs.lemmas.Option.{some_pair_parts}
 use Rattle.key_string.specs.Key.{IsKey}
@@ -15,7 +17,7 @@ use Rattle.filing_world.specs.Step.{Puts, Sends, Hands, Restarts, Hears, with_en
 use Rattle.filing_world.specs.Invariant.{AllOwn}
 use Rattle.filing_world.proofs.Lists.{renewed_same, same_element, written}
 use Rattle.filer_client.specs.Exchange.{request_at}
-use Rattle.world.specs.Filers.{FilerParts, boxes, sleepers}
+use Rattle.world.specs.Filers.{FilerParts, boxes, is_any_taken, sleepers, takens}
 use Rattle.world.specs.Served.{Served}
 use Rattle.world.specs.Played.{world_of, HasSleeper}
 use Rattle.world.specs.Playing.{IsUp}
@@ -129,12 +131,21 @@ map-slice_set : {X Y : Type 0} (f : X → Y) (xs : List X) (at : ℕ) (x : X)
     → map f (slice_set xs at x) ≡ slice_set (map f xs) at (f x)
 map-slice_set f xs at x = map-set f xs at x
 
--- a filer whose outbox stays as it was leaves all outboxes as they were
-pub set_same_box : (filers : List FilerParts) (at : ℕ) (it new : FilerParts) → slice_get filers at ≡ Some it
-    → new.box ≡ it.box → boxes (slice_set filers at new) ≡ boxes filers
-set_same_box filers at it new here same =
-    map-set (λ f. f.box) filers at new ∙ ap (slice_set (boxes filers) at) same ∙ written (boxes filers) at it.box
-    ∙ renewed_same (boxes filers) (suc at) it.box (box_there filers at it here)
+-- a filer of which a part stays as it was leaves this part of all filers as it was
+pub set_same : {X : Type 0} (part : FilerParts → X) (filers : List FilerParts) (at : ℕ) (it new : FilerParts)
+    → slice_get filers at ≡ Some it → part new ≡ part it → map part (slice_set filers at new) ≡ map part filers
+set_same part filers at it new here same =
+    let parts = map part filers in
+    map-set part filers at new ∙ ap (slice_set parts at) same ∙ written parts at (part it)
+    ∙ renewed_same parts (suc at) (part it) (slice_get-map part filers at ∙ ap (option_map part) here)
+
+-- one more filer that has its process
+pub none_taken_more : (filers : List FilerParts) (it : FilerParts) → is_any_taken filers ≡ false → it.taken ≡ false
+    → is_any_taken (filers ++ it ∷ []) ≡ false
+none_taken_more filers it none there =
+    ap (list_any (λ taken. taken)) (map-append (λ f. f.taken) filers (it ∷ []))
+    ∙ list_any-append (λ taken. taken) (takens filers) (it.taken ∷ []) ∙ ap (λ b. b || (it.taken || false)) none
+    ∙ ap (λ b. b || false) there
 
 -- one that is asleep makes a sleeper among them
 pub set_asleep : (filers : List FilerParts) (at : ℕ) (new : FilerParts) → at < length filers → new.asleep ≡ true

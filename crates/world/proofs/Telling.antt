@@ -1,8 +1,5 @@
 -- As what fault it is reported that an event was not played.
-use Rattle.std.proofs.Common.{◌≡◌, ◌≢◌, ℕ, refl}
-use Rattle.table_rows.specs.declared.fault.StoreFault.{StoreFault}
-use Rattle.table_rows.specs.declared.fault.StoreFault.TheVariants as store
-use Rattle.end_processes.specs.Causes.{store_cause}
+use Rattle.std.proofs.Common.{◌≡◌, ℕ, refl}
 use Rattle.end_processes.specs.declared.cause.Cause.{Cause}
 use Rattle.end_processes.specs.declared.cause.Cause.TheVariants as cause
 use Rattle.world.specs.declared.fault.Fault.TheVariants.{NoSuch, Store, Reopen}
@@ -31,17 +28,6 @@ reopen_why event n why.NoSuch is = absurd (cc)
 reopen_why event n (why.Refused cause.Memory) is = absurd (cc)
 reopen_why event n (why.Refused cause.Store) is = absurd (cc)
 reopen_why event n (why.Refused cause.Reopen) is = refl
-
--- no refused call on a store is one of an end that was not opened
-pub not_reopened : (fault : StoreFault) → store_cause fault ≢ cause.Reopen
-not_reopened store.Memory is = cc
-not_reopened store.Store is = cc
-
--- no refusal of an end is reported as NoSuch
-pub refused_there : (event n : ℕ) (c : Cause) → refused_at event c ≢ NoSuch n
-refused_there event n cause.Memory is = cc
-refused_there event n cause.Store is = cc
-refused_there event n cause.Reopen is = cc
 
 -- the fault at an event tells that event
 pub refused_tells_own : (event : ℕ) (c : Cause) → Tells event (refused_at event c)

@@ -23,19 +23,21 @@ world_of server sent outputs filers =
           server.up;
     }
 
--- the world, how many events came to it, the fault that ended it at the last of them, and which outboxes are asleep:
--- down, or with a database that refused a call
+-- The world, how many events came to it, the fault that ended it at the last of them, which outboxes are asleep (down,
+-- or with a database that refused a call), and whether a fault took the process of an end.
 pub record Played : Type 0 where
   pub world : World
   pub events : ℕ
   pub fault : Option Fault
   pub asleep : List Bool
+  pub taken : Bool
 
 -- the world is unchanged, except which outboxes are asleep
 pub record IsSame (old new : Played) : Type 0 where
   pub world : new.world ≡ old.world
   pub events : new.events ≡ old.events
   pub fault : new.fault ≡ old.fault
+  pub taken : new.taken ≡ old.taken
 
 -- one of the outboxes is asleep
 abbrev pub HasSleeper : List Bool → Type 0

@@ -55,6 +55,8 @@ pub record Plays (old new : Played) (event : Event) (result : Result (Unit {0}) 
   -- events are counted as they come, and a fault names the number of its event
   pub counts : old.fault ≡ None → new.events ≡ next_number old.events
   pub numbered : old.fault ≡ None → IfErr result (Tells new.events)
+  -- each end has its process as long as no fault comes
+  pub stays : OnOk result (new.taken ≡ old.taken)
   -- after a fault each later call answers that fault, and plays nothing
   pub ended : (fault : Fault) → old.fault ≡ Some fault → (result ≡ Err fault) × (new ≡ old)
   pub stops : IfErr result (λ fault. new.fault ≡ Some fault)

@@ -1,5 +1,5 @@
 -- What the process of a world's intake keeps in a drawer.
-use Rattle.std.specs.Prelude.{◌≡◌, ℕ, Bool, true, false, List, [], Option, Some, None, is_some}
+use Rattle.std.specs.Prelude.{◌≡◌, ℕ, Bool, true, false, List, [], Option, Some, None, is_some, not}
 use Rattle.sqlite_disk.specs.declared.Disk.{Ghosts}
 use Rattle.sqlite_disk.specs.declared.Files.{Files}
 use Rattle.sqlite_store.specs.declared.store.FileStore.{FileStore}
@@ -18,11 +18,8 @@ use Rattle.intake_process.specs.Process.{KeepsBy, IsNotOpened}
 use Rattle.intake_process.specs.declared.fault.OpeningFault.{OpeningFault}
 use Rattle.intake_process.specs.declared.process.IntakeProcess.{IntakeProcess}
 use Rattle.end_processes.specs.Causes.{opening_cause, close_cause}
+use Rattle.end_processes.specs.OutboxEnd.{lying_in}
 use Rattle.end_processes.specs.declared.cause.Cause.{Cause}
-
--- the files that lie in it
-abbrev pub lying_in : {D : Type 0} → Drawer D → Option (Option (Files D))
-lying_in drawer = Some drawer.files
 
 -- The process keeps these requests, none of which is old-style, and no close and no opening failed.
 abbrev pub KeepsSurely : {D : Type 0} {g : Ghosts D} → IntakeProcess D (Drawer D) g → ℕ → List Request → Type 0
@@ -38,6 +35,10 @@ Keeps None limit requests = Unit {0}
 abbrev pub is_up : {D : Type 0} {g : Ghosts D} → Option (IntakeProcess D (Drawer D) g) → Bool
 is_up (Some process) = is_some process.intake
 is_up None = false
+
+-- whether a fault took it
+abbrev pub is_taken : {D : Type 0} {g : Ghosts D} → Option (IntakeProcess D (Drawer D) g) → Bool
+is_taken process = not (is_some process)
 
 -- whether it gives no answer: its register is closed, or the database refused a call before
 abbrev pub is_asleep : {S : Type 0} → Option (Intake S) → Bool

@@ -25,6 +25,7 @@ pub(crate) fn deliver<D: Honest>(
     ensures step { OnOk result ((filers : List FilerParts)
         → Delivers (world_of server.old sent.now outputs.old.items filers) item bytes (view_crash crash)
         (world_of server.new sent.now outputs.new.items filers)) }
+    ensures stays { OnOk result (server.new.taken ≡ server.old.taken) }
     ensures no_such { result ≡ Err Unplayed.NoSuch → (filers : List FilerParts)
         → CannotPlay (world_of server.old sent.now outputs.old.items filers) (Deliver item bytes (view_crash crash)) }
     ensures store { result ≢ Err (Unplayed.Refused Cause.Store) }

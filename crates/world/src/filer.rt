@@ -37,7 +37,7 @@ pub(crate) struct Filer<D: Honest> {
 
 impl<D: Honest> Model for Filer<D> {
     ghost use Rattle.std.specs.Prelude.{string_bytes};
-    ghost use Rattle.end_processes.specs.OutboxEnd.{Keeps, is_up, is_asleep};
+    ghost use Rattle.end_processes.specs.OutboxEnd.{Keeps, is_up, is_asleep, is_taken};
     ghost use Rattle.world.specs.Filers.{FilerParts};
 
     ghost Value = { FilerParts };
@@ -45,6 +45,7 @@ impl<D: Honest> Model for Filer<D> {
     ghost view = { λ f. record {
       box = record { filer = string_bytes f.code; entries = f.entries.items; up = is_up f.end };
       asleep = is_asleep f.end;
+      taken = is_taken f.end;
     } };
 
     ghost invariant = { λ f. Keeps f.end (string_bytes f.code) f.entries.items };
@@ -67,6 +68,7 @@ impl<D: Honest> Filer<D> {
     pub(crate) fn new(alloc: Global, code: &str) -> Result<Filer<D>, Cause>
         requires { is_filer code.now ≡ true }
         ensures made { IfOk result (λ f. f.box ≡ new_outbox code.now) }
+        ensures there { IfOk result (λ f. f.taken ≡ false) }
     {
         Ok(Filer {
             alloc,
@@ -95,6 +97,7 @@ impl<D: Honest> Filer<D> {
         requires target { IsTarget target }
         ensures put { OnOk result (self.new.box ≡ with_entry self.old.box (opened key.now target body.now)) }
         ensures key { OnOk result (IsKey key.now) }
+        ensures stays { self.new.taken ≡ self.old.taken }
     {
         let report = Report::open(self.alloc, key, target, body)?;
         self.entries.reserve(1)?;
@@ -112,6 +115,7 @@ impl<D: Honest> Filer<D> {
         ensures bytes { IfOk result (λ text.
             option_map (λ t. t.items) text ≡ request_at self.old.box.filer self.old.box.entries entry) }
         ensures same { OnOk result (self.new.box ≡ self.old.box) }
+        ensures stays { self.new.taken ≡ self.old.taken }
     {
         self.end.request(self.alloc, entry)
     }
@@ -124,6 +128,7 @@ impl<D: Honest> Filer<D> {
         ensures heard { OnOk result ((what : Item) → numbered self.old.box.entries entry ≡ Some what
             → (heard : Option ReplyParts) × Hears bytes.now (view_crash crash) heard
             × (self.new.box ≡ box_after self.old.box entry what heard (view_crash crash))) }
+        ensures stays { OnOk result (self.new.taken ≡ self.old.taken) }
         ensures store { result ≡ Err Cause.Store → (j : ℕ) → view_crash crash ≢ Before j }
         ensures reopen { result ≡ Err Cause.Reopen → is_no (view_crash crash) ≡ false }
     {
@@ -140,9 +145,10 @@ impl<D: Honest> Filer<D> {
     /// Hands these bytes to the entry of this number as the reply to its request, without a stop.
     fn hear(&mut self, entry: u64, bytes: &[u8]) -> Result<(), StoreFault>
         requires { self.old.box.up ≡ true }
-        ensures { OnOk result ((what : Item) → numbered self.old.box.entries entry ≡ Some what
+        ensures heard { OnOk result ((what : Item) → numbered self.old.box.entries entry ≡ Some what
             → (heard : Option ReplyParts) × Hears bytes.now No heard
             × (self.new.box ≡ box_after self.old.box entry what heard No)) }
+        ensures stays { self.new.taken ≡ self.old.taken }
     {
         if let Some(state) = self.end.hear(self.alloc, entry, bytes)? {
             set_state(&mut self.entries, entry, state);
@@ -153,6 +159,7 @@ impl<D: Honest> Filer<D> {
     /// Closes the outbox, if it is up. Answers `Reopen` if it was not closed for another cause than memory.
     fn stop(&mut self) -> Result<(), Cause>
         ensures down { OnOk result (self.new.box ≡ record self.old.box { up = false }) }
+        ensures stays { OnOk result (self.new.taken ≡ self.old.taken) }
         ensures store { result ≢ Err Cause.Store }
     {
         self.end.stop()
@@ -162,6 +169,7 @@ impl<D: Honest> Filer<D> {
     /// closed or opened for another cause than memory.
     pub(crate) fn restart(&mut self) -> Result<(), Cause>
         ensures restarted { OnOk result (self.new.box ≡ record self.old.box { up = true }) }
+        ensures stays { OnOk result (self.new.taken ≡ self.old.taken) }
         ensures store { result ≢ Err Cause.Store }
     {
         self.end.stop()?;
@@ -172,6 +180,7 @@ impl<D: Honest> Filer<D> {
     /// otherwise only if its database refused.
     pub(crate) fn states(&mut self) -> Result<Vec<(u64, State)>, StoreFault>
         ensures same { self.new.box ≡ self.old.box }
+        ensures stays { self.new.taken ≡ self.old.taken }
         ensures list { IfOk result (λ s.
             (number : ℕ) → map (listed number) s.items ≡ states_of number 1 self.old.box.entries) }
         ensures down { self.old.box.up ≡ false → result ≡ Err StoreFault.Store }

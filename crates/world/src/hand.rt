@@ -5,7 +5,7 @@ ghost use Rattle.event_script.specs.Events.{view_crash};
 ghost use Rattle.filing_world.specs.World.{Hand};
 ghost use Rattle.filing_world.specs.Step.{is_no, Hands, CannotPlay};
 ghost use Rattle.filing_world.specs.Invariant.{AllOwn, Keeps};
-ghost use Rattle.world.specs.Filers.{boxes};
+ghost use Rattle.world.specs.Filers.{boxes, takens};
 ghost use Rattle.world.specs.Served.{Served};
 ghost use Rattle.world.specs.Played.{world_of};
 ghost use Rattle.world.specs.Playing.{AsksOutbox};
@@ -29,6 +29,7 @@ pub(crate) fn hand<D: Honest>(
     ensures step { OnOk result ((server : Served) → AllOwn (boxes filers.old.items) sent.now
         → Hands (world_of server sent.now outputs.now filers.old.items) output bytes (view_crash crash)
         (world_of server sent.now outputs.now filers.new.items)) }
+    ensures stays { OnOk result (takens filers.new.items ≡ takens filers.old.items) }
     ensures no_such { result ≡ Err Unplayed.NoSuch → (server : Served)
         → CannotPlay (world_of server sent.now outputs.now filers.old.items) (Hand output bytes (view_crash crash)) }
     ensures store { result ≡ Err (Unplayed.Refused Cause.Store) → (server : Served)

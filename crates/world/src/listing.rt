@@ -4,7 +4,7 @@ ghost use Rattle.std.specs.Prelude.{◌≡◌, ◌≢◌, ◌<◌, ◌⊎◌, �
 ghost use Rattle.std.specs.Prelude.{Some, IfOk, OnOk, Err};
 ghost use Rattle.filing_world.specs.Headline.{states_of, states_from, number_in};
 ghost use Rattle.end_processes.specs.Listed.{listed};
-ghost use Rattle.world.specs.Filers.{FilerParts, boxes, sleepers};
+ghost use Rattle.world.specs.Filers.{FilerParts, boxes, sleepers, takens};
 ghost use Rattle.world.specs.Listed.{view_listed, are_up};
 ghost use Rattle.world.specs.Played.{HasSleeper};
 
@@ -48,6 +48,7 @@ fn append_states<D: Honest>(
     ensures list { OnOk result ((it : FilerParts) → slice_get filers.old.items at ≡ Some it
         → map view_listed list.new.items ≡ map view_listed list.old.items ++ states_of (suc at) 1 it.box.entries) }
     ensures same { boxes filers.new.items ≡ boxes filers.old.items }
+    ensures stays { takens filers.new.items ≡ takens filers.old.items }
     ensures store { result ≡ Err StoreFault.Store → HasSleeper (sleepers filers.new.items) }
 {
     let states = filers[at].states()?;
@@ -62,6 +63,7 @@ fn states_of_all<D: Honest>(
 ) -> Result<Vec<(u64, u64, State)>, StoreFault>
     ensures list { IfOk result (λ list. map view_listed list.items ≡ states_from 1 (boxes filers.old.items)) }
     ensures same { boxes filers.new.items ≡ boxes filers.old.items }
+    ensures stays { takens filers.new.items ≡ takens filers.old.items }
     ensures store { result ≡ Err StoreFault.Store → HasSleeper (sleepers filers.new.items) }
 {
     let mut list = Vec::new(alloc);
@@ -82,6 +84,7 @@ pub(crate) fn all_states<D: Honest>(
     ensures store { result ≡ Err StoreFault.Store
         → (are_up (boxes filers.old.items) ≡ false) ⊎ HasSleeper (sleepers filers.new.items) }
     ensures same { boxes filers.new.items ≡ boxes filers.old.items }
+    ensures stays { takens filers.new.items ≡ takens filers.old.items }
 {
     if are_up(filers.as_slice()) {
         states_of_all(alloc, filers)

@@ -3,7 +3,8 @@
 ghost use Rattle.std.specs.Prelude.{◌≡◌, ◌≢◌, ◌≤◌, ◌^◌, ◌↔◌, ℕ, [], List, true, None, is_some, IfOk, IfErr, OnOk, Err};
 ghost use Rattle.filing_model.specs.Request.{Request};
 ghost use Rattle.filing_model.specs.Register.{register};
-ghost use Rattle.world.specs.Processes.{KeepsSurely, IsNotStarted, IsNotStopped, is_asleep, lying_in};
+ghost use Rattle.end_processes.specs.OutboxEnd.{lying_in};
+ghost use Rattle.world.specs.Processes.{KeepsSurely, IsNotStarted, IsNotStopped, is_asleep};
 
 use database_places::{Cache, Drawer, Opening};
 use end_processes::{Cause, Honest};

@@ -5,7 +5,7 @@ ghost use Rattle.http_messages.specs.Posting.{IsTarget};
 ghost use Rattle.filing_world.specs.World.{Sent as Item, Output as Left, Put};
 ghost use Rattle.filing_world.specs.Step.{Puts, CannotPlay};
 ghost use Rattle.outbox_core.specs.Entries.{opened};
-ghost use Rattle.world.specs.Filers.{boxes};
+ghost use Rattle.world.specs.Filers.{boxes, takens};
 ghost use Rattle.world.specs.Served.{Served};
 ghost use Rattle.world.specs.Played.{world_of};
 ghost use Rattle.world.specs.Playing.{IsUp};
@@ -27,6 +27,7 @@ pub(crate) fn put<D: Honest>(
     ensures step { OnOk result ((server : Served) (sent : List Item) (outputs : List Left)
         → Puts (world_of server sent outputs filers.old.items) outbox (opened key.now target body.now)
         (world_of server sent outputs filers.new.items)) }
+    ensures stays { OnOk result (takens filers.new.items ≡ takens filers.old.items) }
     ensures no_such { result ≡ Err Unplayed.NoSuch → (server : Served) (sent : List Item) (outputs : List Left)
         → CannotPlay (world_of server sent outputs filers.old.items) (Put outbox key.now target body.now) }
     ensures store { result ≡ Err (Unplayed.Refused Cause.Store) → IsUp (boxes filers.old.items) outbox }

@@ -3,6 +3,7 @@
 ghost use Rattle.std.specs.Prelude.{◌≡◌, ◌≢◌, List, OnOk, Err};
 ghost use Rattle.filing_world.specs.World.{Sent as Item, Output as Left, RestartOutbox};
 ghost use Rattle.filing_world.specs.Step.{Restarts, CannotPlay};
+ghost use Rattle.world.specs.Filers.{takens};
 ghost use Rattle.world.specs.Served.{Served};
 ghost use Rattle.world.specs.Played.{world_of};
 
@@ -18,6 +19,7 @@ pub(crate) fn restart_outbox<D: Honest>(
     ensures step { OnOk result ((server : Served) (sent : List Item) (outputs : List Left)
         → Restarts (world_of server sent outputs filers.old.items) outbox
         (world_of server sent outputs filers.new.items)) }
+    ensures stays { OnOk result (takens filers.new.items ≡ takens filers.old.items) }
     ensures no_such { result ≡ Err Unplayed.NoSuch → (server : Served) (sent : List Item) (outputs : List Left)
         → CannotPlay (world_of server sent outputs filers.old.items) (RestartOutbox outbox) }
     ensures store { result ≢ Err (Unplayed.Refused Cause.Store) }

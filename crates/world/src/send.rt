@@ -3,7 +3,7 @@
 ghost use Rattle.std.specs.Prelude.{◌≡◌, ◌≢◌, ◌∷◌, ◌++◌, [], List, OnOk, Err, None};
 ghost use Rattle.filing_world.specs.World.{Output as Left, Send};
 ghost use Rattle.filing_world.specs.Step.{Sends, CannotPlay};
-ghost use Rattle.world.specs.Filers.{boxes};
+ghost use Rattle.world.specs.Filers.{boxes, takens};
 ghost use Rattle.world.specs.Served.{Served};
 ghost use Rattle.world.specs.Played.{world_of};
 ghost use Rattle.world.specs.Playing.{IsUp};
@@ -24,6 +24,7 @@ pub(crate) fn send<D: Honest>(
     ensures step { OnOk result ((server : Served) (outputs : List Left)
         → Sends (world_of server sent.old.items outputs filers.old.items) outbox entry
         (world_of server sent.new.items outputs filers.new.items)) }
+    ensures stays { OnOk result (takens filers.new.items ≡ takens filers.old.items) }
     ensures no_such { result ≡ Err Unplayed.NoSuch → (server : Served) (outputs : List Left)
         → CannotPlay (world_of server sent.old.items outputs filers.old.items) (Send outbox entry) }
     ensures store { result ≡ Err (Unplayed.Refused Cause.Store) → IsUp (boxes filers.old.items) outbox }

@@ -41,11 +41,16 @@ impl<D: Honest> Model for Server<D> {
     ghost use Rattle.std.specs.Prelude.{◌≤◌, ◌^◌};
     ghost use Rattle.filing_model.specs.Request.{firsts};
     ghost use Rattle.world.specs.Served.{Served};
-    ghost use Rattle.world.specs.Processes.{Keeps, is_up};
+    ghost use Rattle.world.specs.Processes.{Keeps, is_up, is_taken};
 
     ghost Value = { Served };
 
-    ghost view = { λ s. record { limit = s.limit; done = s.done.items; up = is_up s.process } };
+    ghost view = { λ s. record {
+      limit = s.limit;
+      done = s.done.items;
+      up = is_up s.process;
+      taken = is_taken s.process;
+    } };
 
     ghost invariant = { λ s. (s.limit ≤ 2 ^ 62) × Keeps s.process s.limit (firsts s.done.items) };
 }
@@ -125,7 +130,7 @@ impl<D: Honest> Server<D> {
     /// An intake that is up, over an empty register, which keeps at most `limit` keys.
     pub(crate) fn new(alloc: Global, limit: u64) -> Result<Server<D>, Cause>
         requires { limit ≤ 2 ^ 62 }
-        ensures made { IfOk result (λ s. s ≡ record { limit = limit; done = []; up = true }) }
+        ensures made { IfOk result (λ s. s ≡ record { limit = limit; done = []; up = true; taken = false }) }
     {
         Ok(Server {
             alloc,

@@ -12,7 +12,7 @@ ghost use Rattle.filing_world.specs.Invariant.{AllOwn, Keeps};
 ghost use Rattle.filing_world.specs.Headline.{AreFilers, start, states, confirmed};
 ghost use Rattle.sqlite.specs.Files.{over_files};
 ghost use Rattle.intake_core.specs.Held.{HoldsRequests as Lends};
-ghost use Rattle.world.specs.Filers.{boxes};
+ghost use Rattle.world.specs.Filers.{boxes, is_any_taken, takens};
 ghost use Rattle.world.specs.Played.{world_of, HasSleeper, IsLent, IsSame, Tells};
 ghost use Rattle.world.specs.Playing.{AsksOutbox, Closes, Plays};
 ghost use Rattle.world.specs.Listed.{view_listed, are_up};
@@ -50,9 +50,9 @@ pub struct World<D: Honest> {
 }
 
 impl<D: Honest> Model for World<D> {
-    ghost use Rattle.std.specs.Prelude.{◌≡◌, None};
+    ghost use Rattle.std.specs.Prelude.{◌≡◌, ◌||◌, None};
     ghost use Rattle.filing_world.specs.Invariant.{Keeps};
-    ghost use Rattle.world.specs.Filers.{sleepers};
+    ghost use Rattle.world.specs.Filers.{is_any_taken, sleepers};
     ghost use Rattle.world.specs.Played.{Played, world_of};
 
     ghost Value = { Played };
@@ -62,6 +62,7 @@ impl<D: Honest> Model for World<D> {
       events = w.events;
       fault = w.fault;
       asleep = sleepers w.filers.items;
+      taken = w.server.taken || is_any_taken w.filers.items;
     } };
 
     ghost invariant = { λ w. w.fault ≡ None → Keeps (world_of w.server w.sent.items w.outputs.items w.filers.items) };
@@ -94,6 +95,8 @@ fn play_on<D: Honest>(
     ensures step { OnOk result (AllOwn (boxes filers.old.items) sent.old.items
         → Step (world_of server.old sent.old.items outputs.old.items filers.old.items) (view_event event.now)
         (world_of server.new sent.new.items outputs.new.items filers.new.items)) }
+    ensures stays { OnOk result ((server.new.taken ≡ server.old.taken)
+        × (takens filers.new.items ≡ takens filers.old.items)) }
     ensures no_such { result ≡ Err Unplayed.NoSuch
         → CannotPlay (world_of server.old sent.old.items outputs.old.items filers.old.items) (view_event event.now) }
     ensures store { result ≡ Err (Unplayed.Refused Cause.Store)
@@ -139,7 +142,8 @@ fn append_outbox<D: Honest>(
     code: &str,
 ) -> Result<(), Cause>
     requires { is_filer code.now ≡ true }
-    ensures { OnOk result (boxes list.new.items ≡ boxes list.old.items ++ new_outbox code.now ∷ []) }
+    ensures appended { OnOk result (boxes list.new.items ≡ boxes list.old.items ++ new_outbox code.now ∷ []) }
+    ensures there { is_any_taken list.old.items ≡ false → OnOk result (is_any_taken list.new.items ≡ false) }
 {
     list.reserve(1)?;
     list.push_reserved(Filer::new(alloc, code)?);
@@ -149,7 +153,8 @@ fn append_outbox<D: Honest>(
 /// An empty outbox for each of these filer codes, in order.
 fn outboxes<D: Honest>(alloc: Global, filers: &[&str]) -> Result<Vec<Filer<D>>, Cause>
     requires { AreFilers (map (λ f. f.now) filers.now) }
-    ensures { IfOk result (λ list. boxes list.items ≡ map new_outbox (map (λ f. f.now) filers.now)) }
+    ensures outboxes { IfOk result (λ list. boxes list.items ≡ map new_outbox (map (λ f. f.now) filers.now)) }
+    ensures there { IfOk result (λ list. is_any_taken list.items ≡ false) }
 {
     let mut list = Vec::new(alloc);
     for code in filers {
@@ -163,7 +168,7 @@ fn start<D: Honest>(alloc: Global, filers: &[&str], limit: u64) -> Result<World<
     requires filers { AreFilers (map (λ f. f.now) filers.now) }
     requires limit { limit ≤ 2 ^ 62 }
     ensures start { IfOk result (λ w. w.world ≡ start (map (λ f. f.now) filers.now) limit) }
-    ensures fresh { IfOk result (λ w. (w.events ≡ 0) × (w.fault ≡ None)) }
+    ensures fresh { IfOk result (λ w. (w.events ≡ 0) × (w.fault ≡ None) × (w.taken ≡ false)) }
 {
     let server = Server::new(alloc, limit)?;
     let filers = outboxes(alloc, filers)?;
@@ -187,7 +192,7 @@ impl<D: Honest> World<D> {
         requires filers { AreFilers (map (λ f. f.now) filers.now) }
         requires limit { limit ≤ 2 ^ 62 }
         ensures start { IfOk result (λ w. w.world ≡ start (map (λ f. f.now) filers.now) limit) }
-        ensures fresh { IfOk result (λ w. (w.events ≡ 0) × (w.fault ≡ None)) }
+        ensures fresh { IfOk result (λ w. (w.events ≡ 0) × (w.fault ≡ None) × (w.taken ≡ false)) }
         ensures making { IfErr result (Tells 0) }
         ensures other { (n : ℕ) → result ≢ Err (Fault.NoSuch n) }
     {

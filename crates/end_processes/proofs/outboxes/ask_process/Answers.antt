@@ -1,4 +1,4 @@
-use Rattle.std.proofs.Common.{◌≡◌, IfOk, subst, sym, ◌∙◌}
+use Rattle.std.proofs.Common.{IfOk, subst, sym, ◌∙◌}
 use Rattle.outbox_tables.specs.Entries.{contents_of}
 use Rattle.outbox_process.specs.Process.{KeepsBy}
 use Rattle.end_processes.specs.OutboxEnd.{lying_in}

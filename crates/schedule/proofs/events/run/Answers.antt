@@ -18,6 +18,7 @@ loop-event-init g c = record {
   run = c.in_ok-world.ensures.start;
   events = c.in_ok-world.ensures.fresh.0;
   fine = c.in_ok-world.ensures.fresh.1;
+  there = c.in_ok-world.ensures.fresh.2;
 }
 
 pub loop-event-preserved : goal.loop-event-preserved
@@ -41,6 +42,7 @@ loop-event-preserved g c =
       events = c.in_ok-play.ensures.counts c.loop-event.invariant.fine ∙ ap next_number c.loop-event.invariant.events
           ∙ next_is i (omega arith);
       fine = c.in_ok-play.ensures.goes_on.1;
+      there = c.in_ok-play.ensures.stays ∙ c.loop-event.invariant.there;
     }
 
 pub returns-clause-run : goal.returns-clause-run

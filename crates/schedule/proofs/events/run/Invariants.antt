@@ -1,4 +1,4 @@
-use Rattle.std.proofs.Common.{◌≡◌, None, map, take}
+use Rattle.std.proofs.Common.{◌≡◌, None, false, map, take}
 use Rattle.event_script.specs.Events.{view_event}
 use Rattle.filing_world.specs.Headline.{start}
 use Rattle.filing_world.specs.Step.{Run}
@@ -10,4 +10,5 @@ invariant-loop-event g l = record {
       l.world.world;
   events : l.world.events ≡ l.event-index;
   fine : l.world.fault ≡ None;
+  there : l.world.taken ≡ false;
 }

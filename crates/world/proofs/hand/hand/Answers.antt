@@ -4,7 +4,7 @@ use Rattle.filing_world.specs.World.{Output, numbered}
 use Rattle.filing_world.specs.Step.{IsAway}
 use Rattle.world.proofs.Entries.{element_at}
 use Rattle.world.specs.Filers.{boxes}
-use Rattle.world.proofs.Steps.{element_is, named, up_there, can_hand, hand_step}
+use Rattle.world.proofs.Steps.{element_is, named, up_there, can_hand, hand_step, set_same}
 use Rattle.world.proofs.hand.hand.Goals as goal
 
 some-none : {X : Type 0} (x : X) → Some x ≡ None → ⊥
@@ -119,3 +119,14 @@ returns-in_err-outbox-clause-store g c = λ e server keeps.
     let gone : numbered c.args.sent.now from.item ≡ None =
     subst (λ n. numbered c.args.sent.now n ≡ None) item_is (c.in_err-outbox.ensures.gone (search rules)) in
     absurd (some-none lies.item (sym lies.here ∙ gone))
+
+pub returns-clause-stays : goal.returns-clause-stays
+returns-clause-stays g c =
+    let filers = c.args.filers.now.items in
+    let at = c.in-Some-up_at.index in
+    let up = c.in-Some-up_at.ensures.some in
+    let there : slice_get filers at ≡ Some up.1 =
+    subst (λ bs. slice_get bs at ≡ Some up.1) c.as_slice.ensures.value up.2 in
+    let filer = c.index_mut.result.now in
+    let same : filer ≡ up.1 = element_is filers at up.1 filer there c.index_mut.ensures.value in
+    set_same (λ f. f.taken) filers at filer c.hand.new.self (rw same there) c.in_ok-hand.ensures.stays

@@ -12,6 +12,7 @@ use Rattle.world.proofs.listing.states_of_all.Goals as goal
 pub loop-at-init : goal.loop-at-init
 loop-at-init g c = record {
   same = refl;
+  stays = refl;
   list = ap (λ l. map view_listed l ++ states_from 1 (boxes c.args.filers.now.items)) c.new-list.ensures.items;
 }
 
@@ -36,6 +37,7 @@ loop-at-preserved g c =
     let next : at + 1 ≡ suc at = omega arith in
     record {
       same = c.in_ok-append_states.ensures.same ∙ c.loop-at.invariant.same;
+      stays = c.in_ok-append_states.ensures.stays ∙ c.loop-at.invariant.stays;
       list = subst (λ n. map view_listed c.append_states.new.list.items ++ states_from (suc n) (drop n all)
           ≡ states_from 1 all) (sym next)
           (states_next all at found.0.box (states_from 1 all) (map view_listed c.loop-at.list.items)
@@ -54,3 +56,6 @@ returns-clause-list g c =
 
 pub returns-clause-same : goal.returns-clause-same
 returns-clause-same g c = c.loop-at.invariant.same
+
+pub returns-clause-stays : goal.returns-clause-stays
+returns-clause-stays g c = c.loop-at.invariant.stays

@@ -3,7 +3,8 @@ use Rattle.std.specs.Prelude.{◌↔◌, true}
 use Rattle.table_rows.proofs.CleanLemmas.{always_clean}
 use Rattle.intake_core.specs.declared.intake.Unavailable.TheVariants.{Down}
 use Rattle.intake_process.specs.Process.{KeepsBy}
-use Rattle.world.specs.Processes.{is_asleep, lying_in}
+use Rattle.end_processes.specs.OutboxEnd.{lying_in}
+use Rattle.world.specs.Processes.{is_asleep}
 use Rattle.world.proofs.opening.registered.Goals as goal
 
 pub returns-in-Some-clause-list : goal.returns-in-Some-clause-list

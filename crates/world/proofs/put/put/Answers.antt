@@ -2,7 +2,7 @@ use Rattle.std.proofs.Common.{◌≡◌, subst, Some, slice_get, ◌<◌, refl}
 use Rattle.outbox_core.specs.Entries.{opened}
 use Rattle.filing_world.specs.Step.{IsAway}
 use Rattle.world.specs.Filers.{boxes}
-use Rattle.world.proofs.Steps.{up_there, element_is, put_step}
+use Rattle.world.proofs.Steps.{up_there, element_is, put_step, set_same}
 use Rattle.world.proofs.put.put.Goals as goal
 
 pub returns-clause-step : goal.returns-clause-step
@@ -41,3 +41,14 @@ returns-in_err-put-clause-store g c = λ e.
     let there : slice_get filers c.in-Some.at ≡ Some up.1 =
     subst (λ bs. slice_get bs c.in-Some.at ≡ Some up.1) c.as_slice.ensures.value up.2 in
     up_there filers c.args.outbox c.in-Some.at up.1 up.0 there up.3
+
+pub returns-clause-stays : goal.returns-clause-stays
+returns-clause-stays g c =
+    let filers = c.args.filers.now.items in
+    let at = c.in-Some.at in
+    let up = c.in-Some.ensures.some in
+    let there : slice_get filers at ≡ Some up.1 =
+    subst (λ bs. slice_get bs at ≡ Some up.1) c.as_slice.ensures.value up.2 in
+    let filer = c.index_mut.result.now in
+    let same : filer ≡ up.1 = element_is filers at up.1 filer there c.index_mut.ensures.value in
+    set_same (λ f. f.taken) filers at filer c.put.new.self (rw same there) c.put.ensures.stays

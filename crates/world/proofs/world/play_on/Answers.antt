@@ -1,4 +1,4 @@
-use Rattle.std.proofs.Common.{List, subst, sym}
+use Rattle.std.proofs.Common.{List, refl, subst, sym}
 use Rattle.event_script.specs.Events.{view_crash}
 use Rattle.filing_world.specs.World.{Sent, Output, Deliver, Hand}
 use Rattle.filing_world.specs.Step.{CannotPlay, Puts, Delivers, Hands}
@@ -153,3 +153,19 @@ returns-in-RestartOutbox-clause-reopen g c =
       tt,
       c.restart_outbox.ensures.reopen e c.args.server.now c.args.sent.now.items c.args.outputs.now.items,
     )
+
+pub returns-in-Put-clause-stays : goal.returns-in-Put-clause-stays
+returns-in-Put-clause-stays g c = then_ok c.put.result (λ same. (refl, same)) c.put.ensures.stays
+
+pub returns-in-Send-clause-stays : goal.returns-in-Send-clause-stays
+returns-in-Send-clause-stays g c = then_ok c.send.result (λ same. (refl, same)) c.send.ensures.stays
+
+pub returns-in-Deliver-clause-stays : goal.returns-in-Deliver-clause-stays
+returns-in-Deliver-clause-stays g c = then_ok c.deliver.result (λ same. (same, refl)) c.deliver.ensures.stays
+
+pub returns-in-Hand-clause-stays : goal.returns-in-Hand-clause-stays
+returns-in-Hand-clause-stays g c = then_ok c.hand.result (λ same. (refl, same)) c.hand.ensures.stays
+
+pub returns-in-RestartOutbox-clause-stays : goal.returns-in-RestartOutbox-clause-stays
+returns-in-RestartOutbox-clause-stays g c =
+    then_ok c.restart_outbox.result (λ same. (refl, same)) c.restart_outbox.ensures.stays

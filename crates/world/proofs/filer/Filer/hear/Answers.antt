@@ -6,8 +6,8 @@ use Rattle.world.specs.Filers.{FilerParts}
 use Rattle.world.proofs.Entries.{box_heard}
 use Rattle.world.proofs.filer.Filer.hear.Goals as goal
 
-pub returns-in-Some : goal.returns-in-Some
-returns-in-Some g c =
+pub returns-in-Some-clause-heard : goal.returns-in-Some-clause-heard
+returns-in-Some-clause-heard g c =
     let inside = c.self.inside in
     let box : Outbox =
     record { filer = string_bytes inside.code; entries = inside.entries.items; up = is_up inside.end } in
@@ -22,8 +22,8 @@ returns-in-Some g c =
           (is_up c.hear.new.self) heard.0 here (rw c.in-Some.is at heard.2) c.set_state.ensures still,
     ))
 
-pub returns-in_default : goal.returns-in_default
-returns-in_default g c =
+pub returns-in_default-clause-heard : goal.returns-in_default-clause-heard
+returns-in_default-clause-heard g c =
     let inside = c.self.inside in
     let box : Outbox =
     record { filer = string_bytes inside.code; entries = inside.entries.items; up = is_up inside.end } in

@@ -8,7 +8,7 @@ use Rattle.filing_model.specs.Text.{completed}
 use Rattle.filing_world.specs.Step.{is_no}
 use Rattle.gateway_server.specs.Stopping.{view_stop}
 use Rattle.gateway_server.proofs.Whole.{marked_arrivals}
-use Rattle.world.specs.Processes.{KeepsSurely, Keeps, is_up}
+use Rattle.world.specs.Processes.{KeepsSurely, Keeps, is_taken, is_up}
 use Rattle.world.specs.Served.{Served}
 use Rattle.world.proofs.server.Server.deliver.Given.{Over}
 use Rattle.world.proofs.server.Server.deliver.Goals.{In_ok-stop_by}
@@ -62,10 +62,11 @@ returns-clause-delivered g c =
     subst (λ k. ServesUntil limit done c.args.bytes.now k came.0 exchange.marks.items exchange.ended
     exchange.text.items) c.stop_of.ensures came.1 in
     let before : c.len-before.result ≡ length done = c.len-before.ensures ∙ c.self.inside.done.ok.0 in
+    let there : c.self.inside.process ≡ Some c.in-Some.process = sym c.take.ensures.value ∙ c.in-Some.is in
     rw (sym c.self.view_is) (record {
       before = before;
       arrivals = came.0;
       serves = stopped;
       becomes =
-          λ i. record { limit = limit; done = came.2 i; up = came.4 i };
+          λ i. record { limit = limit; done = came.2 i; up = came.4 i; taken = sym (ap is_taken there) i };
     })

@@ -1,6 +1,6 @@
-use Rattle.std.proofs.Common.{sym, ◌∙◌, subst}
+use Rattle.std.proofs.Common.{sym, ap, ◌∙◌, subst}
 use Rattle.filing_model.specs.Request.{firsts}
-use Rattle.world.specs.Processes.{Keeps}
+use Rattle.world.specs.Processes.{Keeps, is_taken}
 use Rattle.world.proofs.server.Server.restart.Goals as goal
 
 pub invariant_of-self-2 : goal.invariant_of-self-2
@@ -18,4 +18,5 @@ returns-clause-restarted g c =
       done = inside.done.items;
       up =
           c.in_ok-open.ensures.up i;
+      taken = sym (ap is_taken (sym c.take.ensures.value ∙ c.in-Some.is)) i;
     })

@@ -1,4 +1,5 @@
-use Rattle.std.proofs.Common.{rules, refl, sym, subst}
+use Rattle.std.proofs.Common.{◌||◌, rules, refl, sym, subst}
+use Rattle.std.specs.List.{list_any}
 use Rattle.filing_world.specs.Invariant.{Keeps}
 use Rattle.world.proofs.Steps.{world_with}
 use Rattle.world.proofs.world.World.confirmed.Goals as goal
@@ -35,6 +36,7 @@ returns-in_err-states-clause-same g c =
       world = λ i. world_with inside.server inside.sent.items inside.outputs.items (c.all_states.ensures.same i);
       events = refl;
       fault = refl;
+      taken = λ i. inside.server.taken || list_any (λ taken. taken) (c.all_states.ensures.stays i);
     })
 
 pub returns-in-Ok-clause-same : goal.returns-in-Ok-clause-same
@@ -44,6 +46,7 @@ returns-in-Ok-clause-same g c =
       world = λ i. world_with inside.server inside.sent.items inside.outputs.items (c.all_states.ensures.same i);
       events = refl;
       fault = refl;
+      taken = λ i. inside.server.taken || list_any (λ taken. taken) (c.all_states.ensures.stays i);
     })
 
 pub returns-clause-same : goal.returns-clause-same
@@ -53,6 +56,7 @@ returns-clause-same g c =
       world = λ i. world_with inside.server inside.sent.items inside.outputs.items (c.all_states.ensures.same i);
       events = refl;
       fault = refl;
+      taken = λ i. inside.server.taken || list_any (λ taken. taken) (c.all_states.ensures.stays i);
     })
 
 pub returns-in_err-states-clause-store : goal.returns-in_err-states-clause-store

@@ -1,4 +1,5 @@
-use Rattle.std.proofs.Common.{◌≡◌, ◌∙◌, Some, None, Err, sym, ap, refl, subst}
+use Rattle.std.proofs.Common.{◌≡◌, ◌∙◌, ◌||◌, Some, None, Err, sym, ap, refl, subst}
+use Rattle.std.specs.List.{list_any}
 use Rattle.event_script.specs.Events.{view_event}
 use Rattle.filing_world.proofs.Keeping.{keeps_step, holds}
 use Rattle.world.specs.declared.fault.Fault.TheVariants.{NoSuch, Store, Reopen}
@@ -38,6 +39,8 @@ returns-in-Ok g c =
       ended = λ fault e. absurd (let no : None ≡ Some fault = sym none ∙ fault_is ∙ e in cc);
       stops = tt;
       goes_on = (sym fault_is ∙ none, none);
+      stays = rw (sym c.self.view_is)
+          (λ i. c.in-Ok.ensures.stays.0 i || list_any (λ taken. taken) (c.in-Ok.ensures.stays.1 i));
     }
 
 pub returns-in-Err : goal.returns-in-Err
@@ -66,6 +69,7 @@ returns-in-Err g c =
       ended = λ fault e. absurd (let no : None ≡ Some fault = sym none ∙ fault_is ∙ e in cc);
       stops = refl;
       goes_on = tt;
+      stays = tt;
     }
 
 pub returns-in-Some : goal.returns-in-Some
@@ -85,4 +89,5 @@ returns-in-Some g c =
           (ap Err is, refl);
       stops = sym fault_is ∙ c.in-Some.is;
       goes_on = tt;
+      stays = tt;
     }

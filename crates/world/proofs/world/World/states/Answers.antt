@@ -1,4 +1,5 @@
-use Rattle.std.proofs.Common.{refl, sym, subst}
+use Rattle.std.proofs.Common.{◌||◌, refl, sym, subst}
+use Rattle.std.specs.List.{list_any}
 use Rattle.filing_world.specs.Invariant.{Keeps}
 use Rattle.world.proofs.Steps.{world_with}
 use Rattle.world.proofs.world.World.states.Goals as goal
@@ -19,6 +20,7 @@ returns-clause-same g c =
       world = λ i. world_with inside.server inside.sent.items inside.outputs.items (c.all_states.ensures.same i);
       events = refl;
       fault = refl;
+      taken = λ i. inside.server.taken || list_any (λ taken. taken) (c.all_states.ensures.stays i);
     })
 
 pub returns-clause-list : goal.returns-clause-list
