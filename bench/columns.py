@@ -1,5 +1,5 @@
-"""What single requests cost, and an opening: in instructions in user mode, if valgrind is installed, and otherwise in seconds of processor
-time, the best of three runs."""
+"""What single requests cost, and an opening: in instructions in user mode, if valgrind is installed, and otherwise in
+seconds of processor time, the best of three runs."""
 
 import os
 import shutil

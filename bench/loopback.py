@@ -2,11 +2,12 @@
 """Measures requests over loopback: files the example report under new keys, and again under the same keys, over one
 connection that is kept alive and over a connection for each request.
 
-    bench/loopback.py                  starts crates/intake/out/intake, its register on the disk and then in memory (/dev/shm)
+    bench/loopback.py                  starts crates/intake/out/intake, its register on the disk and then in memory
+                                       (/dev/shm)
     bench/loopback.py --port 8080      sends to another server that listens on 127.0.0.1, and starts none
 
-Of a server that it starts it also tells the processor time of a request, of which the client has no part. Each request waits for
-the reply to the one before. The server is to answer 201 to each, so another one has to take the same report.
+Of a server that it starts it also tells the processor time of a request, of which the client has no part. Each request
+waits for the reply to the one before. The server is to answer 201 to each, so another one has to take the same report.
 """
 import argparse
 import sys

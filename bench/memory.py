@@ -1,12 +1,13 @@
 #!/usr/bin/env python3
-"""Measures the most memory that the programs hold: status 1 where a bound is passed. Build them first: (cd crates/intake && rt run <
-stdin) and (cd crates/outbox && rt run), which ends with 2 as it was given no words.
+"""Measures the most memory that the programs hold: status 1 where a bound is passed. Build them first:
+(cd crates/intake && rt run < stdin) and (cd crates/outbox && rt run), which ends with 2 as it was given no words.
 
     bench/memory.py            registers and outboxes as a test has them, a few minutes
     bench/memory.py --large    those with 100,000 requests, 300 reports of 1 MiB and 10,000 entries of 100 kB besides
 
-The most is what Linux tells as VmHWM: the pages that were in memory at once. Databases lie in /dev/shm where there is one. As a file is
-opened the library has all rows of one table in memory, so the bound of a command on a file grows with the file.
+The most is what Linux tells as VmHWM: the pages that were in memory at once. Databases lie in /dev/shm where there is
+one. As a file is opened the library has all rows of one table in memory, so the bound of a command on a file grows with
+the file.
 """
 
 import os
@@ -55,8 +56,8 @@ class Peak:
 
 
 def bound_of(database, rows):
-    """What a command may hold that opens this file with so many rows and goes through them one at a time: 40 MB, 1.5 times the file, and
-    100 bytes a row."""
+    """What a command may hold that opens this file with so many rows and goes through them one at a time: 40 MB, 1.5
+    times the file, and 100 bytes a row."""
     return 40 * MEGABYTE + 1.5 * os.path.getsize(database) + 100 * rows
 
 
@@ -67,7 +68,8 @@ def file_all(peer, numbers, body):
 
 
 def registers(small, large):
-    """What a server holds for one request, and `check` for the whole, of a register with so many small and so many large reports."""
+    """What a server holds for one request, and `check` for the whole, of a register with so many small and so
+    many large reports."""
     kept = small + large
     print(f"a register of {small} small and {large} large reports")
     with folder() as place:
@@ -91,8 +93,10 @@ def registers(small, large):
 
 # The tables of an outbox, as docs/PROTOCOL.md declares them.
 OUTBOX = """
-CREATE TABLE outbox_meta (id INTEGER PRIMARY KEY, kind TEXT NOT NULL, form INTEGER NOT NULL, filer TEXT NOT NULL) STRICT;
-CREATE TABLE entry (id INTEGER PRIMARY KEY, idem TEXT NOT NULL UNIQUE, body BLOB NOT NULL, state INTEGER NOT NULL, number INTEGER) STRICT;
+CREATE TABLE outbox_meta (id INTEGER PRIMARY KEY, kind TEXT NOT NULL, form INTEGER NOT NULL,
+    filer TEXT NOT NULL) STRICT;
+CREATE TABLE entry (id INTEGER PRIMARY KEY, idem TEXT NOT NULL UNIQUE, body BLOB NOT NULL, state INTEGER NOT NULL,
+    number INTEGER) STRICT;
 CREATE TABLE target (id INTEGER PRIMARY KEY, number INTEGER NOT NULL) STRICT;
 INSERT INTO outbox_meta VALUES (1, 'outbox', 2, 'ACME');
 """

@@ -1,10 +1,11 @@
 #!/usr/bin/env python3
-"""Measures the program `outbox` over 1,000 and 10,000 entries: status 1 where a bound is passed. Build both programs first: (cd
-crates/intake && rt run < stdin) and (cd crates/outbox && rt run), which ends with 2 as it was given no words.
+"""Measures the program `outbox` over 1,000 and 10,000 entries: status 1 where a bound is passed. Build both programs
+first: (cd crates/intake && rt run < stdin) and (cd crates/outbox && rt run), which ends with 2 as it was given
+no words.
 
-Times are processor time of the command, by itself and by the system for it. Each figure is the best of three runs, but for `send --all`,
-which is run once. Databases lie in /dev/shm where there is one. A command opens the database and so reads each entry once; that is why ten
-times the entries may take twelve times the time, and no more.
+Times are processor time of the command, by itself and by the system for it. Each figure is the best of three runs, but
+for `send --all`, which is run once. Databases lie in /dev/shm where there is one. A command opens the database and so
+reads each entry once; that is why ten times the entries may take twelve times the time, and no more.
 """
 
 import os
@@ -50,7 +51,10 @@ def main():
         bound = 2 if "each" in what else BOUND
         times = many[what] / time
         passed = passed or times > bound
-        print(f"{what}: {1000 * time:.2f} ms of {FEW} entries, {1000 * many[what]:.2f} ms of {MANY}: {times:.1f} times, at most {bound}")
+        print(
+            f"{what}: {1000 * time:.2f} ms of {FEW} entries, {1000 * many[what]:.2f} ms of {MANY}: "
+            f"{times:.1f} times, at most {bound}"
+        )
     if passed:
         sys.exit("a bound is passed")
 

@@ -1,4 +1,5 @@
-"""What the measurements share: the built programs, the requests that they are given, and the processor time or the instructions that they take."""
+"""What the measurements share: the built programs, the requests that they are given, and the processor time or the
+instructions that they take."""
 
 import contextlib
 import os
@@ -18,7 +19,8 @@ from trials import Serving, request
 
 BODY_BYTES = 393
 CALLGRIND = ["valgrind", "--tool=callgrind", "--callgrind-out-file=/dev/null"]
-# Callgrind counts each byte that `rep movsb` copies, by which glibc makes large copies on some processors and not on others.
+# Callgrind counts each byte that `rep movsb` copies, by which glibc makes large copies on some
+# processors and not on others.
 NO_REP = {**os.environ, "GLIBC_TUNABLES": "glibc.cpu.hwcaps=-ERMS"}
 
 
@@ -74,7 +76,8 @@ def collected(errors):
 
 
 def instructions(words, given, status=0):
-    """What a program printed, and how many instructions it took in user mode, by callgrind. It has to end with the status."""
+    """What a program printed, and how many instructions it took in user mode, by callgrind.
+    It has to end with the status."""
     with tempfile.TemporaryFile() as it:
         it.write(given)
         it.seek(0)
@@ -172,7 +175,9 @@ class CountedServer(Server):
         self._count("off")
 
     def _count(self, state):
-        subprocess.run(["callgrind_control", f"--instr={state}", str(self.process.pid)], check=True, capture_output=True)
+        subprocess.run(
+            ["callgrind_control", f"--instr={state}", str(self.process.pid)], check=True, capture_output=True
+        )
 
     def __exit__(self, *_):
         _, errors = self.process.communicate(timeout=600)

@@ -1,14 +1,15 @@
 #!/usr/bin/env python3
-"""Measures the program `intake`, and holds what it costs and how that grows to bounds: status 1 if a bound is passed. Build it first:
-(cd crates/intake && rt run -- --version).
+"""Measures the program `intake`, and holds what it costs and how that grows to bounds: status 1 if a bound is passed.
+Build it first: (cd crates/intake && rt run -- --version).
 
-A request, a list and an opening cost instructions in user mode, by callgrind, if valgrind is installed: these come out the same at each run but for a
-few in a thousand, whatever else runs. So does the growth of a judgement and of requests on a register in memory, also where a small report fits a
-cache of the processor and a large one does not. Without valgrind a cost is told in time and held to no bound, and growth is that of time, as it
-is of a register in a file.
+A request, a list and an opening cost instructions in user mode, by callgrind, if valgrind is installed: these come out
+the same at each run but for a few in a thousand, whatever else runs. So does the growth of a judgement and of requests
+on a register in memory, also where a small report fits a cache of the processor and a large one does not. Without
+valgrind a cost is told in time and held to no bound, and growth is that of time, as it is of a register in a file.
 
-Times are processor time, of the program and of the system for it, less that of a run on nothing, which is the start of the program. Each figure is
-the best of three runs. A register in a file lies in /dev/shm where there is one, so that no disk is waited for.
+Times are processor time, of the program and of the system for it, less that of a run on nothing, which is the start of
+the program. Each figure is the best of three runs. A register in a file lies in /dev/shm where there is one, so that no
+disk is waited for.
 """
 
 import os
@@ -100,8 +101,8 @@ def seconds(given, replies):
 
 
 def seconds_to_judge(body, status=0):
-    """The time to judge a report that is judged ten times, less that of as many of the least ones, for each. The status says whether
-    something is found in it."""
+    """The time to judge a report that is judged ten times, less that of as many of the least ones, for each. The status
+    says whether something is found in it."""
     with tempfile.TemporaryDirectory() as folder:
         times = []
         for text, wanted in ((body, status), (SMALLEST, 0)):
@@ -114,7 +115,8 @@ def seconds_to_judge(body, status=0):
 
 
 def cost_to_judge(body, status=0):
-    """What judging a report costs beyond the least one: in instructions, if they can be counted, and otherwise in seconds."""
+    """What judging a report costs beyond the least one: in instructions, if they can be counted,
+    and otherwise in seconds."""
     if not counts_instructions():
         return seconds_to_judge(body, status)
     with tempfile.TemporaryDirectory() as folder:
@@ -128,7 +130,8 @@ def cost_to_judge(body, status=0):
 
 
 def cost_to_serve(given, replies):
-    """What these bytes cost as one connection beyond none: in instructions, if they can be counted, and otherwise in seconds."""
+    """What these bytes cost as one connection beyond none: in instructions, if they can be counted,
+    and otherwise in seconds."""
     if not counts_instructions():
         return seconds(given, replies)
     output, full = instructions([built("intake"), "run"], given)
@@ -138,8 +141,8 @@ def cost_to_serve(given, replies):
 
 
 def seconds_in_pieces(given, most):
-    """The same where the program reads so many bytes at a time: its input is a socket that keeps the bounds of what is sent. Of the time
-    only what the program takes itself is counted, and not that of the system for its reads."""
+    """The same where the program reads so many bytes at a time: its input is a socket that keeps the bounds of what is
+    sent. Of the time only what the program takes itself is counted, and not that of the system for its reads."""
 
     def send(peer):
         for start in range(0, len(given), most):
@@ -223,16 +226,16 @@ def requests():
 
 
 def in_a_file(count):
-    """The processor time of one more filing, of one repeat, of one that replaces a filing, and of an opening, where a file keeps so
-    many requests, in seconds."""
+    """The processor time of one more filing, of one repeat, of one that replaces a filing, and of an opening, where a
+    file keeps so many requests, in seconds."""
     small = example()
     with folder() as place:
         with Server(place, 1) as server:
             peer = connect(server.port)
             exchange(peer, pipelined(range(count), small), count)
-            # The repeats are all over the register, and so of keys that are not remembered where it is large. So are the filings
-            # that are replaced, each once. They are few, since each looks at the targets of those before: the format has no index
-            # on these.
+            # The repeats are all over the register, and so of keys that are not remembered where it is large. So are
+            # the filings that are replaced, each once. They are few, since each looks at the targets of those before:
+            # the format has no index on these.
             places = [at * 7919 % count for at in range(ADDED)]
             times = {}
             for what, given, requests in (
@@ -257,15 +260,21 @@ def registers():
         it = times[count]
         of_one = ", ".join(f"{it[what] * 1e6:.0f} us to {what} one" for what in ("add", "find", "replace"))
         print(f"{count} kept requests in a file: {of_one}, {it['open']:.3f} s to open")
-    held = [growth(f"in a file, 100 times the requests, to {what} one", times[1_000][what], times[100_000][what]) for what in ("add", "find")]
-    held.append(growth("10 times the requests (10,000 to 100,000), to open", times[10_000]["open"], times[100_000]["open"]))
+    held = [
+        growth(f"in a file, 100 times the requests, to {what} one", times[1_000][what], times[100_000][what])
+        for what in ("add", "find")
+    ]
+    held.append(
+        growth("10 times the requests (10,000 to 100,000), to open", times[10_000]["open"], times[100_000]["open"])
+    )
     for count, it in times.items():
         held.append(growth(f"of {count:,} filings, to replace one instead of adding one", it["add"], it["replace"]))
     return held
 
 
 def listing(count):
-    """The processor time of a list, in seconds, of a filer with so many filings in a file, half of which are replaced."""
+    """The processor time of a list, in seconds, of a filer with so many filings in a file,
+    half of which are replaced."""
     small = example()
     with folder() as place:
         with Server(place, 1) as server:

@@ -1,6 +1,7 @@
 #!/usr/bin/env python3
 """Times the program `drill` on long scripts: the processor time of reports that are put, sent, delivered and answered,
-and what a restart of the intake and of the outbox adds. The last lines take minutes. Run it at the top of the repository once `drill` is built:
+and what a restart of the intake and of the outbox adds. The last lines take minutes. Run it at the top of the
+repository once `drill` is built:
 (cd crates/drill && rt run < stdin) && python3 bench/schedule.py"""
 
 import sys

@@ -8,9 +8,10 @@
     run.py outbox --command outbox
     run.py list
 
-Besides, with each of these: --only WORD (cases with this word in their name), --case NAME (both may be given again), --cases FOLDER,
---patience SECONDS, --jobs N. README.md beside this file says what the cases are made of. Status 0 if each case that was tried passed, 1 if one
-failed, 2 if the command line, a command, the port or a file of cases can't be used, 3 if a file can't be written.
+Besides, with each of these: --only WORD (cases with this word in their name), --case NAME (both may be given again),
+--cases FOLDER, --patience SECONDS, --jobs N. README.md beside this file says what the cases are made of. Status 0 if
+each case that was tried passed, 1 if one failed, 2 if the command line, a command, the port or a file of cases can't be
+used, 3 if a file can't be written.
 """
 import argparse
 import base64
@@ -96,7 +97,8 @@ def parts_of(it):
 
 
 class Numbers:
-    """By how much the numbers of filings are above those of an empty register: nothing, or what the first number of a reply shows."""
+    """By how much the numbers of filings are above those of an empty register: nothing,
+    or what the first number of a reply shows."""
 
     def __init__(self, offset):
         self.offset = offset
@@ -219,7 +221,9 @@ class Connection:
         until = time.monotonic() + value / 1000
         while (left := until - time.monotonic()) > 0:
             if self.more(left):
-                raise Fault(f"in {value} ms", "nothing comes", "the connection is closed" if self.is_ended else self.came)
+                raise Fault(
+                    f"in {value} ms", "nothing comes", "the connection is closed" if self.is_ended else self.came
+                )
 
     def stays(self, _):
         """The connection is open: nothing comes before this side is shut, and nothing but the end behind that."""
@@ -233,7 +237,9 @@ class Connection:
         until = time.monotonic() + self.patience
         while not self.is_ended and not self.came:
             if not self.more(until - time.monotonic()):
-                raise Fault("the end of the connection", "the other end closes it", f"it is open after {self.patience} s")
+                raise Fault(
+                    "the end of the connection", "the other end closes it", f"it is open after {self.patience} s"
+                )
         if self.came:
             raise Fault("before the end of the connection", b"", self.came)
 
@@ -314,7 +320,8 @@ def content_length(what, head, fields):
 
 
 class Command:
-    """A program that is started afresh on a port of its own for a case, and again on the same register if the case says so."""
+    """A program that is started afresh on a port of its own for a case, and again on the same register if
+    the case says so."""
 
     reads_lists = True
 
@@ -385,7 +392,8 @@ def served_counts(case):
 
 
 class Running:
-    """An intake that runs already. Its register has what earlier cases filed, so numbers are counted from the first that a case sees."""
+    """An intake that runs already. Its register has what earlier cases filed,
+    so numbers are counted from the first that a case sees."""
 
     reads_lists = True
 
@@ -570,7 +578,12 @@ class Outbox:
 
     def run(self, name, **words):
         words = {"db": self.folder / "outbox.db", "patience": self.patience, **words}
-        process = start(filled(self.templates[name], words), stdin=subprocess.DEVNULL, stdout=subprocess.PIPE, stderr=subprocess.PIPE)
+        process = start(
+            filled(self.templates[name], words),
+            stdin=subprocess.DEVNULL,
+            stdout=subprocess.PIPE,
+            stderr=subprocess.PIPE,
+        )
         try:
             output, errors = process.communicate(timeout=self.patience + 20)
         except subprocess.TimeoutExpired as late:
@@ -609,7 +622,9 @@ class Outbox:
         output = self.done("status").decode("utf-8", "replace")
         found = re.findall(r"(?m)^(?:.*\s)?(open|confirmed [0-9]+|refused|clashed)\r?$", output)
         if found != value:
-            raise Fault("the states of the entries", ", ".join(value), f"{', '.join(found)}, from {shown(output.encode())}")
+            raise Fault(
+                "the states of the entries", ", ".join(value), f"{', '.join(found)}, from {shown(output.encode())}"
+            )
 
 
 def as_requests(requests):
@@ -681,12 +696,29 @@ def is_listened_to(port):
 # The members that each thing has, and of which kind; those with a question mark may be missing.
 ANY, BYTES = object(), object()
 REPLY = {"status": int, "fields?": dict, "content?": BYTES, "json?": ANY}
-STEPS = {"send": BYTES, "reply": REPLY, "pause": int, "quiet": int, "shut": bool, "stays": bool, "closed": bool, "cut": bool, "reset": bool}
+STEPS = {
+    "send": BYTES,
+    "reply": REPLY,
+    "pause": int,
+    "quiet": int,
+    "shut": bool,
+    "stays": bool,
+    "closed": bool,
+    "cut": bool,
+    "reset": bool,
+}
 ANSWER = {"send": BYTES, "pause": int, "wait": bool, "reset": bool}
 SENDING = {"entry": int, "requests?": [BYTES], "answer": [ANSWER]}
 OUTBOX_STEPS = {"put": {"key": str, "body": BYTES, "amend?": int}, "send": SENDING, "states": [str]}
 CASES = {
-    "intake": {"name": str, "rule": str, "connections": [{"steps": [STEPS], "restart": ("stop", "kill")}], "register?": dict, "limit?": int, "empty?": bool},
+    "intake": {
+        "name": str,
+        "rule": str,
+        "connections": [{"steps": [STEPS], "restart": ("stop", "kill")}],
+        "register?": dict,
+        "limit?": int,
+        "empty?": bool,
+    },
     "outbox": {"name": str, "rule": str, "filer": str, "steps": [OUTBOX_STEPS]},
 }
 # Of these members a thing has exactly one.
@@ -756,9 +788,17 @@ def read_cases(folder, end, only, exact):
             raise Unusable(f"{file}: no file of cases: {fault!r}") from fault
     of_end = [case for case in found if end in (None, case["end"])]
     unknown = set(exact) - {case["name"] for case in of_end}
-    chosen = [case for case in of_end if not (only or exact) or case["name"] in exact or any(word in case["name"] for word in only)]
+    chosen = [
+        case
+        for case in of_end
+        if not (only or exact) or case["name"] in exact or any(word in case["name"] for word in only)
+    ]
     if unknown or not chosen:
-        raise Unusable(f"no case is called so: {' '.join(sorted(unknown) or only)}" if only or exact else f"there are no cases for {end}")
+        raise Unusable(
+            f"no case is called so: {' '.join(sorted(unknown) or only)}"
+            if only or exact
+            else f"there are no cases for {end}"
+        )
     return chosen
 
 
@@ -789,7 +829,8 @@ def tried(cases, attempt, lacks, jobs):
 
 
 def filer_with_filings(options, cases):
-    """The first filer of these cases that has filings already, if any. What else may be wrong with a list, the cases say."""
+    """The first filer of these cases that has filings already, if any. What else may be wrong with a list,
+    the cases say."""
     for filer in sorted({filer for case in cases for filer in case.get("register", {})}):
         connection = http.client.HTTPConnection("127.0.0.1", options.port, timeout=options.patience)
         try:
@@ -858,21 +899,43 @@ def read_words(words):
     parser = argparse.ArgumentParser(prog="run.py", description="Holds an implementation of either end to the cases.")
     parsers = parser.add_subparsers(dest="end", required=True)
     shared = argparse.ArgumentParser(add_help=False)
-    shared.add_argument("--only", action="append", default=[], metavar="WORD", help="cases with this word in their name")
+    shared.add_argument(
+        "--only", action="append", default=[], metavar="WORD", help="cases with this word in their name"
+    )
     shared.add_argument("--case", action="append", default=[], metavar="NAME", help="the case of this name")
     shared.add_argument("--cases", default=HERE / "cases", metavar="FOLDER", help="another folder of cases")
-    shared.add_argument("--patience", type=number_to(600), default=10, metavar="SECONDS", help="how long an answer is waited for (10)")
-    shared.add_argument("--jobs", type=number_to(64), default=4, metavar="N", help="how many cases are tried at a time (4)")
+    shared.add_argument(
+        "--patience",
+        type=number_to(600),
+        default=10,
+        metavar="SECONDS",
+        help="how long an answer is waited for (10)",
+    )
+    shared.add_argument(
+        "--jobs", type=number_to(64), default=4, metavar="N", help="how many cases are tried at a time (4)"
+    )
     intake = parsers.add_parser("intake", parents=[shared], help="a supervisor's end")
     way = intake.add_mutually_exclusive_group(required=True)
-    way.add_argument("--command", metavar="TEMPLATE", help="starts an intake on a new register: {db}, {port}, {n} connections, {limit} of keys")
-    way.add_argument("--port", type=number_to(65535), metavar="PORT", help="an intake that runs, with an empty register")
+    way.add_argument(
+        "--command",
+        metavar="TEMPLATE",
+        help="starts an intake on a new register: {db}, {port}, {n} connections, {limit} of keys",
+    )
+    way.add_argument(
+        "--port", type=number_to(65535), metavar="PORT", help="an intake that runs, with an empty register"
+    )
     way.add_argument("--exec", metavar="COMMAND", help="serves standard input and output as one connection")
     intake.add_argument("--again", metavar="TEMPLATE", help="starts an intake on a register that is there")
     outbox = parsers.add_parser("outbox", parents=[shared], help="a filer's end")
-    outbox.add_argument("--command", default="outbox", metavar="PROGRAM", help="a program that takes the words of this repository's outbox")
-    for name, places in (("init", "{db} {filer}"), ("put", "{db} {body} {key}"), ("amend", "{db} {body} {key} {target}"),
-                         ("send", "{db} {port} {entry} {patience}"), ("status", "{db}")):
+    outbox.add_argument(
+        "--command",
+        default="outbox",
+        metavar="PROGRAM",
+        help="a program that takes the words of this repository's outbox",
+    )
+    for name, places in (("init", "{db} {filer}"), ("put", "{db} {body} {key}"),
+                         ("amend", "{db} {body} {key} {target}"), ("send", "{db} {port} {entry} {patience}"),
+                         ("status", "{db}")):
         outbox.add_argument(f"--{name}", metavar="TEMPLATE", help=f"another command for this, with {places}")
     parsers.add_parser("list", parents=[shared], help="prints each case's name and rule")
     return parser.parse_args(words)

@@ -1,6 +1,7 @@
--- Views for a copy of a register or an outbox, as `register-snapshot` makes one: `sqlite3 -init reading.sql copy.db`. They live in that
--- connection alone, and the file stays as it is. Texts of facts and places are BLOBs in the tables, since a JSON text may hold any
--- character; the views show them as text. If a file has none of the tables, the views of it give an error when they are asked.
+-- Views for a copy of a register or an outbox, as `register-snapshot` makes one: `sqlite3 -init reading.sql copy.db`.
+-- They live in that connection alone, and the file stays as it is. Texts of facts and places are BLOBs in the tables,
+-- since a JSON text may hold any character; the views show them as text. If a file has none of the tables, the views of
+-- it give an error when they are asked.
 
 -- The filings, those that were replaced among them.
 CREATE TEMP VIEW filings AS
@@ -8,7 +9,8 @@ CREATE TEMP VIEW filings AS
 
 -- Which filing was replaced by which.
 CREATE TEMP VIEW replaced AS
-    SELECT target AS number, filer, number AS replaced_by FROM kept JOIN amends USING (seq) WHERE kept.number IS NOT NULL;
+    SELECT target AS number, filer, number AS replaced_by
+    FROM kept JOIN amends USING (seq) WHERE kept.number IS NOT NULL;
 
 -- The filings that no other one replaces.
 CREATE TEMP VIEW current AS
@@ -25,7 +27,9 @@ CREATE TEMP VIEW facts AS
 -- What each code of a finding means. docs/PROTOCOL.md has the same words, and what to do about each.
 CREATE TEMP VIEW codes (code, word, meaning) AS
     VALUES
-        (1, 'not-json', 'The body is no JSON: it is cut off, has a byte order mark or another encoding than UTF-8, a number beyond any float (1e400), half of a surrogate pair, or more than 127 levels.'),
+        (1, 'not-json',
+            'The body is no JSON: it is cut off, has a byte order mark or another encoding than UTF-8, '
+            || 'a number beyond any float (1e400), half of a surrogate pair, or more than 127 levels.'),
         (2, 'not-object', 'The body is JSON, but a list, a string or the like.'),
         (3, 'document-info', 'There is no object documentInfo.'),
         (4, 'document-type', 'The document type is missing or of another edition.'),
@@ -49,8 +53,11 @@ CREATE TEMP VIEW codes (code, word, meaning) AS
         (22, 'number', 'The fact has a unit, and its value is no number.'),
         (23, 'language', 'The language is empty or has other characters than letters, digits and hyphens.'),
         (24, 'unknown-dimension', 'A name without a colon is no core dimension.'),
-        (25, 'too-many', 'There are more than 1,000 findings, or one at a place of more than 1,024 bytes, and none of them is shown.'),
-        (26, 'not-replaceable', 'The report was sent to replace a filing that is not the filer''s, is not there, or was replaced.');
+        (25, 'too-many',
+            'There are more than 1,000 findings, or one at a place of more than 1,024 bytes, '
+            || 'and none of them is shown.'),
+        (26, 'not-replaceable',
+            'The report was sent to replace a filing that is not the filer''s, is not there, or was replaced.');
 
 -- A row for each finding of each refused report.
 CREATE TEMP VIEW refused AS
@@ -62,24 +69,28 @@ CREATE TEMP VIEW findings_by_code AS
     SELECT code, word, count(*) AS findings, count(DISTINCT seq) AS reports, count(DISTINCT filer) AS filers, meaning
     FROM finding JOIN kept USING (seq) LEFT JOIN codes USING (code) GROUP BY code ORDER BY findings DESC, code;
 
--- The refused reports that were sent to replace a filing: which one (target), whose that is, and which filing replaces it now. Both are NULL
--- if there is none.
+-- The refused reports that were sent to replace a filing: which one (target), whose that is, and which filing replaces
+-- it now. Both are NULL if there is none.
 CREATE TEMP VIEW refused_amendments AS
     SELECT kept.seq, kept.filer, kept.idem AS key, target, owner.filer AS filed_by, replaced_by
-    FROM amends JOIN kept USING (seq) LEFT JOIN filing ON filing.number = target LEFT JOIN kept AS owner ON owner.seq = filing.seq
+    FROM amends JOIN kept USING (seq) LEFT JOIN filing ON filing.number = target
+        LEFT JOIN kept AS owner ON owner.seq = filing.seq
         LEFT JOIN replaced ON replaced.number = target
     WHERE kept.number IS NULL;
 
--- Who has not filed: fill `expected` first, as by `INSERT INTO expected VALUES ('ACME')` or `.import list.txt expected`, with a filer's code on
--- each line. `refused` says how many reports of that filer were refused. Codes are compared with case, without spaces and CR at their ends.
+-- Who has not filed: fill `expected` first, as by `INSERT INTO expected VALUES ('ACME')` or
+-- `.import list.txt expected`, with a filer's code on each line. `refused` says how many reports of that filer were
+-- refused. Codes are compared with case, without spaces and CR at their ends.
 CREATE TEMP TABLE expected (filer TEXT PRIMARY KEY);
 CREATE TEMP VIEW missing AS
     WITH list AS (SELECT DISTINCT trim(filer, char(9, 13, 32)) AS filer FROM expected)
     SELECT filer, (SELECT count(*) FROM kept WHERE kept.filer = list.filer) AS refused
-    FROM list WHERE filer <> '' AND NOT EXISTS (SELECT 1 FROM kept JOIN filing USING (seq) WHERE kept.filer = list.filer) ORDER BY filer;
+    FROM list
+    WHERE filer <> '' AND NOT EXISTS (SELECT 1 FROM kept JOIN filing USING (seq) WHERE kept.filer = list.filer)
+    ORDER BY filer;
 
--- The filings with the moment at which each was received, and the user who sent it. These come from the log of nginx: a file that
--- `register-receipts --into` makes has them.
+-- The filings with the moment at which each was received, and the user who sent it. These come from the log of nginx: a
+-- file that `register-receipts --into` makes has them.
 CREATE TEMP VIEW received AS
     SELECT filings.*, received, user FROM filings LEFT JOIN receipt USING (number);
 

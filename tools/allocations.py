@@ -1,4 +1,5 @@
-"""Refuses one allocation of a program: a small library, built by `cc`, takes the calls before the C library's allocator and counts them."""
+"""Refuses one allocation of a program: a small library, built by `cc`,
+takes the calls before the C library's allocator and counts them."""
 
 import os
 import re

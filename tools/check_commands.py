@@ -1,16 +1,19 @@
 #!/usr/bin/env python3
-"""Compares what the built programs print for a command line with what they have to print: the status, the output and the errors.
+"""Compares what the built programs print for a command line with what they have to print: the status, the output and
+the errors.
 
     tools/check_commands.py
 
-It takes the programs that `rt run` builds in their folders, as crates/intake/out/intake. Status 1 if a line prints something else.
+It takes the programs that `rt run` builds in their folders, as crates/intake/out/intake. Status 1 if a line prints
+something else.
 """
 import sqlite3
 import subprocess
 import threading
 import time
 
-from trials import INTAKE, NOT_A_REGISTER, NO_OUTBOX, OUTBOX, REPORT, Peer, Serving, exchange, hold, is_silent, make_by_sql
+from trials import (INTAKE, NOT_A_REGISTER, NO_OUTBOX, OUTBOX, REPORT, Peer, Serving, exchange, hold, is_silent,
+                    make_by_sql)
 from trials import make_earlier, make_earlier_outbox, make_register, run, said, try_all
 
 FACT = (
@@ -68,7 +71,10 @@ OTHERS = [
     ("check --db @bare.db", 1, "not a register\n", f"bare.db: {NO_TABLES}"),
     ("check --db @auto.db", 1, "not a register\n", f"auto.db: {AUTO_VACUUM}"),
 ]
-NOT_JSON = '{"code":"not-json","column":3,"file":"words","line":2,"message":"the body is no JSON text","place":"","value":null}\n'
+NOT_JSON = (
+    '{"code":"not-json","column":3,"file":"words","line":2,'
+    '"message":"the body is no JSON text","place":"","value":null}\n'
+)
 AFTER = [
     ("migrate --db @r.db", 1, "not a register\n", "r.db: it has this version already"),
     ("check --db @r.db", 0, "sound: 1 kept, 1 filings\n", ""),
@@ -98,7 +104,10 @@ MIGRATED = [
     ("check --db @old.db", 0, "sound: 1 kept, 0 filings\n", ""),
     ("migrate --db @old.db", 1, "not a register\n", "old.db: it has this version already"),
 ]
-NO_INFO = '{"code":"document-info","column":1,"file":"small","line":1,"message":"the member is missing","place":"/documentInfo","value":null}\n'
+NO_INFO = (
+    '{"code":"document-info","column":1,"file":"small","line":1,'
+    '"message":"the member is missing","place":"/documentInfo","value":null}\n'
+)
 ENTRIES = [
     ("init --db @box.db --filer a/b", 2, "", f"--filer: {FILER_CODE}"),
     ("status --db @box.db", 1, "", "box.db: there is no such file"),
@@ -160,8 +169,8 @@ OTHER_OUTBOXES = [
     ("migrate --db @changed.db", 1, "damaged at row 0\n", f"changed.db: {WRONG_PAGE}"),
 ]
 
-# Ports are 1 to 65535, seconds of patience 1 to 86400, seconds to wait 0 to 86400, and the numbers that `--amend` takes 1 to 9223372036854775807; limits, other numbers and ids
-# begin with 0.
+# Ports are 1 to 65535, seconds of patience 1 to 86400, seconds to wait 0 to 86400, and the numbers that `--amend` takes
+# 1 to 9223372036854775807; limits, other numbers and ids begin with 0.
 OUT_OF_RANGE = [
     (INTAKE, "serve --db @r.db --port 0 --connections 1"),
     (INTAKE, "serve --db @r.db --port 65536 --connections 1"),
@@ -201,14 +210,18 @@ def hold_each(program, cases, folder):
 
 def make_example(database):
     """A register that has the example."""
-    head = b"POST /filings/ACME HTTP/1.1\r\nHost: localhost\r\nIdempotency-Key: \"k-1\"\r\nConnection: close\r\nContent-Length: %d\r\n\r\n"
+    head = (
+        b"POST /filings/ACME HTTP/1.1\r\nHost: localhost\r\nIdempotency-Key: \"k-1\"\r\n"
+        b"Connection: close\r\nContent-Length: %d\r\n\r\n"
+    )
     serving = Serving(database, 1, "--new")
     exchange(serving.port, head % len(REPORT) + REPORT)
     serving.end()
 
 
 def damage(database):
-    """Replaces the register by a file with another body, and without sums, since the sums would show the change first."""
+    """Replaces the register by a file with another body, and without sums, since the sums would show the change
+    first."""
     copy = database.with_name("copy.db")
     with sqlite3.connect(database) as old, sqlite3.connect(copy) as new:
         new.executescript("\n".join(old.iterdump()))
@@ -284,7 +297,8 @@ def check_files_of_others(folder):
     hold_each(OUTBOX, OTHER_OUTBOXES, folder)
     hold("nothing is left beside them", sorted(it.name for it in folder.iterdir()), before)
     for name in ("bare.db", "empty.db"):
-        hold(f"init in {name}", said(run(OUTBOX, "init", "--db", folder / name, "--filer", "ACME"), folder), (0, "", ""))
+        hold(f"init in {name}",
+             said(run(OUTBOX, "init", "--db", folder / name, "--filer", "ACME"), folder), (0, "", ""))
 
 
 def check_waiting_for_a_register(folder):
@@ -343,16 +357,17 @@ def check_name_of_a_uri(folder):
 
 def check_closed_output(folder):
     with open("/dev/full", "wb") as full:
-        words = {"input": b"GET / HTTP/1.1\r\nHost: h\r\n\r\n", "stdout": full, "stderr": subprocess.PIPE, "check": False}
+        words = {"input": b"GET / HTTP/1.1\r\nHost: h\r\n\r\n", "stdout": full,
+                 "stderr": subprocess.PIPE, "check": False}
         done = subprocess.run([INTAKE, "run"], **words)
-    hold("a reply that cannot be written", (done.returncode, done.stderr), (3, b"intake: the writer failed after 0 bytes\n"))
+    hold("a reply that cannot be written", (done.returncode, done.stderr),
+         (3, b"intake: the writer failed after 0 bytes\n"))
 
 
 if __name__ == "__main__":
     try_all(
         (INTAKE, OUTBOX),
-        (check_intake, check_empty_file, check_others, check_migration, check_outbox, check_outbox_migration, check_files_of_others,
-         check_waiting_for_a_register, check_waiting_for_an_outbox, check_ranges,
-         check_name_of_a_uri,
-         check_closed_output),
+        (check_intake, check_empty_file, check_others, check_migration, check_outbox, check_outbox_migration,
+         check_files_of_others, check_waiting_for_a_register, check_waiting_for_an_outbox, check_ranges,
+         check_name_of_a_uri, check_closed_output),
     )

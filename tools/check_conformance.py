@@ -3,10 +3,11 @@
 
     tools/check_conformance.py [INTAKE OUTBOX] [--only WORD]
 
-Without names it takes the programs that `rt run` builds in their folders. First each case is played on them: over sockets with an intake
-started for each case, over the port of one that runs, on standard input and output, and with the outbox. Then wrong programs are played: an intake and an
-outbox that this script puts itself in front of, changing one thing. For each change the named cases have to fail, and the others named have
-to pass. All this takes some ten minutes. The last line is 'N passed, M failed', and the status 1 if one failed.
+Without names it takes the programs that `rt run` builds in their folders. First each case is played on them: over
+sockets with an intake started for each case, over the port of one that runs, on standard input and output, and with the
+outbox. Then wrong programs are played: an intake and an outbox that this script puts itself in front of, changing one
+thing. For each change the named cases have to fail, and the others named have to pass. All this takes some ten minutes.
+The last line is 'N passed, M failed', and the status 1 if one failed.
 """
 import ctypes
 import json
@@ -83,19 +84,25 @@ REPLY_FAULTS = {
     "writes a space into the content": changed_content(lambda content: content.replace(b":", b": ", 1)),
     "writes a byte behind the reply": lambda reply: reply + b"\n",
     "sends no length": lambda reply: re.sub(rb"Content-Length: \d+\r\n", b"", reply),
-    "sends a wrong length": lambda reply: re.sub(rb"(Content-Length: )(\d+)", lambda it: it[1] + b"%d" % (int(it[2]) + 1), reply),
+    "sends a wrong length": lambda reply: re.sub(
+        rb"(Content-Length: )(\d+)", lambda it: it[1] + b"%d" % (int(it[2]) + 1), reply
+    ),
     "sends the length twice": lambda reply: re.sub(rb"(Content-Length: \d+\r\n)", rb"\1\1", reply),
     "calls itself HTTP/1.0": lambda reply: reply.replace(b"HTTP/1.1 ", b"HTTP/1.0 ", 1),
     "names a transfer coding": lambda reply: reply.replace(b"\r\n\r\n", b"\r\nTransfer-Encoding: chunked\r\n\r\n", 1),
     "counts numbers from 2": changed_content(lambda content: re.sub(rb'"number":(\d+)', next_number, content)),
-    "lists nothing": changed_content(lambda content: b'{"filings":[]}' if content.startswith(b'{"filings"') else content),
+    "lists nothing": changed_content(
+        lambda content: b'{"filings":[]}' if content.startswith(b'{"filings"') else content
+    ),
     "lists no replacements": changed_content(lambda content: re.sub(rb',"replace[a-z_]*":\d+', b"", content)),
     "tells findings in another order": changed_content(
         lambda content: re.sub(rb"(\[)(\{[^}]*\}),(\{[^}]*\})", rb"\1\3,\2", content, count=1)
     ),
     "tells one finding less": changed_content(lambda content: re.sub(rb"\},\{[^}]*\}\]", b"}]", content, count=1)),
     "never sends 100 Continue": without_continue,
-    "writes content to a HEAD": lambda reply: reply + b"{}" if b" 405 " in reply and b"Content-Length" not in reply else reply,
+    "writes content to a HEAD": lambda reply: (
+        reply + b"{}" if b" 405 " in reply and b"Content-Length" not in reply else reply
+    ),
 }
 # What may be otherwise: other fields, another phrase, names in lower case, and replies in pieces.
 HARMLESS = "is another sound intake"
@@ -105,8 +112,12 @@ def made_harmless(reply):
     head, mark, content = reply.partition(b"\r\n\r\n")
     lines = head.split(b"\r\n")
     first = lines[0][:12] + b" So it is"
-    fields = [name.lower() + b":\t" + value.strip() + b" " for name, _, value in (line.partition(b":") for line in lines[1:])]
-    return b"\r\n".join([first, b"Date: Mon, 01 Jan 2024 00:00:00 GMT", *reversed(fields), b"Server: another"]) + mark + content
+    fields = [name.lower() + b":\t" + value.strip() + b" "
+              for name, _, value in (line.partition(b":") for line in lines[1:])]
+    return (
+        b"\r\n".join([first, b"Date: Mon, 01 Jan 2024 00:00:00 GMT", *reversed(fields), b"Server: another"])
+        + mark + content
+    )
 
 
 def ends_with_this():
@@ -138,7 +149,8 @@ class WrongIntake:
             for file in (database, f"{database}-wal"):
                 pathlib.Path(file).unlink(missing_ok=True)
             is_new = True
-        words = [program, "serve", "--db", database, "--port", str(self.inner), "--connections", "1000", "--limit", str(limit)]
+        words = [program, "serve", "--db", database, "--port", str(self.inner),
+                 "--connections", "1000", "--limit", str(limit)]
         self.process = start_real(words + (["--new"] if is_new else []))
         self.listener = socket.create_server(("127.0.0.1", int(port)))
 
@@ -204,13 +216,16 @@ class WrongIntake:
 
 # For each fault the cases that have to fail, and those that have to pass all the same.
 INTAKES = {
-    "answers 200 for 201": (["repeat.on-the-same-connection", "key.one-character"], ["head.smallest", "example.not-json"]),
-    "answers 400 for 422": (["example.not-object", "repeat.another-body"], ["example.not-json", "repeat.after-other-filings"]),
+    "answers 200 for 201": (["repeat.on-the-same-connection", "key.one-character"],
+                            ["head.smallest", "example.not-json"]),
+    "answers 400 for 422": (["example.not-object", "repeat.another-body"],
+                            ["example.not-json", "repeat.after-other-filings"]),
     "sends no Allow": (["method.put", "method.head"], ["head.smallest"]),
     "calls problem details JSON": (["path.other", "repeat.another-body", "length.missing"], ["head.smallest"]),
     "cuts a byte off the content": (["head.smallest", "path.other"], ["method.head-that-closes"]),
     "writes a space into the content": (["head.smallest", "path.other", "example.fact"], ["method.head-that-closes"]),
-    "writes a byte behind the reply": (["head.smallest", "close.asked", "connection.three-at-once"], ["connection.without-a-byte"]),
+    "writes a byte behind the reply": (["head.smallest", "close.asked", "connection.three-at-once"],
+                                       ["connection.without-a-byte"]),
     "sends no length": (["head.smallest", "close.asked", "path.other"], ["method.head-that-closes"]),
     "sends a wrong length": (["head.smallest", "close.asked"], ["method.head-that-closes"]),
     "sends the length twice": (["head.smallest"], ["method.head-that-closes"]),
@@ -221,17 +236,21 @@ INTAKES = {
     "lists no replacements": (["amend.replaces", "list.one-that-was-replaced"], ["list.counts-facts"]),
     "tells findings in another order": (["document-info.two-missing", "place.in-byte-order"], ["example.fact"]),
     "tells one finding less": (["document-info.two-missing", "entity.unbound-and-not-the-filer"], ["example.fact"]),
-    "never sends 100 Continue": (["continue.before-the-body", "continue.where-the-body-came"], ["continue.1.0", "continue.too-large"]),
+    "never sends 100 Continue": (["continue.before-the-body", "continue.where-the-body-came"],
+                                 ["continue.1.0", "continue.too-large"]),
     "writes content to a HEAD": (["method.head", "method.head-that-closes"], ["method.put"]),
-    "forgets what was filed under a key": (["repeat.on-another-connection", "repeat.another-body", "amend.repeat"], ["numbering.over-all-filers"]),
+    "forgets what was filed under a key": (["repeat.on-another-connection", "repeat.another-body", "amend.repeat"],
+                                           ["numbering.over-all-filers"]),
     "keeps the connection open": (["close.asked", "close.1.0", "head.field-without-colon", "length.missing"], []),
-    "closes after each reply": (["stays.keep-alive", "connection.one-after-another", "head.smallest"], ["close.asked", "length.missing"]),
+    "closes after each reply": (["stays.keep-alive", "connection.one-after-another", "head.smallest"],
+                                ["close.asked", "length.missing"]),
     "says nothing": (["head.smallest", "method.head"], ["connection.without-a-byte"]),
     "completes what was cut": (["cut.before-the-last-byte", "connection.ends-inside-a-body"], ["close.asked"]),
     "has no limit": (["limit.a-new-key", "limit.zero"], ["head.smallest"]),
     "forgets everything at a restart": (["restart.killed", "restart.replacements"], ["repeat.on-another-connection"]),
-    HARMLESS: ([], ["head.smallest", "repeat.on-the-same-connection", "method.head", "method.put", "continue.before-the-body", "example.fact",
-                    "amend.chain", "limit.zero", "restart.killed", "close.1.0", "length.missing", "connection.three-at-once"]),
+    HARMLESS: ([], ["head.smallest", "repeat.on-the-same-connection", "method.head", "method.put",
+                    "continue.before-the-body", "example.fact", "amend.chain", "limit.zero", "restart.killed",
+                    "close.1.0", "length.missing", "connection.three-at-once"]),
 }
 
 
@@ -244,7 +263,9 @@ def told_state(change):
 
 # What a fault does to what `status` prints.
 STATUS_FAULTS = {
-    "tells another number": told_state(lambda it: f"confirmed {int(it[1].split()[1]) + 1}" if it[1].startswith("confirmed") else it[1]),
+    "tells another number": told_state(
+        lambda it: f"confirmed {int(it[1].split()[1]) + 1}" if it[1].startswith("confirmed") else it[1]
+    ),
     "tells open as refused": told_state(lambda it: "refused" if it[1] == "open" else it[1]),
     "tells clashed as refused": told_state(lambda it: "refused" if it[1] == "clashed" else it[1]),
     "tells one entry less": lambda lines: "".join(lines.splitlines(True)[1:]),
@@ -301,7 +322,8 @@ def play_filer(fault, program, words):
 
 def run_cases(*words):
     """What the runner prints, and its status."""
-    done = subprocess.run([sys.executable, RUNNER, *map(str, words)], capture_output=True, text=True, check=False, timeout=3000)
+    done = subprocess.run([sys.executable, RUNNER, *map(str, words)],
+                          capture_output=True, text=True, check=False, timeout=3000)
     return done.returncode, done.stdout, done.stderr
 
 
@@ -338,8 +360,13 @@ def check_fault(what, fault, must_fail, must_pass, *words):
     _, output, errors = run_cases(*words, *only, "--patience", "2")
     failed, counts = told_of(output)
     wanted = (len(must_pass), len(must_fail))
-    found = None if sorted(failed) == sorted(must_fail) and counts == wanted else f"failed {failed}, {counts}: {output[-700:]}{errors[-300:]}"
-    if must_fail and not found and not all(re.search(rf"(?ms)^failed: {re.escape(name)}: .*?wanted: .*?came: ", output) for name in must_fail):
+    found = (
+        None if sorted(failed) == sorted(must_fail) and counts == wanted
+        else f"failed {failed}, {counts}: {output[-700:]}{errors[-300:]}"
+    )
+    if must_fail and not found and not all(
+        re.search(rf"(?ms)^failed: {re.escape(name)}: .*?wanted: .*?came: ", output) for name in must_fail
+    ):
         found = f"it doesn't say what was wanted and what came: {output[-700:]}"
     tell_one(f"{what} that {fault}", found)
 
@@ -363,13 +390,15 @@ def check_programs(intake, outbox, only):
     check_all("an intake on its standard input and output", None, "intake", "--exec", f"{program} run", least=400)
     with tempfile.TemporaryDirectory() as folder:
         port = free_port()
-        words = [intake, "serve", "--db", f"{folder}/register.db", "--port", str(port), "--connections", "4294967295", "--new"]
+        words = [intake, "serve", "--db", f"{folder}/register.db", "--port", str(port),
+                 "--connections", "4294967295", "--new"]
         with subprocess.Popen(words, stderr=subprocess.PIPE) as serving:
             serving.stderr.readline()
             check_all("an intake that runs", None, "intake", "--port", port, least=500)
             status, output, errors = run_cases("intake", "--port", str(port))
             is_told = status == 2 and "the cases need an empty one" in errors and not output
-            tell_one("refused: a register that has their filings", None if is_told else f"status {status}, {output[-400:]}{errors[-400:]}")
+            tell_one("refused: a register that has their filings",
+                     None if is_told else f"status {status}, {output[-400:]}{errors[-400:]}")
             serving.terminate()
 
 
@@ -404,7 +433,8 @@ REFUSALS = [
     (["list"], '{"end":"middle","cases":[{}]}', "no file of cases"),
     (["list"], CASE.replace('"rule":"r",', "") % "", "the case a.b has no 'rule'"),
     (["list"], CASE.replace('"rule":"r"', '"rule":""') % "", "a case has no name or no rule"),
-    (["list"], CASE.replace('{"name"', '{"name":"a.b","rule":"r","connections":[]},{"name"', 1) % "", "two cases are called a.b"),
+    (["list"], CASE.replace('{"name"', '{"name":"a.b","rule":"r","connections":[]},{"name"', 1) % "",
+     "two cases are called a.b"),
     (["list"], CASE % '{"sned":""}', "there is no 'sned'"),
     (["list"], CASE.replace('{"steps":[%s]}', '{"restart":"now"}'), "is none of stop, kill"),
     (["list"], CASE % '{"send":"","pause":1}', "has 2 members in place of one"),
@@ -434,7 +464,8 @@ def check_refusals():
 
 
 def check_cases():
-    """Each intake's case has filer codes that no other has, so that all can be played on one register; no name is used twice."""
+    """Each intake's case has filer codes that no other has, so that all can be played on one register; no name is used
+    twice."""
     owners, names, counts = {}, [], {"intake": 0, "outbox": 0}
     for file in sorted((ROOT / "conformance/cases").glob("*.json")):
         whole = json.loads(file.read_text())
@@ -448,7 +479,8 @@ def check_cases():
                 owners.setdefault(filer, set()).add(case["name"])
     shared = {filer: cases for filer, cases in owners.items() if len(cases) > 1}
     tell_one("each case has filers of its own", None if not shared else f"{shared}")
-    tell_one("each case has a name of its own", None if len(names) == len(set(names)) else f"{len(names) - len(set(names))} names are used twice")
+    tell_one("each case has a name of its own",
+             None if len(names) == len(set(names)) else f"{len(names) - len(set(names))} names are used twice")
     told = f"{counts['intake']} cases for an intake and {counts['outbox']} for an outbox"
     for page in ("conformance/README.md", "docs/CONFORMANCE.md"):
         is_there = told in " ".join((ROOT / page).read_text().split())

@@ -3,9 +3,10 @@
 
     tools/check_deploy.py
 
-Scripts are parsed, held to shellcheck and run with stand-ins for `intake` and `outbox`; units are verified by systemd; the views are
-asked over the tables that docs/PROTOCOL.md declares; nginx tests its files, and then serves requests with and without certificates
-in front of a stand-in for the intake. Status 1 if a trial fails. What could not be tried is no failure.
+Scripts are parsed, held to shellcheck and run with stand-ins for `intake` and `outbox`; units are verified by systemd;
+the views are asked over the tables that docs/PROTOCOL.md declares; nginx tests its files, and then serves requests with
+and without certificates in front of a stand-in for the intake. Status 1 if a trial fails. What could not be tried is no
+failure.
 """
 import contextlib
 import gzip
@@ -86,12 +87,18 @@ exit "$LEFT_STATUS"
         ("", 3, settled, 0, 3, ""),
         ("", 1, "", 1, 1, ""),
     ]:
-        paths = {**os.environ, "PATH": f"{folder}:{os.environ['PATH']}", "SAID": said, "STATUS": str(status), "LEFT": stays}
+        paths = {**os.environ, "PATH": f"{folder}:{os.environ['PATH']}", "SAID": said,
+                 "STATUS": str(status), "LEFT": stays}
         (folder / "asked").unlink(missing_ok=True)
-        done = run(DEPLOY / "outbox-round", "outbox.db", "1", cwd=folder, env={**paths, "LEFT_STATUS": str(left_status)})
+        done = run(DEPLOY / "outbox-round", "outbox.db", "1", cwd=folder,
+                   env={**paths, "LEFT_STATUS": str(left_status)})
         found = (done.returncode, done.stdout, done.stderr)
-        hold(f"outbox-round, if send says {said!r} and ends with {status}", found, (wanted, said.replace("\\n", "\n"), errors))
-        asked = "send --db outbox.db --port 1 --all --patience 120 --wait 60\n" + ("" if status == 1 else "status --db outbox.db --wait 60\n")
+        hold(f"outbox-round, if send says {said!r} and ends with {status}", found,
+             (wanted, said.replace("\\n", "\n"), errors))
+        asked = (
+            "send --db outbox.db --port 1 --all --patience 120 --wait 60\n"
+            + ("" if status == 1 else "status --db outbox.db --wait 60\n")
+        )
         hold("and what it asks", (folder / "asked").read_text(), asked)
 
 
@@ -167,8 +174,10 @@ def settings(name):
 def try_instances():
     """The units for instances are those for one, but for the names, the port and what says where the port is."""
     for one, changes, more in [
-        ("berruzpil-intake", {"registers xBRL-JSON reports once": "of the register %i", "intake: of": "intake of", "register.db": "%i.db",
-                              "8080": "${PORT}", "Identifier=intake": "Identifier=intake-%i"}, ["EnvironmentFile=/etc/berruzpil/%i.env"]),
+        ("berruzpil-intake",
+         {"registers xBRL-JSON reports once": "of the register %i", "intake: of": "intake of", "register.db": "%i.db",
+          "8080": "${PORT}", "Identifier=intake": "Identifier=intake-%i"},
+         ["EnvironmentFile=/etc/berruzpil/%i.env"]),
         ("berruzpil-outbox", {"outbox: sends": "outbox %i: sends", "outbox.db 8081": "%i.db ${PORT}"},
          ["Environment=PORT=8081", "EnvironmentFile=-/etc/berruzpil/%i.env"]),
     ]:
@@ -177,18 +186,21 @@ def try_instances():
             wanted = wanted.replace(old, new)
         found = settings(f"{one}@.service")
         hold(f"{one}@.service says where its port is", [line for line in found if line in more], more)
-        hold(f"{one}@.service is {one}.service otherwise", [line for line in found if line not in more], wanted.splitlines())
+        hold(f"{one}@.service is {one}.service otherwise",
+             [line for line in found if line not in more], wanted.splitlines())
 
 
 def tables_of_protocol():
     """The tables that docs/PROTOCOL.md declares, as statements."""
     text = (ROOT / "docs" / "PROTOCOL.md").read_text()
-    found = re.findall(r"(?m)^    (\w+ \(id INTEGER PRIMARY KEY.*|\w+ \((?:seq|number) INTEGER.*)((?:\n {8,}.*)*)", text)
+    found = re.findall(r"(?m)^    (\w+ \(id INTEGER PRIMARY KEY.*|\w+ \((?:seq|number) INTEGER.*)"
+                       r"((?:\n {8,}.*)*)", text)
     return [f"CREATE TABLE {first}{rest} STRICT;" for first, rest in found]
 
 
 def codes_of_protocol():
-    """Each code of a finding as docs/PROTOCOL.md has it: its number, its word and what it means, without the marks of the page."""
+    """Each code of a finding as docs/PROTOCOL.md has it: its number, its word and what it means, without the marks of
+    the page."""
     text = (ROOT / "docs" / "PROTOCOL.md").read_text()
     numbers = {word: int(number) for number, word in re.findall(r"(?m)^\| (\d+) \| ([a-z-]+) \|", text)}
     meanings = re.findall(r"(?m)^- `([a-z-]+)`: ((?:.*\n)(?: {2}.*\n)*)", text[text.index("What each code means") :])
@@ -196,21 +208,25 @@ def codes_of_protocol():
     return sorted((number, word, means.get(word)) for word, number in numbers.items())
 
 
-# A register of five filings and three refused reports. Filing 2 replaces 1, and 4 replaces 2; 5 is another filer's. Of the refused ones, one was to
-# replace filing 1, which was replaced already, one filing 9, which isn't there, and one nothing.
-KEPT = [("ACME", "k-1", 1), ("ACME", "k-2", 2), ("BETA", "k-1", 3), ("ACME", "k-3", None), ("ACME", "k-4", 4), ("GAMMA", "k-1", None),
-        ("DELTA", "k-1", None), ("BETA", "k-2", 5)]  # fmt: skip
+# A register of five filings and three refused reports. Filing 2 replaces 1, and 4 replaces 2; 5 is another filer's. Of
+# the refused ones, one was to replace filing 1, which was replaced already, one filing 9, which isn't there, and one
+# nothing.
+KEPT = [("ACME", "k-1", 1), ("ACME", "k-2", 2), ("BETA", "k-1", 3), ("ACME", "k-3", None), ("ACME", "k-4", 4),
+        ("GAMMA", "k-1", None), ("DELTA", "k-1", None), ("BETA", "k-2", 5)]  # fmt: skip
 AMENDS = [(2, 1), (4, 1), (5, 2), (6, 9)]
-FINDINGS = [(4, 1, 3, "/documentInfo"), (4, 2, 26, ""), (6, 1, 26, ""), (7, 1, 22, "/facts/a/value"), (7, 2, 22, "/facts/b/value")]
+FINDINGS = [(4, 1, 3, "/documentInfo"), (4, 2, 26, ""), (6, 1, 26, ""),
+            (7, 1, 22, "/facts/a/value"), (7, 2, 22, "/facts/b/value")]
 DIMENSIONS = '{"concept":"eg:A","entity":"lei:ACME","period":"2024-12-31T00:00:00","unit":"iso4217:EUR"}'
 # A question to the views, and the rows that the register above gives, worked out by hand.
 VIEWS = [
-    ("SELECT * FROM filings", ["1|1|ACME|k-1|4", "2|2|ACME|k-2|4", "3|3|BETA|k-1|4", "4|5|ACME|k-4|4", "5|8|BETA|k-2|4"]),
+    ("SELECT * FROM filings",
+     ["1|1|ACME|k-1|4", "2|2|ACME|k-2|4", "3|3|BETA|k-1|4", "4|5|ACME|k-4|4", "5|8|BETA|k-2|4"]),
     ("SELECT number FROM current", ["3", "4", "5"]),
     ("SELECT number FROM current WHERE filer = 'ACME'", ["4"]),
     ("SELECT * FROM replaced", ["1|ACME|2", "2|ACME|4"]),
     ("SELECT * FROM facts", [f"4|ACME|1|f1|eg:A|2024-12-31T00:00:00|iso4217:EUR|100|0|{DIMENSIONS}"]),
-    ("SELECT * FROM refused WHERE filer = 'ACME'", ["4|ACME|k-3|1|3|/documentInfo|document-info", "4|ACME|k-3|2|26||not-replaceable"]),
+    ("SELECT * FROM refused WHERE filer = 'ACME'",
+     ["4|ACME|k-3|1|3|/documentInfo|document-info", "4|ACME|k-3|2|26||not-replaceable"]),
     ("SELECT code, word, findings, reports, filers FROM findings_by_code",
      ["22|number|2|1|1", "26|not-replaceable|2|2|2", "3|document-info|1|1|1"]),
     ("SELECT meaning FROM findings_by_code WHERE code = 22", ["The fact has a unit, and its value is no number."]),
@@ -232,12 +248,16 @@ def try_views(folder):
     hold("the tables of docs/PROTOCOL.md", len(tables), 10)
     copy = folder / "views.db"
     with contextlib.closing(sqlite3.connect(copy)) as database:
-        database.executescript("\n".join(tables) + "CREATE TABLE receipt (number INTEGER PRIMARY KEY, sha256 TEXT, received TEXT, user TEXT) STRICT;")
+        database.executescript(
+            "\n".join(tables)
+            + "CREATE TABLE receipt (number INTEGER PRIMARY KEY, sha256 TEXT, received TEXT, user TEXT) STRICT;"
+        )
         database.executemany("INSERT INTO kept VALUES (NULL, ?, ?, x'626f6479', ?)", KEPT)
         database.execute("INSERT INTO filing SELECT number, seq FROM kept WHERE number IS NOT NULL")
         database.executemany("INSERT INTO amends VALUES (?, ?)", AMENDS)
         database.executemany("INSERT INTO finding VALUES (?, ?, ?, CAST(? AS BLOB))", FINDINGS)
-        database.execute("INSERT INTO fact VALUES (4, 1, x'6631', x'65673a41', CAST(? AS BLOB), x'313030', 0)", (DIMENSIONS,))
+        database.execute("INSERT INTO fact VALUES (4, 1, x'6631', x'65673a41', CAST(? AS BLOB), x'313030', 0)",
+                         (DIMENSIONS,))
         database.execute("INSERT INTO receipt VALUES (3, 'S', 'T1', 'agent')")
         database.execute("INSERT INTO entry VALUES (1, 'k-1', x'626f6479', 1, 1), (2, 'k-2', x'626f6479', 0, NULL)")
         database.commit()
@@ -247,15 +267,18 @@ def try_views(folder):
     script = f".read {DEPLOY / 'reading.sql'}\n" + "\n".join(lines).replace("{folder}", str(folder))
     done = run(sqlite, "-batch", "-readonly", copy, input=script + "\n")
     answers = re.split(r"(?m)^== \d+\n", done.stdout)
-    hold("the views can be asked", (done.returncode, done.stderr, answers[0], len(answers) - 1), (0, "", "", len(VIEWS)))
+    hold("the views can be asked",
+         (done.returncode, done.stderr, answers[0], len(answers) - 1), (0, "", "", len(VIEWS)))
     for (ask, wanted), found in zip(VIEWS, answers[1:]):
         hold(ask, found.splitlines(), wanted)
     hold("the file is as it was", copy.read_bytes() == before, True)
     with contextlib.closing(sqlite3.connect(copy)) as database:
         database.executescript((DEPLOY / "reading.sql").read_text())
-        hold("the codes, as docs/PROTOCOL.md has them", database.execute("SELECT * FROM codes").fetchall(), codes_of_protocol())
+        hold("the codes, as docs/PROTOCOL.md has them",
+             database.execute("SELECT * FROM codes").fetchall(), codes_of_protocol())
         for view in ("filings", "facts"):
-            plan = " / ".join(row[3] for row in database.execute(f"EXPLAIN QUERY PLAN SELECT * FROM {view} WHERE number = 4"))
+            plan = " / ".join(row[3]
+                              for row in database.execute(f"EXPLAIN QUERY PLAN SELECT * FROM {view} WHERE number = 4"))
             hold(f"{view} of one number goes through no whole table", ("SEARCH" in plan, "SCAN" in plan), (True, False))
 
 
@@ -276,8 +299,9 @@ def try_log(folder):
     """Logs of reports that were answered 201, of which the register has some, one that replaces another among them."""
     copy = folder / "copy.db"
     make_copy(copy, [("ACME", 'a"b'), ("ACME", "k-2"), ("ACME", "k-4")], [("ACME", "k-3")])
-    own = [log_line("/filings/ACME", 'a\\"b'), log_line("/filings/ACME", "k-2"), log_line("/filings/ACME", "k-3", "422"),
-           log_line("/filings/ACME/1", "k-4"), log_line("/filings/BETA", "k-2"), log_line("/filings/BETA", "k-2")]
+    own = [log_line("/filings/ACME", 'a\\"b'), log_line("/filings/ACME", "k-2"),
+           log_line("/filings/ACME", "k-3", "422"), log_line("/filings/ACME/1", "k-4"),
+           log_line("/filings/BETA", "k-2"), log_line("/filings/BETA", "k-2")]
     odd = [b'{"uri":"/\xff","intake_status":"","key":""}\n', b"\n", b"[1]\n", b"7\n"]
     agent = log_line("/filings/ACME", "k-5").replace(b"}", b',"agent":"\xff"}')
     cut, unread = b'{"time":"T","uri":"/filings/AC', "lost-filings: {}: {} lines can't be read, the first is line {}\n"
@@ -341,7 +365,10 @@ class Intake:
             with peer:
                 self.requests.append(read_message(peer))
                 content = b'{"number":1,"status":"registered"}'
-                head = f"HTTP/1.1 {self.status} Whatever\r\nContent-Type: application/json\r\nContent-Length: {len(content)}\r\n"
+                head = (
+                    f"HTTP/1.1 {self.status} Whatever\r\nContent-Type: application/json\r\n"
+                    f"Content-Length: {len(content)}\r\n"
+                )
                 peer.sendall(head.encode() + b"Connection: close\r\n\r\n" + content)
 
 
@@ -357,7 +384,8 @@ def read_message(peer):
     return held
 
 
-# Subjects with whatever means something to a regular expression, to nginx's files, or to the way in which a subject is written.
+# Subjects with whatever means something to a regular expression, to nginx's files, or to the way in which a subject is
+# written.
 ODD_SUBJECTS = {
     "odd-1": "/O=Bäcker, Söhne \\+ Co./CN=a|b",
     "odd-2": '/O=say "(x)" {1}; #2/CN=a.b*c?^[d]$e',
@@ -367,26 +395,30 @@ ODD_SUBJECTS = {
 
 def make_certificates(openssl, folder):
     """An authority, and certificates of the server, of a filer and of somebody without a line in the map."""
-    run(openssl, "req", "-x509", "-newkey", "ec", "-pkeyopt", "ec_paramgen_curve:P-256", "-nodes", "-subj", "/CN=authority",
-        "-keyout", folder / "ca.key", "-out", folder / "ca.pem", "-days", "2")
-    subjects = {"server": "/CN=intake.example", "acme": "/O=ACME/CN=acme-filing", "other": "/O=x,CN=acme-filing,O=ACME/CN=other", **ODD_SUBJECTS}
+    run(openssl, "req", "-x509", "-newkey", "ec", "-pkeyopt", "ec_paramgen_curve:P-256", "-nodes",
+        "-subj", "/CN=authority", "-keyout", folder / "ca.key", "-out", folder / "ca.pem", "-days", "2")
+    subjects = {"server": "/CN=intake.example", "acme": "/O=ACME/CN=acme-filing",
+                "other": "/O=x,CN=acme-filing,O=ACME/CN=other", **ODD_SUBJECTS}
     for name, subject in subjects.items():
         run(openssl, "req", "-utf8", "-newkey", "ec", "-pkeyopt", "ec_paramgen_curve:P-256", "-nodes", "-subj", subject,
             "-keyout", folder / f"{name}.key", "-out", folder / f"{name}.csr")
         names = folder / "names"
         names.write_text(f"subjectAltName=DNS:intake.example,DNS:{SECOND_HOST}")
-        run(openssl, "x509", "-req", "-in", folder / f"{name}.csr", "-CA", folder / "ca.pem", "-CAkey", folder / "ca.key",
-            "-CAcreateserial", "-days", "2", "-extfile", names, "-out", folder / f"{name}.pem")
+        run(openssl, "x509", "-req", "-in", folder / f"{name}.csr", "-CA", folder / "ca.pem",
+            "-CAkey", folder / "ca.key", "-CAcreateserial", "-days", "2", "-extfile", names,
+            "-out", folder / f"{name}.pem")
 
 
 def second_register():
     """The file of a second register, made by the command of docs/OPERATIONS.md."""
-    command = re.search(r"(?m)^    (sed -e 's/intake(?:.*\\\n)*.*) > nginx-intake-2025.conf$", (ROOT / "docs" / "OPERATIONS.md").read_text())
+    command = re.search(r"(?m)^    (sed -e 's/intake(?:.*\\\n)*.*) > nginx-intake-2025.conf$",
+                        (ROOT / "docs" / "OPERATIONS.md").read_text())
     return run("sh", "-c", command[1], cwd=DEPLOY).stdout
 
 
 def with_odd_users(folder):
-    """The file of the first register, with the users of the odd subjects, as nginx-filer writes them, each for the filer ACME and one of its own."""
+    """The file of the first register, with the users of the odd subjects, as nginx-filer writes them, each for the
+    filer ACME and one of its own."""
     file = folder / "fronts.conf"
     file.write_text((DEPLOY / "nginx-intake.conf").read_text())
     for user in ODD_SUBJECTS:
@@ -404,9 +436,16 @@ def nginx_file(folder, port, intakes, outbox_port):
     fronts = fronts.replace("/etc/nginx/tls/filers-ca.pem", f"{folder}/ca.pem").replace("/etc/nginx/tls", str(folder))
     fronts = fronts.replace("/var/log/berruzpil/", f"{folder}/")
     behind = (DEPLOY / "nginx-outbox.conf").read_text()
-    behind = behind.replace("127.0.0.1:8081", f"127.0.0.1:{outbox_port}").replace("https://intake.example", f"https://127.0.0.1:{port}")
-    behind = behind.replace("/etc/berruzpil/intake-ca.pem", f"{folder}/ca.pem").replace("/etc/berruzpil/filer", f"{folder}/acme")
-    temporary = "".join(f"    {kind}_temp_path {folder}/{kind};\n" for kind in ["client_body", "proxy", "fastcgi", "uwsgi", "scgi"])
+    behind = (
+        behind.replace("127.0.0.1:8081", f"127.0.0.1:{outbox_port}")
+        .replace("https://intake.example", f"https://127.0.0.1:{port}")
+    )
+    behind = (
+        behind.replace("/etc/berruzpil/intake-ca.pem", f"{folder}/ca.pem")
+        .replace("/etc/berruzpil/filer", f"{folder}/acme")
+    )
+    temporary = "".join(f"    {kind}_temp_path {folder}/{kind};\n"
+                        for kind in ["client_body", "proxy", "fastcgi", "uwsgi", "scgi"])
     whole = f"daemon off;\npid {folder}/pid;\nerror_log {folder}/error.log;\nevents {{}}\n"
     log = (DEPLOY / "nginx-berruzpil-log.conf").read_text()
     (folder / "nginx.conf").write_text(f"{whole}http {{\n    access_log off;\n{temporary}{log}{fronts}{behind}}}\n")
@@ -472,7 +511,8 @@ def odd_requests():
         ("another host than that of the connection", b"GET / HTTP/1.1\r\nHost: localhost\r\n\r\n", host),
         ("a path that is none", b"GET /%zz HTTP/1.1\r\nHost: intake.example\r\n\r\n", malformed),
         ("a version that is none", b"GET /filings/ACME HTTP/3.0\r\nHost: intake.example\r\n\r\n", malformed),
-        ("a line that is too long", b"GET /" + b"a" * 20000 + b" HTTP/1.1\r\nHost: intake.example\r\n\r\n", head_too_large),
+        ("a line that is too long",
+         b"GET /" + b"a" * 20000 + b" HTTP/1.1\r\nHost: intake.example\r\n\r\n", head_too_large),
         ("a field that is too long", b"GET " + path + b"A: " + b"a" * 20000 + b"\r\n\r\n", head_too_large),
         ("TRACE", b"TRACE " + path + b"\r\n", method),
         ("a coding that nginx doesn't know", b"POST " + path + b"Transfer-Encoding: gzip\r\n\r\n", coding),
@@ -486,7 +526,9 @@ def try_second_register(folder, intake, second, port):
     hold("a report for the second register", (status, len(second.requests), len(intake.requests) - before), (201, 1, 0))
     copies = {host: folder / f"{host}.db" for host in ("intake.example", SECOND_HOST)}
     for host, copy in copies.items():
-        make_copy(copy, [("ACME", "k-1"), *((f"{user}.x", "k-1") for user in ODD_SUBJECTS)] if host == "intake.example" else [])
+        make_copy(copy,
+                  [("ACME", "k-1"), *((f"{user}.x", "k-1") for user in ODD_SUBJECTS)]
+                  if host == "intake.example" else [])
     for host, missing in [("intake.example", []), (SECOND_HOST, ['ACME "second"'])]:
         done = run(DEPLOY / "lost-filings", "--host", host, copies[host], folder / "filings.log")
         found = [line.partition(" ")[2] for line in done.stdout.splitlines()]
@@ -508,28 +550,35 @@ def try_filer_lines(folder):
     file, acme = folder / "fronts.conf", folder / "acme.pem"
     before = file.read_text()
     for what, words, wanted in [
-        ("lines that are there", (file, acme, "acme", "ACME"), (0, '"~^CN=acme-filing,O=ACME$" acme;\n"~^acme ACME$" 1;\n', "")),
+        ("lines that are there", (file, acme, "acme", "ACME"),
+         (0, '"~^CN=acme-filing,O=ACME$" acme;\n"~^acme ACME$" 1;\n', "")),
         ("a subject that is another user's", (file, acme, "beta", "ACME"),
          (1, "", f'nginx-filer: {file}: this subject is another user\'s: "~^CN=acme-filing,O=ACME$" acme;\n')),
-        ("a file without the maps", (acme, acme, "acme", "ACME"), (1, "", f"nginx-filer: {acme}: there is no map of who may file for which filer\n")),
+        ("a file without the maps", (acme, acme, "acme", "ACME"),
+         (1, "", f"nginx-filer: {acme}: there is no map of who may file for which filer\n")),
         ("a filer code that is none", (file, acme, "acme", "a/b"), (2, "", "nginx-filer: 'a/b' is no filer code\n")),
         ("a user that is none", (file, acme, "acme; }", "ACME"), (2, "", "nginx-filer: 'acme; }' is no user\n")),
         ("too few words", (file, acme, "acme"), (2, "", "usage: nginx-filer FILE CERTIFICATE USER FILER ..\n")),
     ]:
         done = run(DEPLOY / "nginx-filer", *words)
         hold(f"nginx-filer: {what}", (done.returncode, done.stdout, done.stderr), wanted)
-    hold("nginx-filer: a certificate that is none", run(DEPLOY / "nginx-filer", file, file, "acme", "ACME").returncode, 3)
-    hold("nginx-filer: a file that isn't there", run(DEPLOY / "nginx-filer", folder / "none.conf", acme, "acme", "ACME").returncode, 3)
-    hold("nginx-filer leaves the file as it was", (file.read_text(), (folder / ".fronts.conf.part").exists()), (before, False))
+    hold("nginx-filer: a certificate that is none",
+         run(DEPLOY / "nginx-filer", file, file, "acme", "ACME").returncode, 3)
+    hold("nginx-filer: a file that isn't there",
+         run(DEPLOY / "nginx-filer", folder / "none.conf", acme, "acme", "ACME").returncode, 3)
+    hold("nginx-filer leaves the file as it was",
+         (file.read_text(), (folder / ".fronts.conf.part").exists()), (before, False))
     second = folder / "second.conf"
     second.write_text(second_register())
     done = run(DEPLOY / "nginx-filer", second, acme, "acme", "BETA")
     line = '"~^acme BETA$" 1;\n'
-    hold("nginx-filer: a file without users", (done.returncode, done.stdout, f"    {line}" in second.read_text()), (0, line, True))
+    hold("nginx-filer: a file without users",
+         (done.returncode, done.stdout, f"    {line}" in second.read_text()), (0, line, True))
 
 
 def try_health(folder, intake, port):
-    """The location of the health check: a GET of one list, whatever is asked, for any certificate of the authority, without a line in the log."""
+    """The location of the health check: a GET of one list, whatever is asked, for any certificate of the authority,
+    without a line in the log."""
     lines, before = (folder / "filings.log").read_bytes(), len(intake.requests)
     for what, user, given in [
         ("GET", "acme", b"GET /health"),
@@ -537,12 +586,15 @@ def try_health(folder, intake, port):
         ("a query", "acme", b"GET /health?filer=ACME"),
     ]:
         with connect(folder, port, user, "intake.example") as peer:
-            peer.sendall(given + b' HTTP/1.1\r\nHost: intake.example\r\nIdempotency-Key: "k"\r\nContent-Length: 2\r\n\r\n{}')
+            peer.sendall(given
+                         + b' HTTP/1.1\r\nHost: intake.example\r\nIdempotency-Key: "k"\r\nContent-Length: 2\r\n\r\n{}')
             reply = http.client.HTTPResponse(peer)
             reply.begin()
             sent = intake.requests[-1]
-            hold(f"health: {what}", (reply.status, sent.split(b"\r\n")[0], sent.endswith(b"\r\n\r\n")), (201, b"GET /filings/health HTTP/1.1", True))
-    hold("health without a certificate", ask_bytes_of(folder, port, None, b"GET /health HTTP/1.1\r\nHost: intake.example\r\n\r\n"),
+            hold(f"health: {what}", (reply.status, sent.split(b"\r\n")[0], sent.endswith(b"\r\n\r\n")),
+                 (201, b"GET /filings/health HTTP/1.1", True))
+    hold("health without a certificate",
+         ask_bytes_of(folder, port, None, b"GET /health HTTP/1.1\r\nHost: intake.example\r\n\r\n"),
          problem(403, "no-certificate", "Forbidden"))
     hold("each reached the intake, but the last", len(intake.requests) - before, 3)
     time.sleep(0.5)
@@ -579,7 +631,8 @@ def try_requests(folder, intake, port, outbox_port):
         hold(what, ask_bytes(folder, port, given), wanted)
     hold("none of these reached the intake", len(intake.requests), before)
     slow = socket.create_connection(("127.0.0.1", outbox_port))
-    slow.sendall(b'POST /filings/ACME HTTP/1.1\r\nHost: localhost\r\nIdempotency-Key: "k-1"\r\nContent-Length: 2\r\n\r\n{')
+    slow.sendall(b'POST /filings/ACME HTTP/1.1\r\nHost: localhost\r\nIdempotency-Key: "k-1"\r\n'
+                 b"Content-Length: 2\r\n\r\n{")
     hold("a silent filer keeps nobody waiting", ask(folder, port, "acme", "ACME")[0], 201)
     slow.sendall(b"}")
     hold("through the filer's own nginx", b"201" in read_message(slow).split(b"\r\n")[0], True)
@@ -589,11 +642,16 @@ def try_requests(folder, intake, port, outbox_port):
 
 
 def try_rotation(folder, port):
-    """The rules for the log, while nginx runs: what was logged is kept under the day's name, and what comes next is logged anew."""
+    """The rules for the log, while nginx runs: what was logged is kept under the day's name, and what comes next is
+    logged anew."""
     if not (logrotate := find("logrotate")):
         return
     rules, log = folder / "rules", folder / "filings.log"
-    text = (DEPLOY / "logrotate-berruzpil").read_text().replace("/var/log/berruzpil/", f"{folder}/").replace("/run/nginx.pid", f"{folder}/pid")
+    text = (
+        (DEPLOY / "logrotate-berruzpil").read_text()
+        .replace("/var/log/berruzpil/", f"{folder}/")
+        .replace("/run/nginx.pid", f"{folder}/pid")
+    )
     rules.write_text(text if os.geteuid() == 0 else text.replace("create 0640 www-data adm", "create 0640"))
     rules.chmod(0o644)
     (folder / "error.log").rename(folder / "errors")

@@ -37,7 +37,8 @@ def check_csv(folder):
     hold("Python's csv reads what was filed", rows, [NAMES] + [as_text(record) for record in records(SENT)])
     only = list(csv.reader(io.StringIO(exported(database, "--format", "csv", "--filer", "BETA").decode(), newline="")))
     hold("and of one filer", only, [NAMES] + [as_text(record) for record in records(SENT, "BETA")])
-    hold("and of a filer that has none", exported(database, "--format", "csv", "--filer", "NONE").decode(), ",".join(NAMES) + "\r\n")
+    hold("and of a filer that has none", exported(database, "--format", "csv", "--filer", "NONE").decode(),
+         ",".join(NAMES) + "\r\n")
     empty = [line for line in text.split(b"\r\n") if b',"",' in line]
     hold("an empty text is another field than no value", len(empty), 1)
 
@@ -59,7 +60,8 @@ def check_sqlite(folder):
     make_odd_register(database)
     (folder / "facts.csv").write_bytes(exported(database, "--format", "csv"))
     query = "SELECT json_group_array(json_array(" + ", ".join(NAMES) + ")) FROM facts"
-    done = subprocess.run(["sqlite3", ":memory:", f".import --csv {folder}/facts.csv facts", query], capture_output=True, check=True)
+    done = subprocess.run(["sqlite3", ":memory:", f".import --csv {folder}/facts.csv facts", query],
+                          capture_output=True, check=True)
     hold("sqlite3 imports what was filed", json.loads(done.stdout), [as_text(record) for record in records(SENT)])
 
 
@@ -71,7 +73,8 @@ def check_others(folder):
     done = run(INTAKE, "export", "--db", folder / "empty.db", "--format", "xml")
     hold("no such form", (done.returncode, done.stdout), (2, b""))
     with open("/dev/full", "wb") as full:
-        done = subprocess.run([INTAKE, "export", "--db", folder / "empty.db", "--format", "csv"], stdout=full, stderr=subprocess.PIPE, check=False)
+        done = subprocess.run([INTAKE, "export", "--db", folder / "empty.db", "--format", "csv"],
+                              stdout=full, stderr=subprocess.PIPE, check=False)
     hold("an output that fails", done.returncode, 3)
 
 

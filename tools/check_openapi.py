@@ -1,11 +1,13 @@
 #!/usr/bin/env python3
 """Holds docs/openapi.yaml to docs/PROTOCOL.md, and to what the program answers.
 
-    tools/check_openapi.py                                  the file by itself, and against the tables of docs/PROTOCOL.md
-    tools/check_openapi.py crates/intake/out/intake         that, and the replies of this program over a register of its own
+    tools/check_openapi.py                                  the file by itself, and against the tables of
+                                                            docs/PROTOCOL.md
+    tools/check_openapi.py crates/intake/out/intake         that, and the replies of this program over a register of
+                                                            its own
 
-Values are held to schemas by jsonschema where python3 has it, and else by the few rules that the file uses. Status 1 if something
-does not agree; what could not be tried is said, and is no failure.
+Values are held to schemas by jsonschema where python3 has it, and else by the few rules that the file uses. Status 1 if
+something does not agree; what could not be tried is said, and is no failure.
 """
 import json
 import pathlib
@@ -61,8 +63,8 @@ KINDS = {
     "integer": lambda v: isinstance(v, int) and not isinstance(v, bool),
     "null": lambda v: v is None,
 }
-KNOWN = {"$ref", "type", "const", "enum", "oneOf", "required", "properties", "additionalProperties", "items", "minItems", "maxItems",
-         "minimum", "pattern", "format", "description"}
+KNOWN = {"$ref", "type", "const", "enum", "oneOf", "required", "properties", "additionalProperties", "items",
+         "minItems", "maxItems", "minimum", "pattern", "format", "description"}
 
 
 def fault_by_own_rules(document, schema, value):
@@ -203,7 +205,8 @@ def check_protocol(document):
     tell("the codes of findings", None if own == codes else f"{sorted(own ^ codes)}")
     rows = re.findall(r"(?m)^\| [^|]+ \| (\d{3})(?:, closes)? \| `([^`]+)`", text)
     told = {(int(status), word_of(shown)) for status, shown in rows}
-    mine = {(status, word) for _, status, content in responses(document) for word in words_of(document, content["schema"]) or {"filings"}}
+    mine = {(status, word) for _, status, content in responses(document)
+            for word in words_of(document, content["schema"]) or {"filings"}}
     told = {(status, word) for status, word in told if word not in OTHER_METHODS}
     mine = {(status, word) for status, word in mine if word not in IN_FRONT}
     tell("the statuses and their words", None if told == mine else f"{sorted(told ^ mine)}")
@@ -250,7 +253,8 @@ REPORT = json.dumps(
         "facts": {
             "f": {
                 "value": "1",
-                "dimensions": {"concept": "eg:A", "entity": "lei:ACME", "period": "2024-12-31T00:00:00", "unit": "iso4217:EUR"},
+                "dimensions": {"concept": "eg:A", "entity": "lei:ACME",
+                               "period": "2024-12-31T00:00:00", "unit": "iso4217:EUR"},
             }
         },
     }
@@ -287,14 +291,16 @@ REQUESTS = [
     ("a report with findings", "POST", message("POST", REPORT.replace(b"12-31", b"02-30"), key='"k-2"'), 422),
     ("its repeat", "POST", message("POST", REPORT.replace(b"12-31", b"02-30"), key='"k-2"'), 422),
     ("an array", "POST", message("POST", b"[]", key='"k-3"'), 422),
-    ("too many findings", "POST", message("POST", b'{"facts":{%s}}' % b",".join(b'"%d":1' % n for n in range(1001)), key='"k-4"'), 422),
+    ("too many findings", "POST",
+     message("POST", b'{"facts":{%s}}' % b",".join(b'"%d":1' % n for n in range(1001)), key='"k-4"'), 422),
     ("no JSON", "POST", message("POST", b"hello", key='"k-5"'), 400),
     ("no key", "POST", message("POST", REPORT, key=None), 400),
     ("a key without quotes", "POST", message("POST", REPORT, key="k-1"), 400),
     ("no host", "GET", message("GET", fields=()), 400),
     ("another path", "GET", message("GET", path="/other"), 404),
     ("no length", "POST", message("POST", length=False), 411),
-    ("a length above the limit", "POST", message("POST", fields=("Host: h", "Content-Length: 1048577"), length=False), 413),
+    ("a length above the limit", "POST",
+     message("POST", fields=("Host: h", "Content-Length: 1048577"), length=False), 413),
     ("a coded body", "POST", message("POST", REPORT, fields=("Host: h", "Content-Encoding: gzip")), 415),
     ("a head that is too large", "GET", b"a" * 16384, 431),
     ("a transfer coding", "POST", message("POST", fields=("Host: h", "Transfer-Encoding: chunked"), length=False), 501),
@@ -329,7 +335,8 @@ def check_program(document, program, requests, *options):
         it.bind(("127.0.0.1", 0))
         port = it.getsockname()[1]
     with tempfile.TemporaryDirectory() as folder:
-        words = [program, "serve", "--db", f"{folder}/register.db", "--port", str(port), "--connections", str(len(requests)), "--new"]
+        words = [program, "serve", "--db", f"{folder}/register.db", "--port", str(port),
+                 "--connections", str(len(requests)), "--new"]
         with subprocess.Popen(words + list(options)) as server:
             try:
                 for what, method, data, wanted in requests:

@@ -1,14 +1,15 @@
 #!/usr/bin/env python3
-"""Tries with the built programs what docs/OPERATIONS.md promises an operator: copies, restores, logs, receipts, numbers, rounds, and a full disk.
+"""Tries with the built programs what docs/OPERATIONS.md promises an operator: copies, restores, logs, receipts,
+numbers, rounds, and a full disk.
 
     tools/check_operations.py [WORD]        each trial, or those with this word in their name
 
-It takes the programs that `rt run` builds in their folders, as crates/intake/out/intake, and the scripts of deploy/. It listens on
-127.0.0.1 alone and works in folders of its own, which it removes. What needs a program that is not installed is said, and is no failure.
-The last line says how many trials passed and failed. Status 1 if one failed.
+It takes the programs that `rt run` builds in their folders, as crates/intake/out/intake, and the scripts of deploy/. It
+listens on 127.0.0.1 alone and works in folders of its own, which it removes. What needs a program that is not installed
+is said, and is no failure. The last line says how many trials passed and failed. Status 1 if one failed.
 
-A further trial is a function in TRIALS, which gets a folder. A further kind of copy is a row in COPIES, a further reply that a round may
-meet a row in ROUNDS, a further request to nginx a row in FRONT, and one to a full disk a row in FULL.
+A further trial is a function in TRIALS, which gets a folder. A further kind of copy is a row in COPIES, a further reply
+that a round may meet a row in ROUNDS, a further request to nginx a row in FRONT, and one to a full disk a row in FULL.
 """
 import contextlib
 import fcntl
@@ -52,7 +53,8 @@ def script(name, *words, **options):
 
 def missing(*programs):
     """Says which of these is not installed, if one is."""
-    found = [program for program in programs if shutil.which(program, path=f"{os.environ['PATH']}:/usr/sbin:/sbin") is None]
+    found = [program for program in programs
+             if shutil.which(program, path=f"{os.environ['PATH']}:/usr/sbin:/sbin") is None]
     for program in found:
         print(f"not tried: {program} is not installed")
     return bool(found)
@@ -102,7 +104,8 @@ def make_outbox(database):
 
 
 def shell(database, command):
-    return subprocess.run(["sqlite3", "-batch", str(database), command], capture_output=True, text=True, check=False, timeout=60)
+    return subprocess.run(["sqlite3", "-batch", str(database), command],
+                          capture_output=True, text=True, check=False, timeout=60)
 
 
 def python_backup(database, copy):
@@ -130,7 +133,8 @@ def check_copies(folder, kind, database, restored, ask):
         copy, new = own / "copy.db", own / "new.db"
         copy_to(database, copy)
         data = copy.read_bytes()
-        hold(f"{what} of {kind}: {'opens' if opens else 'is refused'} as it is", ask(shutil.copy(copy, own / "tried"))[0] == 0, opens)
+        hold(f"{what} of {kind}: {'opens' if opens else 'is refused'} as it is",
+             ask(shutil.copy(copy, own / "tried"))[0] == 0, opens)
         for it in own.glob("tried*"):
             it.unlink()
         status, said, errors = script(f"{kind}-restore", copy, new)
@@ -138,7 +142,8 @@ def check_copies(folder, kind, database, restored, ask):
         hold(f"{what} of {kind}: restored", (status, said, errors), (0, f"{new}: restored: {restored}{sums}\n", ""))
         if status:
             continue
-        hold(f"{what} of {kind}: only the two files are there", (names(own), rights(new)), (["copy.db", "new.db"], "0o600"))
+        hold(f"{what} of {kind}: only the two files are there",
+             (names(own), rights(new)), (["copy.db", "new.db"], "0o600"))
         hold(f"{what} of {kind}: the copy is as it was", copy.read_bytes() == data, True)
         hold(f"{what} of {kind}: each row is there", rows(new) == before, True)
         hold(f"{what} of {kind}: it opens", ask(new), (0, opened))
@@ -213,7 +218,8 @@ def check_refused_copies(folder):
     for ending in ("-wal", "-journal"):
         beside = folder / f"new.db{ending}"
         beside.write_bytes(b"")
-        hold(f"register-restore beside another file's {ending}", script("register-restore", register, folder / "new.db")[0], 1)
+        hold(f"register-restore beside another file's {ending}",
+             script("register-restore", register, folder / "new.db")[0], 1)
         beside.unlink()
     hold("nothing is left", names(folder), kept)
 
@@ -232,17 +238,22 @@ def check_copy_with_log(folder):
         shutil.copy(f"{database}{ending}", copies / f"copy.db{ending}")
     before = {it.name: it.read_bytes() for it in copies.iterdir()}
     new = folder / "new.db"
-    hold("a copy with a log beside it", script("register-restore", copies / "copy.db", new), (0, f"{new}: restored: {SOUND}\n", ""))
+    hold("a copy with a log beside it", script("register-restore", copies / "copy.db", new),
+         (0, f"{new}: restored: {SOUND}\n", ""))
     hold("both files are as they were", {it.name: it.read_bytes() for it in copies.iterdir()} == before, True)
 
 
 def check_earlier_copies(folder):
     """Copies of earlier versions become databases of this one."""
-    for kind, make, restored in [("register", trials.make_earlier, "1 kept, 0 filings"), ("outbox", trials.make_earlier_outbox, "2 entries, 1 open")]:
+    for kind, make, restored in [("register", trials.make_earlier, "1 kept, 0 filings"),
+                                 ("outbox", trials.make_earlier_outbox, "2 entries, 1 open")]:
         copy, new = folder / f"{kind}.db", folder / f"{kind}-new.db"
         make(copy)
         status, said, _ = script(f"{kind}-restore", copy, new)
-        wanted = f"{new}: restored: migrated, {'sound: ' if kind == 'register' else ''}{restored}; its pages have no sums, as those of the copy\n"
+        wanted = (
+            f"{new}: restored: migrated, {'sound: ' if kind == 'register' else ''}{restored}; "
+            "its pages have no sums, as those of the copy\n"
+        )
         hold(f"a copy of an earlier {kind}", (status, said), (0, wanted))
 
 
@@ -261,7 +272,9 @@ def check_served(folder):
         done = shell(database, command.format(folder / "copy.db"))
         hold(f"{what} while it is served", "database is locked" in done.stdout + done.stderr, True)
         (folder / "copy.db").unlink(missing_ok=True)
-    with contextlib.closing(sqlite3.connect(database)) as source, contextlib.closing(sqlite3.connect(folder / "copy.db")) as target:
+    with contextlib.closing(sqlite3.connect(database)) as source, contextlib.closing(
+        sqlite3.connect(folder / "copy.db")
+    ) as target:
         tries = []
 
         def count(status, *_):
@@ -297,7 +310,8 @@ def check_rush(folder):
     paths = {**PATHS, "PATH": f"{programs}:{PATHS['PATH']}"}
     words = [DEPLOY / "register-snapshot", "register.db", "copy.db"]
     done = subprocess.run(words, capture_output=True, text=True, check=False, cwd=folder, env=paths, timeout=60)
-    hold("register-snapshot in a rush gives up", (done.returncode, done.stdout, "let the intake pause" in done.stderr), (3, "", True))
+    hold("register-snapshot in a rush gives up",
+         (done.returncode, done.stdout, "let the intake pause" in done.stderr), (3, "", True))
     hold("nothing is left of the copy", names(folder), before)
 
 
@@ -327,7 +341,8 @@ def check_pause(folder):
     hold("each report is answered", (len(answered), set(answered)), (200, {201}))
     status, said = ask_register(copy)
     kept = int(said.split()[1]) if status == 0 else -1
-    hold("the copy of a pause is sound, and has what was answered before it", (status, before <= kept <= before + 4), (0, True))
+    hold("the copy of a pause is sound, and has what was answered before it",
+         (status, before <= kept <= before + 4), (0, True))
 
 
 # ---- copies that are kept
@@ -349,16 +364,18 @@ def check_kept_copies(folder):
     for it in REQUESTS:
         exchange(serving.port, it)
     # The last of these are no copies of this register, whatever their age.
-    ages = {"register-20240101T000000Z.db": OLD, "register-20240102T000000Z.db": 20 * 86400, "register-2-20240101T000000Z.db": OLD,
-            "before-upgrade.db": OLD}  # fmt: skip
+    ages = {"register-20240101T000000Z.db": OLD, "register-20240102T000000Z.db": 20 * 86400,
+            "register-2-20240101T000000Z.db": OLD, "before-upgrade.db": OLD}  # fmt: skip
     for name, age in ages.items():
         make_old(kept / name, age)
     status, said, errors = script("register-copies", database, kept, 30)
     (copy,) = set(names(kept)) - set(ages) - {"register.tried"}
-    hold("register-copies", (status, said, errors), (0, f"{kept / copy}: {SOUND}\n{kept / copy}: restored: {SOUND}\n", ""))
+    hold("register-copies", (status, said, errors),
+         (0, f"{kept / copy}: {SOUND}\n{kept / copy}: restored: {SOUND}\n", ""))
     hold("the name of the copy", bool(re.fullmatch(r"register-\d{8}T\d{6}Z\.db", copy)), True)
     hold("only its owner may read it", rights(kept / copy), "0o600")
-    hold("the copy that is too old is gone, and no other file", names(kept), sorted({copy, "register.tried", *list(ages)[1:]}))
+    hold("the copy that is too old is gone, and no other file",
+         names(kept), sorted({copy, "register.tried", *list(ages)[1:]}))
     moment, *rest = (kept / "register.tried").read_text().split(" ", 3)
     hold("when the restore was tried", bool(re.fullmatch(r"\d{4}-\d\d-\d\dT\d\d:\d\d:\d\dZ", moment)), True)
     hold("what came of it", rest, ["0", copy, f"restored: {SOUND}\n"])
@@ -368,7 +385,8 @@ def check_kept_copies(folder):
 
 
 def check_failed_copies(folder):
-    """Restores that fail or give another register, a register that is damaged, names that are wrong, and a full disk."""
+    """Restores that fail or give another register, a register that is damaged, names that are wrong, and a full
+    disk."""
     database, kept, scripts = folder / "register.db", folder / "copies", folder / "scripts"
     make_register(database)
     kept.mkdir()
@@ -378,13 +396,15 @@ def check_failed_copies(folder):
     make_old(kept / "register-20240101T000000Z.db", OLD)
     for what, stand_in, wanted in [
         ("a restore that fails", "echo 'register-restore: no' >&2; exit 3", (3, "no")),
-        ("a restore that gives another register", 'echo "$2: restored: sound: 3 kept, 3 filings"', (1, "restored: sound: 3 kept, 3 filings")),
+        ("a restore that gives another register", 'echo "$2: restored: sound: 3 kept, 3 filings"',
+         (1, "restored: sound: 3 kept, 3 filings")),
     ]:
         (scripts / "register-restore").write_text(f"#!/bin/sh\n: > \"$2\"\n{stand_in}\n")
         (scripts / "register-restore").chmod(0o755)
         for it in set(names(kept)) - {"register-20240101T000000Z.db"}:
             (kept / it).unlink()
-        done = subprocess.run([scripts / "register-copies", database, kept, "30"], capture_output=True, text=True, check=False, env=PATHS, timeout=60)
+        done = subprocess.run([scripts / "register-copies", database, kept, "30"],
+                              capture_output=True, text=True, check=False, env=PATHS, timeout=60)
         old, copy, tried = names(kept)
         found = (done.returncode, done.stderr)
         hold(what, found, (wanted[0], f"register-copies: {kept / copy}: a restore failed: {wanted[1]}\n"))
@@ -418,8 +438,8 @@ def check_failed_copies(folder):
 
 def log_line(time_of_line, key, filer="ACME", status="201", **more):
     """A line of nginx's log, of which `intake_status` is what the intake answered."""
-    return {"time": time_of_line, "host": "intake.example", "user": "acme", "uri": f"/filings/{filer}", "key": f'"{key}"',
-            "status": int(status), "intake_status": status, **more}  # fmt: skip
+    return {"time": time_of_line, "host": "intake.example", "user": "acme", "uri": f"/filings/{filer}",
+            "key": f'"{key}"', "status": int(status), "intake_status": status, **more}  # fmt: skip
 
 
 def write_log(path, lines):
@@ -434,7 +454,8 @@ RECEIVED = [request("k-1", REPORT), request('a\\"b', REPORT), request("k-3", b"{
 
 
 def check_receipts(folder):
-    """Which filing was received when and from whom, by logs in any order, one packed, with repeats, odd lines and lines of other registers."""
+    """Which filing was received when and from whom, by logs in any order, one packed, with repeats, odd lines and lines
+    of other registers."""
     if missing("sqlite3"):
         return
     database, copy = folder / "register.db", folder / "copy.db"
@@ -443,7 +464,8 @@ def check_receipts(folder):
     hold("what is filed", found, [[201], [201], [422], [201], [201]])
     script("register-snapshot", database, copy)
     serving.end()
-    # k-1 was answered at 00:30 UTC for the first time, by a clock that is an hour ahead. The line of its repeat has a lesser text.
+    # k-1 was answered at 00:30 UTC for the first time, by a clock that is an hour ahead. The line of its repeat has a
+    # lesser text.
     early = write_log(folder / "filings.log-2024-03-31.gz", [
         log_line("2024-03-31T00:10:00+01:00", "k-1", status="503", intake_status="504"),
         log_line("2024-03-31T01:30:00+01:00", "k-1"),
@@ -462,7 +484,8 @@ def check_receipts(folder):
     ])  # fmt: skip
     unread = f"register-receipts: {late}: 3 lines can't be read, the first is line 3\n"
     none = f"register-receipts: {copy}: 1 filings have no line in these logs\n"
-    sums = {name: hashlib.sha256(body).hexdigest() for name, body in [("report", REPORT), ("large", LARGE), ("smallest", SMALLEST)]}
+    sums = {name: hashlib.sha256(body).hexdigest()
+            for name, body in [("report", REPORT), ("large", LARGE), ("smallest", SMALLEST)]}
     first = "2024-03-31T01:30:00+01:00,acme"
     table = f"""number,filer,key,sha256,received,user
 1,ACME,k-1,{sums["report"]},{first}
@@ -477,17 +500,25 @@ def check_receipts(folder):
     others = table.replace(first, "2024-03-31T01:20:00+01:00,nobody")
     hold("with the lines of another server", script("register-receipts", copy, late, early), (0, others, unread + none))
     reading = folder / "reading.db"
-    hold("a file for reading", script("register-receipts", *own, "--into", reading, copy, late, early), (0, "", unread + none))
+    hold("a file for reading", script("register-receipts", *own, "--into", reading, copy, late, early),
+         (0, "", unread + none))
     hold("only its owner may read it", rights(reading), "0o600")
     asked = ["sqlite3", "-batch", "-init", str(DEPLOY / "reading.sql"), str(reading)]
     question = "SELECT number, key, received, user FROM received ORDER BY number"
     done = subprocess.run([*asked, question], capture_output=True, text=True, check=False, timeout=60)
-    wanted = "1|k-1|2024-03-31T01:30:00+01:00|acme\n2|a\"b|2024-03-31T01:32:00+01:00|agent\n3|k-4|2024-03-31T01:33:00+01:00|acme\n4|k-1||\n"
+    wanted = (
+        "1|k-1|2024-03-31T01:30:00+01:00|acme\n"
+        "2|a\"b|2024-03-31T01:32:00+01:00|agent\n"
+        "3|k-4|2024-03-31T01:33:00+01:00|acme\n"
+        "4|k-1||\n"
+    )
     hold("the view `received`", (done.stdout, done.stderr), (wanted, ""))
-    done = subprocess.run([*asked, "SELECT number FROM current ORDER BY number"], capture_output=True, text=True, check=False, timeout=60)
+    done = subprocess.run([*asked, "SELECT number FROM current ORDER BY number"],
+                          capture_output=True, text=True, check=False, timeout=60)
     hold("the view `current`", (done.stdout, done.stderr), ("2\n3\n4\n", ""))
     hold("it is no register", ask_register(shutil.copy(reading, folder / "tried.db"))[0], 1)
-    hold("the copy is as it was", (copy.read_bytes() == before, sorted(it.name for it in folder.glob("copy.db*"))), (True, ["copy.db"]))
+    hold("the copy is as it was",
+         (copy.read_bytes() == before, sorted(it.name for it in folder.glob("copy.db*"))), (True, ["copy.db"]))
     check_refused_receipts(folder, copy, early)
 
 
@@ -509,11 +540,13 @@ def check_refused_receipts(folder, copy, log):
         found, said, errors = script("register-receipts", *words)
         hold(f"register-receipts: {what}", (found, said, cause in errors), (status, "", True))
     with open("/dev/full", "wb") as full:
-        done = subprocess.run([DEPLOY / "register-receipts", copy, log], stdout=full, stderr=subprocess.PIPE, check=False, timeout=60)
+        done = subprocess.run([DEPLOY / "register-receipts", copy, log], stdout=full,
+                              stderr=subprocess.PIPE, check=False, timeout=60)
     hold("register-receipts: an output that takes nothing", (done.returncode, b"Traceback" in done.stderr), (3, False))
     serving = Serving(folder / "served.db", 1, "--new")
     found = script("register-receipts", "--into", new, folder / "served.db", log)
-    hold("register-receipts: a register that is served", found[::2], (3, f"register-receipts: {folder / 'served.db'}: database is locked\n"))
+    hold("register-receipts: a register that is served", found[::2],
+         (3, f"register-receipts: {folder / 'served.db'}: database is locked\n"))
     exchange(serving.port, listing("ACME"))
     serving.end()
     hold("nothing is left", [it for it in names(folder) if not it.startswith("served")], kept)
@@ -566,9 +599,11 @@ def check_numbers(folder):
     for it in kept.glob("*-wal"):
         it.unlink()
     logs = [
-        write_log(folder / "filings.log", [log_line("T", "k-1"), log_line("T", "k-2", status="403"), b"\n", b'{"status":200}\n',
-                                           log_line("T", "k-3", host='a"b\\c'), b'{"host":"x","status":"201"}\n', b"[7]\n", b'{"status":true}\n',
-                                           b'{"host":"intake.example","status":403,"agent":"\xff"}\n', b'{"host":"intake.exa']),
+        write_log(folder / "filings.log", [
+            log_line("T", "k-1"), log_line("T", "k-2", status="403"), b"\n", b'{"status":200}\n',
+            log_line("T", "k-3", host='a"b\\c'), b'{"host":"x","status":"201"}\n', b"[7]\n", b'{"status":true}\n',
+            b'{"host":"intake.example","status":403,"agent":"\xff"}\n', b'{"host":"intake.exa',
+        ]),
         write_log(folder / "filings.log-2024-01-01.gz", [log_line("T", "k-4"), log_line("T", "k-5")]),
     ]  # fmt: skip
     before = int(time.time())
@@ -603,7 +638,8 @@ def check_numbers(folder):
         hold(f"register-metrics: {what}", (found, said, is_named), (status, "", True))
     hold("the file is as it was", (file.read_text() == text, names(file.parent)), (True, ["berruzpil.prom"]))
     hold("numbers of a log alone", script("register-metrics", "--into", file, logs[1])[0], 0)
-    counts = [f'berruzpil_requests_total{{host="intake.example",status="{status}"}} {2 if status == 201 else 0}' for status in (201, 403, 422, 503)]
+    counts = [f'berruzpil_requests_total{{host="intake.example",status="{status}"}} {2 if status == 201 else 0}'
+              for status in (201, 403, 422, 503)]
     hold("replace the earlier ones", [line for line in file.read_text().splitlines() if line[0] != "#"][:-1],
          [*counts, "berruzpil_unread_lines_total 0"])
 
@@ -653,7 +689,10 @@ def read_request(peer):
 
 
 def reply(status, reason, content, kind="application/problem+json"):
-    head = f"HTTP/1.1 {status} {reason}\r\nContent-Type: {kind}\r\nContent-Length: {len(content)}\r\nConnection: close\r\n\r\n"
+    head = (
+        f"HTTP/1.1 {status} {reason}\r\nContent-Type: {kind}\r\n"
+        f"Content-Length: {len(content)}\r\nConnection: close\r\n\r\n"
+    )
     return head.encode() + content
 
 
@@ -670,7 +709,8 @@ def check_new(folder):
     status, said, _ = script("register-new", database, free_port())
     hold("register-new after that", (status, said), (0, "sound: 0 kept, 0 filings\n"))
     hold("only its owner may read it", rights(database), "0o600")
-    hold("it is not overwritten", script("register-new", database, free_port())[::2], (1, f"register-new: {database} is there already\n"))
+    hold("it is not overwritten", script("register-new", database, free_port())[::2],
+         (1, f"register-new: {database} is there already\n"))
     hold("and is sound", ask_register(database), (0, b"sound: 0 kept, 0 filings\n"))
 
 
@@ -713,7 +753,8 @@ def check_rounds(folder):
 
 
 def check_lost(folder):
-    """A restored copy lacks the filing after it, and lost-filings names it from the logs: one packed, one with odd lines and a cut end."""
+    """A restored copy lacks the filing after it, and lost-filings names it from the logs: one packed, one with odd
+    lines and a cut end."""
     if missing("gzip"):
         return
     database, log = folder / "register.db", folder / "filings.log"
@@ -723,7 +764,10 @@ def check_lost(folder):
     exchange(serving.port, request("k-2", REPORT))
     exchange(serving.port, request("k-3", b"{}"))
     serving.end()
-    line = '{"time":"T%s","host":"intake.example","uri":"/filings/ACME","key":"\\"%s\\"","status":%s,"intake_status":"%s"}\n'
+    line = (
+        '{"time":"T%s","host":"intake.example","uri":"/filings/ACME","key":"\\"%s\\"",'
+        '"status":%s,"intake_status":"%s"}\n'
+    )
     log.write_text(line % (1, "k-1", 201, 201) + line % (2, "k-2", 201, 201) + line % (3, "k-3", 422, 422))
     subprocess.run(["gzip", "-k", log], check=True)
     hold("lost-filings of the register", script("lost-filings", database, log, f"{log}.gz"), (0, "", ""))
@@ -753,12 +797,14 @@ FRONT = [
     ("a method that the intake refuses", b"PUT" + request("k-4", REPORT)[4:], NO_METHOD, True),
     ("a line that is no request", b"\x16\x03 hello\r\n\r\n", MALFORMED, False),
     ("TRACE", b"TRACE /filings/ACME HTTP/1.1\r\nHost: h\r\n\r\n", NO_METHOD, False),
-    ("a path that is no UTF-8", b"GET /\xff HTTP/1.1\r\nHost: h\r\n\r\n", check_deploy.problem(404, "no-path", "Not Found"), False),
+    ("a path that is no UTF-8", b"GET /\xff HTTP/1.1\r\nHost: h\r\n\r\n",
+     check_deploy.problem(404, "no-path", "Not Found"), False),
 ]
 
 
 def check_front(folder):
-    """nginx with the files of deploy/ in front of the built intake: what it answers, and that its log finds what a copy lacks."""
+    """nginx with the files of deploy/ in front of the built intake: what it answers, and that its log finds what a copy
+    lacks."""
     if missing("nginx", "openssl"):
         return
     folder.chmod(0o755)

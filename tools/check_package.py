@@ -1,10 +1,12 @@
 #!/usr/bin/env python3
-"""Tries the package that tools/release made: its files, an installation in a folder of its own, the walk of README.md, and its removal.
+"""Tries the package that tools/release made: its files, an installation in a folder of its own, the walk of README.md,
+and its removal.
 
     tools/check_package.py FOLDER       FOLDER is what tools/release wrote
 
-dpkg installs it below a scratch folder, with records of its own, so nothing of this machine changes. It needs root or fakeroot for that. The
-walk needs curl, sqlite3 and port 8080. What needs a program that is not installed is said, and is no failure. Status 1 if something fails.
+dpkg installs it below a scratch folder, with records of its own, so nothing of this machine changes. It needs root or
+fakeroot for that. The walk needs curl, sqlite3 and port 8080. What needs a program that is not installed is said, and
+is no failure. Status 1 if something fails.
 """
 import gzip
 import io
@@ -54,7 +56,8 @@ def check_sums(folder):
 
 
 def check_fields(package):
-    fields = dict(line.split(": ", 1) for line in lines_of("dpkg-deb", "--field", str(package)) if re.match(r"[A-Z][\w-]*: ", line))
+    fields = dict(line.split(": ", 1)
+                  for line in lines_of("dpkg-deb", "--field", str(package)) if re.match(r"[A-Z][\w-]*: ", line))
     found = [fields.get(name) for name in ("Package", "Architecture")]
     trials.hold("the name and the architecture", found, ["berruzpil", "amd64"])
     version = fields.get("Version", "")
@@ -116,8 +119,10 @@ class Installed:
 
     def dpkg(self, what, *words):
         path = os.environ["PATH"] + ":/usr/sbin:/sbin"
-        command = [*as_root(), "dpkg", f"--instdir={self.at}", f"--admindir={self.records}", "--log=/dev/null", "--no-triggers", *words]
-        done = subprocess.run(command, capture_output=True, text=True, env={**os.environ, "PATH": path, "LANG": "C.UTF-8"})
+        command = [*as_root(), "dpkg", f"--instdir={self.at}", f"--admindir={self.records}",
+                   "--log=/dev/null", "--no-triggers", *words]
+        done = subprocess.run(command, capture_output=True, text=True,
+                              env={**os.environ, "PATH": path, "LANG": "C.UTF-8"})
         tell(f"dpkg {what} it", (done.stdout + done.stderr)[-600:] if done.returncode else None)
 
     def file(self, path):
@@ -137,7 +142,8 @@ def can_run(installed):
     for name in NAMES:
         try:
             said = subprocess.run([installed.file(f"usr/bin/{name}"), "--version"], capture_output=True, text=True)
-            tell(f"{name} --version", None if re.fullmatch(rf"{name} \d+\.\d+\.\d+\n", said.stdout) else f"{said.stdout}{said.stderr}")
+            tell(f"{name} --version",
+                 None if re.fullmatch(rf"{name} \d+\.\d+\.\d+\n", said.stdout) else f"{said.stdout}{said.stderr}")
         except OSError as fault:
             tell(f"{name} --version", fault.strerror)
     return len(trials.failures) == faults
@@ -163,8 +169,11 @@ def check_units(installed):
     for unit in units:
         text = unit.read_text()
         commands = re.findall(r"(?m)^Exec\w+=[-+!@]*(/\S+)", text)
-        lacking = [it for it in commands if not installed.file(it.lstrip("/")).exists() and not it.startswith(("/bin/", "/usr/bin/"))]
-        lacking += [it for it in commands if it.startswith("/usr/bin/") and it.rpartition("/")[2] in NAMES and not installed.file(it[1:]).exists()]
+        lacking = [it for it in commands
+                   if not installed.file(it.lstrip("/")).exists() and not it.startswith(("/bin/", "/usr/bin/"))]
+        lacking += [it for it in commands
+                    if it.startswith("/usr/bin/") and it.rpartition("/")[2] in NAMES
+                    and not installed.file(it[1:]).exists()]
         lacking += re.findall(r"/usr/local/\S*", text)
         tell(f"{unit.name}: its commands", ", ".join(lacking))
     if shutil.which("systemd-analyze") is None:
@@ -175,7 +184,8 @@ def check_units(installed):
         for unit in units:
             # Read as an instance, with the programs where they were installed.
             own = pathlib.Path(folder, unit.name.replace("@", "@one"))
-            own.write_text(re.sub(r"(?m)^(Exec\w+=-?)(/usr/(?:lib/berruzpil|bin)/)", rf"\1{installed.at}\2", unit.read_text()))
+            own.write_text(re.sub(r"(?m)^(Exec\w+=-?)(/usr/(?:lib/berruzpil|bin)/)",
+                                  rf"\1{installed.at}\2", unit.read_text()))
             read.append(own)
         done = subprocess.run(["systemd-analyze", "verify", "--man=no", *read], capture_output=True, text=True)
         said = "\n".join(line for line in done.stderr.splitlines() if "berruzpil" in line)
@@ -185,7 +195,9 @@ def check_units(installed):
 def check_man_pages(installed):
     for name in NAMES:
         page = gzip.decompress(installed.file(f"usr/share/man/man1/{name}.1.gz").read_bytes())
-        commands = [word for word, _ in man_pages.commands_of(man_pages.sections(man_pages.help_of(str(installed.file(f"usr/bin/{name}"))))[0])]
+        commands = [word for word, _ in man_pages.commands_of(
+            man_pages.sections(man_pages.help_of(str(installed.file(f"usr/bin/{name}"))))[0]
+        )]
         lacking = [it for it in commands if f".SS {man_pages.escape(it)}\n".encode() not in page]
         tell(f"{name}.1 has each command", ", ".join(lacking))
         if shutil.which("groff") is None:
@@ -211,9 +223,11 @@ def check_completions(installed):
             offered = lines_of("bash", "-c", COMPLETE, "bash", str(file), name, command, "--")
             wanted = set(re.findall(r"(?m)^ +(?:-\w, )?(--[\w-]+)", man_pages.help_of(program, command)))
             trials.hold(f"bash offers the options of {name} {command}", set(offered), wanted)
-        for shell, path in [("zsh", f"usr/share/zsh/vendor-completions/_{name}"), ("fish", f"usr/share/fish/vendor_completions.d/{name}.fish")]:
+        for shell, path in [("zsh", f"usr/share/zsh/vendor-completions/_{name}"),
+                            ("fish", f"usr/share/fish/vendor_completions.d/{name}.fish")]:
             text = installed.file(path).read_text()
-            tell(f"{path.rpartition('/')[2]} has each command", ", ".join(it for it in commands if not re.search(rf"\b{it}\b", text)))
+            tell(f"{path.rpartition('/')[2]} has each command",
+                 ", ".join(it for it in commands if not re.search(rf"\b{it}\b", text)))
             if shutil.which(shell) is None:
                 print(f"not tried: {shell} is not installed")
                 continue
@@ -225,7 +239,8 @@ def check_pages_of(installed):
     """The pages lead to each other as they do in the repository."""
     folder, faults = installed.file("usr/share/doc/berruzpil"), []
     for page in folder.rglob("*.md"):
-        for target in re.findall(r"\]\(([^)\s#:]+)(?:#[^)]*)?\)", check_pages.without_code(page.read_text(encoding="utf-8"))):
+        for target in re.findall(r"\]\(([^)\s#:]+)(?:#[^)]*)?\)",
+                                 check_pages.without_code(page.read_text(encoding="utf-8"))):
             if not (page.parent / target).exists():
                 faults.append(f"{page.name}: {target}")
     tell("the pages lead to files that are there", ", ".join(faults))

@@ -2,14 +2,17 @@
 """Checks the pages of the repository: links, tables, lengths in examples, phrases that are hard to read, and commands.
 
     tools/check_pages.py                        what needs neither root nor a built program
-    tools/check_pages.py --programs FOLDER      also the examples that need the programs intake and outbox, which are in FOLDER
+    tools/check_pages.py --programs FOLDER      also the examples that need the programs intake and outbox,
+                                                which are in FOLDER
 
-Links lead to files and headings that are there; nothing outside the repository is asked for. Each row of a table has as many cells as its head.
-Each page has at most a handful of the phrases in PHRASES. No line of README.md is longer than 400 characters.
+Links lead to files and headings that are there; nothing outside the repository is asked for. Each row of a table has as
+many cells as its head. Each page has at most a handful of the phrases in PHRASES. No line of README.md is longer than
+400 characters.
 
-Every block of commands in README.md and docs/OPERATIONS.md is one that bash can read, and either runs here as it is written, or needs root, or
-needs the kit. Those that need root are played by tools/check_first_days.py. An example that runs is a row in EXAMPLES. With --programs each option
-that a page gives to intake or outbox has to be in their help. Ports 8080 and 8081 of 127.0.0.1 have to be free.
+Every block of commands in README.md and docs/OPERATIONS.md is one that bash can read, and either runs here as it is
+written, or needs root, or needs the kit. Those that need root are played by tools/check_first_days.py. An example that
+runs is a row in EXAMPLES. With --programs each option that a page gives to intake or outbox has to be in their help.
+Ports 8080 and 8081 of 127.0.0.1 have to be free.
 
 Status 1 if something fails.
 """
@@ -37,15 +40,18 @@ PHRASES = {
     r"\b(?:is|are|was|were|be|been) told\b": "reports, prints, is reported",
     r"\btells\b": "reports, says, shows",
     r"\bof before\b": "earlier, of an earlier version",
-    r"(?:^|[.:;,(|] |\b(?:or|and|but|also|that|even) )[Ww]here (?:it|there|one|none|no|nothing|they|each|this|that|memory|a|the)\b": "if",
+    r"(?:^|[.:;,(|] |\b(?:or|and|but|also|that|even) )"
+    r"[Ww]here (?:it|there|one|none|no|nothing|they|each|this|that|memory|a|the)\b": "if",
     r"\bstands?\b(?!-)": "is, comes",
     r"\ba text\b": "a string",
-    r"\b(?:hold|holds|held|holding) (?:[\w`'.]+ ){1,5}?to (?:the|what|its|their|it|this|them|account)\b": "compares .. with, tests .. against",
+    r"\b(?:hold|holds|held|holding) (?:[\w`'.]+ ){1,5}?"
+    r"to (?:the|what|its|their|it|this|them|account)\b": "compares .. with, tests .. against",
     r"\b(?:is|are|was|were) to (?:be|come|replace|have|hold)\b": "has to, will, replaces",
     r"\b(?:take|takes|taken|taking) along\b": "converts, upgrades",
 }
 # Commands that only root can use as they are written, and those of the kit.
-NEEDS_ROOT = re.compile(r"\b(?:systemctl|runuser|apt-get|useradd|journalctl|logrotate)\b|(?<![\w.])/(?:etc|var|usr/local|lib)/|^install ", re.M)
+NEEDS_ROOT = re.compile(r"\b(?:systemctl|runuser|apt-get|useradd|journalctl|logrotate)\b"
+                        r"|(?<![\w.])/(?:etc|var|usr/local|lib)/|^install ", re.M)
 NEEDS_KIT = re.compile(r"\brt (?:try|run|ci|check|lib|test|must-fail)\b|^\.ci/run\b", re.M)
 
 
@@ -53,7 +59,8 @@ NEEDS_KIT = re.compile(r"\brt (?:try|run|ci|check|lib|test|must-fail)\b|^\.ci/ru
 
 
 def pages():
-    names = subprocess.check_output(["git", "ls-files", "--cached", "--others", "--exclude-standard", "*.md"], cwd=ROOT, text=True).split()
+    names = subprocess.check_output(["git", "ls-files", "--cached", "--others", "--exclude-standard", "*.md"],
+                                    cwd=ROOT, text=True).split()
     return sorted(name for name in names if (ROOT / name).is_file())
 
 
@@ -75,7 +82,10 @@ def without_code(text):
             indent_of_list = len(item[0])
         elif line.strip() and not indent:
             indent_of_list = 0
-        is_code = bool(line.strip()) and indent >= indent_of_list + 4 and (was_blank or is_code) or is_code and not line.strip()
+        is_code = (
+            bool(line.strip()) and indent >= indent_of_list + 4 and (was_blank or is_code)
+            or is_code and not line.strip()
+        )
         was_blank = not line.strip()
         lines.append("" if is_code else line)
     return re.sub(r"(`+)(?!`)(.*?)(?<!`)\1(?!`)", lambda it: re.sub(r"[^\n]", "`", it[0]), "\n".join(lines), flags=re.S)
@@ -92,20 +102,6 @@ def blocks_of(text):
                 indent = min(len(it) - len(it.lstrip()) for it in block)
                 yield "\n".join(it[indent:] for it in block)
             block = []
-
-
-def commands_in(block):
-    """The commands of a block, and what each prints."""
-    found, goes_on = [], False
-    for line in block.split("\n"):
-        if line.startswith("# ") and not goes_on and found:
-            found[-1][1].append(line[2:])
-        elif goes_on:
-            found[-1][0] += "\n" + line
-        else:
-            found.append([line, []])
-        goes_on = line.endswith("\\")
-    return found
 
 
 # ---- links, tables, phrases, lengths
@@ -149,7 +145,8 @@ def check_tables(page):
             faults.append(f"line {rows[0][0]}: rows without a head")
         elif rows:
             wanted = cells_in(rows[0][1])
-            faults += [f"line {at}: {cells_in(row)} cells in place of {wanted}" for at, row in rows if cells_in(row) != wanted]
+            faults += [f"line {at}: {cells_in(row)} cells in place of {wanted}"
+                       for at, row in rows if cells_in(row) != wanted]
         rows = []
     trials.tell(f"{page}: tables", "; ".join(faults))
 
@@ -158,12 +155,15 @@ def check_phrases(page):
     text = re.sub(r"[ \n]+", " ", re.sub(r"\n(?=\n|[-|#] ?|\d+\.)", "\n. ", without_code(text_of(page))))
     found = [(it[0].strip(" .:;,(|"), better) for phrase, better in PHRASES.items() for it in re.finditer(phrase, text)]
     counts = {it: [one for one, _ in found].count(it) for it, _ in found}
-    told = ", ".join(f"{it!r} {count} times ({dict(found)[it]})" for it, count in sorted(counts.items(), key=lambda one: -one[1])[:6])
-    trials.tell(f"{page}: {len(found)} phrases that are hard to read, at most {HANDFUL}", told if len(found) > HANDFUL else None)
+    told = ", ".join(f"{it!r} {count} times ({dict(found)[it]})"
+                     for it, count in sorted(counts.items(), key=lambda one: -one[1])[:6])
+    trials.tell(f"{page}: {len(found)} phrases that are hard to read, at most {HANDFUL}",
+                told if len(found) > HANDFUL else None)
 
 
 def check_readme():
-    long = [f"line {at}: {len(line)} characters" for at, line in enumerate(text_of("README.md").split("\n"), 1) if len(line) > README_WIDTH]
+    long = [f"line {at}: {len(line)} characters"
+            for at, line in enumerate(text_of("README.md").split("\n"), 1) if len(line) > README_WIDTH]
     trials.tell(f"README.md: no line is longer than {README_WIDTH} characters", "; ".join(long))
 
 
@@ -174,14 +174,16 @@ def check_lengths():
         for length, content in re.findall(r"(?m)^ {4}Content-Length: (\d+)\n\n {4}(\{.*\})$", block):
             count += 1
             faults += [f"{length} in place of {len(content)}: {content}"] if int(length) != len(content) else []
-    trials.tell(f"docs/PROTOCOL.md: the lengths of {count} messages", "; ".join(faults) if count else "no message is shown")
+    trials.tell(f"docs/PROTOCOL.md: the lengths of {count} messages",
+                "; ".join(faults) if count else "no message is shown")
 
 
 # ---- commands
 
 
 class Scratch:
-    """A folder with what the commands of a page find at the top of the repository: the example report, the runner, and the programs."""
+    """A folder with what the commands of a page find at the top of the repository: the example report, the runner, and
+    the programs."""
 
     def __init__(self, folder, programs):
         self.folder, self.server = pathlib.Path(folder), None
@@ -200,12 +202,12 @@ class Scratch:
 
     def play(self, block):
         """The status of a block, and what each of its commands prints."""
-        commands = commands_in(block)
+        commands = trials.commands_in(block.split("\n"))
         script = self.folder / "script"
         script.write_text("".join(f"{command}\nprintf '\\n@@\\n'\n" for command, _ in commands), encoding="utf-8")
         with open(self.folder / "printed", "w+b") as printed:
-            process = subprocess.Popen(["bash", str(script)], cwd=self.top, env=self.env, stdin=subprocess.DEVNULL, stdout=printed,
-                                       stderr=subprocess.DEVNULL, start_new_session=True)  # fmt: skip
+            process = subprocess.Popen(["bash", str(script)], cwd=self.top, env=self.env, stdin=subprocess.DEVNULL,
+                                       stdout=printed, stderr=subprocess.DEVNULL, start_new_session=True)  # fmt: skip
             try:
                 status = process.wait(60)
             except subprocess.TimeoutExpired:
@@ -221,11 +223,13 @@ class Scratch:
             return status, printed.read().decode(errors="replace").split("\n@@\n")[:-1]
 
     def run(self, *words):
-        subprocess.run(words, cwd=self.top, env=self.env, check=True, stdout=subprocess.DEVNULL, stderr=subprocess.DEVNULL)
+        subprocess.run(words, cwd=self.top, env=self.env, check=True,
+                       stdout=subprocess.DEVNULL, stderr=subprocess.DEVNULL)
 
     def serve(self, *words):
         """Starts an intake, and waits until it serves."""
-        self.server = subprocess.Popen(["intake", "serve", *words], cwd=self.top, env=self.env, stderr=subprocess.PIPE, text=True)
+        self.server = subprocess.Popen(["intake", "serve", *words], cwd=self.top, env=self.env,
+                                       stderr=subprocess.PIPE, text=True)
         if "serving" not in self.server.stderr.readline():
             raise subprocess.CalledProcessError(self.server.wait(), ["intake", "serve", *words])
 
@@ -241,7 +245,7 @@ def without_moments(text):
 
 def as_written(block, status, printed):
     """Each command prints what the page says."""
-    wanted = [(command, "\n".join(lines)) for command, lines in commands_in(block)]
+    wanted = [(command, "\n".join(lines)) for command, lines in trials.commands_in(block.split("\n"))]
     if status or len(printed) != len(wanted):
         return f"status {status} after {len(printed)} of {len(wanted)} commands"
     return "; ".join(f"{command}: {shown!r} in place of {lines!r}" for (command, lines), shown in zip(wanted, printed)
@@ -270,7 +274,8 @@ def make_copies(scratch):
         with sqlite3.connect(scratch.top / name) as database:
             declared = re.search(r"kept \(seq.*?\)\)", text_of("docs/PROTOCOL.md"), re.S)[0]
             database.execute(f"CREATE TABLE {declared} STRICT")
-            database.executemany("INSERT INTO kept VALUES (?, 'ACME', ?, x'', NULL)", [(seq, f"k-{seq}") for seq in range(1, count + 1)])
+            database.executemany("INSERT INTO kept VALUES (?, 'ACME', ?, x'', NULL)",
+                                 [(seq, f"k-{seq}") for seq in range(1, count + 1)])
         database.close()
 
 
@@ -314,7 +319,8 @@ EXAMPLES = [
     Example("docs/OPERATIONS.md", "intake export --db copy.db", prints_nothing, port=8081, scene=make_copy),
     Example("docs/OPERATIONS.md", "mkdir site", prints_nothing, port=8081, scene=make_copy),
     Example("docs/OPERATIONS.md", "outbox ask --db outbox.db", port=8081, scene=make_refused_entry),
-    Example("docs/OPERATIONS.md", 'sqlite3 outbox.db "SELECT writefile', shows_findings, port=8081, scene=make_refused_entry),
+    Example("docs/OPERATIONS.md", 'sqlite3 outbox.db "SELECT writefile', shows_findings,
+            port=8081, scene=make_refused_entry),
 ]
 
 
@@ -371,12 +377,18 @@ def check_options(programs):
             known[name, word] = set(re.findall(r"(?<![\w-])--[a-z][\w-]*", help_of(program, word)))
     for page in pages():
         faults = []
-        code = re.findall(r"`([^`\n]+)`", text_of(page)) + [line for block in blocks_of(text_of(page)) for line in block.split("\n")]
-        for name, word, rest in (it for text in code for it in re.findall(r"(?<![\w./-])(intake|outbox) ([a-z]+)\b([^|;&<>()]*)", text)):
+        code = (
+            re.findall(r"`([^`\n]+)`", text_of(page))
+            + [line for block in blocks_of(text_of(page)) for line in block.split("\n")]
+        )
+        for name, word, rest in (
+            it for text in code for it in re.findall(r"(?<![\w./-])(intake|outbox) ([a-z]+)\b([^|;&<>()]*)", text)
+        ):
             options = set(re.findall(r"(?<![\w-])--[a-z][\w-]*", rest))
             if (name, word) not in known and options:
                 faults.append(f"{name} {word}: there is no such command")
-            faults += [f"{name} {word} {it}: there is no such option" for it in sorted(options - known.get((name, word), options))]
+            faults += [f"{name} {word} {it}: there is no such option"
+                       for it in sorted(options - known.get((name, word), options))]
         trials.tell(f"{page}: options of programs", "; ".join(faults))
 
 

@@ -1,11 +1,11 @@
 #!/usr/bin/env python3
-"""Tries `intake pages` of the built program: each text that was filed is read back from the pages, and no other tag is in them. If there is a
-Chromium, it opens them, and looks for errors and for what the search box shows.
+"""Tries `intake pages` of the built program: each text that was filed is read back from the pages, and no other tag is
+in them. If there is a Chromium, it opens them, and looks for errors and for what the search box shows.
 
     tools/check_pages_of_register.py [SCREENSHOT]
 
-It takes the program that `rt run` builds in its folder, as crates/intake/out/intake. With a name it keeps a screenshot of a page there, outside
-of the repository. Status 1 if a trial fails.
+It takes the program that `rt run` builds in its folder, as crates/intake/out/intake. With a name it keeps a screenshot
+of a page there, outside of the repository. Status 1 if a trial fails.
 """
 import html.parser
 import pathlib
@@ -18,7 +18,10 @@ import time
 from odd_register import SENT, REFUSED, make_odd_register, many, records
 from trials import INTAKE, ROOT, hold, run, tell, try_all
 
-TAGS = set("html head meta link title style body a nav main h1 p label input span div table caption thead tbody tr th td dl dt dd em br svg text rect script".split())
+TAGS = set(
+    "html head meta link title style body a nav main h1 p label input span div table caption thead tbody tr th td "
+    "dl dt dd em br svg text rect script".split()
+)
 VOID = {"meta", "link", "input", "br"}
 
 
@@ -89,7 +92,8 @@ def check_texts(folder):
         hold(f"filing {number}: concepts", {row[1] for row in rows}, {"eg:A<b>&'"})
     hold("the keys of ACME", [row[1] for row in read["filer-ACME.html"].rows[1:]], ["k<1>'&", "k-2"])
     hold("what replaces what", [row[3:] for row in read["filer-ACME.html"].rows[1:]], [["", "3"], ["1", ""]])
-    hold("the filers", [row for row in read["index.html"].rows[1:]], [["ACME", "2", "1", "0"], ["BETA", "1", "1", "2"], ["a.b_c-", "1", "1", "0"]])
+    hold("the filers", [row for row in read["index.html"].rows[1:]],
+         [["ACME", "2", "1", "0"], ["BETA", "1", "1", "2"], ["a.b_c-", "1", "1", "0"]])
     hold("the refused", [row[:3] for row in read["refused.html"].rows[1:]], [["BETA", "b-2", ""], ["BETA", "b-3", "1"]])
     found = {row[0]: int(row[1]) for row in read["findings.html"].rows[1:]}
     hold("the codes", found, {"value": 1, "name": 1, "not-the-filer": 1, "number": 1, "not-replaceable": 1})
@@ -114,7 +118,8 @@ def check_time(folder):
     pages_of(folder / "register.db", site)
     took = time.monotonic() - begin
     size = sum(it.stat().st_size for it in site.iterdir()) / 1e6
-    tell(f"10,000 filings in {took:.1f} s, {size:.1f} MB", None if took < 30 and size < 100 else "too slow, or too large")
+    tell(f"10,000 filings in {took:.1f} s, {size:.1f} MB",
+         None if took < 30 and size < 100 else "too slow, or too large")
 
 
 def check_browser(folder):
@@ -126,9 +131,11 @@ def check_browser(folder):
     site = folder / "site"
     site.mkdir()
     pages_of(folder / "register.db", site)
-    words = [browser, "--headless=new", "--no-sandbox", "--disable-gpu", "--enable-logging=stderr", "--v=0", f"--user-data-dir={folder}/profile"]
+    words = [browser, "--headless=new", "--no-sandbox", "--disable-gpu",
+             "--enable-logging=stderr", "--v=0", f"--user-data-dir={folder}/profile"]
     for name in sorted(it.name for it in site.iterdir()):
-        done = subprocess.run([*words, "--dump-dom", f"file://{site}/{name}"], capture_output=True, check=False, timeout=60)
+        done = subprocess.run([*words, "--dump-dom", f"file://{site}/{name}"],
+                              capture_output=True, check=False, timeout=60)
         hold(f"{name}: nothing in the console", re.findall(r"CONSOLE.*", done.stderr.decode(errors="replace")), [])
     # The page is searched by a script that is put behind its own: the folder is this trial's.
     searched = (site / "index.html").read_text().replace(
@@ -138,13 +145,15 @@ def check_browser(folder):
         '.map(function (r) { return r.cells[0].textContent; }).join(" ");</script></body>',
     )
     (site / "searched.html").write_text(searched)
-    done = subprocess.run([*words, "--dump-dom", f"file://{site}/searched.html"], capture_output=True, check=False, timeout=60)
+    done = subprocess.run([*words, "--dump-dom", f"file://{site}/searched.html"],
+                          capture_output=True, check=False, timeout=60)
     hold("the search", re.search(r"<title>(.*?)</title>", done.stdout.decode()).group(1), "BETA")
     if len(sys.argv) > 1:
         kept = pathlib.Path(sys.argv[1]).resolve()
         if ROOT in kept.parents:
             sys.exit("the screenshot is kept outside of the repository")
-        subprocess.run([*words, f"--screenshot={kept}", "--window-size=1280,900", f"file://{site}/filing-1.html"], capture_output=True, check=False, timeout=60)
+        subprocess.run([*words, f"--screenshot={kept}", "--window-size=1280,900", f"file://{site}/filing-1.html"],
+                       capture_output=True, check=False, timeout=60)
 
 
 if __name__ == "__main__":

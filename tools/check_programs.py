@@ -1,11 +1,12 @@
 #!/usr/bin/env python3
-"""Tries the built programs over files, sockets and full disks: what they print, how they end, and what stands afterwards.
+"""Tries the built programs over files, sockets and full disks: what they print, how they end, and what stands
+afterwards.
 
     tools/check_programs.py
 
-It takes the programs that `rt run` builds in their folders, as crates/intake/out/intake. A full disk is a small file system in
-memory, which it mounts if it may; otherwise it says so, and a limit on the size of files stands in for it. Status 1 if a
-trial fails.
+It takes the programs that `rt run` builds in their folders, as crates/intake/out/intake. A full disk is a small file
+system in memory, which it mounts if it may; otherwise it says so, and a limit on the size of files stands in for it.
+Status 1 if a trial fails.
 """
 import datetime
 import hashlib
@@ -20,7 +21,8 @@ import sqlite3
 import subprocess
 import time
 
-from trials import INTAKE, NOT_A_REGISTER, OUTBOX, REPORT, SMALLEST, Peer, Serving, answers, breaks, exchange, free_port, hold, is_silent
+from trials import (INTAKE, NOT_A_REGISTER, OUTBOX, REPORT, SMALLEST, Peer, Serving, answers, breaks, exchange,
+                    free_port, hold, is_silent)
 from trials import make_register, request, run, said, statuses, tell, try_all
 
 
@@ -66,19 +68,25 @@ def check_patience(folder):
     for words in (("--log",), ()):
         database = folder / f"register{len(words)}.db"
         serving = Serving(database, 2, "--new", "--patience", "2", *words)
-        hold("a client that sends a byte at a time is cut off", send_slowly(serving.port, request("k-1", SMALLEST), 10), True)
+        hold("a client that sends a byte at a time is cut off",
+             send_slowly(serving.port, request("k-1", SMALLEST), 10), True)
         hold("and the next is served", statuses(exchange(serving.port, request("k-2", SMALLEST))), [201])
         status, output, errors = serving.end()
         wanted = "intake: connection 1: cut off after 2 seconds\nintake: ended after 2 connections\n"
         hold("serve says whom it cut off", (status, errors), (0, wanted))
-        hold("the log has both connections", [json.loads(line)["ended"] for line in output.splitlines()], ["the reader failed", "closed"] if words else [])
+        hold("the log has both connections", [json.loads(line)["ended"] for line in output.splitlines()],
+             ["the reader failed", "closed"] if words else [])
 
 
 def check_limit(folder):
     serving = Serving(folder / "register.db", 4, "--new", "--limit", "1")
     for key, status in (("k-1", 201), ("k-2", 503), ("k-3", 503), ("k-1", 201)):
-        hold(f"a report with the key {key}, in a register of one", statuses(exchange(serving.port, request(key, SMALLEST))), [status])
-    wanted = "intake: the register is full: --limit is 1, and a report with a new key gets 503\nintake: ended after 4 connections\n"
+        hold(f"a report with the key {key}, in a register of one",
+             statuses(exchange(serving.port, request(key, SMALLEST))), [status])
+    wanted = (
+        "intake: the register is full: --limit is 1, and a report with a new key gets 503\n"
+        "intake: ended after 4 connections\n"
+    )
     hold("serve says once that the register is full", serving.end()[2], wanted)
 
 
@@ -87,7 +95,8 @@ def check_limit(folder):
 REGISTERED = '{"number":%d,"status":"registered"}'
 BOTH = '{"filings":[{"facts":1,"number":1,"replaced_by":2},{"facts":1,"number":2,"replaces":1}]}'
 NOT_REPLACEABLE = (
-    '{"findings":[{"code":"not-replaceable","place":""}],"reason":"refused","status":422,"title":"Unprocessable Content","type":"about:blank"}'
+    '{"findings":[{"code":"not-replaceable","place":""}],"reason":"refused","status":422,'
+    '"title":"Unprocessable Content","type":"about:blank"}'
 )
 KEY_REUSED = '{"reason":"key-reused","status":422,"title":"Unprocessable Content","type":"about:blank"}'
 NO_PATH = '{"reason":"no-path","status":404,"title":"Not Found","type":"about:blank"}'
@@ -109,7 +118,8 @@ AMENDMENTS = [
     ("another number under a used key", request("k-2", REPORT, "ACME/2"), 422, KEY_REUSED),
     ("no number under a key that had one", request("k-2", REPORT), 422, KEY_REUSED),
     ("a number under a key that had none", request("k-1", REPORT, "ACME/1"), 422, KEY_REUSED),
-    ("another filer's report", request("k-1", REPORT.replace(b"lei:ACME", b"lei:BETA"), "BETA/1"), 422, NOT_REPLACEABLE),
+    ("another filer's report", request("k-1", REPORT.replace(b"lei:ACME", b"lei:BETA"), "BETA/1"),
+     422, NOT_REPLACEABLE),
     ("the number 0", request("k-4", REPORT, "ACME/0"), 404, NO_PATH),
     ("a number with a leading zero", request("k-4", REPORT, "ACME/01"), 404, NO_PATH),
     ("the list of the first alone", listing("ACME/1"), 200, '{"filings":[{"facts":1,"number":1,"replaced_by":2}]}'),
@@ -126,7 +136,8 @@ def check_amendments(folder):
         reply = exchange(serving.port, given)
         hold(what, (statuses(reply), reply.partition(b"\r\n\r\n")[2].decode()), ([status], content))
     hold("serve ends", serving.end()[0], 0)
-    hold("check afterwards", said(run(INTAKE, "check", "--db", database), folder), (0, "sound: 4 kept, 2 filings\n", ""))
+    hold("check afterwards", said(run(INTAKE, "check", "--db", database), folder),
+         (0, "sound: 4 kept, 2 filings\n", ""))
     hold("list of both", said(run(INTAKE, "list", "--db", database, "--filer", "ACME"), folder), (0, f"{BOTH}\n", ""))
 
 
@@ -182,7 +193,10 @@ class SmallDisk:
         return filler
 
 
-PAUSED = "intake: the database failed again: it is opened in %d s at the earliest, and until then a request gets 503 at once"
+PAUSED = (
+    "intake: the database failed again: it is opened in %d s at the earliest, "
+    "and until then a request gets 503 at once"
+)
 
 
 def told_up_to(serving, line):
@@ -222,11 +236,13 @@ def check_full_register(folder):
         tell("a failure is told, and that it is over", None if failed == 3 and again == failed else errors)
         pauses = [line for line in errors.splitlines() if "at the earliest" in line]
         hold("and each pause", pauses, [PAUSED % 1, PAUSED % 2])
-        hold("what was answered is kept", said(run(INTAKE, "check", "--db", database), folder)[:2], (0, "sound: 2 kept, 2 filings\n"))
+        hold("what was answered is kept", said(run(INTAKE, "check", "--db", database), folder)[:2],
+             (0, "sound: 2 kept, 2 filings\n"))
 
 
 def put_with_room(folder, left):
-    """Puts a report of 200,000 bytes into an outbox on a disk with so many bytes free. Whether it was told, and whether it stands."""
+    """Puts a report of 200,000 bytes into an outbox on a disk with so many bytes free. Whether it was told, and whether
+    it stands."""
     with SmallDisk(folder / f"disk-{left}", 4 << 20) as disk:
         database = disk.folder / "outbox.db"
         report = folder / "large.json"
@@ -242,7 +258,8 @@ def put_with_room(folder, left):
 def check_full_outbox(folder):
     with SmallDisk(folder / "trial", 1 << 20) as disk:
         if not disk.is_mounted:
-            print("not tried: an outbox on a full disk, since no file system may be mounted; a limit on the size of files is")
+            print("not tried: an outbox on a full disk, since no file system may be mounted; "
+                  "a limit on the size of files is")
             check_limited_outbox(folder)
             return
     told = {}
@@ -251,7 +268,8 @@ def check_full_outbox(folder):
         is_told = done.returncode == 0 and done.stdout == b"entry 1\n"
         told[left] = is_told
         if is_told != (stands == b"entry 1 open\n"):
-            tell(f"a put with {left} bytes free", f"status {done.returncode}, {done.stdout!r}, {done.stderr!r}, then {stands!r}")
+            tell(f"a put with {left} bytes free",
+                 f"status {done.returncode}, {done.stdout!r}, {done.stderr!r}, then {stands!r}")
     least = min((left for left, is_told in told.items() if is_told), default=None)
     tell(f"put tells what it committed, at each of {len(told)} sizes of free space; the least that suffices is {least}",
          None if least is not None and not all(told.values()) else "no size decides")
@@ -272,7 +290,8 @@ def check_limited_outbox(folder):
         done = run(OUTBOX, "put", "--db", database, "--body", report, "--key", "k-1", preexec_fn=limited)
         stands = run(OUTBOX, "status", "--db", database).stdout
         if (done.returncode == 0) != (stands == b"entry 1 open\n"):
-            tell(f"a put with files of at most {size} bytes", f"status {done.returncode}, {done.stderr!r}, then {stands!r}")
+            tell(f"a put with files of at most {size} bytes",
+                 f"status {done.returncode}, {done.stderr!r}, then {stands!r}")
     tell("put tells what it committed, at each size of files")
 
 
@@ -309,7 +328,8 @@ def check_descriptors(folder):
         resource.setrlimit(resource.RLIMIT_NOFILE, (4, 4))
 
     done = run(INTAKE, "check", "--db", database, preexec_fn=limited)
-    hold("check with few descriptors", said(done, folder), (3, "", "intake: register.db: too many open files: raise the limit (ulimit -n)\n"))
+    hold("check with few descriptors", said(done, folder),
+         (3, "", "intake: register.db: too many open files: raise the limit (ulimit -n)\n"))
 
 
 DAMAGED = "the sum or the structure of a page is wrong: keep the file and the log beside it, and restore a copy"
@@ -345,7 +365,8 @@ def check_damage(folder):
     hold_damaged("a register that is cut", changed, DAMAGED, folder)
     changed.write_bytes(b"s" + sound[1:])
     done = said(run(INTAKE, "check", "--db", changed), folder)
-    hold("check of one without the head of a database", done, (1, "not a register\n", "intake: changed.db: not a database\n"))
+    hold("check of one without the head of a database", done,
+         (1, "not a register\n", "intake: changed.db: not a database\n"))
 
 
 def check_copies(folder):
@@ -364,7 +385,8 @@ def check_copies(folder):
     for name in ("backup.db", "vacuum.db"):
         hold_damaged(f"a copy by SQLite, {name}", folder / name, UNSUMMED, folder)
     for name in ("whole.db", "dump.db"):
-        hold(f"check of {name}", said(run(INTAKE, "check", "--db", folder / name), folder), (0, "sound: 1 kept, 1 filings\n", ""))
+        hold(f"check of {name}", said(run(INTAKE, "check", "--db", folder / name), folder),
+             (0, "sound: 1 kept, 1 filings\n", ""))
 
 
 def check_rights(folder):
@@ -395,8 +417,10 @@ def check_lint(folder):
     line = "bad.json:1:17: document-info: 1 is no object (/documentInfo)\n"
     hold("lint finds what a filing is refused for", (status, output, errors), (1, line, ""))
     hold("and so does the outbox", said(run(OUTBOX, "lint", "--filer", "ACME", good, bad), folder), (1, line, ""))
-    told = [json.loads(it) for it in said(run(OUTBOX, "lint", "--filer", "ACME", "--json", bad), folder)[1].splitlines()]
-    wanted = {"file": "bad.json", "line": 1, "column": 17, "code": "document-info", "place": "/documentInfo", "value": "1"}
+    told = [json.loads(it)
+            for it in said(run(OUTBOX, "lint", "--filer", "ACME", "--json", bad), folder)[1].splitlines()]
+    wanted = {"file": "bad.json", "line": 1, "column": 17,
+              "code": "document-info", "place": "/documentInfo", "value": "1"}
     hold("as an object too", told, [{**wanted, "message": "1 is no object"}])
     hold("lint of no file", said(run(INTAKE, "lint", "--filer", "ACME", folder / "none"), folder)[0], 3)
     hold("lint for no filer", run(INTAKE, "lint", "--filer", "a/b", good).returncode, 2)
@@ -412,15 +436,19 @@ def check_entries(folder):
     hold("show of each entry", said(run(OUTBOX, "show", "--db", database), folder), (0, long, ""))
     nobody = run(OUTBOX, "send", "--db", database, "--port", free_port(), "--all")
     hold("send --all to nobody stops at the first", said(nobody, folder)[:2], (3, "entry 1 open\n"))
-    hold("send --all and --entry", run(OUTBOX, "send", "--db", database, "--port", 1, "--all", "--entry", 1).returncode, 2)
+    hold("send --all and --entry",
+         run(OUTBOX, "send", "--db", database, "--port", 1, "--all", "--entry", 1).returncode, 2)
     serving = Serving(folder / "register.db", 4, "--new")
-    hold("send of one", said(run(OUTBOX, "send", "--db", database, "--port", serving.port, "--entry", 2), folder), (0, "entry 2 confirmed 1\n", ""))
+    hold("send of one", said(run(OUTBOX, "send", "--db", database, "--port", serving.port, "--entry", 2), folder),
+         (0, "entry 2 confirmed 1\n", ""))
     every = run(OUTBOX, "send", "--db", database, "--port", serving.port, "--all")
     hold("send --all sends what is open", said(every, folder), (0, "entry 1 confirmed 2\nentry 3 confirmed 3\n", ""))
     exchange(serving.port, b"GET / HTTP/1.1\r\nHost: h\r\n\r\n")
     serving.end()
-    hold("send --all if nothing is open", said(run(OUTBOX, "send", "--db", database, "--port", 1, "--all"), folder), (0, "nothing open\n", ""))
-    hold("show of one entry", said(run(OUTBOX, "show", "--db", database, "--entry", 3), folder), (0, "entry 3 confirmed 3, 84 bytes, key k-3\n", ""))
+    hold("send --all if nothing is open",
+         said(run(OUTBOX, "send", "--db", database, "--port", 1, "--all"), folder), (0, "nothing open\n", ""))
+    hold("show of one entry", said(run(OUTBOX, "show", "--db", database, "--entry", 3), folder),
+         (0, "entry 3 confirmed 3, 84 bytes, key k-3\n", ""))
     hold("show of no entry", run(OUTBOX, "show", "--db", database, "--entry", 4).returncode, 4)
 
 
@@ -435,7 +463,10 @@ def reply(status, content, kind="application/json", before=""):
 
 def problem(status, reason):
     """A refusal with this reason, as problem details."""
-    content = f'{{"reason":"{reason}","status":{status[:3].decode()},"title":"{status[4:].decode()}","type":"about:blank"}}'
+    content = (
+        f'{{"reason":"{reason}","status":{status[:3].decode()},'
+        f'"title":"{status[4:].decode()}","type":"about:blank"}}'
+    )
     return reply(status, content.encode(), "application/problem+json")
 
 
@@ -474,7 +505,8 @@ def check_round(folder):
     for entry, (cause, act) in enumerate(FAILING, 1):
         peer = Peer(act)
         one = run(OUTBOX, "send", "--db", outbox, "--port", peer.port, "--entry", entry)
-        hold(f"send of one entry: {cause}", said(one, folder), (3, f"entry {entry} open\n", f"outbox: 127.0.0.1:{peer.port}: {cause}\n"))
+        hold(f"send of one entry: {cause}", said(one, folder),
+             (3, f"entry {entry} open\n", f"outbox: 127.0.0.1:{peer.port}: {cause}\n"))
     peer = Peer(answers(b""))
     every = said(run(OUTBOX, "send", "--db", outbox, "--port", peer.port, "--all"), folder)
     hold("a round ends once nobody listens", every[:2], (3, "entry 1 open\nentry 2 open\n"))
@@ -489,7 +521,8 @@ UNSETTLED = [
     (reply(b"404 Not Found", b'{"reason":"no-path"}'), "answered 404 Not Found"),
     (problem(b"429 Too Many Requests", "too-many"), "answered 429 Too Many Requests: too-many"),
     (reply(b"502 Bad Gateway", b"<html></html>", "text/html"), "answered 502 Bad Gateway"),
-    (b"HTTP/1.1 102 Processing\r\n\r\n" + problem(b"503 Service Unavailable", "unavailable"), "answered 503 Service Unavailable: unavailable"),
+    (b"HTTP/1.1 102 Processing\r\n\r\n" + problem(b"503 Service Unavailable", "unavailable"),
+     "answered 503 Service Unavailable: unavailable"),
     (reply(b"200 OK", b"ok", "text/plain"), "answered 200 OK"),
     (reply(b"201 Created", b'{"number":0,"status":"registered"}'), "answered 201 Created"),
     (reply(b"418 Th\xc3\xa9 \xff", b"{}"), "answered 418 Th?? ?"),
@@ -508,7 +541,8 @@ def check_answers(folder):
     outbox = make_outbox(folder, 2)
     for text, told in UNSETTLED:
         sent = run(OUTBOX, "send", "--db", outbox, "--port", Peer(answers(text)).port)
-        hold(f"what is said of a reply: {told[:40]}", said(sent, folder), (0, "entry 1 open\n", f"outbox: entry 1: {told}\n"))
+        hold(f"what is said of a reply: {told[:40]}", said(sent, folder),
+             (0, "entry 1 open\n", f"outbox: entry 1: {told}\n"))
     both = Peer(answers(UNSETTLED[0][0]), answers(UNSETTLED[3][0]))
     every = run(OUTBOX, "send", "--db", outbox, "--port", both.port, "--all")
     errors = "outbox: entry 1: answered 403 Forbidden: not-yours\noutbox: entry 2: answered 502 Bad Gateway\n"
@@ -522,13 +556,17 @@ def check_answers(folder):
 
 # What the register answers for a report `{}`, and the line for its one finding.
 NO_INFO = (
-    '{"findings":[{"code":"document-info","place":"/documentInfo"}],"reason":"refused","status":422,"title":"Unprocessable Content",'
-    '"type":"about:blank"}'
+    '{"findings":[{"code":"document-info","place":"/documentInfo"}],"reason":"refused","status":422,'
+    '"title":"Unprocessable Content","type":"about:blank"}'
 )
 NO_INFO_LINE = "entry-2:1:1: document-info: the member is missing (/documentInfo)\n"
-NO_INFO_OBJECT = '{"code":"document-info","column":1,"file":"entry-2","line":1,"message":"the member is missing","place":"/documentInfo","value":null}\n'
+NO_INFO_OBJECT = (
+    '{"code":"document-info","column":1,"file":"entry-2","line":1,"message":"the member is missing",'
+    '"place":"/documentInfo","value":null}\n'
+)
 # The register has no filing 7, which entry 3 is to replace.
-NOT_REPLACEABLE = NO_INFO.replace('{"code":"document-info","place":"/documentInfo"}', '{"code":"not-replaceable","place":""}')
+NOT_REPLACEABLE = NO_INFO.replace('{"code":"document-info","place":"/documentInfo"}',
+                                  '{"code":"not-replaceable","place":""}')
 NOT_REPLACEABLE_LINE = "entry-3:1:1: not-replaceable: the object may not replace that filing ()\n"
 
 
@@ -537,7 +575,8 @@ def ask(outbox, entry, port, *words):
 
 
 def check_questions(folder):
-    """Settled entries are asked about: a register answers as it did at first, and another peer's answer is shown all the same."""
+    """Settled entries are asked about: a register answers as it did at first, and another peer's answer is shown all
+    the same."""
     outbox, poor = make_outbox(folder, 1), folder / "poor.json"
     poor.write_bytes(b"{}")
     run(OUTBOX, "put", "--db", outbox, "--body", poor, "--key", "k-2")
@@ -556,12 +595,17 @@ def check_questions(folder):
     hold("a question as objects", said(ask(outbox, 2, serving.port, "--json"), folder), (0, objects, ""))
     serving.end()
     other = Peer(answers(CLASHED), answers(reply(b"200 OK", b"a\nb\xff", "text/plain")), answers(reply(b"418 No", b"")))
-    clashed = 'entry 2: 422 Unprocessable Content\n{"reason":"key-reused","status":422,"title":"Unprocessable Content","type":"about:blank"}\n'
+    clashed = (
+        "entry 2: 422 Unprocessable Content\n"
+        '{"reason":"key-reused","status":422,"title":"Unprocessable Content","type":"about:blank"}\n'
+    )
     hold("an answer that differs from the state", said(ask(outbox, 2, other.port), folder), (0, clashed, ""))
-    hold("a content that is no line of text", said(ask(outbox, 2, other.port), folder), (0, "entry 2: 200 OK\na\\u000ab\ufffd\n", ""))
+    hold("a content that is no line of text", said(ask(outbox, 2, other.port), folder),
+         (0, "entry 2: 200 OK\na\\u000ab\ufffd\n", ""))
     hold("an answer without content", said(ask(outbox, 1, other.port), folder), (0, "entry 1: 418\n\n", ""))
     cut = Peer(answers(registered(1)[:-1]))
-    hold("a cut answer", said(ask(outbox, 1, cut.port), folder), (3, "", f"outbox: 127.0.0.1:{cut.port}: the reply is cut\n"))
+    hold("a cut answer", said(ask(outbox, 1, cut.port), folder),
+         (3, "", f"outbox: 127.0.0.1:{cut.port}: the reply is cut\n"))
     hold("the outbox is as it was", said(run(OUTBOX, "show", "--db", outbox), folder), before)
 
 
@@ -577,14 +621,16 @@ def check_receipts(folder):
     outbox, kept = make_outbox(folder, 2), folder / "receipts"
     words = ("send", "--db", outbox, "--receipts", kept)
     gone = said(run(OUTBOX, *words, "--port", 1), folder)
-    hold("no receipts without a folder", gone, (3, "", "outbox: receipts: no receipt can be written there: No such file or directory (os error 2)\n"))
+    hold("no receipts without a folder", gone,
+         (3, "", "outbox: receipts: no receipt can be written there: No such file or directory (os error 2)\n"))
     kept.mkdir()
     peer = Peer(answers(problem(b"403 Forbidden", "not-yours")), answers(registered(7)))
     sent = run(OUTBOX, *words, "--port", peer.port, "--all")
     errors = "outbox: entry 1: answered 403 Forbidden: not-yours\n"
     hold("a round with receipts", said(sent, folder), (0, "entry 1 open\nentry 2 confirmed 7\n", errors))
     hold("a receipt for what is settled", sorted(it.name for it in kept.iterdir()), ["entry-2.json"])
-    of_request = {"entry": 2, "filer": "ACME", "key": "k-2", "target": None, "length": len(SMALLEST), "sha256": hashlib.sha256(SMALLEST).hexdigest()}
+    of_request = {"entry": 2, "filer": "ACME", "key": "k-2", "target": None,
+                  "length": len(SMALLEST), "sha256": hashlib.sha256(SMALLEST).hexdigest()}
     of_reply = {"status": 201, "content": '{"number":7,"status":"registered"}', "port": peer.port}
     hold("what it says", receipt_in(kept, 2), (of_request | of_reply, True))
     members = list(json.loads((kept / "entry-2.json").read_text()))
@@ -595,7 +641,8 @@ def check_receipts(folder):
     lost = "outbox: receipts that were not written: 1; outbox ask --receipts writes one again\n"
     content = '{"reason":"unavailable","status":503,"title":"Service Unavailable","type":"about:blank"}'
     printed = f"entry 2: 503 Service Unavailable\n{content}\n"
-    hold("no receipt of 503", said(asked, folder), (3, printed, "outbox: entry 2: no receipt: the reply does not settle it\n" + lost))
+    hold("no receipt of 503", said(asked, folder),
+         (3, printed, "outbox: entry 2: no receipt: the reply does not settle it\n" + lost))
     asked = run(OUTBOX, "ask", "--db", outbox, "--entry", 2, "--port", again.port, "--receipts", kept)
     hold("a question with a receipt", said(asked, folder), (0, f"entry 2: 201 Created\n{of_reply['content']}\n", ""))
     hold("which says the same", receipt_in(kept, 2), (of_request | of_reply | {"port": again.port}, True))
@@ -610,7 +657,8 @@ def check_receipts(folder):
     sent = run(OUTBOX, *words, "--port", late.port)
     errors = "outbox: entry 1: no receipt: No such file or directory (os error 2)\n" + lost
     hold("a receipt that cannot be written", said(sent, folder), (3, "entry 1 confirmed 8\n", errors))
-    hold("its entry is settled", said(run(OUTBOX, "status", "--db", outbox), folder)[1], "entry 1 confirmed 8\nentry 2 confirmed 7\n")
+    hold("its entry is settled", said(run(OUTBOX, "status", "--db", outbox), folder)[1],
+         "entry 1 confirmed 8\nentry 2 confirmed 7\n")
 
 
 def drips(connection):
@@ -642,11 +690,13 @@ def check_same_report(folder):
     report.write_bytes(SMALLEST)
     run(OUTBOX, "init", "--db", outbox, "--filer", "ACME")
     same = "outbox: the same report is entry %d\n"
-    for words, entry, errors in (((), 1, ""), ((), 2, same % 1), (("--key", "k-3"), 3, ""), (("--amend", 1), 4, ""), ((), 5, same % 3)):
+    for words, entry, errors in (((), 1, ""), ((), 2, same % 1), (("--key", "k-3"), 3, ""),
+                                 (("--amend", 1), 4, ""), ((), 5, same % 3)):
         put = run(OUTBOX, "put", "--db", outbox, "--body", report, *words)
         hold(f"put of the same report, {words}", said(put, folder), (0, f"entry {entry}\n", errors))
     report.write_bytes(REPORT)
-    hold("put of another report", said(run(OUTBOX, "put", "--db", outbox, "--body", report), folder), (0, "entry 6\n", ""))
+    hold("put of another report", said(run(OUTBOX, "put", "--db", outbox, "--body", report), folder),
+         (0, "entry 6\n", ""))
     for entry in range(7, 23):
         run(OUTBOX, "put", "--db", outbox, "--body", report, "--key", f"k-{entry}", "--amend", 1)
     put = run(OUTBOX, "put", "--db", outbox, "--body", report)
@@ -658,15 +708,18 @@ def check_closed_output(folder):
     report.write_bytes(SMALLEST)
     run(OUTBOX, "init", "--db", database, "--filer", "ACME")
     with open("/dev/full", "wb") as full:
-        done = subprocess.run([OUTBOX, "put", "--db", database, "--body", report], stdout=full, stderr=subprocess.PIPE, check=False)
+        done = subprocess.run([OUTBOX, "put", "--db", database, "--body", report], stdout=full,
+                              stderr=subprocess.PIPE, check=False)
     told = done.stderr.decode().replace(f"{folder}/", "")
-    hold("an output that takes nothing", (done.returncode, told), (3, "outbox: outbox.db: entry 1 was put in, but the output cannot be written\n"))
+    hold("an output that takes nothing", (done.returncode, told),
+         (3, "outbox: outbox.db: entry 1 was put in, but the output cannot be written\n"))
 
 
 if __name__ == "__main__":
     try_all(
         (INTAKE, OUTBOX),
-        (check_serving, check_patience, check_limit, check_amendments, check_sent_amendments, check_full_register, check_full_outbox, check_files,
-         check_descriptors, check_rights, check_damage, check_copies, check_lint, check_entries, check_round, check_answers, check_questions, check_receipts,
-         check_patience_of_a_round, check_same_report, check_closed_output),
+        (check_serving, check_patience, check_limit, check_amendments, check_sent_amendments, check_full_register,
+         check_full_outbox, check_files, check_descriptors, check_rights, check_damage, check_copies, check_lint,
+         check_entries, check_round, check_answers, check_questions, check_receipts, check_patience_of_a_round,
+         check_same_report, check_closed_output),
     )

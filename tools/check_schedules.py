@@ -1,10 +1,11 @@
 #!/usr/bin/env python3
-"""Plays schedules with the built `drill`: stops and restarts of both ends, what is cut, lost or repeated, and events that name nothing.
+"""Plays schedules with the built `drill`: stops and restarts of both ends, what is cut, lost or repeated, and events
+that name nothing.
 
     tools/check_schedules.py
 
-What is to come of each is written out by hand. It takes the program that `rt run` builds, crates/drill/out/drill. Status 1 if another
-thing comes of a schedule.
+What is to come of each is written out by hand. It takes the program that `rt run` builds, crates/drill/out/drill.
+Status 1 if another thing comes of a schedule.
 """
 from trials import DRILL, SMALLEST, hold, run, try_all
 
@@ -14,12 +15,15 @@ SENT = f'outbox ACME\nput 1 "k-1" {REPORT}\nsend 1 1\n'
 # An outbox without entries, and a stranger's connection with two reports.
 STRANGER = (
     "outbox ACME\n"
-    f'stranger POST /filings/ACME HTTP/1.1\\r\\nHost: a\\r\\nIdempotency-Key: "k-1"\\r\\nContent-Length: 84\\r\\n\\r\\n{REPORT}'
-    'POST /filings/ACME HTTP/1.1\\r\\nHost: a\\r\\nIdempotency-Key: "k-2"\\r\\nExpect: 100-continue\\r\\nContent-Length: 84\\r\\n\\r\\n'
+    'stranger POST /filings/ACME HTTP/1.1\\r\\nHost: a\\r\\nIdempotency-Key: "k-1"\\r\\n'
+    f"Content-Length: 84\\r\\n\\r\\n{REPORT}"
+    'POST /filings/ACME HTTP/1.1\\r\\nHost: a\\r\\nIdempotency-Key: "k-2"\\r\\nExpect: 100-continue\\r\\n'
+    "Content-Length: 84\\r\\n\\r\\n"
     f"{REPORT}\n"
 )
 
-# Nothing is registered; the report is, and its outbox does not know; it knows; and the request was completed twice besides.
+# Nothing is registered; the report is, and its outbox does not know; it knows; and the request was completed twice
+# besides.
 NOTHING_DONE = "entry 1 1 open\ndone 0\n"
 UNHEARD = 'filing 1 ACME "k-1"\nentry 1 1 open\ndone 1\n'
 HEARD = 'filing 1 ACME "k-1"\nentry 1 1 confirmed 1\ndone 1\n'
@@ -60,13 +64,19 @@ CUT_LOST_OR_REPEATED = [
     ("deliver 1 227, hand 1 0, hand 1 128", UNHEARD),
     ("deliver 1 all, hand 1 129, hand 1 all", HEARD),
     ("deliver 1 all, send 1 1, deliver 2 all, hand 2 all, hand 1 all", HEARD_AND_REPEATED),
-    ("restart server, restart outbox 1, deliver 1 all, restart server, hand 1 all, restart outbox 1, deliver 1 all", HEARD_AND_REPEATED),
+    (
+        "restart server, restart outbox 1, deliver 1 all, restart server, hand 1 all, restart outbox 1, deliver 1 all",
+        HEARD_AND_REPEATED,
+    ),
 ]
 # A report and one that is to replace the filing that it will be, both sent.
 AMENDED = f'outbox ACME\nput 1 "k-1" {REPORT}\namend 1 1 "k-2" {REPORT}\nsend 1 1\nsend 1 2\n'
 REPLACED = 'filing 1 ACME "k-1"\nfiling 2 ACME "k-2" replaces 1\n'
 AMENDMENTS = [
-    ("deliver 1 all, deliver 2 all, hand 1 all, hand 2 all", f"{REPLACED}entry 1 1 confirmed 1\nentry 1 2 confirmed 2\ndone 2\n"),
+    (
+        "deliver 1 all, deliver 2 all, hand 1 all, hand 2 all",
+        f"{REPLACED}entry 1 1 confirmed 1\nentry 1 2 confirmed 2\ndone 2\n",
+    ),
     (
         "deliver 1 all, deliver 2 all after 1, restart server, deliver 2 all, hand 3 all",
         f"{REPLACED}entry 1 1 open\nentry 1 2 confirmed 2\ndone 3\n",
@@ -169,22 +179,26 @@ def check_events_that_name_nothing(_):
 
 
 def check_long_script(_):
-    """200 reports, each delivered twice and its repeat's reply handed back; after each 20th both ends are started again."""
+    """200 reports, each delivered twice and its repeat's reply handed back; after each 20th both ends are started
+    again."""
     events = []
     for i in range(1, 201):
-        events += [f'put 1 "k-{i}" {REPORT}', f"send 1 {i}", f"deliver {i} all", f"deliver {i} all", f"hand {2 * i} all"]
+        events += [f'put 1 "k-{i}" {REPORT}', f"send 1 {i}",
+                   f"deliver {i} all", f"deliver {i} all", f"hand {2 * i} all"]
         if i % 20 == 0:
             events += ["restart server", "restart outbox 1"]
     filings = "".join(f'filing {i} ACME "k-{i}"\n' for i in range(1, 201))
     entries = "".join(f"entry 1 {i} confirmed {i}\n" for i in range(1, 201))
     script = "\n".join(["outbox ACME", *events, ""])
     done = run(DRILL, given=script.encode())
-    hold(f"a script of {len(events)} events", (done.returncode, done.stdout.decode()), (0, f"{filings}{entries}done 400\n"))
+    hold(f"a script of {len(events)} events", (done.returncode, done.stdout.decode()),
+         (0, f"{filings}{entries}done 400\n"))
 
 
 if __name__ == "__main__":
     try_all(
         (DRILL,),
-        (check_stops_of_the_intake, check_stops_within_a_connection, check_stops_of_an_outbox, check_cut_lost_or_repeated,
-         check_reports_that_replace_filings, check_refused_and_unavailable, check_events_that_name_nothing, check_long_script),
+        (check_stops_of_the_intake, check_stops_within_a_connection, check_stops_of_an_outbox,
+         check_cut_lost_or_repeated, check_reports_that_replace_filings, check_refused_and_unavailable,
+         check_events_that_name_nothing, check_long_script),
     )

@@ -1,11 +1,12 @@
 #!/usr/bin/env python3
 """Makes the completions of the programs for bash, zsh and fish from what they say by --help.
 
-    tools/completions.py FOLDER             writes bash/intake, zsh/_intake, fish/intake.fish and those of outbox and drill there
+    tools/completions.py FOLDER             writes bash/intake, zsh/_intake, fish/intake.fish and those of outbox and
+                                            drill there
     tools/completions.py FOLDER PROGRAMS    the same, of the programs in the folder PROGRAMS
 
-Without PROGRAMS they are those that `rt run` builds. The value of an option is completed as its name in the help says: <FILE> by files,
-<FOLDER> by folders, any other by nothing.
+Without PROGRAMS they are those that `rt run` builds. The value of an option is completed as its name in the help says:
+<FILE> by files, <FOLDER> by folders, any other by nothing.
 """
 import pathlib
 import re
@@ -56,21 +57,42 @@ def bash(name, own, commands):
     files = sorted({it for option in every if option.value == "FILE" for it in option.names})
     folders = sorted({it for option in every if option.value == "FOLDER" for it in option.names})
     others = sorted({it for option in every if option.value not in ("", "FILE", "FOLDER") for it in option.names})
-    out = [f"# bash completion for {name}", f"_{name}() {{", '    local word=${COMP_WORDS[COMP_CWORD]} before=${COMP_WORDS[COMP_CWORD-1]} command="" at']
+    out = [
+        f"# bash completion for {name}",
+        f"_{name}() {{",
+        '    local word=${COMP_WORDS[COMP_CWORD]} before=${COMP_WORDS[COMP_CWORD-1]} command="" at',
+    ]
     out += ["    COMPREPLY=()", "    case $before in"]
     for options, action in [(files, "-f"), (folders, "-d")]:
         if options:
             out += [f"        {' | '.join(options)})", "            compopt -o filenames 2> /dev/null"]
-            out += [f'            mapfile -t COMPREPLY < <(compgen {action} -- "$word")', "            return", "            ;;"]
+            out += [
+                f'            mapfile -t COMPREPLY < <(compgen {action} -- "$word")',
+                "            return",
+                "            ;;",
+            ]
     if others:
         out += [f"        {' | '.join(others)}) return ;;"]
-    out += ["    esac", "    for ((at = 1; at < COMP_CWORD; at++)); do", "        case ${COMP_WORDS[at]} in", "            -*) ;;"]
+    out += [
+        "    esac",
+        "    for ((at = 1; at < COMP_CWORD; at++)); do",
+        "        case ${COMP_WORDS[at]} in",
+        "            -*) ;;",
+    ]
     out += ["            *) command=${COMP_WORDS[at]} && break ;;", "        esac", "    done", "    case $command in"]
     first = [word for word, _, _ in commands] + names_in(own.options)
-    for label, words, given in [("''", own, first)] + [(word, words, names_in(words.options)) for word, _, words in commands]:
-        out += [f"        {label})", f"            mapfile -t COMPREPLY < <(compgen -W '{' '.join(given)}' -- \"$word\")"]
+    for label, words, given in [("''", own, first)] + [
+        (word, words, names_in(words.options)) for word, _, words in commands
+    ]:
+        out += [
+            f"        {label})",
+            f"            mapfile -t COMPREPLY < <(compgen -W '{' '.join(given)}' -- \"$word\")",
+        ]
         if words.takes_files:
-            out += ["            [[ $word == -* ]] || { compopt -o filenames 2> /dev/null; mapfile -t COMPREPLY < <(compgen -f -- \"$word\"); }"]
+            out += [
+                "            [[ $word == -* ]] || { compopt -o filenames 2> /dev/null; "
+                "mapfile -t COMPREPLY < <(compgen -f -- \"$word\"); }"
+            ]
         out += ["            ;;"]
     out += ["    esac", "}", f"complete -F _{name} {name}"]
     return "\n".join(out) + "\n"
@@ -98,13 +120,25 @@ def zsh_specs(words):
 def zsh(name, own, commands):
     out = [f"#compdef {name}", "", f"_{name}() {{"]
     if not commands:
-        return "\n".join(out + ["    _arguments " + " \\\n        ".join(zsh_specs(own)), "}", "", f'_{name} "$@"']) + "\n"
+        return (
+            "\n".join(out + ["    _arguments " + " \\\n        ".join(zsh_specs(own)), "}", "", f'_{name} "$@"'])
+            + "\n"
+        )
     out += ["    local context state line", "    typeset -A opt_args", "    local -a commands"]
     out += ["    commands=(", *[f"        '{in_zsh(word)}:{in_zsh(text)}'" for word, text, _ in commands], "    )"]
     out += ["    _arguments -C " + " \\\n        ".join(zsh_specs(own) + ["'1: :->command'", "'*:: :->arguments'"])]
-    out += ["    case $state in", "        command) _describe command commands ;;", "        arguments)", "            case $words[1] in"]
+    out += [
+        "    case $state in",
+        "        command) _describe command commands ;;",
+        "        arguments)",
+        "            case $words[1] in",
+    ]
     for word, _, words in commands:
-        out += [f"                {word})", "                    _arguments " + " \\\n                        ".join(zsh_specs(words)), "                    ;;"]
+        out += [
+            f"                {word})",
+            "                    _arguments " + " \\\n                        ".join(zsh_specs(words)),
+            "                    ;;",
+        ]
     out += ["            esac", "            ;;", "    esac", "}", "", f'_{name} "$@"']
     return "\n".join(out) + "\n"
 
@@ -139,7 +173,11 @@ def scripts(name, program):
     """The completions of a program, by their paths in a folder."""
     commands = [(word, text, words_of(program, word)) for word, text in commands_of(sections(help_of(program))[0])]
     own = words_of(program)
-    return {f"bash/{name}": bash(name, own, commands), f"zsh/_{name}": zsh(name, own, commands), f"fish/{name}.fish": fish(name, own, commands)}
+    return {
+        f"bash/{name}": bash(name, own, commands),
+        f"zsh/_{name}": zsh(name, own, commands),
+        f"fish/{name}.fish": fish(name, own, commands),
+    }
 
 
 def main():

@@ -5,13 +5,14 @@
     tools/count_trusted.py --names    the same, with the name of each definition
     tools/count_trusted.py --check    whether docs/TRUST.md has these tables; status 1 if it has others
 
-It reads the contracts of `run`, of the calls that show its world, of the law `any_programs`, and of `perform_task` of both programs. It follows each name in
-them through `ghost use`, `use` and `pub use` to the definition that it means, and so on, down to the kit's own definitions, which it names and doesn't enter. Every line of a
-definition counts that is neither blank nor a comment. A file comes after those that cite it.
+It reads the contracts of `run`, of the calls that show its world, of the law `any_programs`, and of `perform_task` of
+both programs. It follows each name in them through `ghost use`, `use` and `pub use` to the definition that it means,
+and so on, down to the kit's own definitions, which it names and doesn't enter. Every line of a definition counts that
+is neither blank nor a comment. A file comes after those that cite it.
 
 Of a Rust type that a contract or a definition names, what contracts see of it counts: its model if it has one, and its
-declaration if it has none or has public fields. The invariant of a type does not count: it is proved, and promises nothing to
-a caller.
+declaration if it has none or has public fields. The invariant of a type does not count: it is proved,
+and promises nothing to a caller.
 """
 import pathlib
 import re
@@ -24,7 +25,9 @@ BEGIN, END = "<!-- counted by tools/count_trusted.py -->", "<!-- end of what is 
 RUN = "crates/schedule/src/events.rt"
 WORLD = "crates/world/src/world.rt"
 # The contract to believe, the calls that show the world that it answers, and the calls that lend the ends in it.
-HEADLINE = [(RUN, "run")] + [(WORLD, name) for name in ("register", "states", "confirmed", "done", "sent", "outputs", "World")]
+HEADLINE = [(RUN, "run")] + [
+    (WORLD, name) for name in ("register", "states", "confirmed", "done", "sent", "outputs", "World")
+]
 ENDS = [(WORLD, "intake"), (WORLD, "outbox")]
 # The law that the headline holds of what any programs keep.
 PROGRAMS = [("crates/programs/src/lib.rt", "any_programs")]

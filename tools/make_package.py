@@ -3,10 +3,11 @@
 
     tools/make_package.py PROGRAMS FOLDER VERSION       writes FOLDER/berruzpil_VERSION_amd64.deb
 
-PROGRAMS has intake, outbox and drill. The package puts them into /usr/bin, the scripts of deploy/ and reading.sql into /usr/lib/berruzpil, the units into
-/lib/systemd/system, and man pages, completions and pages where Debian has them; the files for nginx, stunnel and logrotate are examples. It runs
-nothing when it is installed or removed, so it makes no user and no folder for databases. The time of all files is SOURCE_DATE_EPOCH, if that is
-given, so that the same programs give the same package. tools/release calls this; tools/check_package.py tries the package.
+PROGRAMS has intake, outbox and drill. The package puts them into /usr/bin, the scripts of deploy/ and reading.sql into
+/usr/lib/berruzpil, the units into /lib/systemd/system, and man pages, completions and pages where Debian has them; the
+files for nginx, stunnel and logrotate are examples. It runs nothing when it is installed or removed, so it makes no
+user and no folder for databases. The time of all files is SOURCE_DATE_EPOCH, if that is given, so that the same
+programs give the same package. tools/release calls this; tools/check_package.py tries the package.
 """
 import gzip
 import hashlib
@@ -25,7 +26,13 @@ ROOT = pathlib.Path(__file__).resolve().parent.parent
 # Where the units expect programs and scripts that were installed by hand, and where a package has them.
 MOVED = [("/usr/local/bin/", "/usr/bin/"), ("/usr/local/lib/berruzpil/", "/usr/lib/berruzpil/")]
 DOCUMENTS = "usr/share/doc/berruzpil"
-EXAMPLES = ["nginx-berruzpil-log.conf", "nginx-intake.conf", "nginx-outbox.conf", "stunnel-outbox.conf", "logrotate-berruzpil"]
+EXAMPLES = [
+    "nginx-berruzpil-log.conf",
+    "nginx-intake.conf",
+    "nginx-outbox.conf",
+    "stunnel-outbox.conf",
+    "logrotate-berruzpil",
+]
 COPYRIGHT = """Berruzpil
 
 No licence is given yet. Which one it will be is for those to say who own it.
@@ -47,9 +54,12 @@ def is_unproved(version):
 
 
 def libraries_of(programs):
-    """The packages that the programs need: the C library, in the version of the newest function that they name, and that of the compiler."""
+    """The packages that the programs need: the C library, in the version of the newest function that they name,
+    and that of the compiler."""
     contents = [(programs / name).read_bytes() for name in man_pages.SEE_ALSO]
-    versions = [tuple(map(int, it.split(b"."))) for content in contents for it in re.findall(rb"GLIBC_(2\.\d+)", content)]
+    versions = [
+        tuple(map(int, it.split(b"."))) for content in contents for it in re.findall(rb"GLIBC_(2\.\d+)", content)
+    ]
     found = [f"libc6 (>= {'.'.join(map(str, max(versions)))})"] if versions else []
     return ", ".join(found + ["libgcc-s1"] * any(b"libgcc_s.so.1\0" in content for content in contents))
 
@@ -70,10 +80,14 @@ def files_of(programs):
     for name, program in man_pages.programs_in(programs).items():
         page = man_pages.page(name, program).encode()
         found[f"usr/share/man/man1/{name}.1.gz"] = gzip.compress(page, mtime=0), False
-        for path, text in zip(["bash-completion/completions/{}", "zsh/vendor-completions/_{}", "fish/vendor_completions.d/{}.fish"],
-                              completions.scripts(name, program).values()):  # fmt: skip
+        for path, text in zip(
+            ["bash-completion/completions/{}", "zsh/vendor-completions/_{}", "fish/vendor_completions.d/{}.fish"],
+            completions.scripts(name, program).values(),
+        ):
             found[f"usr/share/{path.format(name)}"] = text.encode(), False
-    for name in subprocess.check_output(["git", "ls-files", "*.md", "docs", "conformance"], cwd=ROOT, text=True).split():
+    for name in subprocess.check_output(
+        ["git", "ls-files", "*.md", "docs", "conformance"], cwd=ROOT, text=True
+    ).split():
         found[f"{DOCUMENTS}/{name}"] = (ROOT / name).read_bytes(), name.endswith("run.py")
     found[f"{DOCUMENTS}/copyright"] = COPYRIGHT.encode(), False
     found[f"{DOCUMENTS}/changelog.gz"] = gzip.compress((ROOT / "CHANGELOG.md").read_bytes(), mtime=0), False
@@ -122,7 +136,9 @@ def make(programs, folder, version):
         for path in [*tree.rglob("*"), tree]:
             os.utime(path, (moment, moment))
         words = ["dpkg-deb", "--root-owner-group", "-Zxz", "--build", str(tree), str(target)]
-        subprocess.run(words, check=True, stdout=subprocess.DEVNULL, env={**os.environ, "SOURCE_DATE_EPOCH": str(moment)})
+        subprocess.run(
+            words, check=True, stdout=subprocess.DEVNULL, env={**os.environ, "SOURCE_DATE_EPOCH": str(moment)}
+        )
     return target
 
 

@@ -17,7 +17,10 @@ SEE_ALSO = {"intake": "outbox", "outbox": "intake", "drill": "intake"}
 
 def programs_in(folder=None):
     """The path of each program by its name: in a folder, or where it is built."""
-    return {name: str(pathlib.Path(folder, name).resolve() if folder else ROOT / "crates" / name / "out" / name) for name in SEE_ALSO}
+    return {
+        name: str(pathlib.Path(folder, name).resolve() if folder else ROOT / "crates" / name / "out" / name)
+        for name in SEE_ALSO
+    }
 
 
 def printed(*words):
@@ -31,7 +34,8 @@ def help_of(*words):
 
 
 def sections(text):
-    """The about text, and then each heading with its lines. The unindented lines at the end are notes, with what is indented below one."""
+    """The about text, and then each heading with its lines. The unindented lines at the end are notes,
+    with what is indented below one."""
     found, notes, heading = {"about": []}, [], "about"
     for line in text.splitlines():
         if match := re.fullmatch(r"(Usage|Commands|Arguments|Options):(.*)", line):
@@ -94,7 +98,11 @@ def page(name, program):
     whole, notes = sections(help_of(program))
     about = " ".join(line.strip() for line in whole["about"])
     version = printed(program, "--version").split()[-1]
-    out = [f'.TH {name.upper()} 1 "" "berruzpil {version}"', ".SH NAME", f"{name} \\- {escape(about[:1].lower() + about[1:])}"]
+    out = [
+        f'.TH {name.upper()} 1 "" "berruzpil {version}"',
+        ".SH NAME",
+        f"{name} \\- {escape(about[:1].lower() + about[1:])}",
+    ]
     out += [".SH SYNOPSIS", escape(" ".join(whole["Usage"]))]
     commands = commands_of(whole)
     if commands:

@@ -16,7 +16,11 @@ ODD = [
 ]
 DOCUMENT = {
     "documentType": "https://xbrl.org/2021/xbrl-json",
-    "namespaces": {"eg": "http://example.com/eg", "lei": "http://standards.iso.org/iso/17442", "iso4217": "http://www.xbrl.org/2003/iso4217"},
+    "namespaces": {
+        "eg": "http://example.com/eg",
+        "lei": "http://standards.iso.org/iso/17442",
+        "iso4217": "http://www.xbrl.org/2003/iso4217",
+    },
     "taxonomy": ["http://example.com/eg.xsd"],
 }
 
@@ -35,10 +39,20 @@ def report(facts):
     return json.dumps({"documentInfo": DOCUMENT, "facts": facts}, ensure_ascii=False).encode()
 
 
-# Each is a filer, a key, the number of the filing that is to be replaced, if any, and the facts. The last two reports are refused.
+# Each is a filer, a key, the number of the filing that is to be replaced, if any, and the facts.
+# The last two reports are refused.
 SENT = [
     ("ACME", "k<1>'&", None, {f"f{at}<{text[:9]}": fact("ACME", text) for at, text in enumerate(ODD)}),
-    ("BETA", "b-1", None, {"f1": fact("BETA", "100", "iso4217:EUR", -2), "f2": fact("BETA", None), "f3": fact("BETA", "x", language="de", noteId="n<1>")}),
+    (
+        "BETA",
+        "b-1",
+        None,
+        {
+            "f1": fact("BETA", "100", "iso4217:EUR", -2),
+            "f2": fact("BETA", None),
+            "f3": fact("BETA", "x", language="de", noteId="n<1>"),
+        },
+    ),
     ("ACME", "k-2", 1, {"f1": fact("ACME", "1.5", "iso4217:EUR", 0)}),
     ("a.b_c-", "c-1", None, {"f1": fact("a.b_c-", "1")}),
     ("BETA", "b-2", None, {"f<i>'": {"value": 7, "dimensions": {"concept": "<b>", "entity": "lei:X"}}}),

@@ -29,7 +29,10 @@ def main():
                 ran = run([program, name], counts, at)
                 if ran.returncode:
                     wrong += 1
-                    print(f"{name}: allocation {at}: status {ran.returncode}: {(ran.stdout + ran.stderr).decode(errors='replace').strip()[-200:]}")
+                    print(
+                        f"{name}: allocation {at}: status {ran.returncode}: "
+                        f"{(ran.stdout + ran.stderr).decode(errors='replace').strip()[-200:]}"
+                    )
             print(f"{name}: {allocations} allocations, each refused in turn: {wrong} runs failed")
             failed += wrong
     sys.exit(1 if failed else 0)

@@ -1,7 +1,8 @@
 #!/usr/bin/env python3
-"""Refuses each allocation of the built programs in turn: each command is run once to count them, and then once for each, with that one
-refused. It has to do what it does otherwise, or to say that memory failed; what it did not say must not have happened, and the same
-command afterwards, with nothing refused, has to give what it gives otherwise. Status 1 if that is not so.
+"""Refuses each allocation of the built programs in turn: each command is run once to count them, and then once for
+each, with that one refused. It has to do what it does otherwise, or to say that memory failed; what it did not say must
+not have happened, and the same command afterwards, with nothing refused, has to give what it gives otherwise. Status 1
+if that is not so.
 
     tools/refuse_programs.py [WORD]      all trials, or those whose names have the word
 
@@ -24,7 +25,10 @@ EXAMPLE = (ROOT / "crates/intake/stdin").read_bytes()
 REPORT = EXAMPLE[-393:]
 UNAVAILABLE = b'{"reason":"unavailable","status":503,"title":"Service Unavailable","type":"about:blank"}'
 KEY_REUSED = b'{"reason":"key-reused","status":422,"title":"Unprocessable Content","type":"about:blank"}'
-REFUSED = b'{"findings":[{"code":"not-json","place":""}],"reason":"refused","status":400,"title":"Bad Request","type":"about:blank"}'
+REFUSED = (
+    b'{"findings":[{"code":"not-json","place":""}],'
+    b'"reason":"refused","status":400,"title":"Bad Request","type":"about:blank"}'
+)
 failures = []
 
 
@@ -36,7 +40,8 @@ def tell(what, fault=None):
 
 
 def each(what, counts, words, judge, given=b"", before=None):
-    """Runs the command with each allocation refused. `before` makes what it is run on; `judge` is given the run and says what is wrong."""
+    """Runs the command with each allocation refused. `before` makes what it is run on;
+    `judge` is given the run and says what is wrong."""
     if before:
         before()
     whole = run(words, counts, 0, given)
@@ -50,13 +55,18 @@ def each(what, counts, words, judge, given=b"", before=None):
         fault = judge(run(words, counts, at, given))
         if fault:
             wrong.append(f"allocation {at}: {fault}")
-    return tell(f"{what}: {allocations} allocations, each refused in turn", f"{len(wrong)} runs, the first: {wrong[0]}" if wrong else None)
+    return tell(
+        f"{what}: {allocations} allocations, each refused in turn",
+        f"{len(wrong)} runs, the first: {wrong[0]}" if wrong else None,
+    )
 
 
 def contents(replies):
     """Status and content of each whole reply."""
     found = []
-    while match := re.match(rb"HTTP/1.1 (\d+) [^\r]*\r\n(?:[^\r]+\r\n)*?Content-Length: (\d+)\r\n(?:[^\r]+\r\n)*\r\n", replies):
+    while match := re.match(
+        rb"HTTP/1.1 (\d+) [^\r]*\r\n(?:[^\r]+\r\n)*?Content-Length: (\d+)\r\n(?:[^\r]+\r\n)*\r\n", replies
+    ):
         end = match.end() + int(match[2])
         if end > len(replies):
             break
@@ -69,7 +79,8 @@ def contents(replies):
 
 
 def judge_connection(ran):
-    """The example, a refused report, the example again, another body under its key, and the list: each may get 503, and is not kept then."""
+    """The example, a refused report, the example again, another body under its key, and the list: each may get 503,
+    and is not kept then."""
     if ran.returncode not in (0, 3):
         return f"status {ran.returncode}"
     found, rest = contents(ran.stdout)
@@ -108,12 +119,22 @@ def expected(at, kept):
 
 
 def request(key, body):
-    return b'POST /filings/ACME HTTP/1.1\r\nHost: h\r\nIdempotency-Key: "%s"\r\nContent-Length: %d\r\n\r\n%s' % (key, len(body), body)
+    return b'POST /filings/ACME HTTP/1.1\r\nHost: h\r\nIdempotency-Key: "%s"\r\nContent-Length: %d\r\n\r\n%s' % (
+        key,
+        len(body),
+        body,
+    )
 
 
 def try_connection(counts, _):
     posts = request(b"k-1", REPORT) + request(b"k-2", b"") + request(b"k-1", REPORT) + request(b"k-1", b"")
-    each("intake: five requests", counts, [INTAKE], judge_connection, posts + b"GET /filings/ACME HTTP/1.1\r\nHost: h\r\n\r\n")
+    each(
+        "intake: five requests",
+        counts,
+        [INTAKE],
+        judge_connection,
+        posts + b"GET /filings/ACME HTTP/1.1\r\nHost: h\r\n\r\n",
+    )
 
 
 # ---- scripts
@@ -122,8 +143,9 @@ def try_connection(counts, _):
 def try_script(counts, _):
     script, wanted = (ROOT / "crates/drill/stdin").read_bytes(), (ROOT / "crates/drill/stdout").read_bytes()
 
-    # A delivery that memory refuses is answered 503 and completes nothing: the first, and the second files the report; or the second, and
-    # the entry stays open. It stays open too if the second is completed, and memory is refused to its reply: the filer hears nothing.
+    # A delivery that memory refuses is answered 503 and completes nothing: the first, and the second files the report;
+    # or the second, and the entry stays open. It stays open too if the second is completed, and memory is refused to
+    # its reply: the filer hears nothing.
     filing = b'filing 1 ACME "k-1"\n'
     ends = (b"entry 1 1 confirmed 1\ndone 1\n", b"entry 1 1 open\ndone 1\n", b"entry 1 1 open\ndone 2\n")
     allowed = (wanted, *(filing + end for end in ends))
@@ -131,7 +153,11 @@ def try_script(counts, _):
     def judge(ran):
         if ran.returncode == 0 and ran.stdout in allowed:
             return None
-        return None if ran.returncode == 3 and not ran.stdout and ran.stderr else f"status {ran.returncode}, {ran.stdout!r}, {ran.stderr!r}"
+        return (
+            None
+            if ran.returncode == 3 and not ran.stdout and ran.stderr
+            else f"status {ran.returncode}, {ran.stdout!r}, {ran.stderr!r}"
+        )
 
     each("drill: the worked script", counts, [DRILL], judge, script)
 
@@ -154,7 +180,8 @@ def restore(saved, folder):
 
 
 def try_command(counts, folder, what, words, then, judge_then):
-    """A command on a copy of what is in the folder, and then another one, with nothing refused, which says what stands."""
+    """A command on a copy of what is in the folder, and then another one, with nothing refused,
+    which says what stands."""
     saved = folder.parent / "saved"
     shutil.copytree(folder, saved)
     good = subprocess.run(words, capture_output=True, check=False)
@@ -185,7 +212,10 @@ def stands_as(*wanted):
 def try_outbox(counts, folder):
     database, report = folder / "outbox.db", folder / "report.json"
     report.write_bytes(REPORT)
-    status, put = words_of(OUTBOX, "status", "--db", database), words_of(OUTBOX, "put", "--db", database, "--body", report, "--key", "k-1")
+    status, put = (
+        words_of(OUTBOX, "status", "--db", database),
+        words_of(OUTBOX, "put", "--db", database, "--body", report, "--key", "k-1"),
+    )
     init = words_of(OUTBOX, "init", "--db", database, "--filer", "ACME")
 
     def judge_init(is_done, stands):
@@ -199,16 +229,32 @@ def try_outbox(counts, folder):
     try_command(counts, folder, "outbox put", put, status, stands_as(b"", b"entry 1 open\n"))
     subprocess.run(put, check=True, stdout=subprocess.DEVNULL)
     try_command(counts, folder, "outbox status", status, status, stands_as(b"entry 1 open\n"))
-    try_command(counts, folder, "outbox show", words_of(OUTBOX, "show", "--db", database), status, stands_as(b"entry 1 open\n"))
+    try_command(
+        counts,
+        folder,
+        "outbox show",
+        words_of(OUTBOX, "show", "--db", database),
+        status,
+        stands_as(b"entry 1 open\n"),
+    )
     amend = words_of(OUTBOX, "put", "--db", database, "--body", report, "--key", "k-2", "--amend", 1)
-    try_command(counts, folder, "outbox put --amend", amend, status, stands_as(b"entry 1 open\n", b"entry 1 open\nentry 2 open\n"))
+    try_command(
+        counts,
+        folder,
+        "outbox put --amend",
+        amend,
+        status,
+        stands_as(b"entry 1 open\n", b"entry 1 open\nentry 2 open\n"),
+    )
 
 
 def try_outbox_migration(counts, folder):
     database = folder / "outbox.db"
     make_earlier_outbox(database)
     status, migrate = (words_of(OUTBOX, command, "--db", database) for command in ("status", "migrate"))
-    try_command(counts, folder, "outbox migrate", migrate, status, stands_as(b"", b"entry 1 confirmed 1\nentry 2 open\n"))
+    try_command(
+        counts, folder, "outbox migrate", migrate, status, stands_as(b"", b"entry 1 confirmed 1\nentry 2 open\n")
+    )
 
 
 def make_register(folder):
@@ -234,7 +280,9 @@ def try_register(counts, folder):
     check = words_of(INTAKE, "check", "--db", database)
     sound = stands_as(b"sound: 1 kept, 1 filings\n")
     try_command(counts, folder, "intake check", check, check, sound)
-    try_command(counts, folder, "intake list", words_of(INTAKE, "list", "--db", database, "--filer", "ACME"), check, sound)
+    try_command(
+        counts, folder, "intake list", words_of(INTAKE, "list", "--db", database, "--filer", "ACME"), check, sound
+    )
     try_command(counts, folder, "intake show", words_of(INTAKE, "show", "--db", database, "--number", 1), check, sound)
 
 
@@ -243,7 +291,14 @@ def try_migration(counts, folder):
     make_earlier(database)
     check = words_of(INTAKE, "check", "--db", database)
     migrate = words_of(INTAKE, "migrate", "--db", database)
-    try_command(counts, folder, "intake migrate", migrate, check, stands_as(b"not a register\n", b"sound: 1 kept, 0 filings\n"))
+    try_command(
+        counts,
+        folder,
+        "intake migrate",
+        migrate,
+        check,
+        stands_as(b"not a register\n", b"sound: 1 kept, 0 filings\n"),
+    )
 
 
 def try_lint(counts, folder):

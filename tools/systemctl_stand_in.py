@@ -1,9 +1,10 @@
 #!/usr/bin/env python3
 """A stand-in for `systemctl` and `journalctl` on a machine of tools/check_first_days.py, where no systemd runs.
 
-It reads units from /etc/systemd/system and /lib/systemd/system, and runs their commands as systemd would: as their user, in their folder, with
-their environment, again after a failure if the unit says so, and with the units of OnFailure= after it. Timers are marked as started and start
-nothing. The sandbox of a unit and its limits are not made. `enable` is done by the systemctl that is installed, on files alone.
+It reads units from /etc/systemd/system and /lib/systemd/system, and runs their commands as systemd would: as their
+user, in their folder, with their environment, again after a failure if the unit says so, and with the units of
+OnFailure= after it. Timers are marked as started and start nothing. The sandbox of a unit and its limits are not made.
+`enable` is done by the systemctl that is installed, on files alone.
 """
 import os
 import pathlib
@@ -74,8 +75,14 @@ class Unit:
         return found | dict(line.split("=", 1) for line in lines)
 
     def words(self, line, environment):
-        words = [re.sub(r"\$\{(\w+)\}", lambda found: environment.get(found[1], ""), word) for word in shlex.split(line)]
-        user, group = ("nobody", "nogroup") if self.one("DynamicUser") == "yes" else (self.one("User"), self.one("Group") or self.one("User"))
+        words = [
+            re.sub(r"\$\{(\w+)\}", lambda found: environment.get(found[1], ""), word) for word in shlex.split(line)
+        ]
+        user, group = (
+            ("nobody", "nogroup")
+            if self.one("DynamicUser") == "yes"
+            else (self.one("User"), self.one("Group") or self.one("User"))
+        )
         return ["setpriv", f"--reuid={user}", f"--regid={group}", "--init-groups", "--", *words] if user else words
 
     def begin(self, line):
@@ -86,8 +93,9 @@ class Unit:
         STATE.mkdir(exist_ok=True)
         with open(self.log, "ab") as log:
             return subprocess.Popen(
-                self.words(line, environment), cwd=self.one("WorkingDirectory", "/"), env=environment, umask=int(self.one("UMask", "0022"), 8),
-                stdin=subprocess.DEVNULL, stdout=log, stderr=log, start_new_session=True,
+                self.words(line, environment), cwd=self.one("WorkingDirectory", "/"), env=environment,
+                umask=int(self.one("UMask", "0022"), 8), stdin=subprocess.DEVNULL, stdout=log, stderr=log,
+                start_new_session=True,
             )  # fmt: skip
 
     def run_all(self, key):
@@ -113,7 +121,9 @@ def keep(unit):
         current.append(unit.begin(unit.one("ExecStart")))
         status = current[-1].wait()
         unit.run_all("ExecStopPost")
-        if not ends and (unit.one("Restart") != "always" or str(status) in unit.one("RestartPreventExitStatus").split()):
+        if not ends and (
+            unit.one("Restart") != "always" or str(status) in unit.one("RestartPreventExitStatus").split()
+        ):
             unit.fail() if status else unit.set_state("inactive")
             return
         time.sleep(0 if ends else float(unit.one("RestartSec", "0.1")))
@@ -172,7 +182,8 @@ def is_state(wanted):
 
 
 COMMANDS = {
-    "start": start, "stop": stop, "restart": restart, "keep": keep, "reload": lambda unit: unit.run_all("ExecReload"), "enable": enable,
+    "start": start, "stop": stop, "restart": restart, "keep": keep,
+    "reload": lambda unit: unit.run_all("ExecReload"), "enable": enable,
     "is-failed": is_state("failed"), "is-active": is_state("active"),
 }  # fmt: skip
 

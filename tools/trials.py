@@ -39,13 +39,29 @@ INSERT INTO finding VALUES (1, 1, 1, x'');
 """
 # An outbox of form 1, with an entry that was confirmed and one that is open.
 EARLIER_OUTBOX = """
-CREATE TABLE outbox_meta (id INTEGER PRIMARY KEY, kind TEXT NOT NULL, form INTEGER NOT NULL, filer TEXT NOT NULL) STRICT;
-CREATE TABLE entry (id INTEGER PRIMARY KEY, idem TEXT NOT NULL UNIQUE, body BLOB NOT NULL, state INTEGER NOT NULL, number INTEGER) STRICT;
+CREATE TABLE outbox_meta (id INTEGER PRIMARY KEY, kind TEXT NOT NULL, form INTEGER NOT NULL,
+    filer TEXT NOT NULL) STRICT;
+CREATE TABLE entry (id INTEGER PRIMARY KEY, idem TEXT NOT NULL UNIQUE, body BLOB NOT NULL, state INTEGER NOT NULL,
+    number INTEGER) STRICT;
 INSERT INTO outbox_meta VALUES (1, 'outbox', 1, 'ACME');
 INSERT INTO entry VALUES (1, 'k-1', x'7b7d', 1, 1);
 INSERT INTO entry VALUES (2, 'k-2', x'7b7d', 0, NULL);
 """
 failures = []
+
+
+def commands_in(lines):
+    """The commands of a block of a page, and what each prints: the lines after it that begin with `#`."""
+    found, goes_on = [], False
+    for line in lines:
+        if line.startswith("# ") and found and not goes_on:
+            found[-1][1].append(line[2:])
+        elif goes_on:
+            found[-1][0] += "\n" + line
+        else:
+            found.append([line, []])
+        goes_on = line.endswith("\\")
+    return found
 
 
 def tell(what, fault=None):
@@ -60,7 +76,9 @@ def hold(what, found, wanted):
 
 
 def run(program, *words, given=b"", **options):
-    return subprocess.run([program, *map(str, words)], input=given, capture_output=True, check=False, timeout=120, **options)
+    return subprocess.run(
+        [program, *map(str, words)], input=given, capture_output=True, check=False, timeout=120, **options
+    )
 
 
 def said(done, folder):
@@ -73,7 +91,10 @@ def request(key, body, filer="ACME", close=True, replaces=None):
     """A POST of the body under the key, which is to replace the filing of this number if one is given."""
     target = f"/filings/{filer}" if replaces is None else f"/filings/{filer}/{replaces}"
     closing = "Connection: close\r\n" if close else ""
-    head = f'POST {target} HTTP/1.1\r\nHost: h\r\nIdempotency-Key: "{key}"\r\n{closing}Content-Length: {len(body)}\r\n\r\n'
+    head = (
+        f'POST {target} HTTP/1.1\r\nHost: h\r\nIdempotency-Key: "{key}"\r\n'
+        f"{closing}Content-Length: {len(body)}\r\n\r\n"
+    )
     return head.encode() + body
 
 
@@ -101,13 +122,16 @@ def statuses(replies):
 
 
 class Serving:
-    """An intake that serves a register, for so many connections. `under` are the words of a program that runs it, and what valgrind
-    prints before the program's own first line, `ready`, is passed over."""
+    """An intake that serves a register, for so many connections. `under` are the words of a program that runs it, and
+    what valgrind prints before the program's own first line, `ready`, is passed over."""
 
     def __init__(self, database, connections, *words, under=(), env=None):
         self.port = free_port()
         self.process = subprocess.Popen(
-            [*under, INTAKE, "serve", "--db", database, "--port", str(self.port), "--connections", str(connections), *words],
+            [
+                *under, INTAKE, "serve", "--db", database, "--port", str(self.port),
+                "--connections", str(connections), *words,
+            ],
             stdout=subprocess.PIPE,
             stderr=subprocess.PIPE,
             env=env,
@@ -122,7 +146,8 @@ class Serving:
 
 
 class Peer:
-    """A peer of an outbox that takes a request whole on each connection, answers it by the next of these acts, and closes it."""
+    """A peer of an outbox that takes a request whole on each connection, answers it by the next of these acts,
+    and closes it."""
 
     def __init__(self, *acts):
         self.listener = socket.create_server(("127.0.0.1", 0))
@@ -186,7 +211,8 @@ def make_earlier(database):
 
 
 def make_earlier_outbox(database, more=""):
-    """An outbox of form 1 of `ACME`, with an entry that was confirmed and one that is open, after these statements too."""
+    """An outbox of form 1 of `ACME`, with an entry that was confirmed and one that is open,
+    after these statements too."""
     make_by_sql(database, EARLIER_OUTBOX + more)
 
 

@@ -1,12 +1,15 @@
 #!/usr/bin/env python3
-"""Has the prover try the wrong bodies that the gate has no time for: `crates/CRATE/wrong_bodies/*.edit`. Each has to be refused.
+"""Has the prover try the wrong bodies that the gate has no time for: `crates/CRATE/wrong_bodies/*.edit`.
+Each has to be refused.
 
     tools/try_wrong_bodies.py            all of them
     tools/try_wrong_bodies.py schedule   those of one crate
-    tools/try_wrong_bodies.py --reads    proves nothing, and says whether each can be read: whether its old texts are where it says
+    tools/try_wrong_bodies.py --reads    proves nothing, and says whether each can be read: whether its old texts are
+                                         where it says
 
 It copies what git has of the repository, puts them in the place of those under `crates/CRATE/must-fail` there, and runs
-`rt must-fail CRATE`, which proves the crate from nothing first. The last line is that of `rt`; the status is 0 if all are refused.
+`rt must-fail CRATE`, which proves the crate from nothing first. The last line is that of `rt`;
+the status is 0 if all are refused.
 """
 import pathlib
 import shutil

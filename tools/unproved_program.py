@@ -3,9 +3,9 @@
 
     tools/unproved_program.py CLONE NAME FILE       writes the program NAME (intake, outbox or drill) of a clone to FILE
 
-`rt try` compiles a program with checks, runs it, maybe by a loader of the kit's, and throws it away. So this has it do something that lasts, copies
-its executable, and stops it. Nothing is proved of that program; it is for trials alone, and slower than the one that `rt run` builds. Status 1 if it
-can't be had.
+`rt try` compiles a program with checks, runs it, maybe by a loader of the kit's, and throws it away. So this has it do
+something that lasts, copies its executable, and stops it. Nothing is proved of that program; it is for trials alone,
+and slower than the one that `rt run` builds. Status 1 if it can't be had.
 """
 import contextlib
 import os
@@ -21,8 +21,10 @@ import time
 PATIENCE = 1800
 # An outbox with one open entry, as docs/PROTOCOL.md declares it.
 OUTBOX = """
-CREATE TABLE outbox_meta (id INTEGER PRIMARY KEY, kind TEXT NOT NULL, form INTEGER NOT NULL, filer TEXT NOT NULL) STRICT;
-CREATE TABLE entry (id INTEGER PRIMARY KEY, idem TEXT NOT NULL UNIQUE, body BLOB NOT NULL, state INTEGER NOT NULL, number INTEGER) STRICT;
+CREATE TABLE outbox_meta (id INTEGER PRIMARY KEY, kind TEXT NOT NULL, form INTEGER NOT NULL,
+    filer TEXT NOT NULL) STRICT;
+CREATE TABLE entry (id INTEGER PRIMARY KEY, idem TEXT NOT NULL UNIQUE, body BLOB NOT NULL, state INTEGER NOT NULL,
+    number INTEGER) STRICT;
 CREATE TABLE target (id INTEGER PRIMARY KEY, number INTEGER NOT NULL) STRICT;
 INSERT INTO outbox_meta VALUES (1, 'outbox', 2, 'ACME');
 INSERT INTO entry VALUES (1, 'k-1', x'7b7d', 0, NULL);
@@ -42,7 +44,8 @@ def free_port():
 
 
 def lasting(name, crate, held):
-    """Words and an input with which a program runs until it is stopped. What it needs for that is made in `crate`, and gone with `held`."""
+    """Words and an input with which a program runs until it is stopped. What it needs for that is made in `crate`,
+    and gone with `held`."""
     if name == "intake":
         return ["serve", "--db", "t.db", "--port", str(free_port()), "--connections", "1", "--new"], ""
     if name == "outbox":
@@ -54,7 +57,9 @@ def lasting(name, crate, held):
         silent = held.enter_context(socket.create_server(("127.0.0.1", 0)))
         return ["send", "--db", "open.db", "--port", str(silent.getsockname()[1]), "--entry", "1"], ""
     if name == "drill":
-        return [], "outbox ACME\n" + "".join(f'put 1 "k-{at}" {{}}\nrestart server\nrestart outbox 1\n' for at in range(RESTARTS))
+        return [], "outbox ACME\n" + "".join(
+            f'put 1 "k-{at}" {{}}\nrestart server\nrestart outbox 1\n' for at in range(RESTARTS)
+        )
     raise NotBuilt(f"{name} is none of intake, outbox and drill")
 
 
@@ -75,7 +80,8 @@ def descends(process, ancestor):
 
 
 def program_of(process):
-    """What a process runs, and the file to copy it from: its executable, or, if that is a loader (ld.so), the program that the loader was given."""
+    """What a process runs, and the file to copy it from: its executable, or, if that is a loader (ld.so), the program
+    that the loader was given."""
     path = pathlib.Path(os.readlink(process / "exe"))
     if not path.name.startswith("ld-"):
         return path, process / "exe"
@@ -104,7 +110,9 @@ def build(clone, name, target):
         (folder / "stdin").write_text(given)
         with open(folder / "stdin") as stdin, open(folder / "said", "w+b") as said:
             env = {**os.environ, "TMPDIR": str(folder)}
-            process = subprocess.Popen(["rt", "try", "--", *words], cwd=crate, stdin=stdin, stdout=said, stderr=said, env=env)
+            process = subprocess.Popen(
+                ["rt", "try", "--", *words], cwd=crate, stdin=stdin, stdout=said, stderr=said, env=env
+            )
             try:
                 deadline = time.monotonic() + PATIENCE
                 while process.poll() is None and time.monotonic() < deadline:
