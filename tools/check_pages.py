@@ -7,7 +7,7 @@
 
 Links lead to files and headings that are there; nothing outside the repository is asked for. Each row of a table has as
 many cells as its head. Each page has at most a handful of the phrases in PHRASES. No line of README.md is longer than
-400 characters.
+400 characters, and none of the code and the scripts than 120, but for strings in the code.
 
 Every block of commands in README.md and docs/OPERATIONS.md is one that bash can read, and either runs here as it is
 written, or needs root, or needs the kit. Those that need root are played by tools/check_first_days.py. An example that
@@ -34,6 +34,9 @@ from man_pages import commands_of, help_of, sections
 
 ROOT = pathlib.Path(__file__).resolve().parent.parent
 README_WIDTH = 400
+WIDTH = 120
+# Files whose lines may be as long as they are: pages and data, and formats that have no line that goes on.
+ANY_WIDTH = re.compile(r"\.(?:md|json|yaml|edit)$|^crates\.txt$|^conformance/cases/|^crates/\w+/(?:stdin|stdout|args)$")
 HANDFUL = 5
 # What a page says in too few or too old words, and what to write.
 PHRASES = {
@@ -165,6 +168,17 @@ def check_readme():
     long = [f"line {at}: {len(line)} characters"
             for at, line in enumerate(text_of("README.md").split("\n"), 1) if len(line) > README_WIDTH]
     trials.tell(f"README.md: no line is longer than {README_WIDTH} characters", "; ".join(long))
+
+
+def check_widths():
+    """Lines of code, scripts and configuration. Those of crates may be longer if they have a string, as examples do."""
+    wide = []
+    for name in subprocess.check_output(["git", "ls-files", "-z"], cwd=ROOT, text=True).split("\0"):
+        if name and not ANY_WIDTH.search(name) and (ROOT / name).is_file():
+            lines = (ROOT / name).read_text(encoding="utf-8", errors="replace").split("\n")
+            wide += [f"{name}:{at}" for at, line in enumerate(lines, 1)
+                     if len(line) > WIDTH and not (name.startswith("crates/") and '"' in line)]
+    trials.tell(f"no line of code or of a script has more than {WIDTH} columns", ", ".join(wide))
 
 
 def check_lengths():
@@ -405,6 +419,7 @@ def main(words):
         check_tables(page)
         check_phrases(page)
     check_readme()
+    check_widths()
     check_lengths()
     for page in ("README.md", "docs/OPERATIONS.md"):
         check_commands(page)
