@@ -17,7 +17,7 @@ const CHUNK: usize = 16_384;
 pub(crate) const MAX_HELD: usize = 1_064_962;
 
 /// The bytes from `start` to `end`, and room after them. The room keeps its length from read to
-/// read, so that each byte of it is zeroed once; bytes are moved only by the read that follows their
+/// read, so that it is zeroed only as it grows; bytes are moved only by the read that follows their
 /// consumption.
 #[derive(Drop)]
 pub(crate) struct Buffer {
@@ -38,7 +38,7 @@ impl Buffer {
         ensures memory { IfOk result (λ b. buffer_memory b ≡ CHUNK) }
     {
         Ok(Buffer {
-            room: Vec::with_capacity(alloc, CHUNK)?,
+            room: zeros(alloc, CHUNK)?,
             start: 0,
             end: 0,
         })
@@ -109,7 +109,7 @@ impl Buffer {
         }
     }
 
-    /// Makes the room at least this long.
+    /// Makes the room at least this long: twice as long as it was, within the most, if that suffices.
     fn make_room(&mut self, len: usize) -> Result<(), AllocError>
         requires { len ≤ MAX_HELD }
         ensures bytes { buffered self.new ≡ buffered self.old }
@@ -117,38 +117,37 @@ impl Buffer {
         ensures end { self.new.end ≡ self.old.end }
         ensures room { OnOk result (len ≤ vec_len self.new.room) }
     {
-        reserve(&mut self.room, len)?;
-        lengthen(&mut self.room, len);
+        if self.room.len() < len {
+            let doubled = (2 * self.room.len()).clamp(len, MAX_HELD);
+            let mut longer = zeros(self.alloc(), doubled)?;
+            copy_into(&self.room[..self.end], &mut longer);
+            self.room = longer;
+        }
         Ok(())
     }
 }
 
-/// Makes memory for so many bytes: the double of what there is, within the most.
-fn reserve(room: &mut Vec<u8>, len: usize) -> Result<(), AllocError>
-    requires len { len ≤ MAX_HELD }
-    requires memory { vec_capacity room.old ≤ MAX_HELD }
-    ensures items { room.new.items ≡ room.old.items }
-    ensures enough { OnOk result (len ≤ vec_capacity room.new) }
-    ensures bound { vec_capacity room.new ≤ MAX_HELD }
+/// So many zeros, in memory for no more. The room is the function's own as it is filled, so that a compiler sees one
+/// block to be zeroed, and no single bytes.
+fn zeros(alloc: Global, len: usize) -> Result<Vec<u8>, AllocError>
+    ensures len { IfOk result (λ room. vec_len room ≡ len) }
+    ensures memory { IfOk result (λ room. vec_capacity room ≡ len) }
 {
-    let capacity = room.capacity();
-    if capacity < len {
-        let doubled = (2 * capacity).clamp(len, MAX_HELD);
-        room.reserve_exact(doubled - room.len())?;
-    }
-    Ok(())
-}
-
-/// Makes the room at least this long, by zeros at its end, in the memory that it has.
-fn lengthen(room: &mut Vec<u8>, len: usize)
-    requires { len ≤ vec_capacity room.old }
-    ensures front { take (vec_len room.old) room.new.items ≡ room.old.items }
-    ensures len { len ≤ vec_len room.new }
-    ensures memory { vec_capacity room.new ≡ vec_capacity room.old }
-{
+    let mut room = Vec::with_capacity(alloc, len)?;
     while room.len() < len {
         room.push_reserved(0);
     }
+    Ok(room)
+}
+
+/// Puts these bytes into the front of the room.
+fn copy_into(bytes: &[u8], room: &mut Vec<u8>)
+    requires { length bytes.now ≤ vec_len room.old }
+    ensures front { take (length bytes.now) room.new.items ≡ bytes.now }
+    ensures len { vec_len room.new ≡ vec_len room.old }
+    ensures memory { vec_capacity room.new ≡ vec_capacity room.old }
+{
+    room.slice_mut(..bytes.len()).copy_from_slice(bytes);
 }
 
 /// Makes one read into the room from `start` to `end`.
