@@ -19,6 +19,7 @@ import shutil
 import socket
 import sqlite3
 import ssl
+import struct
 import subprocess
 import sys
 import tempfile
@@ -337,11 +338,12 @@ def free_port():
 
 
 class Intake:
-    """A stand-in for the intake: one connection at a time, one reply on each, and what it was sent."""
+    """A stand-in for the intake: one connection at a time, one reply on each, and what it was sent. As many connections
+    as `resets` says are reset in place of a reply."""
 
     def __init__(self, status):
         self.status, self.requests, self.listener = status, [], socket.create_server(("127.0.0.1", 0))
-        self.port = self.listener.getsockname()[1]
+        self.port, self.resets = self.listener.getsockname()[1], 0
 
     def __enter__(self):
         threading.Thread(target=self.serve, daemon=True).start()
@@ -400,6 +402,10 @@ def make_certificates(openssl, folder):
     subjects = {"server": "/CN=intake.example", "acme": "/O=ACME/CN=acme-filing",
                 "other": "/O=x,CN=acme-filing,O=ACME/CN=other", **ODD_SUBJECTS}
     for name, subject in subjects.items():
+                if self.resets:
+                    self.resets -= 1
+                    peer.setsockopt(socket.SOL_SOCKET, socket.SO_LINGER, struct.pack("ii", 1, 0))
+                    continue
         run(openssl, "req", "-utf8", "-newkey", "ec", "-pkeyopt", "ec_paramgen_curve:P-256", "-nodes", "-subj", subject,
             "-keyout", folder / f"{name}.key", "-out", folder / f"{name}.csr")
         names = folder / "names"
@@ -650,6 +656,22 @@ def try_rotation(folder, port):
     text = (
         (DEPLOY / "logrotate-berruzpil").read_text()
         .replace("/var/log/berruzpil/", f"{folder}/")
+def try_resets(folder, intake, port):
+    """A connection that is reset, as Linux does if too many wait, is made again, three times at most. The log has the
+    last answer."""
+    for resets, (status, asked) in [(1, (201, 2)), (3, (201, 4)), (4, (503, 4))]:
+        before, intake.resets = len(intake.requests), resets
+        found = ask(folder, port, "acme", "ACME")[0]
+        hold(f"a request whose connection is reset {resets} times", (found, len(intake.requests) - before),
+             (status, asked))
+        hold("each time it is the same", len({it for it in intake.requests[before:]}), 1)
+    # nginx writes the line after the reply.
+    time.sleep(0.5)
+    lines = [json.loads(line) for line in (folder / "filings.log").read_text().splitlines()[-3:]]
+    hold("their lines of the log", [(line["status"], line["intake_status"]) for line in lines],
+         [(201, "201"), (201, "201"), (503, "502")])
+
+
         .replace("/run/nginx.pid", f"{folder}/pid")
     )
     rules.write_text(text if os.geteuid() == 0 else text.replace("create 0640 www-data adm", "create 0640"))
@@ -719,3 +741,4 @@ def main():
 
 if __name__ == "__main__":
     sys.exit(main())
+                try_resets(folder, intake, port)
