@@ -150,6 +150,43 @@ with socket.create_server(("127.0.0.1", int(words[words.index("--port") + 1]))) 
     hold("register-new leaves a register that is there", run(*words, cwd=folder, env=paths).returncode, 1)
 
 
+# Words with an empty name of a file or a folder, which no script takes for the present folder or for `/`.
+EMPTY = [
+    ("register-new", "", "8080"),
+    ("register-snapshot", "", "copy.db"),
+    ("register-snapshot", "register.db", ""),
+    ("register-snapshot", "--for-reading", "register.db", ""),
+    ("register-copies", "", "copies", "30"),
+    ("register-copies", "register.db", "", "30"),
+    ("register-restore", "", "new.db"),
+    ("register-restore", "copy.db", ""),
+    ("outbox-restore", "copy.db", ""),
+    ("outbox-round", "", "8081"),
+    ("lost-filings", "", "log"),
+    ("lost-filings", "copy.db", ""),
+    ("register-receipts", "", "log"),
+    ("register-receipts", "copy.db", ""),
+    ("register-receipts", "--into", "", "copy.db", "log"),
+    ("register-metrics", "--into", "", "log"),
+    ("register-metrics", "--into", "x.prom", ""),
+    ("register-metrics", "--into", "x.prom", "--copies", ""),
+    ("register-metrics", "--into", "x.prom", "--certificates", ""),
+    ("nginx-filer", "", "acme.pem", "acme", "ACME"),
+    ("nginx-filer", "fronts.conf", "", "acme", "ACME"),
+    ("nginx-filer", "--remove", "fronts.conf", ""),
+    ("intake-health", ""),
+]
+
+
+def try_empty_names(folder):
+    """An empty name is a wrong command line, and nothing is written."""
+    for name, *words in EMPTY:
+        done = run(DEPLOY / name, *words, cwd=folder)
+        hold(f"{name} {' '.join(word or repr(word) for word in words)}",
+             (done.returncode, done.stdout, "usage: " in done.stderr), (2, "", True))
+    hold("nothing is written", [it.name for it in folder.iterdir()], [])
+
+
 # ---- units and views
 
 
@@ -323,7 +360,6 @@ def try_log(folder):
         done = run(DEPLOY / "lost-filings", *words, "copy.db", "log", cwd=folder)
         hold(f"lost-filings: {what}", (done.returncode, done.stdout, done.stderr), wanted)
     (folder / "log").write_bytes(b"".join(own))
-    hold("told-and-kept, its earlier name", run(DEPLOY / "told-and-kept", "copy.db", "log", cwd=folder).stdout, beta)
     hold("lost-filings: no such log", run(DEPLOY / "lost-filings", "copy.db", "none", cwd=folder).returncode, 3)
     hold("lost-filings: a file that is no copy", run(DEPLOY / "lost-filings", "log", "log", cwd=folder).returncode, 3)
 
@@ -366,6 +402,10 @@ class Intake:
                 return
             with peer:
                 self.requests.append(read_message(peer))
+                if self.resets:
+                    self.resets -= 1
+                    peer.setsockopt(socket.SOL_SOCKET, socket.SO_LINGER, struct.pack("ii", 1, 0))
+                    continue
                 content = b'{"number":1,"status":"registered"}'
                 head = (
                     f"HTTP/1.1 {self.status} Whatever\r\nContent-Type: application/json\r\n"
@@ -402,10 +442,6 @@ def make_certificates(openssl, folder):
     subjects = {"server": "/CN=intake.example", "acme": "/O=ACME/CN=acme-filing",
                 "other": "/O=x,CN=acme-filing,O=ACME/CN=other", **ODD_SUBJECTS}
     for name, subject in subjects.items():
-                if self.resets:
-                    self.resets -= 1
-                    peer.setsockopt(socket.SOL_SOCKET, socket.SO_LINGER, struct.pack("ii", 1, 0))
-                    continue
         run(openssl, "req", "-utf8", "-newkey", "ec", "-pkeyopt", "ec_paramgen_curve:P-256", "-nodes", "-subj", subject,
             "-keyout", folder / f"{name}.key", "-out", folder / f"{name}.csr")
         names = folder / "names"
@@ -452,7 +488,11 @@ def nginx_file(folder, port, intakes, outbox_port):
     )
     temporary = "".join(f"    {kind}_temp_path {folder}/{kind};\n"
                         for kind in ["client_body", "proxy", "fastcgi", "uwsgi", "scgi"])
-    whole = f"daemon off;\npid {folder}/pid;\nerror_log {folder}/error.log;\nevents {{}}\n"
+    # As many workers and connections as Debian has.
+    whole = (
+        f"daemon off;\npid {folder}/pid;\nerror_log {folder}/error.log;\n"
+        "worker_processes auto;\nevents {\n    worker_connections 768;\n}\n"
+    )
     log = (DEPLOY / "nginx-berruzpil-log.conf").read_text()
     (folder / "nginx.conf").write_text(f"{whole}http {{\n    access_log off;\n{temporary}{log}{fronts}{behind}}}\n")
     return folder / "nginx.conf"
@@ -478,7 +518,7 @@ def connect(folder, port, user, host):
     context = ssl.create_default_context(cafile=folder / "ca.pem")
     if user:
         context.load_cert_chain(folder / f"{user}.pem", folder / f"{user}.key")
-    return context.wrap_socket(socket.create_connection(("127.0.0.1", port), timeout=60), server_hostname=host)
+    return context.wrap_socket(socket.create_connection(("127.0.0.1", port), timeout=120), server_hostname=host)
 
 
 def ask_bytes(folder, port, given):
@@ -551,6 +591,35 @@ def try_users(folder, port):
     hold("none of them is another", json.loads((folder / "filings.log").read_text().splitlines()[-1])["user"], "odd-3")
 
 
+def try_removed_lines(folder):
+    """What nginx-filer takes out of a file: the lines of a certificate, of a user and a filer, and of a user, and no
+    other. A file through a link is changed where it is."""
+    file, link, acme = folder / "removed.conf", folder / "link.conf", folder / "acme.pem"
+    whole = (DEPLOY / "nginx-intake.conf").read_text()
+    file.write_text(whole.replace('    "~^agent ACME$" 1;\n', '    "~^agent ACME$" 1;\n    "~^agent-2 ACME$" 1;\n'))
+    file.chmod(0o640)
+    link.symlink_to(file)
+    own, agent = '"~^CN=acme-filing,O=ACME$" acme;\n', '"~^CN=agent-1,O=Filing Agents$" agent;\n'
+    for what, words, wanted in [
+        ("a certificate", (acme,), own),
+        ("a user and a filer", ("agent", "BETA"), '"~^agent BETA$" 1;\n'),
+        ("a user", ("agent",), f'{agent}"~^agent ACME$" 1;\n'),
+    ]:
+        before = file.read_text()
+        done = run(DEPLOY / "nginx-filer", "--remove", link, *words)
+        hold(f"nginx-filer takes out {what}", (done.returncode, done.stdout, done.stderr), (0, wanted, ""))
+        for line in wanted.splitlines():
+            before = before.replace(f"    {line}\n", "")
+        hold("and nothing else", (file.read_text() == before, oct(file.stat().st_mode & 0o777), link.is_symlink()),
+             (True, "0o640", True))
+
+
+FILER_USAGE = """usage: nginx-filer FILE CERTIFICATE USER FILER ..
+       nginx-filer --remove FILE USER [FILER ..]
+       nginx-filer --remove FILE CERTIFICATE
+"""
+
+
 def try_filer_lines(folder):
     """What nginx-filer refuses, and that it leaves the file as it is then."""
     file, acme = folder / "fronts.conf", folder / "acme.pem"
@@ -564,7 +633,15 @@ def try_filer_lines(folder):
          (1, "", f"nginx-filer: {acme}: there is no map of who may file for which filer\n")),
         ("a filer code that is none", (file, acme, "acme", "a/b"), (2, "", "nginx-filer: 'a/b' is no filer code\n")),
         ("a user that is none", (file, acme, "acme; }", "ACME"), (2, "", "nginx-filer: 'acme; }' is no user\n")),
-        ("too few words", (file, acme, "acme"), (2, "", "usage: nginx-filer FILE CERTIFICATE USER FILER ..\n")),
+        ("too few words", (file, acme, "acme"), (2, "", FILER_USAGE)),
+        ("an empty name", ("", acme, "acme", "ACME"), (2, "", FILER_USAGE)),
+        ("nothing to remove", ("--remove", file), (2, "", FILER_USAGE)),
+        ("a user without a line", ("--remove", file, "nobody"),
+         (1, "", f"nginx-filer: {file}: there is no line of nobody\n")),
+        ("a pair without a line", ("--remove", file, "acme", "ACME", "OMEGA"),
+         (1, "", f'nginx-filer: {file}: there is no line of "~^acme OMEGA$" 1;\n')),
+        ("a certificate without a line", ("--remove", file, folder / "other.pem"),
+         (1, "", f"nginx-filer: {file}: there is no line of {folder / 'other.pem'}\n")),
     ]:
         done = run(DEPLOY / "nginx-filer", *words)
         hold(f"nginx-filer: {what}", (done.returncode, done.stdout, done.stderr), wanted)
@@ -573,13 +650,30 @@ def try_filer_lines(folder):
     hold("nginx-filer: a file that isn't there",
          run(DEPLOY / "nginx-filer", folder / "none.conf", acme, "acme", "ACME").returncode, 3)
     hold("nginx-filer leaves the file as it was",
-         (file.read_text(), (folder / ".fronts.conf.part").exists()), (before, False))
+         (file.read_text(), [it.name for it in folder.glob(".fronts*")]), (before, []))
+    try_removed_lines(folder)
     second = folder / "second.conf"
     second.write_text(second_register())
     done = run(DEPLOY / "nginx-filer", second, acme, "acme", "BETA")
     line = '"~^acme BETA$" 1;\n'
     hold("nginx-filer: a file without users",
          (done.returncode, done.stdout, f"    {line}" in second.read_text()), (0, line, True))
+
+
+def try_resets(folder, intake, port):
+    """A connection that is reset, as Linux does if too many wait, is made again, three times at most. The log has the
+    last answer."""
+    for resets, (status, asked) in [(1, (201, 2)), (3, (201, 4)), (4, (503, 4))]:
+        before, intake.resets = len(intake.requests), resets
+        found = ask(folder, port, "acme", "ACME")[0]
+        hold(f"a request whose connection is reset {resets} times", (found, len(intake.requests) - before),
+             (status, asked))
+        hold("each time it is the same", len({it for it in intake.requests[before:]}), 1)
+    # nginx writes the line after the reply.
+    time.sleep(0.5)
+    lines = [json.loads(line) for line in (folder / "filings.log").read_text().splitlines()[-3:]]
+    hold("their lines of the log", [(line["status"], line["intake_status"]) for line in lines],
+         [(201, "201"), (201, "201"), (503, "502")])
 
 
 def try_health(folder, intake, port):
@@ -656,22 +750,6 @@ def try_rotation(folder, port):
     text = (
         (DEPLOY / "logrotate-berruzpil").read_text()
         .replace("/var/log/berruzpil/", f"{folder}/")
-def try_resets(folder, intake, port):
-    """A connection that is reset, as Linux does if too many wait, is made again, three times at most. The log has the
-    last answer."""
-    for resets, (status, asked) in [(1, (201, 2)), (3, (201, 4)), (4, (503, 4))]:
-        before, intake.resets = len(intake.requests), resets
-        found = ask(folder, port, "acme", "ACME")[0]
-        hold(f"a request whose connection is reset {resets} times", (found, len(intake.requests) - before),
-             (status, asked))
-        hold("each time it is the same", len({it for it in intake.requests[before:]}), 1)
-    # nginx writes the line after the reply.
-    time.sleep(0.5)
-    lines = [json.loads(line) for line in (folder / "filings.log").read_text().splitlines()[-3:]]
-    hold("their lines of the log", [(line["status"], line["intake_status"]) for line in lines],
-         [(201, "201"), (201, "201"), (503, "502")])
-
-
         .replace("/run/nginx.pid", f"{folder}/pid")
     )
     rules.write_text(text if os.geteuid() == 0 else text.replace("create 0640 www-data adm", "create 0640"))
@@ -707,6 +785,7 @@ def try_nginx(folder):
             try:
                 time.sleep(1)
                 try_requests(folder, intake, port, outbox_port)
+                try_resets(folder, intake, port)
                 try_users(folder, port)
                 try_filer_lines(folder)
                 try_health(folder, intake, port)
@@ -721,24 +800,25 @@ def try_nginx(folder):
 
 def main():
     with tempfile.TemporaryDirectory() as name:
-        folders = [pathlib.Path(name) / part for part in ("round", "snapshot", "units", "nginx")]
+        folders = [pathlib.Path(name) / part for part in ("empty", "round", "snapshot", "units", "nginx")]
         for folder in folders:
             folder.mkdir()
         pathlib.Path(name).chmod(0o755)
         try_scripts()
-        try_round(folders[0])
-        try_snapshot(folders[1])
+        empty, rounds, snapshots, units, fronts = folders
+        try_empty_names(empty)
+        try_round(rounds)
+        try_snapshot(snapshots)
         if find("curl"):
-            try_new(folders[2])
-        try_units(folders[2])
-        try_views(folders[2])
+            try_new(units)
+        try_units(units)
+        try_views(units)
         try_instances()
-        try_log(folders[2])
-        try_nginx(folders[3])
+        try_log(units)
+        try_nginx(fronts)
     print(f"{len(failures)} failed")
     return 1 if failures else 0
 
 
 if __name__ == "__main__":
     sys.exit(main())
-                try_resets(folder, intake, port)

@@ -200,8 +200,6 @@ def check_refused_copies(folder):
     (folder / "cut.db").write_bytes(data[: len(data) - 3 * 4096])
     (folder / "text.db").write_text("no database " * 100)
     (folder / "empty.db").write_bytes(b"")
-    shutil.copy(register, folder / "journal.db")
-    (folder / "journal.db-journal").write_bytes(b"")
     kept = names(folder)
     for kind, name, status, cause in [
         ("register", "byte.db", 1, "it is damaged"),
@@ -211,7 +209,6 @@ def check_refused_copies(folder):
         ("register", "outbox.db", 1, "this is an outbox"),
         ("outbox", "register.db", 1, "this is a register"),
         ("register", "none.db", 1, "there is no such file"),
-        ("register", "journal.db", 1, "open a copy of both files with sqlite3 once"),
     ]:
         found, said, errors = script(f"{kind}-restore", folder / name, folder / "new.db")
         hold(f"{kind}-restore of {name}", (found, said, cause in errors, errors.count("\n")), (status, "", True, 1))
@@ -241,6 +238,212 @@ def check_copy_with_log(folder):
     hold("a copy with a log beside it", script("register-restore", copies / "copy.db", new),
          (0, f"{new}: restored: {SOUND}\n", ""))
     hold("both files are as they were", {it.name: it.read_bytes() for it in copies.iterdir()} == before, True)
+
+
+def check_copy_with_journal(folder):
+    """Both files of a copy to which somebody wrote in the older way, and was killed: the journal has what was there."""
+    make_register(folder / "register.db")
+    copies = folder / "copies"
+    copies.mkdir()
+    with contextlib.closing(sqlite3.connect(folder / "register.db", isolation_level=None)) as database:
+        for statement in ("PRAGMA journal_mode = DELETE", "PRAGMA cache_size = 1", "BEGIN", "DELETE FROM kept",
+                          "PRAGMA cache_spill = 1", "UPDATE fact SET value = zeroblob(100000)"):
+            database.execute(statement)
+        for ending in ("", "-journal"):
+            shutil.copy(folder / f"register.db{ending}", copies / f"copy.db{ending}")
+    hold("the journal has pages", (copies / "copy.db-journal").stat().st_size > 4096, True)
+    kept = {it.name: it.read_bytes() for it in copies.iterdir()}
+    log = write_log(folder / "filings.log", [log_line("T", "k-1"), log_line("T", "k-9")])
+    hold("lost-filings of a copy with a journal", script("lost-filings", copies / "copy.db", log),
+         (1, 'T ACME "k-9"\n', ""))
+    hold("both files are as they were", {it.name: it.read_bytes() for it in copies.iterdir()} == kept, True)
+
+
+# ---- copies that may only be read
+
+NOBODY, READERS = 65534, 60
+# Runs a command as a unit with ProtectSystem=strict: all that is mounted may only be read, but for the folder $1 and
+# temporary files.
+STRICT = """
+mount --make-rprivate / && mount --bind "$1" "$1" && mount -t tmpfs tmpfs /var/tmp
+while read -r _ at _; do
+    case $at in "$1" | /proc* | /sys* | /dev* | /var/tmp) ;; *) mount -o remount,bind,ro "$at" ;; esac
+done < /proc/mounts
+shift
+TMPDIR=/var/tmp exec "$@"
+"""
+
+
+def as_user(name, *words, groups=()):
+    """What a script gives somebody who owns nothing, and has these groups."""
+    given = f"--groups={','.join(map(str, groups))}" if groups else "--clear-groups"
+    who = ["setpriv", f"--reuid={NOBODY}", f"--regid={NOBODY}", given, "--"]
+    done = subprocess.run([*who, name, *map(str, words)], capture_output=True, text=True, check=False,
+                          timeout=120, env=PATHS)
+    return done.returncode, done.stdout, done.stderr
+
+
+def may_not_mount():
+    if os.geteuid() != 0:
+        print("not tried: copies that may only be read, which needs root")
+    return os.geteuid() != 0
+
+
+def make_copies_for_reading(folder):
+    """A copy in one file, and one of both files of an intake that was killed."""
+    serving = Serving(folder / "register.db", 9, "--new")
+    for it in REQUESTS:
+        exchange(serving.port, it)
+    serving.process.kill()
+    serving.process.communicate()
+    copies = folder / "copies"
+    copies.mkdir()
+    for ending in ("", "-wal"):
+        shutil.copy(f"{folder / 'register.db'}{ending}", copies / f"log-20240102T000000Z.db{ending}")
+    script("register-snapshot", folder / "register.db", copies / "one-20240101T000000Z.db")
+    (copies / "one.tried").write_text(f"2024-01-01T00:00:00Z 0 one-20240101T000000Z.db restored: {SOUND}\n")
+    return copies
+
+
+def try_readers(what, copies, out, run_script):
+    """Each script that reads a copy reads it, and nothing beside it is changed. `run_script` runs one that may write to
+    the folder `out`, which is empty."""
+    before = {it.name: it.read_bytes() for it in copies.iterdir()}
+    log = write_log(out.parent / "filings.log", [log_line("2024-01-01T00:00:00Z", "k-1"), log_line("T", "k-9")])
+    log.chmod(0o644)
+    for name in ("one-20240101T000000Z.db", "log-20240102T000000Z.db"):
+        copy = copies / name
+        hold(f"{what}: register-restore of {name}", run_script("register-restore", copy, out / "new.db"),
+             (0, f"{out / 'new.db'}: restored: {SOUND}\n", ""))
+        hold(f"{what}: lost-filings of {name}", run_script("lost-filings", copy, log), (1, 'T ACME "k-9"\n', ""))
+        status, said, _ = run_script("register-receipts", copy, log)
+        lines = said.splitlines()
+        hold(f"{what}: register-receipts of {name}", (status, lines[1].split(",")[-2:], len(lines)),
+             (0, ["2024-01-01T00:00:00Z", "acme"], 4))
+        status, _, _ = run_script("register-receipts", "--into", out / "reading.db", copy, log)
+        hold(f"{what}: register-receipts --into of {name}", (status, names(out)), (0, ["new.db", "reading.db"]))
+        for it in ("new.db", "reading.db"):
+            (out / it).unlink()
+    found = run_script("register-metrics", "--into", out / "x.prom", "--copies", copies)
+    values = [line for line in (out / "x.prom").read_text().splitlines() if line.startswith("berruzpil_copy_filings")]
+    hold(f"{what}: register-metrics", (found, values),
+         ((0, "", ""), ['berruzpil_copy_filings{register="log"} 3', 'berruzpil_copy_filings{register="one"} 3']))
+    (out / "x.prom").unlink()
+    hold(f"{what}: the copies are as they were", {it.name: it.read_bytes() for it in copies.iterdir()} == before, True)
+
+
+def check_read_only_copies(folder):
+    """Copies on a disk that nobody may write to, in a folder that their reader may not write to, and in the sandbox of
+    a unit."""
+    if may_not_mount() or missing("setpriv", "unshare"):
+        return
+    copies, out, disk = make_copies_for_reading(folder), folder / "out", folder / "disk"
+    disk.mkdir()
+    out.mkdir()
+    subprocess.run(["mount", "-t", "tmpfs", "-o", "size=16m", "tmpfs", disk], check=True)
+    try:
+        shutil.copytree(copies, disk / "copies")
+        subprocess.run(["mount", "-o", "remount,ro", disk], check=True)
+        try_readers("a disk that is read-only", disk / "copies", out, script)
+    finally:
+        subprocess.run(["umount", disk], check=True)
+    sandbox = ["unshare", "--mount", "sh", "-c", STRICT, "sh", str(out)]
+
+    def strict(name, *words):
+        done = subprocess.run([*sandbox, str(DEPLOY / name), *map(str, words)], capture_output=True, text=True,
+                              check=False, timeout=120, env=PATHS)
+        return done.returncode, done.stdout, done.stderr
+
+    try_readers("ProtectSystem=strict", copies, out, strict)
+    try_metrics_unit(folder, copies, out, sandbox)
+    folder.chmod(0o755)
+    copies.chmod(0o555)
+    for it in copies.iterdir():
+        it.chmod(0o444)
+    os.chown(out, NOBODY, NOBODY)
+    try_readers("a folder of another user", copies, out, lambda name, *words: as_user(DEPLOY / name, *words))
+
+
+def try_metrics_unit(folder, copies, out, sandbox):
+    """The command of berruzpil-metrics.service, in a sandbox like its own."""
+    text = (DEPLOY / "berruzpil-metrics.service").read_text()
+    hold("the sandbox of berruzpil-metrics.service",
+         [line for line in text.splitlines() if line.startswith(("ProtectSystem", "ReadWrite", "PrivateTmp"))],
+         ["ProtectSystem=strict", "ReadWritePaths=/var/lib/prometheus/node-exporter", "PrivateTmp=yes"])
+    (folder / "tls").mkdir()
+    (command,) = re.findall(r"(?m)^ExecStart=((?:.*\\\n)*.*)$", text)
+    for written, own in [("/usr/local/bin/", f"{DEPLOY}/"), ("/var/lib/berruzpil/copies", copies),
+                         ("/etc/nginx/tls", folder / "tls"), ("/etc/berruzpil", folder / "tls"),
+                         ("/var/lib/prometheus/node-exporter", out), ("/var/log/berruzpil", folder)]:
+        command = command.replace(written, str(own))
+    done = subprocess.run([*sandbox, "sh", "-c", command], capture_output=True, text=True, check=False,
+                          timeout=120, env=PATHS)
+    hold("the command of berruzpil-metrics.service", (done.returncode, done.stdout, done.stderr, names(out)),
+         (0, "", "", ["berruzpil.prom"]))
+    (out / "berruzpil.prom").unlink()
+
+
+def check_for_reading(folder):
+    """A copy for a group that may write to nothing: sqlite3 reads it, and no file comes beside it."""
+    if may_not_mount() or missing("setpriv", "sqlite3"):
+        return
+    make_register(folder / "register.db")
+    shared = folder / "shared"
+    shared.mkdir()
+    os.chown(shared, 0, READERS)
+    folder.chmod(0o755)
+    shared.chmod(0o2750)
+    copy = shared / "today.db"
+    hold("register-snapshot --for-reading", script("register-snapshot", "--for-reading", folder / "register.db", copy),
+         (0, f"{SOUND}\n", ""))
+    hold("its group may read it", (rights(copy), copy.stat().st_gid), ("0o640", READERS))
+    ask = ["-batch", "-readonly", "-init", DEPLOY / "reading.sql", copy, "SELECT number, key FROM current"]
+    hold("a member of the group reads it", as_user("sqlite3", *ask, groups=(READERS,)), (0, "2|k-2\n3|k-4\n", ""))
+    hold("nobody else does", as_user("sqlite3", *ask)[:2], (1, ""))
+    hold("no file is beside it", names(shared), ["today.db"])
+    shutil.copy(copy, folder / "own.db")
+    hold("the programs take it", ask_register(folder / "own.db"), (0, f"{SOUND}\n".encode()))
+    hold("its pages have their sums", ask_register(with_changed_byte(shutil.copy(copy, folder / "byte.db")))[0], 1)
+    hold("register-restore --for-reading", (script("register-restore", "--for-reading", copy, shared / "new.db")[0],
+                                            rights(shared / "new.db")), (0, "0o640"))
+
+
+# ---- links in folders that others may write to
+
+# A script, its words, and the name beside its files that is a link to somebody's file.
+LINKS = [
+    ("register-metrics", ("--into", "x.prom", "log"), ".x.prom.part"),
+    ("register-receipts", ("--into", "new.db", "register.db", "log"), "new.db.part"),
+    ("register-restore", ("register.db", "restored.db"), "restored.db.part"),
+    ("register-snapshot", ("register.db", "copy.db"), "copy.db.part"),
+    ("register-copies", ("register.db", ".", "30"), ".register.tried"),
+    ("nginx-filer", ("fronts.conf", "acme.pem", "acme", "BETA"), ".fronts.conf.part"),
+    ("outbox-round", ("outbox.db", "1"), "outbox.db.lock"),
+]
+
+
+def check_links(folder):
+    """No script writes through a link that somebody has put beside its files."""
+    if missing("openssl"):
+        return
+    make_register(folder / "register.db")
+    make_outbox(folder / "outbox.db")
+    check_deploy.make_certificates("openssl", folder)
+    write_log(folder / "log", [log_line("T", "k-1")])
+    shutil.copy(DEPLOY / "nginx-intake.conf", folder / "fronts.conf")
+    precious = folder / "precious"
+    for name, words, link in LINKS:
+        for text in ("of somebody", None):
+            precious.write_text(text) if text else precious.unlink()
+            (folder / link).unlink(missing_ok=True)
+            (folder / link).symlink_to(precious)
+            for made in ("new.db", "restored.db", "copy.db"):
+                (folder / made).unlink(missing_ok=True)
+            status, _, errors = script(name, *words, cwd=folder)
+            found = precious.read_text() if precious.exists() else None
+            hold(f"{name}, with a link {link} to {'a file' if text else 'nothing'}",
+                 (status in (0, 75), found == text, "Traceback" in errors), (True, True, False))
+        (folder / link).unlink(missing_ok=True)
 
 
 def check_earlier_copies(folder):
@@ -347,13 +550,9 @@ def check_pause(folder):
 
 # ---- copies that are kept
 
-OLD = 40 * 86400
-
-
-def make_old(path, age):
-    """A file that was last written so many seconds ago."""
-    path.write_bytes(b"")
-    os.utime(path, (time.time() - age,) * 2)
+def day(ago):
+    """A day in UTC, so many days ago."""
+    return time.strftime("%Y%m%d", time.gmtime(time.time() - ago * 86400))
 
 
 def check_kept_copies(folder):
@@ -363,19 +562,28 @@ def check_kept_copies(folder):
     serving = Serving(database, len(REQUESTS) + 1, "--new")
     for it in REQUESTS:
         exchange(serving.port, it)
-    # The last of these are no copies of this register, whatever their age.
-    ages = {"register-20240101T000000Z.db": OLD, "register-20240102T000000Z.db": 20 * 86400,
-            "register-2-20240101T000000Z.db": OLD, "before-upgrade.db": OLD}  # fmt: skip
-    for name, age in ages.items():
-        make_old(kept / name, age)
+    gone = [f"register-{day(40)}T000000Z.db", f"register-{day(31)}T235959Z.db",
+            f"register-{day(20)}T000000Z.db", f"register-{day(20)}T230000Z.db", f"register-{day(2)}T220000Z.db"]
+    # Of each day before yesterday the last one stays, and each of yesterday. Some are no copies of this register.
+    stay = [f"register-{day(30)}T000000Z.db", f"register-{day(20)}T235959Z.db", f"register-{day(2)}T230000Z.db",
+            f"register-{day(1)}T000000Z.db", f"register-{day(1)}T010000Z.db",
+            f"register-2-{day(40)}T000000Z.db", "before-upgrade.db"]  # fmt: skip
+    for name in gone + stay:
+        (kept / name).write_bytes(b"")
+    # What a run left that was killed, and what one has that runs.
+    for name, age in [(".register.abcdef", 2 * 86400), (".register.ghijkl", 3600), (".register-2.abcdef", 2 * 86400)]:
+        (kept / name).mkdir()
+        (kept / name / "restored").write_bytes(b"")
+        os.utime(kept / name, (time.time() - age,) * 2)
     status, said, errors = script("register-copies", database, kept, 30)
-    (copy,) = set(names(kept)) - set(ages) - {"register.tried"}
+    left = [".register-2.abcdef", ".register.ghijkl"]
+    (copy,) = set(names(kept)) - {*gone, *stay, *left, "register.tried"}
     hold("register-copies", (status, said, errors),
          (0, f"{kept / copy}: {SOUND}\n{kept / copy}: restored: {SOUND}\n", ""))
     hold("the name of the copy", bool(re.fullmatch(r"register-\d{8}T\d{6}Z\.db", copy)), True)
     hold("only its owner may read it", rights(kept / copy), "0o600")
-    hold("the copy that is too old is gone, and no other file",
-         names(kept), sorted({copy, "register.tried", *list(ages)[1:]}))
+    hold("the copies that are too old are gone, and no other file",
+         names(kept), sorted({copy, "register.tried", *stay, *left}))
     moment, *rest = (kept / "register.tried").read_text().split(" ", 3)
     hold("when the restore was tried", bool(re.fullmatch(r"\d{4}-\d\d-\d\dT\d\d:\d\d:\d\dZ", moment)), True)
     hold("what came of it", rest, ["0", copy, f"restored: {SOUND}\n"])
@@ -393,7 +601,7 @@ def check_failed_copies(folder):
     scripts.mkdir()
     for name in ("register-copies", "register-snapshot"):
         shutil.copy(DEPLOY / name, scripts)
-    make_old(kept / "register-20240101T000000Z.db", OLD)
+    (kept / "register-20240101T000000Z.db").write_bytes(b"")
     for what, stand_in, wanted in [
         ("a restore that fails", "echo 'register-restore: no' >&2; exit 3", (3, "no")),
         ("a restore that gives another register", 'echo "$2: restored: sound: 3 kept, 3 filings"',
@@ -623,6 +831,7 @@ def check_numbers(folder):
     hold("everybody may read them", (rights(file), names(file.parent)), ("0o644", ["berruzpil.prom"]))
     hold("nothing is left beside the copies", names(kept),
          ["2025-20240101T000000Z.db", "register-20240101T000000Z.db", "register-20240102T030405Z.db", "register.tried"])
+    check_other_numbers(folder, kept)
     (folder / "damaged").mkdir()
     (folder / "damaged" / "register-20240101T000000Z.db").write_text("no database " * 100)
     for what, words, status in [
@@ -642,6 +851,43 @@ def check_numbers(folder):
               for status in (201, 403, 422, 503)]
     hold("replace the earlier ones", [line for line in file.read_text().splitlines() if line[0] != "#"][:-1],
          [*counts, "berruzpil_unread_lines_total 0"])
+
+
+def check_other_numbers(folder, kept):
+    """Numbers of an intake that serves a register without a copy, and of certificates."""
+    file, tls = folder / "other" / "x.prom", folder / "tls"
+    file.parent.mkdir()
+    tls.mkdir()
+    before = int(time.time())
+    serving = Serving(folder / "fresh.db", 1, "--new", "--limit", "7000")
+    found = script("register-metrics", "--into", file, "--copies", kept, "--intakes")
+    values = dict(line.rsplit(" ", 1) for line in file.read_text().splitlines() if 'register="fresh"' in line)
+    held = int(pathlib.Path(f"/proc/{serving.process.pid}/status").read_text().split("VmHWM:")[1].split()[0]) * 1024
+    exchange(serving.port, listing("ACME"))
+    serving.end()
+    of = {name: int(values.get(f'berruzpil_{name}{{register="fresh"}}', -1))
+          for name in ("copy_timestamp_seconds", "intake_keys_limit", "intake_memory_peak_bytes",
+                       "intake_start_timestamp_seconds", "copy_kept")}
+    hold("register-metrics --intakes", (found, of["intake_keys_limit"], of["intake_memory_peak_bytes"]),
+         ((0, "", ""), 7000, held))
+    hold("the intake was started now", before - 2 <= of["intake_start_timestamp_seconds"] <= time.time() + 2, True)
+    hold("there never was a copy", (of["copy_timestamp_seconds"], of["copy_kept"]), (0, -1))
+    if missing("openssl"):
+        return
+    for name, days in [("early", 3), ("late", 300)]:
+        subprocess.run(["openssl", "req", "-x509", "-newkey", "ec", "-pkeyopt", "ec_paramgen_curve:P-256", "-nodes",
+                        "-subj", "/CN=x", "-days", str(days), "-keyout", tls / f"{name}.key",
+                        "-out", tls / f"{name}.pem"], check=True, stderr=subprocess.DEVNULL)
+    (tls / "both.pem").write_bytes((tls / "late.pem").read_bytes() + (tls / "early.pem").read_bytes())
+    hold("register-metrics --certificates",
+         script("register-metrics", "--into", file, "--certificates", tls), (0, "", ""))
+    now = time.time()
+    found = {name: round((int(value) - now) / 86400) for name, value in re.findall(
+        r'berruzpil_certificate_expiry_timestamp_seconds\{file="\S+/(\w+)\.pem"\} (\d+)', file.read_text())}
+    hold("days to their ends", found, {"both": 3, "early": 3, "late": 300})
+    (tls / "none.pem").write_text("-----BEGIN CERTIFICATE-----\nnone\n-----END CERTIFICATE-----\n")
+    status, _, errors = script("register-metrics", "--into", file, "--certificates", tls)
+    hold("a certificate that is none", (status, f"{tls / 'none.pem'}: " in errors), (3, True))
 
 
 # ---- a new register
@@ -830,6 +1076,40 @@ def check_front(folder):
     hold("lost-filings of the copy", (status, said.partition(" ")[2], errors), (1, 'ACME "k-2"\n', ""))
 
 
+MANY = 300
+
+
+def check_many(folder):
+    """More clients at once than the intake can hold waiting, through nginx as Debian has it: each gets its answer."""
+    if missing("nginx", "openssl"):
+        return
+    folder.chmod(0o755)
+    check_deploy.make_certificates("openssl", folder)
+    serving = Serving(folder / "register.db", 10 * MANY, "--new")
+    port, replies, begin = free_port(), [], threading.Barrier(MANY)
+    file = check_deploy.nginx_file(folder, port, (serving.port, serving.port), free_port())
+
+    def send(at):
+        begin.wait()
+        replies.append(check_deploy.ask(folder, port, "acme", "ACME", body=REPORT, **{"Idempotency-Key": f'"k-{at}"'}))
+
+    with subprocess.Popen([check_deploy.find("nginx"), "-p", folder, "-c", file], stderr=subprocess.DEVNULL) as front:
+        try:
+            time.sleep(1)
+            clients = [threading.Thread(target=send, args=(at,)) for at in range(MANY)]
+            for client in clients:
+                client.start()
+            for client in clients:
+                client.join()
+        finally:
+            front.terminate()
+            serving.process.terminate()
+            serving.process.communicate()
+    hold(f"{MANY} clients at once", [status for status, _ in replies], [201] * MANY)
+    numbers = sorted(json.loads(content)["number"] for _, content in replies)
+    hold("each report has a number of its own", numbers, list(range(1, MANY + 1)))
+
+
 # ---- a full disk
 
 # What is asked of a register whose disk is full, and the statuses of the replies.
@@ -867,6 +1147,10 @@ TRIALS = [
     check_outbox_copies,
     check_refused_copies,
     check_copy_with_log,
+    check_copy_with_journal,
+    check_read_only_copies,
+    check_for_reading,
+    check_links,
     check_earlier_copies,
     check_served,
     check_rush,
@@ -879,6 +1163,7 @@ TRIALS = [
     check_rounds,
     check_lost,
     check_front,
+    check_many,
     check_full_disk,
 ]
 

@@ -29,7 +29,7 @@ VERSION = re.compile(r"\d+\.\d+\.\d+\+git(\d{8})\.([0-9a-f]{8,})(-unproved)?")
 # Where Debian has what a package brings, and the rights of its files.
 PLACES = [
     ("usr/bin/", {"-rwxr-xr-x"}),
-    ("usr/lib/berruzpil/", {"-rwxr-xr-x", "-rw-r--r--"}),
+    ("usr/lib/berruzpil/", {"-rw-r--r--"}),
     ("lib/systemd/system/", {"-rw-r--r--"}),
     ("usr/share/man/man1/", {"-rw-r--r--"}),
     ("usr/share/bash-completion/completions/", {"-rw-r--r--"}),
@@ -150,12 +150,12 @@ def can_run(installed):
 
 
 def check_scripts(installed):
-    for script in sorted(installed.file("usr/lib/berruzpil").glob("*")):
+    for script in sorted(installed.file("usr/bin").glob("*")):
         begin = script.read_bytes().split(b"\n")[0]
-        if begin.endswith(b"sh"):
+        if begin.startswith(b"#!") and begin.endswith(b"sh"):
             done = subprocess.run([begin[2:].split()[-1].decode(), "-n", script], capture_output=True, text=True)
             tell(f"{script.name} can be read", done.stderr if done.returncode else None)
-        elif b"python3" in begin:
+        elif begin.startswith(b"#!"):
             try:
                 compile(script.read_text(), script.name, "exec")
                 tell(f"{script.name} can be read")
@@ -169,11 +169,7 @@ def check_units(installed):
     for unit in units:
         text = unit.read_text()
         commands = re.findall(r"(?m)^Exec\w+=[-+!@]*(/\S+)", text)
-        lacking = [it for it in commands
-                   if not installed.file(it.lstrip("/")).exists() and not it.startswith(("/bin/", "/usr/bin/"))]
-        lacking += [it for it in commands
-                    if it.startswith("/usr/bin/") and it.rpartition("/")[2] in NAMES
-                    and not installed.file(it[1:]).exists()]
+        lacking = [it for it in commands if not installed.file(it[1:]).exists() and not it.startswith("/bin/")]
         lacking += re.findall(r"/usr/local/\S*", text)
         tell(f"{unit.name}: its commands", ", ".join(lacking))
     if shutil.which("systemd-analyze") is None:
@@ -184,8 +180,7 @@ def check_units(installed):
         for unit in units:
             # Read as an instance, with the programs where they were installed.
             own = pathlib.Path(folder, unit.name.replace("@", "@one"))
-            own.write_text(re.sub(r"(?m)^(Exec\w+=-?)(/usr/(?:lib/berruzpil|bin)/)",
-                                  rf"\1{installed.at}\2", unit.read_text()))
+            own.write_text(re.sub(r"(?m)^(Exec\w+=-?)(/usr/bin/)", rf"\1{installed.at}\2", unit.read_text()))
             read.append(own)
         done = subprocess.run(["systemd-analyze", "verify", "--man=no", *read], capture_output=True, text=True)
         said = "\n".join(line for line in done.stderr.splitlines() if "berruzpil" in line)

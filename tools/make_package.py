@@ -3,7 +3,7 @@
 
     tools/make_package.py PROGRAMS FOLDER VERSION       writes FOLDER/berruzpil_VERSION_amd64.deb
 
-PROGRAMS has intake, outbox and drill. The package puts them into /usr/bin, the scripts of deploy/ and reading.sql into
+PROGRAMS has intake, outbox and drill. The package puts them and the scripts of deploy/ into /usr/bin, reading.sql into
 /usr/lib/berruzpil, the units into /lib/systemd/system, and man pages, completions and pages where Debian has them; the
 files for nginx, stunnel and logrotate are examples. It runs nothing when it is installed or removed, so it makes no
 user and no folder for databases. The time of all files is SOURCE_DATE_EPOCH, if that is given, so that the same
@@ -24,7 +24,7 @@ import man_pages
 
 ROOT = pathlib.Path(__file__).resolve().parent.parent
 # Where the units expect programs and scripts that were installed by hand, and where a package has them.
-MOVED = [("/usr/local/bin/", "/usr/bin/"), ("/usr/local/lib/berruzpil/", "/usr/lib/berruzpil/")]
+BY_HAND, PACKAGED = b"/usr/local/bin/", b"/usr/bin/"
 DOCUMENTS = "usr/share/doc/berruzpil"
 EXAMPLES = [
     "nginx-berruzpil-log.conf",
@@ -70,13 +70,13 @@ def files_of(programs):
     for file in sorted((ROOT / "deploy").iterdir()):
         content = file.read_bytes()
         if file.suffix in (".service", ".timer"):
-            for old, new in MOVED:
-                content = content.replace(old.encode(), new.encode())
-            found[f"lib/systemd/system/{file.name}"] = content, False
+            found[f"lib/systemd/system/{file.name}"] = content.replace(BY_HAND, PACKAGED), False
         elif file.name in EXAMPLES:
             found[f"{DOCUMENTS}/examples/{file.name}"] = content, False
+        elif content.startswith(b"#!"):
+            found[f"usr/bin/{file.name}"] = content, True
         else:
-            found[f"usr/lib/berruzpil/{file.name}"] = content, content.startswith(b"#!")
+            found[f"usr/lib/berruzpil/{file.name}"] = content, False
     for name, program in man_pages.programs_in(programs).items():
         page = man_pages.page(name, program).encode()
         found[f"usr/share/man/man1/{name}.1.gz"] = gzip.compress(page, mtime=0), False
