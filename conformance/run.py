@@ -36,6 +36,8 @@ HERE = pathlib.Path(__file__).resolve().parent
 DEFAULT_LIMIT = 1_000_000
 # How long nothing has to come if a case says that nothing comes.
 QUIET = 0.25
+# How long a race waits for its connections before it begins without those that still wait to be taken.
+GATHERED = 1
 
 
 class Fault(Exception):
@@ -60,23 +62,26 @@ def shown(value):
 # ---- bytes as a case writes them
 
 
-def to_bytes(it, offset=0):
-    """The bytes that a case writes as a text, base64, a repetition, a count, a filing's number or a list of these."""
+def to_bytes(it, offset=0, turn=None):
+    """The bytes that a case writes as a text, base64, a repetition, a count, a filing's number, the turn of a request
+    in a race, or a list of these."""
     if isinstance(it, str):
         return it.encode()
     if isinstance(it, list):
-        return b"".join(to_bytes(part, offset) for part in it)
+        return b"".join(to_bytes(part, offset, turn) for part in it)
     if isinstance(it, dict):
         if set(it) == {"base64"}:
             return from_base64(it["base64"])
         if set(it) == {"repeat", "times"}:
-            return to_bytes(it["repeat"], offset) * it["times"]
+            return to_bytes(it["repeat"], offset, turn) * it["times"]
         if set(it) == {"each", "from", "to", "join"}:
             return it["join"].join(it["each"].replace("%", str(n)) for n in range(it["from"], it["to"] + 1)).encode()
         if set(it) == {"number"}:
             if offset is None:
                 raise Unusable("a number is sent before a reply named one")
             return str(it["number"] + offset).encode()
+        if set(it) == {"turn"} and turn is not None:
+            return str(turn).zfill(it["turn"]).encode()
     raise Unusable(f"{it!r} spells no bytes")
 
 
@@ -281,6 +286,107 @@ class Connection:
             raise Fault("the content", json.dumps(wanted["json"]), content)
 
 
+class Played:
+    """The other end of a connection, of which everything has come."""
+
+    def __init__(self, came):
+        self.came = came
+
+    def is_readable(self, _):
+        return True
+
+    def receive(self):
+        found, self.came = self.came, b""
+        return found
+
+    def close(self):
+        pass
+
+
+# One race at a time, so that its requests come as close together as they can.
+RACES = threading.Lock()
+
+
+def connecting(port):
+    """A connection to the port, which may still have to be taken."""
+    peer = socket.socket()
+    peer.setblocking(False)
+    peer.connect_ex(("127.0.0.1", port))
+    return peer
+
+
+def write(peer, data):
+    """Sends these bytes of a race. What an end replied that closes before it has read all is looked at all the same."""
+    peer.setblocking(True)
+    peer.setsockopt(socket.IPPROTO_TCP, socket.TCP_NODELAY, 1)
+    try:
+        peer.sendall(data)
+    except (ConnectionResetError, BrokenPipeError):
+        pass
+
+
+def read(peer):
+    try:
+        return peer.recv(65536)
+    except ConnectionResetError:
+        return b""
+
+
+def race(peers, requests, patience):
+    """Sends each request on its connection, all at once, and gives what came on each until its end.
+
+    The last byte of a request is kept back until the others have come. An intake may take one connection after another:
+    only if nothing comes on any of them for this long, it does not answer."""
+    left, came, is_open = dict(zip(peers, requests)), dict.fromkeys(peers, b""), set(peers)
+    until = time.monotonic() + GATHERED
+    ready = []
+    while len(ready) < len(peers) and (seconds := until - time.monotonic()) > 0:
+        ready += select.select([], [peer for peer in peers if peer not in ready], [], seconds)[1]
+    for peer in ready:
+        write(peer, left[peer][:-1])
+    time.sleep(QUIET)
+    for peer in ready:
+        write(peer, left.pop(peer)[-1:])
+    while is_open:
+        readable, writable, _ = select.select([peer for peer in is_open if peer not in left], list(left), [], patience)
+        if not readable and not writable:
+            ended = len(peers) - len(is_open)
+            raise Fault("the replies", f"{len(peers)} connections are answered and closed",
+                        f"{ended} are, and nothing comes on the others for {patience} s")
+        for peer in writable:
+            write(peer, left.pop(peer))
+        for peer in readable:
+            found = read(peer)
+            came[peer] += found
+            if not found:
+                is_open.discard(peer)
+    return list(came.values())
+
+
+def hold_replies(wanted, came, numbers):
+    """Each connection of a race has one of the wanted replies and nothing behind it, and each of these came as often as
+    is said."""
+    left = [[item["reply"], item["times"]] for item in wanted]
+    for at, data in enumerate(came, 1):
+        for item in left:
+            try:
+                Connection(Played(data), numbers, 1).play([{"reply": item[0]}, {"closed": True}])
+            except Fault:
+                continue
+            item[1] -= 1
+            break
+        else:
+            raise Fault(f"reply {at} of {len(came)}", replies_left(left, numbers), data)
+        left = [item for item in left if item[1]]
+
+
+def replies_left(left, numbers):
+    """The replies that did not come yet, in words."""
+    told = [f"{reply['status']} {shown(numbers.wanted(reply.get('content', '')))} on {times} more"
+            for reply, times in left[:3]]
+    return ", or ".join(told) + (f", or one of {len(left) - 3} others" if left[3:] else "")
+
+
 def one_member(step):
     if not isinstance(step, dict) or len(step) != 1:
         raise Unusable(f"{step!r} is no step")
@@ -386,7 +492,7 @@ def served_counts(case):
         if "restart" in item:
             counts.append(0)
         else:
-            counts[-1] += 1
+            counts[-1] += item["race"]["times"] if "race" in item else 1
     counts[-1] += len(case.get("register", {}))
     return [max(count, 1) for count in counts]
 
@@ -439,7 +545,7 @@ class Piped:
     def lacks(self, case):
         if "limit" in case:
             return "it needs a limit of its own"
-        if len(case["connections"]) > 1:
+        if len(case["connections"]) > 1 or "race" in case["connections"][0]:
             return "it needs more than one connection"
         if any(name in step for step in case["connections"][0]["steps"] for name in ("cut", "reset")):
             return "it needs a socket"
@@ -479,6 +585,21 @@ def list_steps(filer, content):
     ]
 
 
+def try_race(intake, wanted, patience):
+    """Sends the requests of a race, and compares what came."""
+    requests = [to_bytes(wanted["send"], intake.numbers.offset, turn) for turn in range(1, wanted["times"] + 1)]
+    with RACES:
+        # The first waits until somebody listens.
+        peers = [intake.connect().peer]
+        try:
+            peers += [connecting(intake.port) for _ in requests[1:]]
+            came = race(peers, requests, patience)
+        finally:
+            for peer in peers:
+                peer.close()
+    hold_replies(wanted["replies"], came, intake.numbers)
+
+
 def try_intake(end, case, patience):
     """Plays the case. None if it passed, else what was wanted and what came."""
     with tempfile.TemporaryDirectory(prefix="conformance-") as folder:
@@ -489,6 +610,8 @@ def try_intake(end, case, patience):
                 what = f"connection {at}"
                 if "restart" in item:
                     intake.restart(item["restart"])
+                elif "race" in item:
+                    try_race(intake, item["race"], patience)
                 else:
                     Connection(intake.connect(), intake.numbers, patience).play(item["steps"])
             for filer, content in case.get("register", {}).items() if end.reads_lists else ():
@@ -694,7 +817,7 @@ def is_listened_to(port):
 
 
 # The members that each thing has, and of which kind; those with a question mark may be missing.
-ANY, BYTES = object(), object()
+ANY, BYTES, BYTES_OF_TURN = object(), object(), object()
 REPLY = {"status": int, "fields?": dict, "content?": BYTES, "json?": ANY}
 STEPS = {
     "send": BYTES,
@@ -707,6 +830,7 @@ STEPS = {
     "cut": bool,
     "reset": bool,
 }
+RACE = {"times": int, "send": BYTES_OF_TURN, "replies": [{"times": int, "reply": REPLY}]}
 ANSWER = {"send": BYTES, "pause": int, "wait": bool, "reset": bool}
 SENDING = {"entry": int, "requests?": [BYTES], "answer": [ANSWER]}
 OUTBOX_STEPS = {"put": {"key": str, "body": BYTES, "amend?": int}, "send": SENDING, "states": [str]}
@@ -714,7 +838,7 @@ CASES = {
     "intake": {
         "name": str,
         "rule": str,
-        "connections": [{"steps": [STEPS], "restart": ("stop", "kill")}],
+        "connections": [{"steps": [STEPS], "race": RACE, "restart": ("stop", "kill")}],
         "register?": dict,
         "limit?": int,
         "empty?": bool,
@@ -729,6 +853,8 @@ def check_form(what, it, form):
     """Raises what is wrong with a part of a case."""
     if form is BYTES:
         to_bytes(it, 0)
+    elif form is BYTES_OF_TURN:
+        to_bytes(it, 0, 1)
     elif isinstance(form, list):
         if not isinstance(it, list):
             raise Unusable(f"{what} is no list")
@@ -763,6 +889,9 @@ def check_case(end, case):
     check_members(f"the case {case.get('name')}", case, CASES[end])
     for content in case.get("register", {}).values():
         to_bytes(content, 0)
+    for it in (item["race"] for item in case.get("connections", []) if "race" in item):
+        if it["times"] != sum(one["times"] for one in it["replies"]):
+            raise Unusable(f"the case {case['name']}: a race of {it['times']} connections has another count of replies")
     if not case["name"] or not case["rule"]:
         raise Unusable("a case has no name or no rule")
 

@@ -9,6 +9,7 @@ outbox. Then wrong programs are played: an intake and an outbox that this script
 thing. For each change the named cases have to fail, and the others named have to pass. All this takes some ten minutes.
 The last line is 'N passed, M failed', and the status 1 if one failed.
 """
+import collections
 import ctypes
 import json
 import pathlib
@@ -20,6 +21,7 @@ import socket
 import subprocess
 import sys
 import tempfile
+import threading
 import time
 
 import trials
@@ -70,6 +72,13 @@ def next_number(found):
     return b'"number":%d' % (int(found[1]) + 1)
 
 
+def by_utf_16(content):
+    """The content with its findings in the order that UTF-16 gives their places."""
+    findings = re.findall(rb'\{"code":"[a-z-]+","place":"(?:[^"\\]|\\.)*"\}', content)
+    ordered = sorted(findings, key=lambda it: json.loads(it)["place"].encode("utf-16-be"))
+    return content.replace(b",".join(findings), b",".join(ordered), 1) if findings else content
+
+
 def without_continue(reply):
     return b"" if reply.startswith(b"HTTP/1.1 100 ") else reply
 
@@ -98,6 +107,7 @@ REPLY_FAULTS = {
     "tells findings in another order": changed_content(
         lambda content: re.sub(rb"(\[)(\{[^}]*\}),(\{[^}]*\})", rb"\1\3,\2", content, count=1)
     ),
+    "sorts by UTF-16": changed_content(by_utf_16),
     "tells one finding less": changed_content(lambda content: re.sub(rb"\},\{[^}]*\}\]", b"}]", content, count=1)),
     "never sends 100 Continue": without_continue,
     "writes content to a HEAD": lambda reply: (
@@ -118,6 +128,64 @@ def made_harmless(reply):
         b"\r\n".join([first, b"Date: Mon, 01 Jan 2024 00:00:00 GMT", *reversed(fields), b"Server: another"])
         + mark + content
     )
+
+
+# Faults of an intake that takes connections side by side.
+UNLOCKED, NUMBERS_TWICE = "has no lock", "gives a number twice"
+# A POST: its filer, the number of the filing that it replaces, and what comes up to the end of its key.
+POST = re.compile(rb'(POST /filings/[^ /]+)(/\d+)?( (?:(?!\r\n\r\n)[\s\S])*?\r\nIdempotency-Key: "[^"\r]*)"')
+
+
+class UnderWay:
+    """The requests of all connections that came and have no reply yet."""
+
+    def __init__(self, fault):
+        self.fault, self.guard = fault, threading.Lock()
+        self.marks, self.last = collections.Counter(), 0
+
+    def asked(self, data, own):
+        """What the real intake is asked, as if nobody saw what other connections are about to keep."""
+
+        def one(found):
+            filer, number, rest = found[1], found[2] or b"", found[3]
+            key, target = (filer, rest.rpartition(b'"')[2]), (filer, number)
+            with self.guard:
+                is_beside = {mark: self.marks[mark] > own.marks[mark] for mark in ("any", key, target)}
+                if self.fault == UNLOCKED and is_beside[key]:
+                    rest += b"~%d" % self.marks[key]
+                if self.fault == UNLOCKED and is_beside[target]:
+                    number = b""
+                own.last, own.is_beside = self.last, is_beside["any"]
+                for counts in (self.marks, own.marks):
+                    counts.update(is_beside.keys())
+            return filer + number + rest + b'"'
+
+        return POST.sub(one, data)
+
+    def replied(self, reply, own):
+        """The reply that is passed on. Reports that were under way at once get one number."""
+        found = re.search(rb'"number":(\d+),"status":"registered"', reply)
+        if found and self.fault == NUMBERS_TWICE and own.is_beside:
+            reply = with_content(reply, b'{"number":%d,"status":"registered"}' % (own.last + 1))
+        if found:
+            with self.guard:
+                self.last = max(self.last, int(found[1]))
+        if not reply.startswith(b"HTTP/1.1 100 "):
+            self.ended(own)
+        return reply
+
+    def ended(self, own):
+        with self.guard:
+            self.marks.subtract(own.marks)
+            own.marks.clear()
+
+
+class Own:
+    """The requests of one connection that are under way, whether others were as the newest came, and the last number
+    then."""
+
+    def __init__(self):
+        self.marks, self.last, self.is_beside = collections.Counter(), 0, False
 
 
 def ends_with_this():
@@ -142,6 +210,7 @@ class WrongIntake:
     def __init__(self, fault, program, database, port, connections, limit, is_new):
         self.fault = fault
         self.keys = 0
+        self.under_way = UnderWay(fault) if fault in (UNLOCKED, NUMBERS_TWICE) else None
         self.inner = free_port()
         if fault == "has no limit":
             limit = 1_000_000
@@ -155,25 +224,35 @@ class WrongIntake:
         self.listener = socket.create_server(("127.0.0.1", int(port)))
 
     def serve(self):
-        """Takes one connection after another, until the runner stops this process."""
+        """Takes one connection after another, or all that come, until the runner stops this process."""
         while True:
             client = self.listener.accept()[0]
-            client.setsockopt(socket.IPPROTO_TCP, socket.TCP_NODELAY, 1)
-            with client, socket.create_connection(("127.0.0.1", self.inner)) as real:
-                real.setsockopt(socket.IPPROTO_TCP, socket.TCP_NODELAY, 1)
-                try:
-                    self.carry(client, real)
-                except OSError:
-                    pass
+            real = socket.create_connection(("127.0.0.1", self.inner))
+            for end in (client, real):
+                end.setsockopt(socket.IPPROTO_TCP, socket.TCP_NODELAY, 1)
+            if self.under_way:
+                threading.Thread(target=self.serve_one, args=(client, real), daemon=True).start()
+            else:
+                self.serve_one(client, real)
 
-    def carry(self, client, real):
+    def serve_one(self, client, real):
+        own = Own()
+        with client, real:
+            try:
+                self.carry(client, real, own)
+            except OSError:
+                pass
+        if self.under_way:
+            self.under_way.ended(own)
+
+    def carry(self, client, real, own):
         held, sources = b"", [client, real]
         while real in sources:
             for source in select.select(sources, [], [])[0]:
                 data = source.recv(65536)
                 if source is client:
                     if data:
-                        real.sendall(self.asked(data))
+                        real.sendall(self.under_way.asked(data, own) if self.under_way else self.asked(data))
                     else:
                         if self.fault == "completes what was cut":
                             real.sendall(b"}")
@@ -182,7 +261,7 @@ class WrongIntake:
                 elif data:
                     replies, held = replies_of(held + data)
                     for reply in replies:
-                        self.pass_on(client, reply)
+                        self.pass_on(client, self.under_way.replied(reply, own) if self.under_way else reply)
                         if self.fault == "closes after each reply" and not reply.startswith(b"HTTP/1.1 100 "):
                             return
                 else:
@@ -215,6 +294,7 @@ class WrongIntake:
 
 
 # For each fault the cases that have to fail, and those that have to pass all the same.
+EVERY_OTHER = "every other"
 INTAKES = {
     "answers 200 for 201": (["repeat.on-the-same-connection", "key.one-character"],
                             ["head.smallest", "example.not-json"]),
@@ -235,6 +315,12 @@ INTAKES = {
     "lists nothing": (["list.counts-facts", "cut.before-the-last-byte"], ["list.empty", "key.1025-characters"]),
     "lists no replacements": (["amend.replaces", "list.one-that-was-replaced"], ["list.counts-facts"]),
     "tells findings in another order": (["document-info.two-missing", "place.in-byte-order"], ["example.fact"]),
+    "sorts by UTF-16": (["place.beyond-u-ffff", "place.of-a-prefix-beyond-u-ffff",
+                         "place.of-a-dimension-beyond-u-ffff"], EVERY_OTHER),
+    UNLOCKED: (["race.one-key-on-8-connections", "race.one-key-on-64-connections", "race.one-key-for-8-bodies",
+                "race.one-key-for-64-bodies", "race.refused", "race.replacements"], EVERY_OTHER),
+    NUMBERS_TWICE: (["race.8-keys", "race.64-keys", "race.one-key-of-8-filers", "race.limit", "race.killed-behind-it"],
+                    EVERY_OTHER),
     "tells one finding less": (["document-info.two-missing", "entity.unbound-and-not-the-filer"], ["example.fact"]),
     "never sends 100 Continue": (["continue.before-the-body", "continue.where-the-body-came"],
                                  ["continue.1.0", "continue.too-large"]),
@@ -246,11 +332,12 @@ INTAKES = {
                                 ["close.asked", "length.missing"]),
     "says nothing": (["head.smallest", "method.head"], ["connection.without-a-byte"]),
     "completes what was cut": (["cut.before-the-last-byte", "connection.ends-inside-a-body"], ["close.asked"]),
-    "has no limit": (["limit.a-new-key", "limit.zero"], ["head.smallest"]),
-    "forgets everything at a restart": (["restart.killed", "restart.replacements"], ["repeat.on-another-connection"]),
+    "has no limit": (["limit.a-new-key", "limit.zero", "race.limit"], ["head.smallest"]),
+    "forgets everything at a restart": (["restart.killed", "restart.replacements", "race.killed-behind-it"],
+                                        ["race.8-keys", "repeat.on-another-connection"]),
     HARMLESS: ([], ["head.smallest", "repeat.on-the-same-connection", "method.head", "method.put",
                     "continue.before-the-body", "example.fact", "amend.chain", "limit.zero", "restart.killed",
-                    "close.1.0", "length.missing", "connection.three-at-once"]),
+                    "close.1.0", "length.missing", "connection.three-at-once", "race.64-keys"]),
 }
 
 
@@ -281,10 +368,41 @@ FILERS = {
     "puts in another report": (["request.of-an-entry", "request.any-bytes"], []),
     "forgets what is to be replaced": (["request.to-replace"], ["request.of-an-entry"]),
     "sends twice": (["request.again", "reply.none"], []),
+    "sends twice at once": (["request.of-an-entry", "request.again", "reply.late"], []),
+    "sends again while it waits": (["reply.late"], EVERY_OTHER),
     "sends nothing": (["request.of-an-entry", "reply.none"], []),
     "sends the other entry": (["request.of-the-second-entry"], ["request.of-an-entry"]),
     "fails": (["request.of-an-entry", "reply.none"], []),
 }
+
+
+# After how many seconds without a reply a filer sends again.
+HASTE = {"sends twice at once": 0, "sends again while it waits": 0.9}
+
+
+def carry_in_haste(listener, port, seconds):
+    """Carries what the outbox sends to the runner, and sends it there on another connection too if no reply comes
+    within so many seconds."""
+    request, due, others = b"", None, []
+    outbox = listener.accept()[0]
+    with outbox, socket.create_connection(("127.0.0.1", port)) as peer:
+        while True:
+            ready = select.select([outbox, peer], [], [], 0.05)[0]
+            if outbox in ready:
+                data = outbox.recv(65536)
+                request, due = request + data, time.monotonic() + seconds
+                peer.sendall(data)
+                if not data:
+                    return
+            if peer in ready:
+                data, due = peer.recv(65536), None
+                outbox.sendall(data)
+                if not data:
+                    return
+            if due and time.monotonic() >= due:
+                others.append(socket.create_connection(("127.0.0.1", port)))
+                others[-1].sendall(request)
+                due = None
 
 
 def play_filer(fault, program, words):
@@ -309,6 +427,10 @@ def play_filer(fault, program, words):
         return 0
     if fault == "sends twice" and name == "send":
         subprocess.run([program, *words], capture_output=True, check=False)
+    if fault in HASTE and name == "send":
+        listener = socket.create_server(("127.0.0.1", 0))
+        port, words[value("--port")] = int(words[value("--port")]), str(listener.getsockname()[1])
+        threading.Thread(target=carry_in_haste, args=(listener, port, HASTE[fault]), daemon=True).start()
     if fault == "sends the other entry" and name == "send" and words[value("--entry")] == "2":
         words[value("--entry")] = "1"
     done = subprocess.run([program, *words], capture_output=True, text=True, check=False)
@@ -355,11 +477,13 @@ def check_all(what, wanted, *words, least=0):
 
 def check_fault(what, fault, must_fail, must_pass, *words):
     """With this fault the runner finds just these cases failed among those named."""
-    named = [*must_fail, *must_pass]
-    only = [word for name in named for word in ("--case", name)]
+    if must_pass == EVERY_OTHER:
+        only, others = [], count_of(words[0]) - len(must_fail)
+    else:
+        only, others = [word for name in must_fail + must_pass for word in ("--case", name)], len(must_pass)
     _, output, errors = run_cases(*words, *only, "--patience", "2")
     failed, counts = told_of(output)
-    wanted = (len(must_pass), len(must_fail))
+    wanted = (others, len(must_fail))
     found = (
         None if sorted(failed) == sorted(must_fail) and counts == wanted
         else f"failed {failed}, {counts}: {output[-700:]}{errors[-300:]}"
