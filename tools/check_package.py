@@ -19,7 +19,9 @@ import sys
 import tarfile
 import tempfile
 
+import check_man_pages
 import check_pages
+import completions
 import man_pages
 import trials
 
@@ -187,19 +189,10 @@ def check_units(installed):
         tell("systemd-analyze verify", said or (done.stderr.strip() if done.returncode else None))
 
 
-def check_man_pages(installed):
-    for name in NAMES:
-        page = gzip.decompress(installed.file(f"usr/share/man/man1/{name}.1.gz").read_bytes())
-        commands = [word for word, _ in man_pages.commands_of(
-            man_pages.sections(man_pages.help_of(str(installed.file(f"usr/bin/{name}"))))[0]
-        )]
-        lacking = [it for it in commands if f".SS {man_pages.escape(it)}\n".encode() not in page]
-        tell(f"{name}.1 has each command", ", ".join(lacking))
-        if shutil.which("groff") is None:
-            print("not tried: groff is not installed")
-            continue
-        done = subprocess.run(["groff", "-man", "-Tutf8", "-ww", "-z"], input=page, capture_output=True)
-        tell(f"{name}.1 has no fault of layout", done.stderr.decode(errors="replace"))
+def check_pages_of_man(installed):
+    programs = {name: str(installed.file(f"usr/bin/{name}")) for name in NAMES}
+    packed = {name: installed.file(f"usr/share/man/man1/{name}.1.gz").read_bytes() for name in NAMES}
+    check_man_pages.check({name: gzip.decompress(page).decode() for name, page in packed.items()}, programs)
 
 
 # Completes the last of the words that are given, and prints what bash would offer. $1 is the file, $2 the program.
@@ -209,15 +202,20 @@ COMPLETE = '. "$1" && shift && COMP_WORDS=("$@") && COMP_CWORD=$(($# - 1)) && "_
 def check_completions(installed):
     for name in NAMES:
         program = str(installed.file(f"usr/bin/{name}"))
-        whole = man_pages.sections(man_pages.help_of(program))[0]
-        commands = [word for word, _ in man_pages.commands_of(whole)]
-        file = installed.file(f"usr/share/bash-completion/completions/{name}")
-        offered = lines_of("bash", "-c", COMPLETE, "bash", str(file), name, "")
-        tell(f"bash offers the commands of {name}", ", ".join(set(commands) - set(offered)))
+        commands = [word for word, _ in man_pages.commands_of(man_pages.sections(man_pages.help_of(program))[0])]
+        # The words on the command line, and what has to be offered behind them.
+        wanted = {(command, "--"): set(re.findall(r"(?m)^ +(?:-\w, )?(--[\w-]+)", man_pages.help_of(program, command)))
+                  for command in commands}  # fmt: skip
+        wanted |= {("help", ""): set(commands), ("help", commands[0], ""): set()} if commands else {}
         for command in commands:
-            offered = lines_of("bash", "-c", COMPLETE, "bash", str(file), name, command, "--")
-            wanted = set(re.findall(r"(?m)^ +(?:-\w, )?(--[\w-]+)", man_pages.help_of(program, command)))
-            trials.hold(f"bash offers the options of {name} {command}", set(offered), wanted)
+            for option in completions.words_of(program, command).options:
+                if option.values:
+                    wanted[command, option.names[-1], ""] = set(option.values)
+        if name == "intake":
+            # As docs/OPERATIONS.md has them, so that what --help lists is not all that is looked for.
+            wanted["export", "--format", ""] = {"csv", "jsonl"}
+        check_bash(installed, name, commands, wanted)
+        check_fish(installed, name, commands, wanted)
         for shell, path in [("zsh", f"usr/share/zsh/vendor-completions/_{name}"),
                             ("fish", f"usr/share/fish/vendor_completions.d/{name}.fish")]:
             text = installed.file(path).read_text()
@@ -228,6 +226,31 @@ def check_completions(installed):
                 continue
             done = subprocess.run([shell, "-n", installed.file(path)], capture_output=True, text=True)
             tell(f"{shell} reads {path.rpartition('/')[2]}", done.stderr if done.returncode else None)
+
+
+def check_bash(installed, name, commands, wanted):
+    file = installed.file(f"usr/share/bash-completion/completions/{name}")
+
+    def offered(*words):
+        return {it for it in lines_of("bash", "-c", COMPLETE, "bash", str(file), name, *words) if it}
+
+    tell(f"bash offers the commands of {name}", ", ".join({*commands, *["help"] * bool(commands)} - offered("")))
+    for words, these in wanted.items():
+        trials.hold(f"bash offers what comes behind {name} {' '.join(words)}", offered(*words), these)
+
+
+def check_fish(installed, name, commands, wanted):
+    if shutil.which("fish") is None:
+        return
+    file = installed.file(f"usr/share/fish/vendor_completions.d/{name}.fish")
+
+    def offered(*words):
+        script = f'source {file}; complete -C "{" ".join([name, *words])}"'
+        return {line.split("\t")[0] for line in lines_of("fish", "--no-config", "-c", script)}
+
+    tell(f"fish offers the commands of {name}", ", ".join({*commands, *["help"] * bool(commands)} - offered("")))
+    for words, these in wanted.items():
+        trials.hold(f"fish offers what comes behind {name} {' '.join(words)}", offered(*words), these)
 
 
 def check_pages_of(installed):
@@ -262,7 +285,7 @@ def main(words):
             check_units(installed)
             check_pages_of(installed)
             if can_run(installed):
-                check_man_pages(installed)
+                check_pages_of_man(installed)
                 check_completions(installed)
                 check_pages.play_walk(installed.file("usr/bin"))
             installed.remove()

@@ -5,8 +5,8 @@
                                             drill there
     tools/completions.py FOLDER PROGRAMS    the same, of the programs in the folder PROGRAMS
 
-Without PROGRAMS they are those that `rt run` builds. The value of an option is completed as its name in the help says:
-<FILE> by files, <FOLDER> by folders, any other by nothing.
+Without PROGRAMS they are those that `rt run` builds. The value of an option is completed as the help says: one of its
+possible values if they are named, <FILE> by files, <FOLDER> by folders, any other by nothing.
 """
 import pathlib
 import re
@@ -18,34 +18,49 @@ from man_pages import commands_of, entries, help_of, programs_in, sections
 
 @dataclass
 class Option:
-    """An option as the help has it: its names, of its value the name, if it takes one, and what it means."""
+    """An option as the help has it: its names, the name of its value, if it takes one, the values that are possible,
+    if the help lists them, and what it means."""
 
     names: list
     value: str
+    values: list
     meaning: str
 
 
 @dataclass
 class Words:
-    """What may follow a program, or one of its commands: options, and files if it takes them as arguments."""
+    """What may follow a program, or one of its commands: options, and files or the name of a command if it takes them
+    as arguments."""
 
     options: list
     takes_files: bool
+    takes_command: bool = False
 
 
-def options_in(part):
-    """The options of a help."""
-    return [Option(re.findall(r"(?<!\S)--?[\w-]+", names), next(iter(re.findall(r"<(\w+)>", names)), ""), meaning)
-            for names, meaning in entries(part.get("Options", []))]  # fmt: skip
+# The command that shows the help of another. It has no help of its own.
+HELP = ("help", "Prints the help of a command", Words([], False, takes_command=True))
+
+
+def option_of(names, meaning):
+    value = re.search(r"<(\w+)>", names)
+    values = re.search(r"\[possible values: ([^]]*)\]", meaning)
+    return Option(re.findall(r"(?<!\S)--?[\w-]+", names), value[1] if value else "",
+                  values[1].split(", ") if values else [], meaning)
 
 
 def words_of(*command):
     part, _ = sections(help_of(*command))
-    return Words(options_in(part), any("FILE" in name for name, _ in entries(part.get("Arguments", []))))
+    return Words([option_of(*entry) for entry in entries(part.get("Options", []))],
+                 any("FILE" in name for name, _ in entries(part.get("Arguments", []))))
 
 
 def names_in(options):
     return [name for option in options for name in option.names]
+
+
+def others_of(word, commands):
+    """The names of the commands but this one."""
+    return " ".join(it for it, _, _ in commands if it != word)
 
 
 # ---- bash
@@ -56,16 +71,21 @@ def bash(name, own, commands):
     every = [option for words in [own, *(words for _, _, words in commands)] for option in words.options]
     files = sorted({it for option in every if option.value == "FILE" for it in option.names})
     folders = sorted({it for option in every if option.value == "FOLDER" for it in option.names})
-    others = sorted({it for option in every if option.value not in ("", "FILE", "FOLDER") for it in option.names})
+    listed = sorted({(it, " ".join(option.values)) for option in every if option.values for it in option.names})
+    others = sorted({it for option in every if option.value not in ("", "FILE", "FOLDER") and not option.values
+                     for it in option.names})
     out = [
         f"# bash completion for {name}",
         f"_{name}() {{",
         '    local word=${COMP_WORDS[COMP_CWORD]} before=${COMP_WORDS[COMP_CWORD-1]} command="" at',
     ]
     out += ["    COMPREPLY=()", "    case $before in"]
-    for options, action in [(files, "-f"), (folders, "-d")]:
+    of_names = "            compopt -o filenames 2> /dev/null"
+    for options, action, first in [(files, "-f", [of_names]), (folders, "-d", [of_names])] + [
+        ([name], f"-W '{values}'", []) for name, values in listed
+    ]:
         if options:
-            out += [f"        {' | '.join(options)})", "            compopt -o filenames 2> /dev/null"]
+            out += [f"        {' | '.join(options)})", *first]
             out += [
                 f'            mapfile -t COMPREPLY < <(compgen {action} -- "$word")',
                 "            return",
@@ -82,7 +102,7 @@ def bash(name, own, commands):
     out += ["            *) command=${COMP_WORDS[at]} && break ;;", "        esac", "    done", "    case $command in"]
     first = [word for word, _, _ in commands] + names_in(own.options)
     for label, words, given in [("''", own, first)] + [
-        (word, words, names_in(words.options)) for word, _, words in commands
+        (word, words, names_in(words.options)) for word, _, words in commands if not words.takes_command
     ]:
         out += [
             f"        {label})",
@@ -94,6 +114,9 @@ def bash(name, own, commands):
                 "mapfile -t COMPREPLY < <(compgen -f -- \"$word\"); }"
             ]
         out += ["            ;;"]
+    for word in (word for word, _, words in commands if words.takes_command):
+        offer = f"mapfile -t COMPREPLY < <(compgen -W '{others_of(word, commands)}' -- \"$word\")"
+        out += [f"        {word})", f"            [[ $before != {word} ]] || {offer}", "            ;;"]
     out += ["    esac", "}", f"complete -F _{name} {name}"]
     return "\n".join(out) + "\n"
 
@@ -112,6 +135,7 @@ def zsh_specs(words):
     out = []
     for option in words.options:
         value = {"": "", "FILE": ":FILE:_files", "FOLDER": ":FOLDER:_files -/"}.get(option.value, f":{option.value}: ")
+        value = f":{option.value}:({' '.join(option.values)})" if option.values else value
         others = f"({' '.join(option.names)})" if len(option.names) > 1 else ""
         out += [f"'{others}{it}[{in_zsh(option.meaning)}]{value}'" for it in option.names]
     return out + (["'*:FILE:_files'"] if words.takes_files else [])
@@ -134,11 +158,10 @@ def zsh(name, own, commands):
         "            case $words[1] in",
     ]
     for word, _, words in commands:
-        out += [
-            f"                {word})",
-            "                    _arguments " + " \\\n                        ".join(zsh_specs(words)),
-            "                    ;;",
-        ]
+        does = "_arguments " + " \\\n                        ".join(zsh_specs(words))
+        if words.takes_command:
+            does = "(( CURRENT == 2 )) && _describe command commands"
+        out += [f"                {word})", f"                    {does}", "                    ;;"]
     out += ["            esac", "            ;;", "    esac", "}", "", f'_{name} "$@"']
     return "\n".join(out) + "\n"
 
@@ -155,8 +178,9 @@ def fish_options(name, words, condition):
     out = []
     for option in words.options:
         kinds = {"": "", "FILE": " -r -F", "FOLDER": " -x -a '(__fish_complete_directories)'"}
+        kind = f" -x -a '{' '.join(option.values)}'" if option.values else kinds.get(option.value, " -x")
         names = "".join(f" -l {it[2:]}" if it.startswith("--") else f" -s {it[1:]}" for it in option.names)
-        out.append(f"complete -c {name}{condition}{names}{kinds.get(option.value, ' -x')} -d {in_fish(option.meaning)}")
+        out.append(f"complete -c {name}{condition}{names}{kind} -d {in_fish(option.meaning)}")
     return out + ([f"complete -c {name}{condition} -F"] if words.takes_files else [])
 
 
@@ -166,12 +190,17 @@ def fish(name, own, commands):
     for word, text, words in commands:
         out.append(f"complete -c {name} -n __fish_use_subcommand -a {word} -d {in_fish(text)}")
         out += fish_options(name, words, f" -n '__fish_seen_subcommand_from {word}'")
+        if words.takes_command:
+            others = others_of(word, commands)
+            condition = f"__fish_seen_subcommand_from {word}; and not __fish_seen_subcommand_from {others}"
+            out.append(f"complete -c {name} -n '{condition}' -a '{others}'")
     return "\n".join(out) + "\n"
 
 
 def scripts(name, program):
     """The completions of a program, by their paths in a folder."""
     commands = [(word, text, words_of(program, word)) for word, text in commands_of(sections(help_of(program))[0])]
+    commands += [HELP] if commands else []
     own = words_of(program)
     return {
         f"bash/{name}": bash(name, own, commands),

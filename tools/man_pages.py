@@ -13,6 +13,32 @@ import sys
 
 ROOT = pathlib.Path(__file__).resolve().parent.parent
 SEE_ALSO = {"intake": "outbox", "outbox": "intake", "drill": "intake"}
+# What a page says at its beginning, and no --help does.
+DESCRIPTIONS = {
+    "intake": [
+        "intake is a supervisor's end of a filing gateway for financial reports (xBRL-JSON 1.0). Filers send each "
+        "report by a POST to /filings/CODE, under a key of their choice. A valid report is registered under a number,"
+        " and any other is refused with what is wrong with it. The same request again gets the same answer, and "
+        "changes nothing.",
+        "The register is a SQLite database in one file. One program at a time has it open; once that has ended, the "
+        "sqlite3 shell may read it. Who may file for a filer is decided by a server in front.",
+    ],
+    "outbox": [
+        "outbox is a filer's end of a filing gateway for financial reports (xBRL-JSON 1.0). A report is put in as an "
+        "entry, under a key. The entry is open until a reply settles it as confirmed, refused or clashed, and may be "
+        "sent until then: however often it comes, the supervisor registers it once. The program may be stopped at any"
+        " moment.",
+        "The outbox is a SQLite database in one file. One program at a time has it open.",
+    ],
+    "drill": [
+        "drill plays both ends of a filing gateway, an intake and outboxes, in memory: reports that are sent, cut and"
+        " repeated, and ends that stop and start again. It reads a script from standard input, an event on each line,"
+        " and prints the filings and the entries that they lead to.",
+    ],
+}
+PAGES = "The rules are in /usr/share/doc/berruzpil/docs/PROTOCOL.md, and how it is run in OPERATIONS.md beside it."
+# Characters that roff prints as others if they are written plainly, and what it prints them for.
+LITERALS = {"\\": "\\e", "-": "\\-", "'": "\\(aq", '"': "\\(dq", "`": "\\(ga", "^": "\\(ha", "~": "\\(ti"}
 
 
 def programs_in(folder=None):
@@ -49,9 +75,14 @@ def sections(text):
 
 
 def escape(text):
-    """The text as roff takes it."""
-    text = text.replace("\\", "\\e").replace("-", "\\-")
-    return "\\&" + text if text.startswith((".", "'")) else text
+    """The text as roff takes it, so that it is printed as it is."""
+    text = "".join(LITERALS.get(it, it) for it in text)
+    return "\\&" + text if text.startswith(".") else text
+
+
+def example_lines(example):
+    """An example as roff: on a line of its own that is not broken, so that it can be copied."""
+    return [".EX", f"\\fB{escape(example)}\\fR", ".EE"]
 
 
 def entries(lines):
@@ -89,7 +120,7 @@ def remarks_in(notes):
 
 def paragraphs_of(notes):
     """The notes as roff: the examples first, and then what else is said."""
-    examples = [line for example in examples_in(notes) for line in (".PP", "Example:", ".B " + escape(example))]
+    examples = [line for example in examples_in(notes) for line in [".PP", "Example:", *example_lines(example)]]
     return examples + [line for remark in remarks_in(notes) for line in (".PP", escape(remark))]
 
 
@@ -104,6 +135,8 @@ def page(name, program):
         f"{name} \\- {escape(about[:1].lower() + about[1:])}",
     ]
     out += [".SH SYNOPSIS", escape(" ".join(whole["Usage"]))]
+    out += [".SH DESCRIPTION", escape(DESCRIPTIONS[name][0])]
+    out += [line for text in [*DESCRIPTIONS[name][1:], PAGES] for line in [".PP", escape(text)]]
     commands = commands_of(whole)
     if commands:
         out.append(".SH COMMANDS")
@@ -122,7 +155,7 @@ def page(name, program):
         out += [escape(line.removeprefix("Exit status: ")) for line in remarks_in(notes)]
     if examples_in(notes):
         out.append(".SH EXAMPLES")
-        out += [line for example in examples_in(notes) for line in (".PP", ".B " + escape(example))]
+        out += [line for example in examples_in(notes) for line in [".PP", *example_lines(example)]]
     out += [".SH SEE ALSO", f".BR {SEE_ALSO[name]} (1)"]
     return "\n".join(out) + "\n"
 
