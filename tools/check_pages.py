@@ -38,6 +38,8 @@ WIDTH = 120
 # Files whose lines may be as long as they are: pages and data, and formats that have no line that goes on.
 ANY_WIDTH = re.compile(r"\.(?:md|json|yaml|edit)$|^crates\.txt$|^conformance/cases/|^crates/\w+/(?:stdin|stdout|args)$")
 HANDFUL = 5
+# How many seconds a block of commands may take. Programs that were built without proof are slow.
+PATIENCE = 300
 # What a page says in too few or too old words, and what to write.
 PHRASES = {
     r"\b(?:is|are|was|were|be|been) told\b": "reports, prints, is reported",
@@ -223,9 +225,9 @@ class Scratch:
             process = subprocess.Popen(["bash", str(script)], cwd=self.top, env=self.env, stdin=subprocess.DEVNULL,
                                        stdout=printed, stderr=subprocess.DEVNULL, start_new_session=True)  # fmt: skip
             try:
-                status = process.wait(60)
+                status = process.wait(PATIENCE)
             except subprocess.TimeoutExpired:
-                status = "none after a minute"
+                status = f"none after {PATIENCE} s"
             finally:
                 # What the block left running is its own, and ends with it.
                 try:
