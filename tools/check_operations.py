@@ -11,6 +11,7 @@ is said, and is no failure. The last line says how many trials passed and failed
 A further trial is a function in TRIALS, which gets a folder. A further kind of copy is a row in COPIES, a further reply
 that a round may meet a row in ROUNDS, a further request to nginx a row in FRONT, and one to a full disk a row in FULL.
 """
+import collections
 import contextlib
 import fcntl
 import gzip
@@ -832,6 +833,13 @@ def check_numbers(folder):
     hold("nothing is left beside the copies", names(kept),
          ["2025-20240101T000000Z.db", "register-20240101T000000Z.db", "register-20240102T030405Z.db", "register.tried"])
     check_other_numbers(folder, kept)
+    with open(kept / "2025-20240101T000000Z.db", "r+b") as copy:
+        fcntl.lockf(copy, fcntl.LOCK_EX, 510, 0x40000002)
+        found = script("register-metrics", "--into", folder / "locked.prom", "--copies", kept)
+    lines = [line.partition(" ")[0] for line in (folder / "locked.prom").read_text().splitlines()]
+    names_of = [f'berruzpil_copy_{name}{{register="2025"}}' for name in ("kept", "filings", "timestamp_seconds")]
+    hold("a copy that a program has open", (found, [name in lines for name in names_of]),
+         ((0, "", ""), [False, False, True]))
     (folder / "damaged").mkdir()
     (folder / "damaged" / "register-20240101T000000Z.db").write_text("no database " * 100)
     for what, words, status in [
@@ -1091,7 +1099,11 @@ def check_many(folder):
 
     def send(at):
         begin.wait()
-        replies.append(check_deploy.ask(folder, port, "acme", "ACME", body=REPORT, **{"Idempotency-Key": f'"k-{at}"'}))
+        try:
+            own = {"Idempotency-Key": f'"k-{at}"'}
+            replies.append(check_deploy.ask(folder, port, "acme", "ACME", body=REPORT, **own))
+        except OSError as fault:
+            replies.append((repr(fault), b""))
 
     with subprocess.Popen([check_deploy.find("nginx"), "-p", folder, "-c", file], stderr=subprocess.DEVNULL) as front:
         try:
@@ -1105,8 +1117,8 @@ def check_many(folder):
             front.terminate()
             serving.process.terminate()
             serving.process.communicate()
-    hold(f"{MANY} clients at once", [status for status, _ in replies], [201] * MANY)
-    numbers = sorted(json.loads(content)["number"] for _, content in replies)
+    hold(f"{MANY} clients at once", collections.Counter(status for status, _ in replies), {201: MANY})
+    numbers = sorted(json.loads(content)["number"] for status, content in replies if status == 201)
     hold("each report has a number of its own", numbers, list(range(1, MANY + 1)))
 
 
