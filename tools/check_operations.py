@@ -275,12 +275,12 @@ TMPDIR=/var/tmp exec "$@"
 """
 
 
-def as_user(name, *words, groups=()):
+def as_user(name, *words, groups=(), cwd=None):
     """What a script gives somebody who owns nothing, and has these groups."""
     given = f"--groups={','.join(map(str, groups))}" if groups else "--clear-groups"
     who = ["setpriv", f"--reuid={NOBODY}", f"--regid={NOBODY}", given, "--"]
     done = subprocess.run([*who, name, *map(str, words)], capture_output=True, text=True, check=False,
-                          timeout=120, env=PATHS)
+                          timeout=120, env=PATHS, cwd=cwd)
     return done.returncode, done.stdout, done.stderr
 
 
@@ -363,6 +363,12 @@ def check_read_only_copies(folder):
         it.chmod(0o444)
     os.chown(out, NOBODY, NOBODY)
     try_readers("a folder of another user", copies, out, lambda name, *words: as_user(DEPLOY / name, *words))
+    closed = folder / "closed"
+    closed.mkdir(mode=0o700)
+    for ending in ("", "-wal"):
+        (folder / f"register.db{ending}").chmod(0o644)
+    found = as_user(DEPLOY / "register-copies", folder / "register.db", out, 30, cwd=closed)
+    hold("register-copies from a folder that its user may not read", (found[0], found[2]), (0, ""))
 
 
 def try_metrics_unit(folder, copies, out, sandbox):
