@@ -315,52 +315,63 @@ def connecting(port):
     return peer
 
 
-def write(peer, data):
-    """Sends these bytes of a race. What an end replied that closes before it has read all is looked at all the same."""
-    peer.setblocking(True)
-    peer.setsockopt(socket.IPPROTO_TCP, socket.TCP_NODELAY, 1)
-    try:
-        peer.sendall(data)
-    except (ConnectionResetError, BrokenPipeError):
-        pass
+def connected_in(peers, seconds):
+    """Those of these that are connected within so many seconds."""
+    until, found = time.monotonic() + seconds, []
+    while len(found) < len(peers) and (left := until - time.monotonic()) > 0:
+        found += select.select([], [peer for peer in peers if peer not in found], [], left)[1]
+    for peer in found:
+        peer.setblocking(True)
+        peer.setsockopt(socket.IPPROTO_TCP, socket.TCP_NODELAY, 1)
+    return found
 
 
-def read(peer):
-    try:
-        return peer.recv(65536)
-    except ConnectionResetError:
-        return b""
-
-
-def race(peers, requests, patience):
-    """Sends each request on its connection, all at once, and gives what came on each until its end.
-
-    The last byte of a request is kept back until the others have come. An intake may take one connection after another:
-    only if nothing comes on any of them for this long, it does not answer."""
-    left, came, is_open = dict(zip(peers, requests)), dict.fromkeys(peers, b""), set(peers)
-    until = time.monotonic() + GATHERED
-    ready = []
-    while len(ready) < len(peers) and (seconds := until - time.monotonic()) > 0:
-        ready += select.select([], [peer for peer in peers if peer not in ready], [], seconds)[1]
-    for peer in ready:
-        write(peer, left[peer][:-1])
-    time.sleep(QUIET)
-    for peer in ready:
-        write(peer, left.pop(peer)[-1:])
+def at_once(peers, requests, patience):
+    """Sends each request on its connection, and gives what came on each until its end, or nothing for one that is not
+    connected in time. The last byte of each is kept back until the others have come."""
+    came, to_send = dict.fromkeys(peers, b""), dict(zip(peers, requests))
+    is_open = connected_in(peers, GATHERED)
+    for part, pause in ((slice(-1), QUIET), (slice(-1, None), 0)):
+        for peer in is_open:
+            try:
+                peer.sendall(to_send[peer][part])
+            except (ConnectionResetError, BrokenPipeError):
+                pass  # As for a single connection.
+        time.sleep(pause)
     while is_open:
-        readable, writable, _ = select.select([peer for peer in is_open if peer not in left], list(left), [], patience)
-        if not readable and not writable:
-            ended = len(peers) - len(is_open)
-            raise Fault("the replies", f"{len(peers)} connections are answered and closed",
-                        f"{ended} are, and nothing comes on the others for {patience} s")
-        for peer in writable:
-            write(peer, left.pop(peer))
+        readable = select.select(is_open, [], [], patience)[0]
+        if not readable:
+            raise Fault("the replies", "each connection is answered and closed",
+                        f"nothing comes on {len(is_open)} of {len(peers)} for {patience} s")
         for peer in readable:
-            found = read(peer)
+            try:
+                found = peer.recv(65536)
+            except ConnectionResetError:
+                found = b""
             came[peer] += found
             if not found:
-                is_open.discard(peer)
+                is_open.remove(peer)
     return list(came.values())
+
+
+def race(intake, requests, patience):
+    """What came for each of the requests, which are sent at once. Those that get no byte of a reply are sent again, as
+    filers do it: if many wait to be taken, Linux breaks some connections that the intake has never seen."""
+    came = [b""] * len(requests)
+    while turns := [turn for turn, found in enumerate(came) if not found]:
+        # The first waits until somebody listens.
+        peers = [intake.connect().peer]
+        try:
+            peers += [connecting(intake.port) for _ in turns[1:]]
+            found = at_once(peers, [requests[turn] for turn in turns], patience)
+        finally:
+            for peer in peers:
+                peer.close()
+        if not any(found):
+            raise Fault("the replies", f"one on each of {len(requests)} connections", f"none on {len(turns)} of them")
+        for turn, data in zip(turns, found):
+            came[turn] = data
+    return came
 
 
 def hold_replies(wanted, came, numbers):
@@ -589,14 +600,7 @@ def try_race(intake, wanted, patience):
     """Sends the requests of a race, and compares what came."""
     requests = [to_bytes(wanted["send"], intake.numbers.offset, turn) for turn in range(1, wanted["times"] + 1)]
     with RACES:
-        # The first waits until somebody listens.
-        peers = [intake.connect().peer]
-        try:
-            peers += [connecting(intake.port) for _ in requests[1:]]
-            came = race(peers, requests, patience)
-        finally:
-            for peer in peers:
-                peer.close()
+        came = race(intake, requests, patience)
     hold_replies(wanted["replies"], came, intake.numbers)
 
 

@@ -567,6 +567,9 @@ REFUSALS = [
     (["list"], CASE % '{"send":{"base64":"*"}}', "'*' is no base64"),
     (["list"], CASE % '{"reply":{"status":200,"contents":""}}', "there is no 'contents'"),
     (["list"], CASE % '{"reply":{"content":""}}', "has no 'status'"),
+    (["list"], CASE % '{"send":{"turn":2}}', "{'turn': 2} spells no bytes"),
+    (["list"], CASE.replace('{"steps":[%s]}', '{"race":{"times":2,"send":"","replies":[]}}'),
+     "a race of 2 connections has another count of replies"),
 ]
 
 
