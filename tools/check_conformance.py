@@ -6,7 +6,8 @@
 Without names it takes the programs that `rt run` builds in their folders. First each case is played on them: over
 sockets with an intake started for each case, over the port of one that runs, on standard input and output, and with the
 outbox. Then wrong programs are played: an intake and an outbox that this script puts itself in front of, changing one
-thing. For each change the named cases have to fail, and the others named have to pass. All this takes some ten minutes.
+thing. For each change the named cases have to fail, and the others named, or all others, have to pass. All this takes
+some twenty minutes.
 The last line is 'N passed, M failed', and the status 1 if one failed.
 """
 import collections

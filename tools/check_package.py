@@ -192,7 +192,11 @@ def check_units(installed):
 def check_pages_of_man(installed):
     programs = {name: str(installed.file(f"usr/bin/{name}")) for name in NAMES}
     packed = {name: installed.file(f"usr/share/man/man1/{name}.1.gz").read_bytes() for name in NAMES}
-    check_man_pages.check({name: gzip.decompress(page).decode() for name, page in packed.items()}, programs)
+    pages = {name: gzip.decompress(page).decode() for name, page in packed.items()}
+    named = re.findall(r"/(usr/share/doc/\S+\.md)", "\n".join(pages.values()))
+    tell("the pages that the man pages name are there",
+         ", ".join(it for it in named if not installed.file(it).exists()) if named else "none is named")
+    check_man_pages.check(pages, programs)
 
 
 # Completes the last of the words that are given, and prints what bash would offer. $1 is the file, $2 the program.
