@@ -41,11 +41,11 @@ fn append_byte(written: &mut Vec<u8>, byte: u8) -> Result<(), AllocError>
     Ok(())
 }
 
-/// Appends what is written of a text.
-pub(crate) fn append_escaped(written: &mut Vec<u8>, text: &str) -> Result<(), AllocError>
-    ensures { OnOk result (AddsText text.now written.old.items written.new.items) }
+/// Appends what is written of the bytes of a text, or of a part of one.
+pub(crate) fn append_bytes(written: &mut Vec<u8>, bytes: &[u8]) -> Result<(), AllocError>
+    ensures { OnOk result (AddsText bytes.now written.old.items written.new.items) }
 {
-    for byte in text.as_bytes() {
+    for byte in bytes {
         append_byte(written, *byte)?;
     }
     Ok(())

@@ -3,8 +3,10 @@
 ghost use Rattle.std.specs.Prelude.{◌≡◌, ◌++◌, [], OnOk};
 ghost use Rattle.std.specs.Fmt.{decimal};
 ghost use Rattle.markup.specs.Reading.{AddsText};
+ghost use Rattle.markup.specs.Short.{shortened};
 
-use crate::escaping::append_escaped;
+use crate::escaping::append_bytes;
+use crate::short::append_shortened;
 use std::alloc::{AllocError, Global};
 use std::marker::Model;
 
@@ -44,7 +46,14 @@ impl Markup {
     pub fn text(&mut self, text: &str) -> Result<(), AllocError>
         ensures { OnOk result (AddsText text.now self.old self.new) }
     {
-        append_escaped(&mut self.bytes, text)
+        append_bytes(&mut self.bytes, text.as_bytes())
+    }
+
+    /// Appends a text like `text`, shortened in the middle if it has more than 120 characters.
+    pub fn short_text(&mut self, text: &str) -> Result<(), AllocError>
+        ensures { OnOk result (AddsText (shortened text.now) self.old self.new) }
+    {
+        append_shortened(&mut self.bytes, text)
     }
 
     /// Appends a number in decimal.

@@ -2,15 +2,14 @@ use Rattle.std.proofs.Common.{take, sym, subst}
 use Rattle.std.proofs.lemmas.List.{take_more}
 use Rattle.markup.specs.Reading.{AddsText}
 use Rattle.markup.proofs.ReadingLemmas.{adds_none, adds_more}
-use Rattle.markup.proofs.escaping.append_escaped.Goals as goal
+use Rattle.markup.proofs.escaping.append_bytes.Goals as goal
 
 pub loop-byte-init : goal.loop-byte-init
 loop-byte-init c = adds_none _
 
 pub loop-byte-preserved : goal.loop-byte-preserved
 loop-byte-preserved c =
-    let same = c.as_bytes-byte-items.ensures.value in
     let i = c.loop-byte.byte-index in
     subst (λ t. AddsText t c.args.written.now.items c.append_byte.new.written.items)
-    (sym (take_more c.args.text.now i 0 (rw same at c.loop-byte-test.true)))
-    (adds_more (take i c.args.text.now) _ _ _ _ c.loop-byte.invariant (rw same at c.in_ok-append_byte.ensures))
+    (sym (take_more c.args.bytes.now i 0 c.loop-byte-test.true))
+    (adds_more (take i c.args.bytes.now) _ _ _ _ c.loop-byte.invariant c.in_ok-append_byte.ensures)

@@ -1,6 +1,0 @@
-use Rattle.std.proofs.Common.{take}
-use Rattle.markup.specs.Reading.{AddsText}
-use Rattle.markup.proofs.escaping.append_escaped.Given as goal
-
-abbrev pub invariant-loop-byte : goal.invariant-loop-byte
-invariant-loop-byte l = AddsText (take l.byte-index l.text) l.initial.written.items l.written.items
