@@ -20,11 +20,14 @@ FACT = (
     '{"concept":"eg:Assets","decimals":0,"dimensions":{"concept":"eg:Assets","entity":"lei:ACME",'
     '"period":"2024-12-31T00:00:00","unit":"iso4217:EUR"},"id":"f1","value":"100"}\n'
 )
-NAMES = "number,filer,key,concept,period,unit,entity,value,decimals,replaced_by\r\n"
-CSV = '1,"ACME","k-1","eg:Assets","2024-12-31T00:00:00","iso4217:EUR","lei:ACME","100",0,\r\n'
+NAMES = (
+    "number,filer,key,id,concept,entity,period,unit,language,note_id,dimensions,value,decimals,replaced_by\r\n"
+)
+CSV = '1,"ACME","k-1","f1","eg:Assets","lei:ACME","2024-12-31T00:00:00","iso4217:EUR",,,"{}","100",0,\r\n'
 LINE = (
-    '{"number":1,"filer":"ACME","key":"k-1","concept":"eg:Assets","period":"2024-12-31T00:00:00","unit":"iso4217:EUR",'
-    '"entity":"lei:ACME","value":"100","decimals":0,"replaced_by":null}\n'
+    '{"number":1,"filer":"ACME","key":"k-1","id":"f1","concept":"eg:Assets","entity":"lei:ACME",'
+    '"period":"2024-12-31T00:00:00","unit":"iso4217:EUR","language":null,"note_id":null,"dimensions":{},'
+    '"value":"100","decimals":0,"replaced_by":null}\n'
 )
 FILER_CODE = "not a filer code, which is 1 to 64 ASCII letters, digits, '.', '_' and '-'"
 

@@ -1,5 +1,6 @@
 #!/usr/bin/env python3
-"""Tries `intake export` of the built program: what it writes is read back by Python's csv and json, and by sqlite3.
+"""Tries `intake export` of the built program: what it writes is read back by Python's csv and json, by pandas and by
+sqlite3.
 
     tools/check_export.py
 
@@ -12,15 +13,43 @@ import shutil
 import subprocess
 import time
 
-from odd_register import SENT, make_odd_register, many, records
+from odd_register import SENT, WHOLE, make_odd_register, many, records
 from trials import INTAKE, hold, make_register, run, tell, try_all
 
-NAMES = ["number", "filer", "key", "concept", "period", "unit", "entity", "value", "decimals", "replaced_by"]
+NAMES = ["number", "filer", "key", "id", "concept", "entity", "period", "unit", "language", "note_id", "dimensions",
+         "value", "decimals", "replaced_by"]  # fmt: skip
+# Debian's Python, for which its package python3-pandas is made.
+PANDAS = ["/usr/bin/python3", "-c"]
 
 
 def as_text(record):
-    """A record as CSV has it, in which no value is an empty text too."""
-    return ["" if record[name] is None else str(record[name]) for name in NAMES]
+    """A record as CSV has it, in which no value is an empty text too, and an object is its JSON text."""
+    return [field_of(record[name]) for name in NAMES]
+
+
+def field_of(value):
+    if isinstance(value, dict):
+        return json.dumps(value, ensure_ascii=False, separators=(",", ":"))
+    return "" if value is None else str(value)
+
+
+def without(names, rows):
+    return [tuple(field for name, field in zip(NAMES, row) if name not in names) for row in rows]
+
+
+def has_twin(fact, facts):
+    """Whether another fact has the same dimensions and the same decimals."""
+    return any(other is not fact and other["dimensions"] == fact["dimensions"]
+               and other.get("decimals") == fact.get("decimals") for other in facts)  # fmt: skip
+
+
+def tells_facts_apart(rows):
+    """Of the filing of WHOLE: rows agree in all but the id and the value only if their facts do, and no ids agree."""
+    alike = without({"id", "value"}, rows)
+    hold("rows that agree in all but id and value are those of facts that do",
+         sorted(row[NAMES.index("id")] for row, but in zip(rows, alike) if alike.count(but) > 1),
+         sorted(name for name, fact in WHOLE.items() if has_twin(fact, WHOLE.values())))
+    hold("no two rows agree in all but the value", len(set(without({"value"}, rows))), len(WHOLE))
 
 
 def exported(database, *words):
@@ -39,8 +68,9 @@ def check_csv(folder):
     hold("and of one filer", only, [NAMES] + [as_text(record) for record in records(SENT, "BETA")])
     hold("and of a filer that has none", exported(database, "--format", "csv", "--filer", "NONE").decode(),
          ",".join(NAMES) + "\r\n")
-    empty = [line for line in text.split(b"\r\n") if b',"",' in line]
-    hold("an empty text is another field than no value", len(empty), 1)
+    hold("an empty text is another field than no value", text.count(b',"{}","",'), 4)
+    hold("and no value is empty", text.count(b',"{}",,'), 1)
+    tells_facts_apart([row for row in rows if row[1] == "007"])
 
 
 def check_lines(folder):
@@ -50,6 +80,38 @@ def check_lines(folder):
     hold("the last line ends", lines.pop(), "")
     hold("Python's json reads what was filed", [json.loads(line) for line in lines], list(records(SENT)))
     hold("the members are in order", all(list(json.loads(line)) == NAMES for line in lines), True)
+    objects = [list(json.loads(line)["dimensions"]) for line in lines]
+    hold("the names of an object are in byte order", all(names == sorted(names, key=str.encode) for names in objects),
+         True)
+
+
+# What docs/OPERATIONS.md says: each value is a text, and no text is taken for a missing value.
+READ_CSV = """
+import json, sys, pandas
+facts = pandas.read_csv(sys.argv[1], dtype=str, keep_default_na=False)
+print(json.dumps([list(facts.columns)] + facts.values.tolist()))
+"""
+READ_LINES = """
+import json, sys, pandas
+facts = pandas.read_json(sys.argv[1], lines=True, dtype=False, convert_dates=False)
+print(json.dumps([list(facts.columns), facts["value"].tolist(), facts["dimensions"].tolist()]))
+"""
+
+
+def check_pandas(folder):
+    if subprocess.run([*PANDAS, "import pandas"], capture_output=True, check=False).returncode != 0:
+        print("left out: there is no python3-pandas")
+        return
+    database = folder / "register.db"
+    make_odd_register(database)
+    (folder / "facts.csv").write_bytes(exported(database, "--format", "csv"))
+    (folder / "facts.jsonl").write_bytes(exported(database, "--format", "jsonl"))
+    wanted = list(records(SENT))
+    done = subprocess.run([*PANDAS, READ_CSV, folder / "facts.csv"], capture_output=True, check=True)
+    hold("pandas reads the CSV that was filed", json.loads(done.stdout), [NAMES] + [as_text(it) for it in wanted])
+    done = subprocess.run([*PANDAS, READ_LINES, folder / "facts.jsonl"], capture_output=True, check=True)
+    hold("pandas reads the lines that were filed", json.loads(done.stdout),
+         [NAMES, [it["value"] for it in wanted], [it["dimensions"] for it in wanted]])
 
 
 def check_sqlite(folder):
@@ -63,6 +125,10 @@ def check_sqlite(folder):
     done = subprocess.run(["sqlite3", ":memory:", f".import --csv {folder}/facts.csv facts", query],
                           capture_output=True, check=True)
     hold("sqlite3 imports what was filed", json.loads(done.stdout), [as_text(record) for record in records(SENT)])
+    query = """SELECT json_group_array(id) FROM facts WHERE dimensions ->> '$."eg:Region"' = 'eg:North'"""
+    done = subprocess.run(["sqlite3", ":memory:", f".import --csv {folder}/facts.csv facts", query],
+                          capture_output=True, check=True)
+    hold("sqlite3 asks for a dimension", json.loads(done.stdout), ["nil", "north"])
 
 
 def check_others(folder):
@@ -88,4 +154,4 @@ def check_time(folder):
 
 
 if __name__ == "__main__":
-    try_all([INTAKE], [check_csv, check_lines, check_sqlite, check_others, check_time])
+    try_all([INTAKE], [check_csv, check_lines, check_pandas, check_sqlite, check_others, check_time])

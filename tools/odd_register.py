@@ -39,6 +39,22 @@ def report(facts):
     return json.dumps({"documentInfo": DOCUMENT, "facts": facts}, ensure_ascii=False).encode()
 
 
+# Facts that differ in what a column for each core dimension but the note does not show, and amounts that a program
+# which takes them for numbers would change.
+REGION = "eg:Region"
+WHOLE = {
+    "all": fact("007", "12345678901234567890.01", "iso4217:EUR", 2),
+    "north": fact("007", "100", "iso4217:EUR", 2, **{REGION: "eg:North"}),
+    "south": fact("007", "100", "iso4217:EUR", 2, **{REGION: "eg:South"}),
+    "typed": fact("007", "200", "iso4217:EUR", 2, **{"eg:Z": None, "eg:Street": 'a "b", \u00e9\r\nc', "eg:Empty": ""}),
+    "nil": fact("007", None, "iso4217:EUR", 2, **{REGION: "eg:North"}),
+    "one": fact("007", "=1+1", noteId="n-1"),
+    "two": fact("007", "=1+1", noteId="n-2"),
+    "de": fact("007", "", language="de"),
+    "en": fact("007", "", language="en"),
+    "again": fact("007", "", language="en"),
+}
+
 # Each is a filer, a key, the number of the filing that is to be replaced, if any, and the facts.
 # The last two reports are refused.
 SENT = [
@@ -55,6 +71,7 @@ SENT = [
     ),
     ("ACME", "k-2", 1, {"f1": fact("ACME", "1.5", "iso4217:EUR", 0)}),
     ("a.b_c-", "c-1", None, {"f1": fact("a.b_c-", "1")}),
+    ("007", "NA", None, WHOLE),
     ("BETA", "b-2", None, {"f<i>'": {"value": 7, "dimensions": {"concept": "<b>", "entity": "lei:X"}}}),
     ("BETA", "b-3", 1, {"f1": fact("BETA", "1,5", "iso4217:EUR")}),
 ]
@@ -80,6 +97,10 @@ def many(count):
         yield filer, f"n-{at}", None, {f"f{of}": fact(filer, str(of * 1000), "iso4217:EUR", 0) for of in range(10)}
 
 
+CORE = {"concept": "concept", "entity": "entity", "period": "period", "unit": "unit", "language": "language",
+        "noteId": "note_id"}  # fmt: skip
+
+
 def records(sent, filer=None):
     """What an export has to say of the facts of valid reports, worked out from what was sent."""
     valid = sent[: len(sent) - REFUSED]
@@ -93,10 +114,9 @@ def records(sent, filer=None):
                 "number": number,
                 "filer": own,
                 "key": key,
-                "concept": dimensions["concept"],
-                "period": dimensions.get("period"),
-                "unit": dimensions.get("unit"),
-                "entity": dimensions.get("entity"),
+                "id": name,
+                **{column: dimensions.get(of) for of, column in CORE.items()},
+                "dimensions": {of: dimensions[of] for of in sorted(dimensions, key=str.encode) if of not in CORE},
                 "value": facts[name]["value"],
                 "decimals": facts[name].get("decimals"),
                 "replaced_by": replaced_by,

@@ -1,1 +1,2 @@
+pub mod Dimensions
 pub mod Fields

@@ -2,9 +2,9 @@
 
 ghost use Rattle.std.specs.Prelude.{◌≡◌, ◌++◌, option_map, IfOk, OnOk};
 ghost use Rattle.std.specs.Fmt.{decimal, signed_decimal};
-ghost use Rattle.serde_json.specs.Data.{string};
+ghost use Rattle.serde_json.specs.Data.{Data, string};
 ghost use Rattle.serde_json.specs.Written.{compact_text};
-ghost use Rattle.fact_records.specs.Fields.{absent, doubled, field_or_absent, quoted, text_field};
+ghost use Rattle.fact_records.specs.Fields.{absent, doubled, field_or_absent, object_field, quoted, text_field};
 
 use crate::record::Form;
 use serde_json::json;
@@ -31,11 +31,11 @@ fn append_doubled(field: &mut Vec<u8>, byte: u8) -> Result<(), AllocError>
 }
 
 /// A text in quotes, as CSV has it.
-fn quoted(alloc: Global, text: &str) -> Result<Vec<u8>, AllocError>
+fn quoted(alloc: Global, text: &[u8]) -> Result<Vec<u8>, AllocError>
     ensures { IfOk result (λ field. field.items ≡ quoted text.now) }
 {
     let mut field = copied(alloc, b"\"")?;
-    for byte in text.as_bytes() {
+    for byte in text {
         append_doubled(&mut field, *byte)?;
     }
     field.push(b'"')?;
@@ -55,13 +55,24 @@ pub(crate) fn text(alloc: Global, form: Form, text: &str) -> Result<Vec<u8>, All
     ensures { IfOk result (λ field. field.items ≡ text_field form text.now) }
 {
     match form {
-        Form::Csv => quoted(alloc, text),
+        Form::Csv => quoted(alloc, text.as_bytes()),
         Form::JsonLines => json_text(alloc, text),
     }
 }
 
+/// An object, whose JSON text this is.
+pub(crate) fn object(alloc: Global, form: Form, text: Vec<u8>) -> Result<Vec<u8>, AllocError>
+    ensures { IfOk result (λ field.
+        (d : Data) → text.items ≡ compact_text d → field.items ≡ object_field form d) }
+{
+    match form {
+        Form::Csv => quoted(alloc, &text),
+        Form::JsonLines => Ok(text),
+    }
+}
+
 /// No value.
-fn absent(alloc: Global, form: Form) -> Result<Vec<u8>, AllocError>
+pub(crate) fn absent(alloc: Global, form: Form) -> Result<Vec<u8>, AllocError>
     ensures { IfOk result (λ field. field.items ≡ absent form) }
 {
     match form {

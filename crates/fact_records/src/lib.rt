@@ -4,6 +4,8 @@
 
 mod aspects;
 mod field;
+pub mod laws;
+mod others;
 mod record;
 
 pub use record::{Form, Head, first_line, record_text};

@@ -4,7 +4,7 @@ ghost use Rattle.std.specs.Prelude.{◌≡◌, ◌++◌, IfOk, OnOk};
 ghost use Rattle.fact_records.specs.Fields.{csv_record, fields, first_line, json_line, record_text, view_fields};
 ghost use Rattle.fact_records.specs.Fields.{view_head};
 
-use crate::aspects::read_aspects;
+use crate::aspects::{Aspects, read_aspects};
 use crate::field::{integer_or_absent, number, number_or_absent, text, text_or_absent};
 use std::alloc::{AllocError, Global};
 use xbrl_report::Fact;
@@ -33,10 +33,9 @@ pub(crate) struct Fields {
     number: Vec<u8>,
     filer: Vec<u8>,
     key: Vec<u8>,
+    id: Vec<u8>,
     concept: Vec<u8>,
-    period: Vec<u8>,
-    unit: Vec<u8>,
-    entity: Vec<u8>,
+    aspects: Aspects,
     value: Vec<u8>,
     decimals: Vec<u8>,
     replaced_by: Vec<u8>,
@@ -48,7 +47,7 @@ pub fn first_line(form: Form) -> &'static str
 {
     match form {
         Form::Csv => {
-            "number,filer,key,concept,period,unit,entity,value,decimals,replaced_by\r\n"
+            "number,filer,key,id,concept,entity,period,unit,language,note_id,dimensions,value,decimals,replaced_by\r\n"
         }
         Form::JsonLines => "",
     }
@@ -74,15 +73,13 @@ pub fn record_text(
 fn fields_of(alloc: Global, form: Form, head: &Head<'_>, fact: &Fact) -> Result<Fields, AllocError>
     ensures { IfOk result (λ written. view_fields written ≡ fields form (view_head head.now) fact.now) }
 {
-    let aspects = read_aspects(alloc, form, fact)?;
     Ok(Fields {
         number: number(alloc, head.number)?,
         filer: text(alloc, form, head.filer)?,
         key: text(alloc, form, head.key)?,
+        id: text(alloc, form, fact.id.as_str())?,
         concept: text(alloc, form, fact.concept.as_str())?,
-        period: aspects.period,
-        unit: aspects.unit,
-        entity: aspects.entity,
+        aspects: read_aspects(alloc, form, fact)?,
         value: text_or_absent(alloc, form, fact.value.as_deref())?,
         decimals: integer_or_absent(alloc, form, fact.decimals)?,
         replaced_by: number_or_absent(alloc, form, head.replaced_by)?,
@@ -105,10 +102,14 @@ fn csv_record(alloc: Global, fields: &Fields) -> Result<Vec<u8>, AllocError>
     append(&mut line, "", &fields.number)?;
     append(&mut line, ",", &fields.filer)?;
     append(&mut line, ",", &fields.key)?;
+    append(&mut line, ",", &fields.id)?;
     append(&mut line, ",", &fields.concept)?;
-    append(&mut line, ",", &fields.period)?;
-    append(&mut line, ",", &fields.unit)?;
-    append(&mut line, ",", &fields.entity)?;
+    append(&mut line, ",", &fields.aspects.entity)?;
+    append(&mut line, ",", &fields.aspects.period)?;
+    append(&mut line, ",", &fields.aspects.unit)?;
+    append(&mut line, ",", &fields.aspects.language)?;
+    append(&mut line, ",", &fields.aspects.note_id)?;
+    append(&mut line, ",", &fields.aspects.dimensions)?;
     append(&mut line, ",", &fields.value)?;
     append(&mut line, ",", &fields.decimals)?;
     append(&mut line, ",", &fields.replaced_by)?;
@@ -124,10 +125,14 @@ fn json_line(alloc: Global, fields: &Fields) -> Result<Vec<u8>, AllocError>
     append(&mut line, "{\"number\":", &fields.number)?;
     append(&mut line, ",\"filer\":", &fields.filer)?;
     append(&mut line, ",\"key\":", &fields.key)?;
+    append(&mut line, ",\"id\":", &fields.id)?;
     append(&mut line, ",\"concept\":", &fields.concept)?;
-    append(&mut line, ",\"period\":", &fields.period)?;
-    append(&mut line, ",\"unit\":", &fields.unit)?;
-    append(&mut line, ",\"entity\":", &fields.entity)?;
+    append(&mut line, ",\"entity\":", &fields.aspects.entity)?;
+    append(&mut line, ",\"period\":", &fields.aspects.period)?;
+    append(&mut line, ",\"unit\":", &fields.aspects.unit)?;
+    append(&mut line, ",\"language\":", &fields.aspects.language)?;
+    append(&mut line, ",\"note_id\":", &fields.aspects.note_id)?;
+    append(&mut line, ",\"dimensions\":", &fields.aspects.dimensions)?;
     append(&mut line, ",\"value\":", &fields.value)?;
     append(&mut line, ",\"decimals\":", &fields.decimals)?;
     append(&mut line, ",\"replaced_by\":", &fields.replaced_by)?;

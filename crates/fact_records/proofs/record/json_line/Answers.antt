@@ -7,6 +7,14 @@ unfolding json_line
 returns c =
     rw (
       c.in_ok-extend_from_slice.ensures.items,
+      c.in_ok-append-14.ensures,
+      c.deref-14.ensures.value,
+      c.in_ok-append-13.ensures,
+      c.deref-13.ensures.value,
+      c.in_ok-append-12.ensures,
+      c.deref-12.ensures.value,
+      c.in_ok-append-11.ensures,
+      c.deref-11.ensures.value,
       c.in_ok-append-10.ensures,
       c.deref-10.ensures.value,
       c.in_ok-append-9.ensures,
