@@ -411,8 +411,12 @@ def check_for_reading(folder):
     shutil.copy(copy, folder / "own.db")
     hold("the programs take it", ask_register(folder / "own.db"), (0, f"{SOUND}\n".encode()))
     hold("its pages have their sums", ask_register(with_changed_byte(shutil.copy(copy, folder / "byte.db")))[0], 1)
-    hold("register-restore --for-reading", (script("register-restore", "--for-reading", copy, shared / "new.db")[0],
-                                            rights(shared / "new.db")), (0, "0o640"))
+    # What migrates a copy marks it as one with a log.
+    trials.make_earlier(folder / "earlier.db")
+    found = script("register-restore", "--for-reading", folder / "earlier.db", shared / "new.db")
+    hold("register-restore --for-reading of an earlier version", (found[0], rights(shared / "new.db")), (0, "0o640"))
+    ask = ["-batch", "-readonly", shared / "new.db", "SELECT filer, idem FROM kept"]
+    hold("a member of the group reads that", as_user("sqlite3", *ask, groups=(READERS,)), (0, "ACME|k-1\n", ""))
 
 
 # ---- links in folders that others may write to
