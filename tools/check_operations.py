@@ -20,6 +20,7 @@ import json
 import os
 import pathlib
 import re
+import runpy
 import shutil
 import signal
 import socket
@@ -411,6 +412,10 @@ def check_for_reading(folder):
     shutil.copy(copy, folder / "own.db")
     hold("the programs take it", ask_register(folder / "own.db"), (0, f"{SOUND}\n".encode()))
     hold("its pages have their sums", ask_register(with_changed_byte(shutil.copy(copy, folder / "byte.db")))[0], 1)
+    marked = pathlib.Path(shutil.copy(folder / "register.db", folder / "marked.db"))
+    runpy.run_path(str(DEPLOY / "register-restore"))["for_reading"](marked)
+    hold("a register that is marked so has its sums", (marked.read_bytes()[18:20], ask_register(marked)),
+         (b"\1\1", (0, f"{SOUND}\n".encode())))
     # What migrates a copy marks it as one with a log.
     trials.make_earlier(folder / "earlier.db")
     found = script("register-restore", "--for-reading", folder / "earlier.db", shared / "new.db")
