@@ -8,3 +8,4 @@ mod Lists
 mod Strings
 mod Once
 mod Agree
+mod Below

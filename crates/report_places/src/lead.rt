@@ -1,13 +1,14 @@
 //! Where a pointer leads on the tape of a text.
-ghost use Rattle.std.specs.Prelude.{◌≡◌, map};
+ghost use Rattle.std.specs.Prelude.{◌≡◌, map, IfOk};
 ghost use Rattle.json.specs.Json.{Json};
 ghost use Rattle.json.specs.Tree.{json_tokens};
 ghost use Rattle.json.specs.Tape.{node_token, Linked};
 ghost use Rattle.report_places.specs.Lead.{lead};
-ghost use Rattle.report_places.specs.OnTape.{led, Begins};
+ghost use Rattle.report_places.specs.OnTape.{led, Begins, IsIndexOf};
 
-use crate::tape::child;
+use crate::index::Index;
 use json::Node;
+use std::alloc::AllocError;
 
 /// The token at which the value begins that a pointer names. If that value is not there, it is the token of the nearest
 /// value above it.
@@ -18,45 +19,53 @@ pub(crate) struct Lead {
 }
 
 /// Where a pointer leads.
-pub(crate) fn lead_of(nodes: &[Node<'_>], pointer: &str) -> Lead
-    requires { Linked (map node_token nodes.now) 0 nodes.now }
-    ensures same { (value : Json) → map node_token nodes.now ≡ json_tokens value
-        → result ≡ led (lead pointer.now value) }
-    ensures stands { (value : Json) → map node_token nodes.now ≡ json_tokens value
-        → Begins (map node_token nodes.now) result.token (lead pointer.now value).value }
+pub(crate) fn lead_of<'a>(
+    nodes: &[Node<'a>],
+    index: &mut Index<'a>,
+    pointer: &str,
+) -> Result<Lead, AllocError>
+    requires linked { Linked (map node_token nodes.now) 0 nodes.now }
+    requires index { IsIndexOf (map node_token nodes.now) index.old }
+    ensures index { IsIndexOf (map node_token nodes.now) index.new }
+    ensures same { IfOk result (λ found. (value : Json) → map node_token nodes.now ≡ json_tokens value
+        → found ≡ led (lead pointer.now value)) }
+    ensures stands { IfOk result (λ found. (value : Json) → map node_token nodes.now ≡ json_tokens value
+        → Begins (map node_token nodes.now) found.token (lead pointer.now value).value) }
 {
     let mut token = 0;
     if pointer.is_empty() {
-        return Lead {
+        return Ok(Lead {
             token,
             is_there: true,
-        };
+        });
     }
     let Some(parts) = pointer.strip_prefix('/') else {
-        return Lead {
+        return Ok(Lead {
             token,
             is_there: false,
-        };
+        });
     };
     let mut rest = parts;
     'parts: while let Some((part, more)) = rest.split_once('/') {
-        let Some(next) = child(nodes, token, part) else {
-            return Lead {
+        let found = index.child(nodes, token, part)?;
+        let Some(next) = found else {
+            return Ok(Lead {
                 token,
                 is_there: false,
-            };
+            });
         };
         token = next;
         rest = more;
     }
-    match child(nodes, token, rest) {
-        Some(last) => Lead {
+    let end = index.child(nodes, token, rest)?;
+    match end {
+        Some(last) => Ok(Lead {
             token: last,
             is_there: true,
-        },
-        None => Lead {
+        }),
+        None => Ok(Lead {
             token,
             is_there: false,
-        },
+        }),
     }
 }

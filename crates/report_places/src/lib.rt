@@ -4,6 +4,8 @@
 //! here: where something stands in a JSON text, whatever it means.
 #![tactic(auto)]
 
+mod children;
+mod index;
 pub mod laws;
 mod lead;
 mod mode;

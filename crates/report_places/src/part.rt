@@ -1,8 +1,9 @@
 //! The parts of a JSON Pointer (RFC 6901).
-ghost use Rattle.std.specs.Prelude.{◌≡◌, ◌∷◌, ◌↔◌, ◌<◌, ◌≤◌, ◌==◌, drop, length, slice_index, IsTrue};
+ghost use Rattle.std.specs.Prelude.{◌≡◌, ◌∷◌, ◌<◌, ◌≤◌, ◌==◌, drop, length, slice_index, IfOk};
 ghost use Rattle.serde_json.specs.Find.{unescape, index_of};
 
 use fast_float::Numeral;
+use std::alloc::{AllocError, Global};
 
 /// The index that a part writes: digits, with no 0 before another.
 pub(crate) fn index_in(part: &str) -> Option<usize>
@@ -24,40 +25,19 @@ fn starts_with_zero(bytes: &[u8]) -> bool
     !bytes.is_empty() && bytes[0] == b'0'
 }
 
-/// Whether a part has no escape, and so stands for itself.
-pub(crate) fn is_plain(part: &str) -> bool
-    ensures { IsTrue result → unescape part.now ≡ part.now }
+/// The name that a part stands for, with `~0` for `~` and `~1` for a slash.
+pub(crate) fn unescaped(alloc: Global, part: &str) -> Result<Vec<u8>, AllocError>
+    ensures { IfOk result (λ name. name.items ≡ unescape part.now) }
 {
-    !part.contains('~')
-}
-
-/// Whether a part stands for the name. `as_it_is` says that it is known to stand for itself.
-pub(crate) fn is_name(part: &str, as_it_is: bool, name: &str) -> bool
-    requires { IsTrue as_it_is → unescape part.now ≡ part.now }
-    ensures { IsTrue result ↔ (unescape part.now ≡ name.now) }
-{
-    if as_it_is {
-        part == name
-    } else {
-        unescapes_to(part.as_bytes(), name.as_bytes())
-    }
-}
-
-// Whether a part stands for the name, with `~0` for `~` and `~1` for a slash.
-fn unescapes_to(part: &[u8], name: &[u8]) -> bool
-    ensures { IsTrue result ↔ (unescape part.now ≡ name.now) }
-{
+    let bytes = part.as_bytes();
+    let mut name = Vec::with_capacity(alloc, bytes.len())?;
     let mut at = 0;
-    let mut matched = 0;
-    while at < part.len() {
-        let (byte, next) = unescaped_at(part, at);
-        if matched >= name.len() || name[matched] != byte {
-            return false;
-        }
+    while at < bytes.len() {
+        let (byte, next) = unescaped_at(bytes, at);
+        name.push(byte)?;
         at = next;
-        matched += 1;
     }
-    matched == name.len()
+    Ok(name)
 }
 
 fn unescaped_at(part: &[u8], at: usize) -> (u8, usize)

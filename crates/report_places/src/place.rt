@@ -4,6 +4,7 @@ ghost use Rattle.json.specs.Json.{Json, document};
 ghost use Rattle.json.specs.Lex.{tokens};
 ghost use Rattle.report_places.specs.Place.{Answers, AnswersText, ArePlacesOf};
 
+use crate::index::Index;
 use crate::lead::lead_of;
 use crate::position::Position;
 use crate::spot::spots;
@@ -20,7 +21,8 @@ pub struct Place {
 }
 
 /// For each JSON Pointer the place of the value that it names; `None` if the bytes are no JSON text. The text is read
-/// once, whatever the number of pointers. It fails if memory runs out, or if the text has more than 4 GiB.
+/// once, and each object and array on the way of a pointer is gone over once, whatever the number of pointers. It fails
+/// if memory runs out, or if the text has more than 4 GiB.
 pub fn places(
     alloc: Global,
     text: &[u8],
@@ -56,10 +58,11 @@ fn places_on(
         → ArePlacesOf text.now value (map (λ pointer. pointer.now) pointers.now) places.items) }
 {
     let nodes = tape.nodes();
+    let mut index = Index::new(alloc);
     let spots = spots(alloc, text.as_bytes())?;
     let mut places = Vec::with_capacity(alloc, pointers.len())?;
     for pointer in pointers {
-        let lead = lead_of(nodes, pointer);
+        let lead = lead_of(nodes, &mut index, pointer)?;
         let spot = spots[lead.token];
         places.push(Place {
             offset: spot.offset,

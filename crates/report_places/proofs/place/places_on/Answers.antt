@@ -1,5 +1,5 @@
 use Rattle.std.proofs.Common.{◌≡◌, ℕ, ◌<◌, List, [], ◌∷◌, ◌++◌, length, map, take, drop, get_or, sym, ap, ◌∙◌, subst}
-use Rattle.std.proofs.Common.{arith}
+use Rattle.std.proofs.Common.{arith, rules}
 use Rattle.std.proofs.lemmas.List.{length-map}
 use Rattle.json.specs.Lex.{between}
 use Rattle.json.specs.Tape.{node_token}
@@ -26,8 +26,8 @@ index-spot-requires c =
     c.in_ok-spots.ensures ∙ ap (spots_from between start 0) c.as_bytes.ensures.value in
     omega (
       arith,
-      within_nodes c.nodes-nodes.result.now c.lead_of-lead.result.token _ _
-          (c.lead_of-lead.ensures.stands value on_tape).1,
+      within_nodes c.nodes-nodes.result.now c.in_ok-lead.lead.token _ _
+          (c.in_ok-lead.ensures.stands value on_tape).1,
       ap length on_tape,
       length-map c.nodes-nodes.result.now node_token,
       ap length spelled,
@@ -37,37 +37,40 @@ index-spot-requires c =
     )
 
 pub loop-pointer-preserved : goal.loop-pointer-preserved
-loop-pointer-preserved c value doc =
-    let text = c.args.text.now in
-    let spelled = tokens-document text value doc in
-    let on_tape : map node_token c.nodes-nodes.result.now ≡ json_tokens value =
-    c.nodes-nodes.ensures.tokens ∙ c.requires.2 ∙ spelled in
-    let spots : c.in_ok-spots.spots.items ≡ spots_from between start 0 text =
-    c.in_ok-spots.ensures ∙ ap (spots_from between start 0) c.as_bytes.ensures.value in
-    let lead = c.lead_of-lead.result in
-    let stands = c.lead_of-lead.ensures.stands value on_tape in
-    let spot = c.index-spot.result.now in
-    let within : lead.token < length (spots_from between start 0 text) =
-    omega (
-      arith,
-      within_nodes c.nodes-nodes.result.now c.lead_of-lead.result.token _ _
-          (c.lead_of-lead.ensures.stands value on_tape).1,
-      ap length on_tape,
-      length-map c.nodes-nodes.result.now node_token,
-      ap length spelled,
-      length-tokens text value spelled,
-      length-spots text,
-    ) in
-    let place : Place = record { offset = spot.offset; position = spot.position; is_there = lead.is_there } in
-    let is = place_is text value _ lead spot spelled (c.lead_of-lead.ensures.same value on_tape) (
-      stands.0,
-      ap (drop lead.token) (sym (c.nodes-nodes.ensures.tokens ∙ c.requires.2))
-          ∙ stands.1,
-    ) (c.index-spot.ensures ∙ ap (λ l. get_or l lead.token spot) spots) within in
-    let before = map (λ pointer. pointer.now) (take c.loop-pointer.pointer-index c.args.pointers.now) in
-    let pushed =
-    push_place text value before c.loop-pointer.places.items _ place (c.loop-pointer.invariant value doc) is in
-    let P : List (List ℕ) → List Place → Type 0 = ArePlacesOf text value in
-    subst (P _) (sym c.in_ok-push.ensures.items) (subst
-    (λ ps. ArePlacesOf text value ps (c.loop-pointer.places.items ++ place ∷ []))
-    (sym (one_pointer_more c.args.pointers.now c.loop-pointer.pointer-index _ (omega arith))) pushed)
+loop-pointer-preserved c = (
+  λ value doc.
+      let text = c.args.text.now in
+      let spelled = tokens-document text value doc in
+      let on_tape : map node_token c.nodes-nodes.result.now ≡ json_tokens value =
+      c.nodes-nodes.ensures.tokens ∙ c.requires.2 ∙ spelled in
+      let spots : c.in_ok-spots.spots.items ≡ spots_from between start 0 text =
+      c.in_ok-spots.ensures ∙ ap (spots_from between start 0) c.as_bytes.ensures.value in
+      let lead = c.in_ok-lead.lead in
+      let stands = c.in_ok-lead.ensures.stands value on_tape in
+      let spot = c.index-spot.result.now in
+      let within : lead.token < length (spots_from between start 0 text) =
+      omega (
+        arith,
+        within_nodes c.nodes-nodes.result.now c.in_ok-lead.lead.token _ _
+            (c.in_ok-lead.ensures.stands value on_tape).1,
+        ap length on_tape,
+        length-map c.nodes-nodes.result.now node_token,
+        ap length spelled,
+        length-tokens text value spelled,
+        length-spots text,
+      ) in
+      let place : Place = record { offset = spot.offset; position = spot.position; is_there = lead.is_there } in
+      let is = place_is text value _ lead spot spelled (c.in_ok-lead.ensures.same value on_tape) (
+        stands.0,
+        ap (drop lead.token) (sym (c.nodes-nodes.ensures.tokens ∙ c.requires.2))
+            ∙ stands.1,
+      ) (c.index-spot.ensures ∙ ap (λ l. get_or l lead.token spot) spots) within in
+      let before = map (λ pointer. pointer.now) (take c.loop-pointer.pointer-index c.args.pointers.now) in
+      let pushed =
+      push_place text value before c.loop-pointer.places.items _ place (c.loop-pointer.invariant.0 value doc) is in
+      let P : List (List ℕ) → List Place → Type 0 = ArePlacesOf text value in
+      subst (P _) (sym c.in_ok-push.ensures.items) (subst
+      (λ ps. ArePlacesOf text value ps (c.loop-pointer.places.items ++ place ∷ []))
+      (sym (one_pointer_more c.args.pointers.now c.loop-pointer.pointer-index _ (omega arith))) pushed),
+  search rules,
+)
