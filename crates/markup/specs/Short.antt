@@ -1,6 +1,6 @@
 -- How a long text is shortened (own rule): its beginning and its end stay.
-use Rattle.std.specs.Prelude.{ℕ, zero, suc, ◌-◌, ◌&&◌, Bool, not, List, [], ◌∷◌, ◌++◌, take, drop, count_by, nat_le, nat_lt}
-use Rattle.std.specs.Prelude.{if◌then◌else◌}
+use Rattle.std.specs.Prelude.{ℕ, zero, suc, ◌-◌, ◌&&◌, Bool, not, List, [], ◌∷◌, ◌++◌, take, drop, count_by, nat_le}
+use Rattle.std.specs.Prelude.{nat_lt, if◌then◌else◌}
 
 -- in UTF-8 every byte but 10xxxxxx begins a character (RFC 3629, section 3)
 abbrev pub begins_character : ℕ → Bool
