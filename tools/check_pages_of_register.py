@@ -1,6 +1,7 @@
 #!/usr/bin/env python3
 """Tries `intake pages` of the built program: each text that was filed is read back from the pages, and no other tag is
-in them. If there is a Chromium, it opens them, and looks for errors and for what the search box shows.
+in them. What a hostile filer sends stays within bounds, on the disk and in memory. If there is a Chromium, it opens
+them, and looks for errors and for what the search box shows.
 
     tools/check_pages_of_register.py [SCREENSHOT]
 
@@ -8,6 +9,7 @@ It takes the program that `rt run` builds in its folder, as crates/intake/out/in
 of a page there, outside of the repository. Status 1 if a trial fails.
 """
 import html.parser
+import os
 import pathlib
 import re
 import shutil
@@ -15,13 +17,16 @@ import subprocess
 import sys
 import time
 
-from odd_register import SENT, REFUSED, make_odd_register, many, records
+from odd_register import SENT, REFUSED, fact, make_odd_register, many, records, report
 from trials import INTAKE, ROOT, hold, run, tell, try_all
 
 TAGS = set(
     "html head meta link title style body a nav main h1 p label input span div table caption thead tbody tr th td "
-    "dl dt dd em br svg text rect script".split()
+    "dl dt dd em br code svg text rect script".split()
 )
+# How many findings of a report are shown at most, what a page has besides its rows, what a row takes at most, and what
+# `pages` may hold in memory beyond what `check` of the same register holds; in bytes.
+FINDINGS, FRAME, ROW, MEMORY = 20, 10_000, 10_000, 100_000_000
 VOID = {"meta", "link", "input", "br"}
 
 
@@ -93,10 +98,49 @@ def check_texts(folder):
     hold("the keys of ACME", [row[1] for row in read["filer-ACME.html"].rows[1:]], ["k<1>'&", "k-2"])
     hold("what replaces what", [row[3:] for row in read["filer-ACME.html"].rows[1:]], [["", "3"], ["1", ""]])
     hold("the filers", [row for row in read["index.html"].rows[1:]],
-         [["ACME", "2", "1", "0"], ["BETA", "1", "1", "2"], ["a.b_c-", "1", "1", "0"]])
+         [["007", "1", "1", "0"], ["ACME", "2", "1", "0"], ["BETA", "1", "1", "2"], ["a.b_c-", "1", "1", "0"]])
     hold("the refused", [row[:3] for row in read["refused.html"].rows[1:]], [["BETA", "b-2", ""], ["BETA", "b-3", "1"]])
+    column = report(SENT[-1][3]).decode().index('"1,5"') + 1
+    hold("where a finding is", f'report:1:{column}: number: "1,5" is no number (/facts/f1/value)'
+         in read["refused.html"].rows[2][3], True)
     found = {row[0]: int(row[1]) for row in read["findings.html"].rows[1:]}
     hold("the codes", found, {"value": 1, "name": 1, "not-the-filer": 1, "number": 1, "not-replaceable": 1})
+
+
+def wrong(filer, name, findings):
+    """The facts of a report with so many findings, the places of which have a fact of this name."""
+    return {name: fact(filer, "1", **{f"eg:x{at:04}": at for at in range(findings)})}
+
+
+def spent(*words):
+    """The most memory of a command, in bytes. It has to end with 0."""
+    with subprocess.Popen([INTAKE, *words], stdout=subprocess.DEVNULL, stderr=subprocess.PIPE) as process:
+        errors = process.stderr.read()
+        _, status, used = os.wait4(process.pid, 0)
+        process.returncode = os.waitstatus_to_exitcode(status)
+    hold(f"{words[0]} ends well", (process.returncode, errors), (0, b""))
+    return used.ru_maxrss * 1024
+
+
+def check_hostile(folder):
+    """A filer sends 100 reports, each with 1,000 findings at places of some 1,000 bytes, and one with 5,000."""
+    sent = [("MALLORY", f"m-{at}", None, wrong("MALLORY", "f" * 950, 1_000)) for at in range(100)]
+    sent.append(("MALLORY", "m-long", None, wrong("MALLORY", "f1", 5_000)))
+    make_odd_register(folder / "register.db", sent)
+    site = folder / "site"
+    site.mkdir()
+    opening = spent("check", "--db", folder / "register.db")
+    more = spent("pages", "--db", folder / "register.db", "--into", site) - opening
+    tell(f"{more / 1e6:.0f} MB of memory beyond the opening", None if more <= MEMORY else "too much")
+    hold("the index", (site / "index.html").exists(), True)
+    size, bound = (site / "refused.html").stat().st_size, FRAME + ROW * len(sent)
+    tell(f"refused.html has {size} bytes", None if size <= bound else f"more than {bound}")
+    rows = page(site, "refused.html").rows[3:]
+    hold("each refused report", [row[1] for row in rows], [row[1] for row in sent])
+    hold("none of them has more findings", {row[3].count("report:") for row in rows}, {FINDINGS})
+    hold("how many more", {row[3].rpartition("and ")[2].split()[0] for row in rows}, {"980"})
+    place = f"(/facts/{'f' * 52}\u2026{'f' * 40}/dimensions/eg:x0000)"
+    hold("a place is shortened in its middle", place in rows[0][3], True)
 
 
 def check_folder(folder):
@@ -157,4 +201,4 @@ def check_browser(folder):
 
 
 if __name__ == "__main__":
-    try_all([INTAKE], [check_texts, check_folder, check_browser, check_time])
+    try_all([INTAKE], [check_texts, check_hostile, check_folder, check_browser, check_time])

@@ -1,7 +1,9 @@
 //! The refused reports.
 
+ghost use Rattle.std.specs.Prelude.{◌≡◌, take};
+
 use crate::frame::{begin, begin_table, end, end_table, filer_link, filing_cell, text_cell};
-use finding_lines::{Form, lines};
+use finding_lines::{Form, lines, one_line};
 use markup::Markup;
 use register_walk::Sent;
 use std::alloc::{AllocError, Global};
@@ -16,6 +18,9 @@ const HEAD: &str =
     <th scope=\"col\" class=\"number\">Sent to replace</th>\
     <th scope=\"col\">Findings</th>\
     </tr></thead>\n";
+
+/// How many findings of a report are shown at most.
+const MOST_FINDINGS: usize = 20;
 
 /// The refused reports, and how often each code was found.
 #[derive(Drop)]
@@ -52,14 +57,12 @@ impl Refused {
         for finding in findings {
             count_code(&mut self.found, finding.code.number() as usize);
         }
-        let written = lines(alloc, Form::Sentences, "report", &sent.body, findings)?;
-        let written = String::from_utf8_lossy(alloc, &written)?;
         self.rows.constant("<tr><th scope=\"row\">")?;
         filer_link(&mut self.rows, sent.filer.as_str())?;
         self.rows.constant("</th>")?;
         text_cell(&mut self.rows, sent.key.as_str())?;
         filing_cell(&mut self.rows, alloc, target)?;
-        text_cell(&mut self.rows, written.as_str())?;
+        findings_cell(&mut self.rows, alloc, &sent.body, findings)?;
         self.rows.constant("</tr>\n")
     }
 
@@ -72,6 +75,59 @@ impl Refused {
         end(&mut page)?;
         Ok(page)
     }
+}
+
+/// The first of these findings, as many as are shown.
+fn first_findings(findings: &[Finding]) -> &[Finding]
+    ensures { result.now ≡ take 20 findings.now }
+{
+    &findings[..MOST_FINDINGS.min(findings.len())]
+}
+
+/// The cell of the findings in the body of a report: the first of them, and how many more there are.
+fn findings_cell(
+    rows: &mut Markup,
+    alloc: Global,
+    body: &[u8],
+    findings: &[Finding],
+) -> Result<(), AllocError> {
+    let shown = first_findings(findings);
+    let written = lines(alloc, Form::Sentences, "report", body, shown)?;
+    let written = String::from_utf8_lossy(alloc, &written)?;
+    rows.constant("<td>")?;
+    for (line, finding) in written.as_str().split('\n').zip(shown) {
+        finding_line(rows, alloc, line, finding)?;
+    }
+    let more = findings.len().saturating_sub(shown.len());
+    if more > 0 {
+        rows.constant("and ")?;
+        rows.number(alloc, more as u64)?;
+        rows.constant(" more: <code>intake lint</code> of the report prints all")?;
+    }
+    rows.constant("</td>")
+}
+
+/// The line of a finding, which ends with its place in brackets. A long place is shortened.
+fn finding_line(
+    rows: &mut Markup,
+    alloc: Global,
+    line: &str,
+    finding: &Finding,
+) -> Result<(), AllocError> {
+    let place = one_line(alloc, finding.place.as_str())?;
+    let place = String::from_utf8_lossy(alloc, &place)?;
+    let front = line
+        .strip_suffix(')')
+        .and_then(|front| front.strip_suffix(place.as_str()));
+    match front {
+        Some(front) => {
+            rows.text(front)?;
+            rows.short_text(place.as_str())?;
+            rows.constant(")")?;
+        }
+        None => rows.short_text(line)?,
+    }
+    rows.constant("<br>")
 }
 
 /// The code of this number was found once more.
