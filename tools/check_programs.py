@@ -452,6 +452,42 @@ def check_entries(folder):
     hold("show of no entry", run(OUTBOX, "show", "--db", database, "--entry", 4).returncode, 4)
 
 
+# ---- texts from outside
+
+# A text with each kind of character that is not shown as it is, and how it is shown.
+HOSTILE = "a\x1b[2J\x7f\x85\x9b31m\u061c\u200e\u202eb\u2028\u2066ü"
+TAME = r"a\u001b[2J\u007f\u0085\u009b31m\u061c\u200e\u202eb\u2028\u2066ü"
+
+
+def check_texts_of_reports(folder):
+    report = folder / "report.json"
+    raw = HOSTILE.replace("\x1b", "")
+    shown = TAME.replace(r"\u001b", "")
+    fact = {"value": 1, "dimensions": {"concept": "eg:Assets"}}
+    report.write_text(json.dumps({"documentInfo": {"documentType": raw}, "facts": {HOSTILE: fact}}, ensure_ascii=False))
+    status, output, _ = said(run(INTAKE, "lint", "--filer", "ACME", report), folder)
+    hold("values in the lines of lint", f': "{shown}" is not https://xbrl.org/2021/xbrl-json (' in output, True)
+    hold("and places", f"(/facts/{TAME}/value)" in output, True)
+    hold("and no control", (status, [it for it in raw if it in output and it not in "a[2J31mbü"]), (1, []))
+    objects = map(json.loads, run(INTAKE, "lint", "--filer", "ACME", "--json", report).stdout.splitlines())
+    hold("as objects they are exact", f"/facts/{HOSTILE}/value" in [it["place"] for it in objects], True)
+
+
+def check_texts_of_peers(folder):
+    outbox = make_outbox(folder, 1)
+    content = json.dumps({"status": 503, "reason": f"x\n{HOSTILE}"}).encode()
+    peer = Peer(answers(reply(b"503 No", content, "application/problem+json")))
+    errors = run(OUTBOX, "send", "--db", outbox, "--port", peer.port).stderr.decode()
+    hold("a reason of a peer is one line of plain text", (errors.count("\n"), errors[:-1].isprintable()), (1, True))
+    serving = Serving(folder / "register.db", 1, "--new")
+    run(OUTBOX, "send", "--db", outbox, "--port", serving.port)
+    serving.end()
+    content = f"x\n{HOSTILE}".encode() + b"\xff"
+    peer = Peer(answers(reply(b"200 OK", content, "text/plain")))
+    hold("a content of a peer", said(run(OUTBOX, "ask", "--db", outbox, "--port", peer.port, "--entry", 1), folder),
+         (0, f"entry 1: 200 OK\nx\\u000a{TAME}\ufffd\n", ""))
+
+
 # ---- peers that answer wrongly, or not at all
 
 
@@ -720,6 +756,7 @@ if __name__ == "__main__":
         (INTAKE, OUTBOX),
         (check_serving, check_patience, check_limit, check_amendments, check_sent_amendments, check_full_register,
          check_full_outbox, check_files, check_descriptors, check_rights, check_damage, check_copies, check_lint,
+         check_texts_of_reports, check_texts_of_peers,
          check_entries, check_round, check_answers, check_questions, check_receipts, check_patience_of_a_round,
          check_same_report, check_closed_output),
     )

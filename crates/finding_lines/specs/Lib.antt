@@ -1,4 +1,3 @@
-pub mod Text
 pub mod Messages
 pub mod Sentences
 pub mod Objects

@@ -14,4 +14,4 @@ mod text;
 
 pub use form::Form;
 pub use telling::lines;
-pub use text::one_line;
+pub use terminal_text::one_line;

@@ -8,12 +8,12 @@ use Rattle.memchr.specs.Find.{FindsNeedle}
 use Rattle.http_messages.specs.Reply.{ReplyParts, phrase}
 use Rattle.finding_lines.specs.Lines.{TellsOf}
 use Rattle.finding_lines.specs.Objects.{json_text}
-use Rattle.finding_lines.specs.Text.{one_line}
 use Rattle.finding_lines.specs.declared.form.Form.{Form}
 use Rattle.finding_lines.specs.declared.form.Form.TheVariants.{Sentences, Objects}
 use Rattle.xbrl_report.specs.Amendment.{amendment_findings}
 use Rattle.xbrl_report.specs.Pair.{Pair}
 use Rattle.filing_model.specs.Outbox.{Entry}
+use Rattle.terminal_text.specs.OneLine.{one_line}
 
 -- ---- its findings
 
