@@ -2,25 +2,33 @@
 """Plays both first days of docs/OPERATIONS.md on two machines: the commands are read out of the page, and what they
 print is compared with it.
 
-    tools/check_first_days.py INTAKE OUTBOX
+    tools/check_first_days.py INTAKE OUTBOX [PART ..]
+    tools/check_first_days.py --stand-in INTAKE OUTBOX [PART ..]
+    tools/check_first_days.py --planted INTAKE OUTBOX [WORD]
 
-INTAKE and OUTBOX are the built programs. Each machine is made of namespaces of Linux: a network of its own, joined with
-the other's by a cable, its own processes, and its own view of /etc, /root, /run, /srv, /tmp, /usr/local and /var, which
-lies in memory and is gone at the end. So nothing of this machine changes. systemd doesn't run there:
-tools/systemctl_stand_in.py runs the commands of the units. Not tried, therefore: their sandbox, their limits, and the
-clock of the timers. `systemd-analyze verify` reads the units, if it is installed.
+INTAKE and OUTBOX are the built programs. A machine is a container of Debian 12 with a systemd of its own, which runs
+the units in their sandboxes, with their timers, restarts and alerts; so it needs root and the Debian packages
+systemd-container and debootstrap. The first run makes a tree of Debian 12 with the packages that the page names, from
+the mirror of this machine, below ~/.cache/berruzpil (300 MB, some minutes). Where that is not possible, or with
+--stand-in, the machines have a stand-in for systemd, and the last line says so: no sandbox, no timer and no reboot is
+tried then. tools/machines.py says what the machines are made of. MemoryMax is tried where cgroup2 counts memory.
 
-Between the two days this carries the request for a certificate and the certificate, as mail would. After them come a
-certificate that may not file, a restore, an upgrade, several registers and outboxes, an intake that is killed, and
-stunnel. It needs root, nginx, openssl, curl, sqlite3, logrotate and iproute2. The last line says how many trials passed
-and failed. Status 1 if one failed, 77 if nothing could be tried.
+Each block of commands is pasted into a login shell of its own. Between the two days this carries the request for a
+certificate and the certificate, as mail would. After the days come the parts of PARTS below; with a PART only these.
+
+With --planted the faults in tools/planted_faults.txt are planted, one after the other, in what is deployed: each has
+to make a check of its part fail, and each part has to pass without a fault. A WORD takes the faults that have it in
+their line. It needs a real systemd, and took 20 minutes for 20 faults.
+
+The last line says how many trials passed and failed, and under what. Status 1 if one failed, 77 if nothing could be
+tried.
 """
+import argparse
 import contextlib
 import json
 import os
 import pathlib
 import re
-import select
 import shutil
 import subprocess
 import sys
@@ -28,27 +36,33 @@ import tempfile
 import textwrap
 import time
 
+import machines
 import trials
+from machines import NotPossible, Shell
 
-ROOT = pathlib.Path(__file__).resolve().parent.parent
-PAGE = (ROOT / "docs" / "OPERATIONS.md").read_text(encoding="utf-8")
-NEEDED = ["ip", "unshare", "nsenter", "setpriv", "runuser", "nginx", "openssl", "curl", "sqlite3", "logrotate", "flock"]
-PATHS = "/usr/local/sbin:/usr/local/bin:/usr/sbin:/usr/bin:/sbin:/bin"
+ROOT = machines.ROOT
+FAULTS = ROOT / "tools" / "planted_faults.txt"
 COPY_OF_PAGE = "register-20241231T021500Z.db"
+SUPERVISOR, FILER = "A supervisor's first day", "A filer's first day"
 passed = []
 
 
+class Seen(Exception):
+    """The first check that failed, while a planted fault is looked for."""
+
+
+planted = []
+
+
 def hold(what, found, wanted):
-    trials.hold(what, found, wanted)
+    if found != wanted and planted:
+        raise Seen(what)
+    if not planted:
+        trials.hold(what, found, wanted)
     passed.extend([what] if found == wanted else [])
 
 
 # ---- the page
-
-
-def section(title):
-    """The text below a heading of the page."""
-    return re.search(rf"(?ms)^## {re.escape(title)}\n(.*?)(?=^## |\Z)", PAGE)[1]
 
 
 def commands_in(text, indent):
@@ -56,17 +70,30 @@ def commands_in(text, indent):
     return trials.commands_in(line[indent:] for line in re.findall(rf"(?m)^ {{{indent},}}\S.*$", text))
 
 
-def steps(title):
-    """The steps of a first day: by number the commands, and what each prints."""
-    parts = re.split(r"(?m)^(\d+)\. \*\*", section(title))
-    return {int(number): commands_in(text, 7 if int(number) < 10 else 8)
-            for number, text in zip(parts[1::2], parts[2::2])}
+class Page:
+    """docs/OPERATIONS.md of a repository."""
 
+    def __init__(self, repository):
+        self.text = (repository / "docs" / "OPERATIONS.md").read_text(encoding="utf-8")
 
-def block(title, first):
-    """The block of a section whose first line begins so."""
-    blocks = re.findall(r"(?m)(?:^ {4}\S.*\n|^ {8}.*\n)+", section(title))
-    return commands_in(next(it for it in blocks if it.startswith(f"    {first}")), 4)
+    def section(self, title):
+        """The text below a heading."""
+        return re.search(rf"(?ms)^## {re.escape(title)}\n(.*?)(?=^## |\Z)", self.text)[1]
+
+    def steps(self, title):
+        """The steps of a first day: by number the commands, and what each prints."""
+        parts = re.split(r"(?m)^(\d+)\. \*\*", self.section(title))
+        return {int(number): commands_in(text, 7 if int(number) < 10 else 8)
+                for number, text in zip(parts[1::2], parts[2::2])}
+
+    def block(self, title, first):
+        """The block of a section whose first line begins so."""
+        blocks = re.findall(r"(?m)(?:^ {4}\S.*\n|^ {8}.*\n)+", self.section(title))
+        return commands_in(next(it for it in blocks if it.startswith(f"    {first}")), 4)
+
+    def packages(self):
+        """The Debian packages that the page installs."""
+        return {name for words in re.findall(r"(?m)^ +apt-get install -y (.*)$", self.text) for name in words.split()}
 
 
 def without_moments(text):
@@ -81,176 +108,45 @@ def without_moments(text):
     return text
 
 
-# ---- machines
-
-# What a machine is made of, once its namespaces are there. $1 is its scratch folder, $2 its name, $3 the repository, $4
-# and $5 the programs.
-SET_UP = """
-mount -t tmpfs -o mode=755 tmpfs "$1"
-for folder in etc root srv usr/local var; do
-    own=$1/$(echo $folder | tr / _)
-    mkdir -p "$own/up" "$own/work"
-    mount -t overlay -o "lowerdir=/$folder,upperdir=$own/up,workdir=$own/work" overlay /$folder
-done
-mount -t tmpfs -o mode=755 tmpfs /run
-rm -rf /var/lib/berruzpil /var/log/berruzpil /etc/berruzpil /usr/local/lib/berruzpil \
-/usr/local/bin/intake /usr/local/bin/outbox /root/berruzpil
-rm -f /etc/nginx/conf.d/* /etc/systemd/system/berruzpil* /etc/logrotate.d/berruzpil
-rm -rf /etc/nginx/tls /var/lib/prometheus
-mkdir -p /root/berruzpil/crates/intake/out /root/berruzpil/crates/outbox/out /run/stand-in
-cp -r "$3/deploy" /root/berruzpil/
-cp "$3/crates/intake/stdin" /root/berruzpil/crates/intake/
-cp "$4" /root/berruzpil/crates/intake/out/intake
-cp "$5" /root/berruzpil/crates/outbox/out/outbox
-chmod 700 /root
-for it in systemctl journalctl; do install -m 0755 "$3/tools/systemctl_stand_in.py" /usr/local/sbin/$it; done
-# An alert is a line of a file, and half an hour is over as soon as the check says so.
-printf '#!/bin/sh\\necho "$*" >> /run/stand-in/alerts\\n' > /usr/local/sbin/logger
-printf '#!/bin/sh\\n[ "$1" = 1800 ] || exec /usr/bin/sleep "$@"\\n\
-until [ -e /run/stand-in/half-an-hour ]; do /usr/bin/sleep 0.1; done\\n' \\
-    > /usr/local/sbin/sleep
-chmod 755 /usr/local/sbin/logger /usr/local/sbin/sleep
-printf '127.0.0.1 localhost\\n198.51.100.1 intake.example 2025.example\\n' > /etc/hosts
-hostname "$2"
-ip link set lo up
-mount -t tmpfs -o mode=1777 tmpfs /tmp
-echo ready
-exec sleep infinity
-"""
-
+# ---- what is done on a machine
 
 # The processes of nginx that answer.
 WORKERS = "pgrep -P $(cat /run/nginx.pid)"
+HEALTH = "intake-health http://127.0.0.1:8080/filings/health"
+LIST = "curl -s http://127.0.0.1:8081/filings/ACME"
+STATUS = "runuser -u berruzpil -- outbox status --db /var/lib/berruzpil/outbox.db"
+METRICS = "/var/lib/prometheus/node-exporter/berruzpil.prom"
+JOB = """Job for {0} failed because the control process exited with error code.
+See "systemctl status {0}" and "journalctl -xeu {0}" for details.
+"""
 
 
-class NotPossible(Exception):
-    """Why no machine can be made here."""
-
-
-class Machine:
-    """A machine in namespaces of its own, and a shell of its root."""
-
-    def __init__(self, name, address, scratch, programs):
-        self.name, self.net = name, f"{name}-{os.getpid()}"
-        (scratch / name).mkdir()
-        try:
-            self.ip("netns", "add", self.net)
-        except subprocess.CalledProcessError as fault:
-            raise NotPossible("root may not make a namespace of a network here") from fault
-        words = ["unshare", "--mount", "--pid", "--uts", "--fork", "--kill-child",
-                 "--mount-proc", "--propagation", "private"]
-        words += ["sh", "-ec", SET_UP, "sh", scratch / name, name, ROOT, *programs]
-        self.process = subprocess.Popen(
-            ["nsenter", f"--net=/run/netns/{self.net}", *map(str, words)],
-            stdin=subprocess.DEVNULL, stdout=subprocess.PIPE, text=True,
-            env={"PATH": PATHS, "LANG": "C.UTF-8"},
-        )  # fmt: skip
-        if self.process.stdout.readline() != "ready\n":
-            self.process.kill()
-            self.ip("netns", "del", self.net)
-            raise NotPossible("root may not make namespaces and mount file systems in them here")
-        first = pathlib.Path(f"/proc/{self.process.pid}/task/{self.process.pid}/children").read_text().split()[0]
-        self.root = pathlib.Path(f"/proc/{first}/root")
-        self.address = address
-        self.shell = subprocess.Popen(
-            ["nsenter", "--target", first, "--mount", "--net", "--pid", "--uts",
-             "env", "-i", f"PATH={PATHS}", "HOME=/root", "LANG=C.UTF-8", "bash"],
-            stdin=subprocess.PIPE, stdout=subprocess.PIPE,
-        )  # fmt: skip
-        self.paste("cd /root/berruzpil")
-
-    @staticmethod
-    def ip(*words):
-        subprocess.run(["ip", *words], check=True, env={"PATH": PATHS})
-
-    def file(self, path):
-        return self.root / path.lstrip("/")
-
-    def paste(self, command):
-        """The status of a command that is pasted into the shell, and what it prints."""
-        self.shell.stdin.write(f"{{ {command}\n}} </dev/null >/run/printed 2>&1; echo $?\n".encode())
-        self.shell.stdin.flush()
-        if not select.select([self.shell.stdout], [], [], 120)[0]:
-            raise TimeoutError(f"{self.name}: {command}")
-        status = int(self.shell.stdout.readline())
-        return status, self.file("/run/printed").read_text(encoding="utf-8", errors="replace")
-
-    def play(self, what, commands, names=(), statuses=()):
-        """Pastes commands of the page, and compares what each prints. `names` are changed first; `statuses` are those
-        that are not 0."""
+def play(machine, what, commands, names=(), statuses=()):
+    """Pastes a block of commands of the page into a shell of its own, and compares what each prints. `names` are
+    changed first; `statuses` are those that are not 0."""
+    with Shell(machine) as shell:
         for command, lines in commands:
             if command.startswith("apt-get "):
                 continue
             for old, new in names:
                 command = command.replace(old, new)
-            before = set(self.paste(WORKERS)[1].split()) if command.endswith("reload nginx") else set()
-            status, printed = self.paste(command)
+            before = set(shell.paste(WORKERS)[1].split()) if command.endswith("reload nginx") else set()
+            status, printed = shell.paste(command)
             # A reload returns before the new processes of nginx answer.
             if before:
-                self.until(WORKERS, lambda _, printed: printed and not before & set(printed.split()))
+                machine.until(WORKERS, lambda _, printed: printed and not before & set(printed.split()))
             # nginx and an intake take a moment until they are there, and the page says so of the health check.
-            if command.startswith("intake-health ") and status:
-                status, printed = self.until(command)
-            wanted = next((it for start, it in statuses if command.startswith(start)), 0)
+            if "intake-health http" in command and status:
+                status, printed = machine.until(command, seconds=patience())
+            wanted = next((it for start, it in statuses if start in command), 0)
             expected = "".join(f"{line}\n" for line in lines)
-            hold(f"{self.name}, {what}: {textwrap.shorten(command, 90)}",
+            hold(f"{machine.name}, {what}: {textwrap.shorten(command, 90)}",
                  (status, without_moments(printed)), (wanted, without_moments(expected)))
 
-    def until(self, command, is_there=lambda status, printed: status == 0):
-        """Pastes a command again and again, for a minute at most, and gives its status and what it prints at the
-        end."""
-        deadline = time.monotonic() + 60
-        while not is_there(*(found := self.paste(command))) and time.monotonic() < deadline:
-            time.sleep(0.3)
-        return found
 
-    def start_intake(self, port=8080):
-        self.paste("systemctl start berruzpil-intake")
-        self.until(f"intake-health http://127.0.0.1:{port}/filings/health")
-
-    def alerts(self):
-        path = self.file("/run/stand-in/alerts")
-        return path.read_text().splitlines() if path.exists() else []
-
-    def alert_of(self, unit):
-        """Whether the newest alert is that of a unit, once it has come."""
-        self.until("cat /run/stand-in/alerts", lambda _, printed: f"{unit} failed" in printed)
-        return self.alerts()[-1:] == [f"-p daemon.alert -t berruzpil {unit} failed: see journalctl -u {unit}"]
-
-    def pass_half_an_hour(self):
-        """Lets the units that wait for half an hour go on, and waits until they have ended."""
-        self.paste("touch /run/stand-in/half-an-hour")
-        self.until("systemctl is-active berruzpil-alert@berruzpil-outbox.service.service",
-                   lambda _, printed: printed != "activating\n")
-        self.paste("rm /run/stand-in/half-an-hour")
-
-    def leave(self):
-        """Ends all processes of the machine, and with them what it had mounted."""
-        self.shell.kill()
-        self.process.kill()
-        self.shell.communicate()
-        self.process.communicate()
-        self.ip("netns", "del", self.net)
-
-
-@contextlib.contextmanager
-def two_machines(programs):
-    with tempfile.TemporaryDirectory() as folder:
-        made = []
-        try:
-            for name, address in [("supervisor", "198.51.100.1"), ("filer", "198.51.100.2")]:
-                made.append(Machine(name, address, pathlib.Path(folder), programs))
-            supervisor, filer = made
-            ends = [f"bz{os.getpid()}{end}" for end in "ab"]
-            Machine.ip("link", "add", ends[0], "netns", supervisor.net,
-                       "type", "veth", "peer", "name", ends[1], "netns", filer.net)
-            for machine, end in zip(made, ends):
-                for words in [("addr", "add", f"{machine.address}/24", "dev", end), ("link", "set", end, "up")]:
-                    Machine.ip("-n", machine.net, *words)
-            yield supervisor, filer
-        finally:
-            for machine in made:
-                machine.leave()
+def patience():
+    """How many seconds an intake may take until it serves: one that was built without proof takes its time."""
+    return 60 if planted else 240
 
 
 def carry(source, target, *names):
@@ -260,167 +156,408 @@ def carry(source, target, *names):
 
 
 def rights(machine, path):
-    it = machine.file(path).stat()
-    return oct(it.st_mode & 0o7777)
+    it = machine.file(path)
+    return oct(it.stat().st_mode & 0o7777) if it.exists() else "none"
 
 
-# ---- the two days
-
-SUPERVISOR, FILER = "A supervisor's first day", "A filer's first day"
-
-
-def play_days(supervisor, filer):
-    theirs, ours = steps(SUPERVISOR), steps(FILER)
-    hold("the steps of the page", (sorted(theirs), sorted(ours)), (list(range(1, 14)), list(range(1, 7))))
-    for number in (1, 2):
-        filer.play(f"step {number}", ours[number])
-    carry(filer, supervisor, "acme.csr")
-    for number in range(1, 9):
-        supervisor.play(f"step {number}", theirs[number])
-    carry(supervisor, filer, "acme.pem", "intake-ca.pem")
-    for number in (3, 4, 5):
-        filer.play(f"step {number}", ours[number])
-    for number in range(9, 14):
-        supervisor.play(f"step {number}", theirs[number])
-    for path, wanted in [("/var/lib/berruzpil/register.db", "0o600"), ("/var/lib/berruzpil", "0o750"),
-                         ("/etc/berruzpil/authority/ca.key", "0o600"), ("/var/lib/berruzpil/reading.db", "0o600"),
-                         ("/var/lib/prometheus/node-exporter/berruzpil.prom", "0o644")]:  # fmt: skip
-        hold(f"who may read {path}", rights(supervisor, path), wanted)
-    hold("who may read the filer's key", rights(filer, "/etc/berruzpil/filer.key"), "0o600")
-    status, printed = supervisor.paste("cat /var/log/berruzpil/filings.log-*")
-    lines = [json.loads(line) for line in printed.splitlines()]
-    found = [(line["user"], line["method"], line["status"]) for line in lines]
-    # The health check leaves no line.
-    hold("the lines of the log", (status, found),
-         (0, [("acme", "GET", 200), ("acme", "POST", 201), ("acme", "GET", 200)]))
+def ask_health(page, machine):
+    """The command of the page that asks the intake itself for its health."""
+    return next(command for command, _ in page.steps(SUPERVISOR)[7] if f"{HEALTH.split()[0]} http://" in command)
 
 
-def verify_units(supervisor):
-    """systemd reads each unit, those for instances with a name."""
-    if shutil.which("systemd-analyze") is None:
-        print("not tried: systemd-analyze is not installed")
-        return
-    supervisor.paste("cp /root/berruzpil/deploy/outbox-round /usr/local/lib/berruzpil/; mkdir /run/verify")
-    supervisor.paste("for it in deploy/berruzpil-*.service deploy/berruzpil-*.timer; "
-                     "do cp $it /run/verify/$(basename $it | sed s/@/@1/); done")
-    status, printed = supervisor.paste("ls /run/verify | wc -l; systemd-analyze verify --man=no /run/verify/*")
-    hold("systemd-analyze verify", (status, printed), (0, "13\n"))
-
-
-def renew(supervisor, filer, name):
-    """Gives the filer a certificate of another subject, by the commands of the page."""
-    filer.play("another certificate", [steps(FILER)[2][0]], [("CN=acme-filing", f"CN={name}")])
-    carry(filer, supervisor, "acme.csr")
-    supervisor.play("another certificate", [it for it in steps(SUPERVISOR)[8] if it[0].startswith("openssl req -x509")])
-    carry(supervisor, filer, "acme.pem")
-    filer.play("another certificate",
-               [it for it in steps(FILER)[3] if "acme.pem" in it[0] or it[0] == "systemctl restart nginx"])
-
-
-JOB = """Job for {0} failed because the control process exited with error code.
-See "systemctl status {0}" and "journalctl -xeu {0}" for details.
-"""
+def start_intake(page, supervisor):
+    supervisor.paste("systemctl start berruzpil-intake")
+    return supervisor.until(ask_health(page, supervisor), seconds=patience())[0]
 
 
 def round_of(filer, unit="berruzpil-outbox.service"):
     return filer.paste(f"systemctl start {unit}")
 
 
-def try_wrong_certificates(supervisor, filer):
-    """A certificate that has no line, and one of another authority: the filer sees a 403, and what the page says of it
-    helps."""
-    put = steps(FILER)[5][1][0].replace("2024-annual-1", "2024-annual-2")
-    renew(supervisor, filer, "acme-filing-2")
-    filer.play("a second report", [[put, ["entry 2"]]])
-    hold("a round with a certificate that may not file", round_of(filer), (1, JOB.format("berruzpil-outbox.service")))
-    failed, journal, subject = (filer.paste(command) for command, _ in steps(FILER)[6])
-    hold("the unit has failed", failed, (0, "failed\n"))
-    said = "outbox: entry 2: answered 403 Forbidden: not-yours\n"
-    ends = journal[1].endswith("outbox-round: entries that are open still: 1\n")
-    hold("the filer sees why", (journal[0], said in journal[1], ends), (0, True, True))
-    hold("and whose certificate it is", (subject[0], subject[1].splitlines()[0]),
-         (0, "subject=CN=acme-filing-2,O=ACME"))
-    hold("no alert of one failed round", filer.alerts(), [])
-    filer.pass_half_an_hour()
-    hold("an alert if rounds fail after half an hour",
-         (filer.alert_of("berruzpil-outbox.service"), len(filer.alerts())), (True, 1))
-    line = json.loads(supervisor.file("/var/log/berruzpil/filings.log").read_text().splitlines()[-1])
-    hold("the supervisor's log says so", (line["user"], line["status"], line["key"]), ("", 403, '"2024-annual-2"'))
+def put(page, filer, key):
+    """Puts the report of the first day into the outbox once more, under this key, and gives its entry."""
+    command = next(it for it, _ in page.steps(FILER)[5] if "outbox put" in it)
+    return filer.paste(command.replace("2024-annual-1", key))[1].strip()
+
+
+def states(filer):
+    """The state of each entry."""
+    found = re.findall(r"(?m)^(entry \d+) (.*)$", filer.paste(STATUS)[1])
+    return dict(found)
+
+
+def filed(page, filer, key):
+    """The state of a report that was put in and sent."""
+    entry = put(page, filer, key)
     round_of(filer)
-    supervisor.play("another certificate", [["nginx-filer /etc/nginx/conf.d/nginx-intake.conf acme.pem acme ACME",
-                                            ['"~^CN=acme-filing-2,O=ACME$" acme;', '"~^acme ACME$" 1;']],
-                                           ["nginx -t -q && systemctl reload nginx", []]])  # fmt: skip
-    filer.until("curl -s http://127.0.0.1:8081/filings/ACME", lambda _, printed: "filings" in printed)
-    hold("the round after that", round_of(filer), (0, ""))
-    hold("the entry is confirmed", filer.paste(steps(FILER)[5][3][0]),
-         (0, "entry 1 confirmed 1\nentry 2 confirmed 2\n"))
-    filer.pass_half_an_hour()
-    hold("no alert, since the rounds go well again", len(filer.alerts()), 1)
-    other = "openssl req -x509 -newkey ec -pkeyopt ec_paramgen_curve:P-256 -nodes -days 9 -subj /O=ACME/CN=acme-filing"
-    filer.paste("cp -p /etc/berruzpil/filer.* /root/")
-    filer.paste(f"{other} -keyout /etc/berruzpil/filer.key -out /etc/berruzpil/filer.pem; systemctl restart nginx")
-    filer.paste(put.replace("2024-annual-2", "2024-annual-3"))
-    hold("a round with a certificate of another authority", round_of(filer)[0], 1)
-    said = "outbox: entry 3: answered 403 Forbidden: no-certificate\n"
-    hold("the filer sees that, too", said in filer.paste(steps(FILER)[6][1][0])[1], True)
-    filer.paste("cp -p /root/filer.* /etc/berruzpil/; systemctl restart nginx")
-    hold("the round with the right one", round_of(filer), (0, ""))
+    return re.sub(r"\d+", "N", states(filer).get(entry, "none"))
+
+
+def alert_comes(machine, unit, before):
+    """Whether a unit has more alerts than before, within a minute, and each says what to look at."""
+    deadline = time.monotonic() + 60
+    while len(found := machine.alerts(unit)) <= before and time.monotonic() < deadline:
+        time.sleep(0.3)
+    return set(found[before:]) == {f"{unit} failed: see journalctl -u {unit}"}
 
 
 def copies(supervisor, register="register"):
     return sorted(it.name for it in supervisor.file("/var/lib/berruzpil/copies").glob(f"{register}-*.db"))
 
 
-def try_restore(supervisor):
+def last_line_of_log(supervisor):
+    return json.loads(supervisor.file("/var/log/berruzpil/filings.log").read_text().splitlines()[-1])
+
+
+# ---- the two days
+
+
+def days(page, supervisor, filer):
+    theirs, ours = page.steps(SUPERVISOR), page.steps(FILER)
+    hold("the steps of the page", (sorted(theirs), sorted(ours)), (list(range(1, 14)), list(range(1, 7))))
+    for number in (1, 2):
+        play(filer, f"step {number}", ours[number])
+    carry(filer, supervisor, "acme.csr")
+    for number in range(1, 9):
+        play(supervisor, f"step {number}", theirs[number])
+    carry(supervisor, filer, "acme.pem", "intake-ca.pem")
+    for number in (3, 4, 5):
+        play(filer, f"step {number}", ours[number])
+    for number in range(9, 14):
+        play(supervisor, f"step {number}", theirs[number])
+    hold("the intake serves after its upgrade", start_intake(page, supervisor), 0)
+    for path, wanted in [("/var/lib/berruzpil/register.db", "0o600"), ("/var/lib/berruzpil", "0o750"),
+                         ("/etc/berruzpil/authority/ca.key", "0o600"), ("/var/lib/berruzpil/reading.db", "0o600"),
+                         (f"/var/lib/berruzpil/copies/{copies(supervisor)[0]}", "0o600"),
+                         (METRICS, "0o644")]:  # fmt: skip
+        hold(f"who may read {re.sub('[0-9]{8}T[0-9]{6}Z', 'MOMENT', path)}", rights(supervisor, path), wanted)
+    for path in ("/etc/berruzpil/filer.key", "/var/lib/berruzpil/outbox.db.lock"):
+        hold(f"who may read the filer's {path}", rights(filer, path), "0o600")
+    status, printed = supervisor.paste("cat /var/log/berruzpil/filings.log-*")
+    lines = [json.loads(line) for line in printed.splitlines()]
+    found = [(line["user"], line["method"], line["status"]) for line in lines]
+    # The health check leaves no line.
+    hold("the lines of the log", (status, found),
+         (0, [("acme", "GET", 200), ("acme", "POST", 201), ("acme", "GET", 200)]))
+    filer.paste(LIST)
+    supervisor.until("grep -c . /var/log/berruzpil/filings.log", lambda _, printed: printed == "1\n", seconds=10)
+    hold("the log goes on after it was rotated",
+         supervisor.file("/var/log/berruzpil/filings.log").read_text().count("\n"), 1)
+    if supervisor.is_booted:
+        for machine in (supervisor, filer):
+            hold(f"no unit of {machine.name} has failed", machine.paste("systemctl --failed --plain --no-legend"),
+                 (0, ""))
+
+
+def units(page, supervisor, filer):
+    """systemd reads each unit, those for instances with a name."""
+    if not supervisor.is_booted and shutil.which("systemd-analyze") is None:
+        print("not tried: systemd-analyze is not installed")
+        return
+    with Shell(supervisor) as shell:
+        shell.paste("install -m 0755 deploy/outbox-round /usr/local/bin/; mkdir -p /run/verify")
+        shell.paste("for it in deploy/berruzpil-*.service deploy/berruzpil-*.timer; "
+                    "do cp $it /run/verify/$(basename $it | sed s/@/@1/); done")
+        status, printed = shell.paste("ls /run/verify | wc -l; systemd-analyze verify --man=no /run/verify/*")
+    count = len([*(ROOT / "deploy").glob("berruzpil-*.service"), *(ROOT / "deploy").glob("berruzpil-*.timer")])
+    hold("systemd-analyze verify", (status, printed), (0, f"{count}\n"))
+
+
+# ---- the clock of the timers
+
+# How many seconds after a start of the machine, or after the last run, a timer starts its unit at the latest.
+TIMERS = [("filer", "berruzpil-outbox", 75), ("supervisor", "berruzpil-health@8080", 300),
+          ("supervisor", "berruzpil-metrics", 120)]  # fmt: skip
+STARTED = "systemctl show --value -p ExecMainStartTimestampMonotonic {}.service"
+
+
+def timers(page, supervisor, filer):
+    """Each timer has a next time, and those of a minute start their unit by themselves."""
+    if not supervisor.is_booted:
+        print("not tried: a stand-in has no timers")
+        return
+    named = {"supervisor": supervisor, "filer": filer}
+    for name, unit, within in TIMERS:
+        hold(f"{unit}.timer comes within {within} s", 0 <= next_run(named[name], unit) <= within, True)
+    hold("the timer of copies comes within 75 minutes",
+         0 <= next_run(supervisor, "berruzpil-snapshot@register") <= 4500, True)
+    entry = put(page, filer, "timer-1")
+    supervisor.paste("systemctl start berruzpil-health@8080 berruzpil-metrics")
+    starts = {unit: {named[name].paste(STARTED.format(unit))[1]} for name, unit, _ in TIMERS}
+    # The first round may come since the machine has started.
+    for name, unit, _ in [*TIMERS, TIMERS[0]]:
+        found = named[name].until(STARTED.format(unit), lambda _, printed: printed not in starts[unit], seconds=100)[1]
+        hold(f"{unit}.timer starts its unit by itself", found not in starts[unit], True)
+        starts[unit].add(found)
+    hold("so a report is filed that nobody sent by hand", states(filer).get(entry, "none").split()[0], "confirmed")
+
+
+def next_run(machine, unit):
+    """In how many seconds a timer starts its unit the next time; -1 if never. One that runs now has none yet."""
+    command = f"systemctl list-timers --all --output=json {unit}.timer"
+    machine.until(f"systemctl is-active {unit}.service", lambda _, printed: "activating" not in printed)
+    for row in json.loads(machine.paste(command)[1] or "[]"):
+        return max(0, row["next"] / 1e6 - time.time()) if row["next"] else -1
+    return -1
+
+
+# ---- slow clients, and such as go away
+
+TLS = ("openssl s_client -quiet -connect intake.example:443 -servername intake.example -CAfile "
+       "/etc/berruzpil/intake-ca.pem -cert /etc/berruzpil/filer.pem -key /etc/berruzpil/filer.key")  # fmt: skip
+CURL = ("curl -s -m 20 --cacert /etc/berruzpil/intake-ca.pem --cert /root/beta.pem --key /root/beta.key "
+        "https://intake.example/filings/BETA")  # fmt: skip
+HEAD = ("POST /filings/ACME HTTP/1.1\\r\\nHost: intake.example\\r\\nIdempotency-Key: \"{}\"\\r\\n"
+        "Content-Length: {}\\r\\n\\r\\n")  # fmt: skip
+# A second filer waits no longer than this beside slow clients, in seconds, if it waited so much less alone.
+LONGER = 5
+
+
+def second_filer(supervisor, filer):
+    """Another filer, BETA, with a certificate of its own."""
+    supervisor.paste(
+        "openssl req -x509 -newkey ec -pkeyopt ec_paramgen_curve:P-256 -nodes -days 9 -subj /O=BETA/CN=beta "
+        "-CA /etc/nginx/tls/filers-ca.pem -CAkey /etc/berruzpil/authority/ca.key "
+        "-addext basicConstraints=critical,CA:FALSE -keyout beta.key -out beta.pem; "
+        "nginx-filer /etc/nginx/conf.d/nginx-intake.conf beta.pem beta BETA; "
+        "nginx -t -q && systemctl reload nginx"
+    )
+    for name in ("beta.key", "beta.pem"):
+        shutil.copyfile(supervisor.file(f"/root/berruzpil/{name}"), filer.file(f"/root/{name}"))
+    return filer.until(CURL, lambda _, printed: "filings" in printed)[1]
+
+
+def times_of(filer, keys):
+    """How long each of these requests of the second filer takes, and the statuses of the replies."""
+    found = [filer.paste(f"{CURL} -H 'Idempotency-Key: \"{key}\"' --data-binary '{{}}' -o /dev/null "
+                         "-w '%{time_total} %{http_code}'")[1].split() for key in keys]  # fmt: skip
+    return max(float(seconds) for seconds, _ in found), {status for _, status in found}
+
+
+def slow(page, supervisor, filer):
+    """A client that sends a byte a second of a large report, and one that doesn't read a large reply: a second filer
+    waits no longer than alone."""
+    hold("a second filer", second_filer(supervisor, filer), '{"filings":[]}')
+    alone, statuses = times_of(filer, ["alone-1", "alone-2", "alone-3"])
+    hold("it gets its answers", statuses, {"422"})
+    # A report with so many findings, in so long a place, that the reply has 5 MB.
+    facts = {"\1" * 900: {"value": "7", "dimensions": {f"d{at}": 5 for at in range(900)}}}
+    body = json.dumps({**json.loads(trials.REPORT), "facts": facts})
+    filer.write("/run/large", HEAD.format("large", len(body)).encode().decode("unicode_escape") + body)
+    clients = [
+        ("a byte a second", f"{{ printf '{HEAD.format('slow-{}', 1_000_000)}'; "
+                            f"while :; do printf ' '; sleep 1; done; }} | {TLS} >/dev/null"),
+        ("a reply that isn't read", f"{{ cat /run/large; sleep 600; }} | {TLS} | sleep 600"),
+    ]  # fmt: skip
+    filer.paste(f"{{ cat /run/large; sleep 1; }} | timeout 60 {TLS} | head -c 1 | wc -c")
+    for what, command in clients:
+        begun = [filer.begin(command.replace("{}", str(at))) for at in range(2)]
+        try:
+            time.sleep(3)
+            # Once the intake has made their replies it is free.
+            supervisor.paste("curl -s -m 30 http://127.0.0.1:8080/filings/health")
+            beside, statuses = times_of(filer, [f"{what[:8]}-{at}" for at in range(2)])
+        finally:
+            filer.paste("pkill openssl; pkill -f 'sleep 600'")
+            for it in begun:
+                it.kill()
+                it.wait()
+        print(f"alone the second filer waits {alone:.2f} s, beside {what} {beside:.2f} s")
+        hold(f"a second filer beside {what}", (beside < alone + LONGER, statuses), (True, {"422"}))
+
+
+def abort(page, supervisor, filer):
+    """A client that goes away before the reply comes: the log has what the intake answered."""
+    supervisor.paste("systemctl kill --signal=STOP berruzpil-intake")
+    body = trials.REPORT.decode()
+    filer.write("/run/report", HEAD.format("gone", len(body)).encode().decode("unicode_escape") + body)
+    filer.paste(f"{{ cat /run/report; sleep 3; }} | timeout 2 {TLS}")
+    time.sleep(1)
+    supervisor.paste("systemctl kill --signal=CONT berruzpil-intake")
+    log = "/var/log/berruzpil/filings.log"
+    supervisor.until(f"grep gone {log}", seconds=30)
+    line = last_line_of_log(supervisor)
+    hold("the line of a client that went away", (line["key"], line["intake_status"]), ('"gone"', "201"))
+
+
+# ---- certificates
+
+
+def renew(page, supervisor, filer, name):
+    """Gives the filer a certificate of another subject, by the commands of the page."""
+    theirs, ours = page.steps(SUPERVISOR), page.steps(FILER)
+    play(filer, "another certificate", [ours[2][0]], [("CN=acme-filing", f"CN={name}")])
+    carry(filer, supervisor, "acme.csr")
+    play(supervisor, "another certificate", [it for it in theirs[8] if it[0].startswith("openssl req -x509")])
+    carry(supervisor, filer, "acme.pem")
+    play(filer, "another certificate",
+         [it for it in ours[3] if "acme.pem" in it[0] or it[0] == "systemctl restart nginx"])
+
+
+def certificates(page, supervisor, filer):
+    """A certificate that has no line, and one of another authority: the filer sees a 403, and what the page says of it
+    helps."""
+    unit = "berruzpil-outbox.service"
+    before = len(filer.alerts(unit))
+    filer.paste("cp -p /etc/berruzpil/filer.* /root/")
+    renew(page, supervisor, filer, "acme-filing-2")
+    entry = put(page, filer, "certificate-1")
+    hold("a round with a certificate that may not file", round_of(filer), (1, JOB.format(unit)))
+    failed, journal, subject = (filer.paste(command) for command, _ in page.steps(FILER)[6])
+    hold("the unit has failed", failed, (0, "failed\n"))
+    said = f"outbox: {entry}: answered 403 Forbidden: not-yours\n"
+    open_still = "outbox-round: entries that are open still: 1\n" in journal[1]
+    hold("the filer sees why", (journal[0], said in journal[1], open_still), (0, True, True))
+    hold("and whose certificate it is", (subject[0], subject[1].splitlines()[0]),
+         (0, "subject=CN=acme-filing-2,O=ACME"))
+    hold("no alert of one failed round", len(filer.alerts(unit)), before)
+    filer.pass_half_an_hour()
+    hold("an alert if rounds fail after half an hour", alert_comes(filer, unit, before), True)
+    line = last_line_of_log(supervisor)
+    hold("the supervisor's log says so", (line["user"], line["status"], line["key"]), ("", 403, '"certificate-1"'))
+    round_of(filer)
+    added = [it for it in page.steps(SUPERVISOR)[8] if "nginx-filer" in it[0] or "reload nginx" in it[0]]
+    added[0][1][0] = added[0][1][0].replace("acme-filing", "acme-filing-2")
+    play(supervisor, "another certificate", added)
+    filer.until(LIST, lambda _, printed: "filings" in printed)
+    hold("the round after that", round_of(filer), (0, ""))
+    hold("the entry is confirmed", states(filer)[entry].split()[0], "confirmed")
+    alerts = len(filer.alerts(unit))
+    filer.pass_half_an_hour()
+    hold("no alert, since the rounds go well again", len(filer.alerts(unit)), alerts)
+    other = "openssl req -x509 -newkey ec -pkeyopt ec_paramgen_curve:P-256 -nodes -days 9 -subj /O=ACME/CN=acme-filing"
+    filer.paste(f"{other} -keyout /etc/berruzpil/filer.key -out /etc/berruzpil/filer.pem; systemctl restart nginx")
+    entry = put(page, filer, "certificate-2")
+    hold("a round with a certificate of another authority", round_of(filer)[0], 1)
+    said = f"outbox: {entry}: answered 403 Forbidden: no-certificate\n"
+    hold("the filer sees that, too", said in filer.paste(page.steps(FILER)[6][1][0])[1], True)
+    filer.paste("cp -p /root/filer.* /etc/berruzpil/; systemctl restart nginx")
+    hold("the round with the right one", round_of(filer), (0, ""))
+
+
+# ---- copies
+
+
+def restore(page, supervisor, filer):
     """The copy of the first day is restored, by the commands of the page: the filings after it are lost, and named."""
-    commands = block("How do I restore a copy?", "systemctl stop")
-    lost = next(lines for command, lines in commands if command.startswith("lost-filings"))
-    lost.append(lost[0].replace("2024-annual-2", "2024-annual-3"))
-    supervisor.play("a restore", commands, [(COPY_OF_PAGE, copies(supervisor)[0])], [("lost-filings", 1)])
-    supervisor.start_intake()
-    supervisor.paste("cd /root/berruzpil")
+    commands = page.block("How do I restore a copy?", "cd ")
+    hold("a second report", filed(page, filer, "2024-annual-2"), "confirmed N")
+    play(supervisor, "a restore", commands, [(COPY_OF_PAGE, copies(supervisor)[0])], [("lost-filings", 1)])
+    start_intake(page, supervisor)
     hold("the restored register serves", supervisor.paste("curl -s http://127.0.0.1:8080/filings/ACME"),
          (0, '{"filings":[{"facts":1,"number":1}]}'))
 
 
-def try_upgrade(supervisor):
+def damaged(page, supervisor, filer):
+    """A copy of a damaged register is none: no file of it is left, and the unit fails and alerts."""
+    unit = "berruzpil-snapshot@register.service"
+    before, alerts = copies(supervisor), len(supervisor.alerts(unit))
+    with Shell(supervisor) as shell:
+        shell.paste("systemctl stop berruzpil-intake; cd /var/lib/berruzpil; mkdir present; cp -p register.db* present")
+        # The last page, in the middle.
+        shell.paste("size=$(stat -c %s register.db); "
+                    "printf damaged | dd of=register.db bs=1 seek=$((size - 2000)) conv=notrunc status=none")
+        status, printed = shell.paste("runuser -u berruzpil -- register-snapshot register.db copies/damaged.db")
+        hold("a copy of a damaged register by hand",
+             (status, "damaged" in printed, supervisor.file("/var/lib/berruzpil/copies/damaged.db").exists()),
+             (1, True, False))
+        hold("and by its unit", shell.paste(f"systemctl start {unit}"), (1, JOB.format(unit)))
+        hold("there is an alert", alert_comes(supervisor, unit, alerts), True)
+        hold("no copy is there that was not there before", copies(supervisor), before)
+        shell.paste("mv present/* .; rmdir present; systemctl reset-failed")
+    start_intake(page, supervisor)
+
+
+def metrics(page, supervisor, filer):
+    """The numbers come from the unit in its sandbox, beside copies, and nothing is written beside a copy."""
+    hold("a copy", supervisor.paste("systemctl start berruzpil-snapshot@register"), (0, ""))
+    beside = "ls -A /var/lib/berruzpil/copies"
+    before = supervisor.paste(beside)[1]
+    supervisor.paste(f"rm {METRICS}")
+    hold("the unit of the numbers", supervisor.paste("systemctl start berruzpil-metrics"), (0, ""))
+    hold("the numbers of the copy", 'berruzpil_copy_filings{register="register"} ' in
+         supervisor.file(METRICS).read_text(), True)
+    hold("nothing is written beside the copies", supervisor.paste(beside)[1], before)
+    found = dict(line.rsplit(" ", 1) for line in supervisor.file(METRICS).read_text().splitlines())
+    for name in ('intake_start_timestamp_seconds{register="register"}', 'intake_memory_peak_bytes{register="register"}',
+                 'certificate_expiry_timestamp_seconds{file="/etc/nginx/tls/server.pem"}',
+                 'certificate_expiry_timestamp_seconds{file="/etc/berruzpil/health.pem"}'):  # fmt: skip
+        hold(f"berruzpil_{name} is a number", float(found.get(f"berruzpil_{name}", 0)) > 0, True)
+    with Shell(supervisor) as shell:
+        shell.paste("cd /var/lib/berruzpil; mkdir /root/copies; mv copies/* /root/copies; "
+                    "systemctl start berruzpil-metrics")
+        found = dict(line.rsplit(" ", 1) for line in supervisor.file(METRICS).read_text().splitlines())
+        hold("a register that was never copied has a number that alerts",
+             found.get('berruzpil_copy_timestamp_seconds{register="register"}'), "0")
+        shell.paste("mv /root/copies/* copies/; rmdir /root/copies")
+
+
+def readers(page, supervisor, filer):
+    """A member of a group reads a copy in a folder that it may not write to, and nothing is written there."""
+    copy = "/srv/copies/today.db"
+    supervisor.paste("groupadd analysts; useradd --groups analysts analyst; useradd stranger")
+    commands = page.block("How do I read a copy?", "install -d")
+    made = next(at for at, (command, _) in enumerate(commands) if "--for-reading" in command)
+    play(supervisor, "a copy for reading", commands[:made])
+    hold("a copy for reading", supervisor.paste(commands[made][0])[0], 0)
+    written = re.search(rf"`(sqlite3 -readonly [^`]*{copy})`", page.text)
+    hold("what the page says of a reader", bool(written), True)
+    asked = f"{' '.join(written[1].split())} -batch 'SELECT count(*) > 0, min(filer) FROM filings'"
+    before = supervisor.paste("ls -AlR /srv/copies")
+    hold("a member of the group reads it", supervisor.paste(f"runuser -u analyst -- {asked}"), (0, "1|ACME\n"))
+    hold("nobody else does", supervisor.paste(f"runuser -u stranger -- {asked}")[0] != 0, True)
+    hold("and may not write beside it", supervisor.paste("runuser -u analyst -- touch /srv/copies/new")[0], 1)
+    hold("nothing is written beside it", supervisor.paste("ls -AlR /srv/copies"), before)
+    supervisor.paste("rm -r /srv/copies; userdel analyst; userdel stranger; groupdel analysts")
+
+
+# ---- versions
+
+
+def upgrade(page, supervisor, filer):
     """A register of an earlier version is none for `serve`, which alerts; the commands of the page upgrade it, and it
     answers as it did."""
+    unit = "berruzpil-intake.service"
+    before = len(supervisor.alerts(unit))
     database = supervisor.file("/var/lib/berruzpil/register.db")
     supervisor.paste("systemctl stop berruzpil-intake; cd /var/lib/berruzpil; "
                      "mkdir present; mv register.db register.db-wal present/")
     with tempfile.TemporaryDirectory() as folder:
         trials.make_earlier(pathlib.Path(folder, "old.db"))
         shutil.copyfile(pathlib.Path(folder, "old.db"), database)
-    supervisor.paste("chown berruzpil: register.db; systemctl start berruzpil-intake")
-    hold("an earlier register doesn't start", supervisor.until("systemctl is-failed berruzpil-intake"), (0, "failed\n"))
-    hold("and there is an alert", supervisor.alert_of("berruzpil-intake.service"), True)
-    supervisor.play("an upgrade", block("How do I upgrade a register of an earlier version?", "systemctl stop"))
-    supervisor.start_intake()
+    supervisor.paste("cd /var/lib/berruzpil; chown berruzpil: register.db; systemctl start berruzpil-intake")
+    hold("an earlier register doesn't start", supervisor.until(f"systemctl is-failed {unit}"), (0, "failed\n"))
+    hold("and there is an alert", alert_comes(supervisor, unit, before), True)
+    play(supervisor, "an upgrade", page.block("How do I upgrade a register of an earlier version?", "systemctl stop"))
+    start_intake(page, supervisor)
     asked = "curl -s -X POST http://127.0.0.1:8080/filings/ACME -H 'Idempotency-Key: \"k-1\"' -H 'Content-Length: 0'"
     hold("what was kept is answered as it was", supervisor.paste(asked),
          (0, '{"findings":[{"code":"not-json","place":""}],"status":"refused"}'))
-    supervisor.paste("systemctl stop berruzpil-intake; rm register.db*; mv present/* .; cd /root/berruzpil")
-    supervisor.start_intake()
+    supervisor.paste("systemctl stop berruzpil-intake; cd /var/lib/berruzpil; rm register.db*; mv present/* .; "
+                     "rmdir present")
+    start_intake(page, supervisor)
 
 
-def try_outbox_upgrade(filer):
+def outbox_upgrade(page, supervisor, filer):
     """An outbox of an earlier version: the round says so, and the commands of the page upgrade it."""
-    filer.paste("cd /var/lib/berruzpil; mkdir present; mv outbox.db* present/")
+    filer.paste("systemctl stop berruzpil-outbox.timer; cd /var/lib/berruzpil; mkdir present; mv outbox.db* present/")
     with tempfile.TemporaryDirectory() as folder:
         trials.make_earlier_outbox(pathlib.Path(folder, "old.db"))
         shutil.copyfile(pathlib.Path(folder, "old.db"), filer.file("/var/lib/berruzpil/outbox.db"))
-    filer.paste("chown berruzpil: outbox.db")
+    filer.paste("chown berruzpil: /var/lib/berruzpil/outbox.db; systemctl start berruzpil-outbox.timer")
     hold("a round over an earlier outbox", round_of(filer)[0], 1)
-    hold("says what it is", trials.NO_OUTBOX in filer.paste(steps(FILER)[6][1][0])[1], True)
-    filer.play("an upgrade", block("How do I upgrade an outbox of an earlier version?", "systemctl stop"))
-    filer.paste("rm outbox.db*; mv present/* .; cd /root/berruzpil")
+    hold("says what it is", trials.NO_OUTBOX in filer.paste(page.steps(FILER)[6][1][0])[1], True)
+    play(filer, "an upgrade", page.block("How do I upgrade an outbox of an earlier version?", "systemctl stop"))
+    filer.paste("systemctl stop berruzpil-outbox.timer berruzpil-outbox; cd /var/lib/berruzpil; rm outbox.db*; "
+                "mv present/* .; rmdir present; systemctl start berruzpil-outbox.timer")
 
 
-def try_several(supervisor, filer):
+# ---- several
+
+
+def several(page, supervisor, filer):
     """A second register behind the same nginx, and a second outbox, by the commands of the page."""
-    supervisor.play("several registers", block("How do I run several registers?", "openssl req"))
-    supervisor.paste("cd /root/berruzpil")
+    play(supervisor, "several registers", page.block("How do I run several registers?", "openssl req"))
     ask = "curl -s --cacert /etc/berruzpil/intake-ca.pem --cert /etc/berruzpil/filer.pem --key /etc/berruzpil/filer.key"
     send = (
         f"{ask} https://2025.example/filings/ACME -H 'Idempotency-Key: \"k-1\"' "
@@ -432,18 +569,20 @@ def try_several(supervisor, filer):
                           "cut -d' ' -f2,4- /var/lib/berruzpil/copies/2025.tried"),
          (0, "0 restored: sound: 1 kept, 1 filings\n"))
     supervisor.paste("systemctl start berruzpil-metrics")
-    numbers = supervisor.file("/var/lib/prometheus/node-exporter/berruzpil.prom").read_text()
-    found = [f'berruzpil_copy_filings{{register="{name}"}} 1' in numbers for name in ("register", "2025")]
+    numbers = supervisor.file(METRICS).read_text()
+    found = [f'berruzpil_copy_filings{{register="{name}"}} ' in numbers for name in ("register", "2025")]
     hold("numbers of both registers",
          (found, 'berruzpil_requests_total{host="2025.example",status="201"} 1\n' in numbers), ([True, True], True))
-    found = supervisor.paste("systemctl start berruzpil-snapshot@none")
-    hold("a register that isn't there has no copy", found, (1, JOB.format("berruzpil-snapshot@none.service")))
-    hold("and there is an alert of it", supervisor.alert_of("berruzpil-snapshot@none.service"), True)
-    filer.play("several outboxes", block("How do I run several outboxes?", "runuser"))
+    unit = "berruzpil-snapshot@none.service"
+    hold("a register that isn't there has no copy", supervisor.paste(f"systemctl start {unit}"), (1, JOB.format(unit)))
+    hold("and there is an alert of it", alert_comes(supervisor, unit, 0), True)
+    play(filer, "several outboxes", page.block("How do I run several outboxes?", "runuser"))
     filer.paste("runuser -u berruzpil -- outbox put --db /var/lib/berruzpil/beta.db "
                 "--body /var/lib/berruzpil/report.json --key b-1")
-    hold("a round of an outbox that may not file yet", round_of(filer, "berruzpil-outbox@beta.service")[0], 1)
-    supervisor.paste("nginx-filer /etc/nginx/conf.d/nginx-intake.conf acme.pem acme BETA; systemctl reload nginx")
+    added = next(it for it, _ in page.steps(SUPERVISOR)[8] if "nginx-filer" in it).replace(" ACME", " BETA")
+    if added not in supervisor.paste("cat /etc/nginx/conf.d/nginx-intake.conf")[1]:
+        hold("a round of an outbox that may not file yet", round_of(filer, "berruzpil-outbox@beta.service")[0], 1)
+    supervisor.paste(f"{added}; systemctl reload nginx")
     filer.until("curl -s http://127.0.0.1:8081/filings/BETA", lambda _, printed: "filings" in printed)
     hold("and of one that may", round_of(filer, "berruzpil-outbox@beta.service"), (0, ""))
     # The report is ACME's, so BETA is answered that the entity is another.
@@ -451,80 +590,266 @@ def try_several(supervisor, filer):
          filer.paste("runuser -u berruzpil -- outbox status --db /var/lib/berruzpil/beta.db"), (0, "entry 1 refused\n"))
 
 
-def try_health(supervisor):
+# ---- whether it serves
+
+
+def health(page, supervisor, filer):
     """What the health check says of an intake that was killed, that is stopped, and of a wrong certificate."""
-    direct = "intake-health http://127.0.0.1:8080/filings/health"
-    front = next(command for command, _ in steps(SUPERVISOR)[7] if "https://" in command)
-    hold("an intake is killed",
-         supervisor.paste("kill -9 $(pgrep -f '^/usr/local/bin/intake serve --db register.db')"), (0, ""))
-    hold("and comes back", supervisor.until(direct), (0, "http://127.0.0.1:8080/filings/health: serving\n"))
+    direct = ask_health(page, supervisor)
+    front = next(command for command, _ in page.steps(SUPERVISOR)[7] if "https://" in command)
+    unit = "berruzpil-health@8080.service"
+    before, alerts = supervisor.paste("curl -s http://127.0.0.1:8080/filings/ACME"), len(supervisor.alerts(unit))
+    killed = len(supervisor.alerts("berruzpil-intake.service"))
+    hold("the unit of the check", supervisor.paste(f"systemctl start {unit}"), (0, ""))
+    hold("an intake is killed", supervisor.paste("systemctl kill --signal=KILL berruzpil-intake"), (0, ""))
+    hold("and comes back", supervisor.until(direct, seconds=patience()),
+         (0, "http://127.0.0.1:8080/filings/health: serving\n"))
+    hold("with what it had", supervisor.paste("curl -s http://127.0.0.1:8080/filings/ACME"), before)
+    hold("and there is an alert of it", alert_comes(supervisor, "berruzpil-intake.service", killed), True)
     supervisor.paste("systemctl stop berruzpil-intake")
     status, printed = supervisor.paste(direct)
     said = "intake-health: http://127.0.0.1:8080/filings/health: (7) Failed to connect"
     hold("health of an intake that is stopped", (status, printed.startswith(said)), (1, True))
     hold("and through nginx", supervisor.paste(front),
          (1, "intake-health: https://intake.example/health: answered 503\n"))
-    hold("the unit fails", supervisor.paste("systemctl start berruzpil-health@8080"),
-         (1, JOB.format("berruzpil-health@8080.service")))
-    supervisor.start_intake()
-    hold("the unit goes well again", supervisor.paste("systemctl start berruzpil-health@8080"), (0, ""))
+    hold("the unit fails", supervisor.paste(f"systemctl start {unit}"), (1, JOB.format(unit)))
+    hold("and there is an alert of it", alert_comes(supervisor, unit, alerts), True)
+    start_intake(page, supervisor)
+    hold("the unit goes well again", supervisor.paste(f"systemctl start {unit}"), (0, ""))
     without = front.split(" --cert ")[0]
     hold("health without a certificate", supervisor.paste(without),
          (1, "intake-health: https://intake.example/health: answered 403\n"))
-    hold("a page that is no intake's", supervisor.paste("intake-health http://127.0.0.1:80/")[0], 1)
-    hold("a wrong word", supervisor.paste("intake-health 8080"), (2, "usage: intake-health URL [OPTION OF curl ..]\n"))
+    program = direct.split()[0]
+    hold("a page that is no intake's", supervisor.paste(f"{program} http://127.0.0.1:80/")[0], 1)
+    hold("a wrong word", supervisor.paste(f"{program} 8080"), (2, "usage: intake-health URL [OPTION OF curl ..]\n"))
     sent = (
-        front.replace("intake-health https", "curl -s https")
+        front.replace(f"{program} https", "curl -s https")
         + " -X POST --data-binary '{}' -H 'Idempotency-Key: \"k-1\"'"
     )
     hold("a POST to the health check files nothing", supervisor.paste(sent), (0, '{"filings":[]}'))
 
 
-def try_stunnel(filer):
+def power(page, supervisor, filer):
+    """Both machines lose their power and start again: nobody does anything, and the next report is filed."""
+    if not supervisor.is_booted:
+        print("not tried: a stand-in does not start again")
+        return
+    direct, asked = ask_health(page, supervisor), "curl -s http://127.0.0.1:8080/filings/ACME"
+    before = supervisor.paste(asked)
+    for machine in (supervisor, filer):
+        machine.end()
+        machine.boot()
+    hold("the intake serves after a power cut", supervisor.until(direct, seconds=patience())[0], 0)
+    hold("with what it had", supervisor.paste(asked), before)
+    for machine, names in [(supervisor, ["health@8080", "metrics", "snapshot@register"]), (filer, ["outbox"])]:
+        wanted = " ".join(f"berruzpil-{name}.timer" for name in names)
+        hold(f"the timers of {machine.name} run again", machine.paste(f"systemctl is-active {wanted}"),
+             (0, "active\n" * len(names)))
+    hold("the next report", filed(page, filer, "power-1"), "confirmed N")
+
+
+def stunnel(page, supervisor, filer):
     """stunnel in the place of the filer's nginx, by the words of the page, while the supervisor has one register."""
-    if shutil.which("stunnel4") is None:
+    if not filer.is_booted and shutil.which("stunnel4") is None:
         print("not tried: stunnel4 is not installed")
         return
-    written = re.search(r"With\s+stunnel:\s+`deploy/(\S+)`\s+to\s+`(/etc/stunnel/)`,\s+and\s+`(systemctl [^`]+)`", PAGE)
+    written = re.search(r"With\s+stunnel:\s+`deploy/(\S+)`\s+to\s+`(/etc/stunnel/)`,\s+and\s+`(systemctl [^`]+)`",
+                        page.text)
     hold("what the page says of stunnel", bool(written), True)
     name, folder, command = (" ".join(it.split()) for it in written.groups())
-    filer.play("stunnel",
-               [["systemctl stop nginx", []], [f"install -m 0644 deploy/{name} {folder}", []], [command, []]])
-    filer.until("curl -s http://127.0.0.1:8081/filings/ACME", lambda _, printed: "filings" in printed)
-    filer.paste(steps(FILER)[5][1][0].replace("2024-annual-1", "2024-annual-4"))
-    status, printed = round_of(filer)
-    hold("a round over stunnel", (status, printed), (0, ""))
+    play(filer, "stunnel",
+         [["systemctl stop nginx", []], [f"install -m 0644 deploy/{name} {folder}", []],
+          [command.replace("enable ", "enable --quiet "), []]])
+    filer.until(LIST, lambda _, printed: "filings" in printed)
+    hold("a report over stunnel", filed(page, filer, "stunnel-1"), "confirmed N")
     hold("stunnel runs as its unit", filer.paste("systemctl is-active stunnel@stunnel-outbox"), (0, "active\n"))
-    filer.paste("systemctl stop stunnel@stunnel-outbox; systemctl start nginx")
+    filer.paste("systemctl disable --quiet --now stunnel@stunnel-outbox; systemctl start nginx")
+
+
+def man_pages(page, supervisor, filer):
+    """Each example of each rendered man page, in the filer's network, where port 8080 is free."""
+    check, folder = ROOT / "tools" / "check_man_pages.py", supervisor.programs[0].parent
+    if not check.exists() or machines.absent(["man", "groff"]) or not (folder / "drill").exists():
+        print("not tried: the examples of the man pages need man, groff, and drill beside the intake")
+        return
+    words = ["nsenter", f"--net=/run/netns/{filer.name}", sys.executable, str(check), str(folder)]
+    done = subprocess.run(words, capture_output=True, text=True, check=False, timeout=1200)
+    hold("the examples of the man pages",
+         [line for line in done.stdout.splitlines() if line.startswith("failed")] + done.stderr.splitlines()
+         + [done.returncode], [0])  # fmt: skip
+
+
+# The parts, in the order in which they are played. Each after the first can be played on its own after the days.
+PARTS = {it.__name__: it for it in [
+    days, units, restore, timers, metrics, readers, slow, abort, certificates, stunnel, damaged, upgrade,
+    outbox_upgrade, health, power, several, man_pages,
+]}  # fmt: skip
+
+
+# ---- planted faults
+
+FAULT = re.compile(r"(\w+): (\S+): `(.*)` => `(.*)`")
+# Where the days put what is in deploy/.
+INSTALLED = ["/usr/local/bin", "/usr/local/lib/berruzpil", "/etc/systemd/system", "/etc/nginx/conf.d"]
+
+
+class Fault:
+    """A text of a file that becomes another one, and the part that has to see it."""
+
+    def __init__(self, line):
+        if not (found := FAULT.fullmatch(line)):
+            raise ValueError(f"{FAULTS.name}: this line is no fault: {line}")
+        self.line = line
+        self.part, self.file, self.old, self.new = found.groups()
+
+    def misfit(self):
+        """What is wrong with the line, or nothing."""
+        if self.part not in PARTS:
+            return f"there is no part {self.part}"
+        count = (ROOT / self.file).read_text(encoding="utf-8").count(self.old)
+        return None if count == 1 else f"this text is there {count} times"
+
+    def plant(self, file):
+        text = file.read_text(encoding="utf-8")
+        if self.old in text:
+            file.write_text(text.replace(self.old, self.new), encoding="utf-8")
+
+    def plant_in(self, machine):
+        """Plants the fault in what the days have put on a machine."""
+        name = pathlib.Path(self.file).name
+        for folder in [f"/root/berruzpil/{pathlib.Path(self.file).parent}", *INSTALLED]:
+            if (file := machine.file(f"{folder}/{name}")).exists():
+                self.plant(file)
+
+
+def faults(word=""):
+    lines = FAULTS.read_text(encoding="utf-8").splitlines()
+    return [Fault(line) for line in lines if line and line[0] != "#" and word in line]
+
+
+def check_faults():
+    for fault in faults():
+        if misfit := fault.misfit():
+            trials.tell(f"planted fault: {fault.line}", misfit)
+
+
+@contextlib.contextmanager
+def repository_with(fault):
+    """The files of the repository that are played, with a fault in one of them."""
+    with tempfile.TemporaryDirectory() as folder:
+        top = pathlib.Path(folder)
+        for name in ("deploy", "docs"):
+            shutil.copytree(ROOT / name, top / name)
+        if fault:
+            fault.plant(top / fault.file)
+        yield top
+
+
+def sees(base, programs, kept, part, fault):
+    """The first check of a part that fails with this fault, or with none; nothing if none fails."""
+    with repository_with(fault) as top:
+        below = {} if part == "days" else kept
+
+        def make(name):
+            machine = machines.Booted(name, base, top, programs, below.get(name))
+            if fault:
+                fault.plant_in(machine)
+            return machine
+
+        try:
+            with machines.joined(make) as (supervisor, filer):
+                page = Page(top)
+                if part != "days" and supervisor.until(ask_health(page, supervisor), seconds=patience())[0]:
+                    return "the intake serves"
+                PARTS[part](page, supervisor, filer)
+        except Seen as seen:
+            return str(seen)
+        except (OSError, subprocess.SubprocessError, LookupError, ValueError) as seen:
+            return repr(seen)
+    return None
+
+
+def try_faults(base, programs, word):
+    """Plays the days once, and each part over what they leave: without a fault, and with each of its faults."""
+    chosen = faults(word)
+    with machines.joined(lambda name: machines.Booted(name, base, ROOT, programs)) as both:
+        days(Page(ROOT), *both)
+        kept = {machine.name: machine.shut_down() for machine in both}
+    planted.append(True)
+    for part in dict.fromkeys(fault.part for fault in chosen):
+        if part != "days":
+            trials.tell(f"{part}, without a fault", sees(base, programs, kept, part, None))
+        for fault in chosen:
+            if fault.part == part:
+                begun = time.monotonic()
+                seen = sees(base, programs, kept, part, fault)
+                trials.tell(f"{fault.line}: seen by: {seen} ({time.monotonic() - begun:.0f} s)",
+                            None if seen else "no check fails")
+                passed.extend([fault.line] if seen else [])
+
+
+def words_of(words):
+    parser = argparse.ArgumentParser(prog="check_first_days.py", description="Plays the days of docs/OPERATIONS.md.")
+    kind = parser.add_mutually_exclusive_group()
+    kind.add_argument("--stand-in", action="store_true", help="with a stand-in for systemd")
+    kind.add_argument("--planted", action="store_true", help="with planted faults, each of which has to be seen")
+    parser.add_argument("programs", metavar="PROGRAM", nargs=2, type=pathlib.Path, help="the built intake and outbox")
+    parser.add_argument("parts", metavar="PART", nargs="*", help=" ".join(PARTS) + "; with --planted a word")
+    given = parser.parse_args(words)
+    if absent := [str(it) for it in given.programs if not it.is_file()]:
+        parser.error(f"there is no program {absent[0]}")
+    if not given.planted and (wrong := [it for it in given.parts if it not in PARTS]):
+        parser.error(f"there is no part {wrong[0]}")
+    given.programs = [it.resolve() for it in given.programs]
+    return given
+
+
+def play_parts(make, chosen):
+    with machines.joined(make) as both:
+        for name, part in PARTS.items():
+            if name == "days" or name in chosen or not chosen:
+                begun = time.monotonic()
+                try:
+                    part(Page(ROOT), *both)
+                except (OSError, subprocess.SubprocessError, LookupError, ValueError) as fault:
+                    trials.tell(name, repr(fault))
+                print(f"{name}: {time.monotonic() - begun:.0f} s", flush=True)
 
 
 def main(words):
-    if len(words) != 2 or not all(pathlib.Path(word).is_file() for word in words):
-        print("usage: check_first_days.py INTAKE OUTBOX (the built programs)", file=sys.stderr)
-        return 2
-    absent = [program for program in NEEDED if shutil.which(program, path=PATHS) is None]
-    if absent or os.geteuid() != 0:
-        print("not tried: "
-              + ("it needs root" if os.geteuid() != 0 else f"these are not installed: {' '.join(absent)}"))
+    given = words_of(words)
+    if os.geteuid() != 0 or machines.absent(machines.NEEDED):
+        missing = " ".join(machines.absent(machines.NEEDED))
+        print(f"not tried: {f'these are not installed: {missing}' if missing else 'it needs root'}")
         print("0 passed, 0 failed")
         return 77
+    if (status := machines.apart()) is not None:
+        return status
+    check_faults()
+    under = None
     try:
-        with two_machines([pathlib.Path(word).resolve() for word in words]) as (supervisor, filer):
-            play_days(supervisor, filer)
-            verify_units(supervisor)
-            try_wrong_certificates(supervisor, filer)
-            try_restore(supervisor)
-            try_stunnel(filer)
-            try_upgrade(supervisor)
-            try_outbox_upgrade(filer)
-            try_several(supervisor, filer)
-            try_health(supervisor)
+        if not given.stand_in:
+            try:
+                base = machines.base_for_booting(Page(ROOT).packages())
+                under = f"under systemd {machines.version_of(base)}"
+                if given.planted:
+                    try_faults(base, given.programs, " ".join(given.parts))
+                else:
+                    play_parts(lambda name: machines.Booted(name, base, ROOT, given.programs), given.parts)
+            except NotPossible as fault:
+                if given.planted:
+                    raise
+                print(f"no real systemd: {fault}")
+                under = None
+        if under is None:
+            if missing := machines.absent(machines.NEEDED_TO_STAND_IN):
+                raise NotPossible(f"these are not installed: {' '.join(missing)}")
+            play_parts(lambda name: machines.StandIn(name, ROOT, given.programs), given.parts)
+            under = "with a stand-in for systemd"
     except NotPossible as fault:
         print(f"not tried: {fault}\n0 passed, 0 failed")
         return 77
-    except (OSError, subprocess.SubprocessError, LookupError, ValueError) as fault:
-        trials.tell("the days", repr(fault))
-    print(f"{len(passed)} passed, {len(trials.failures)} failed")
+    print(f"{len(passed)} passed, {len(trials.failures)} failed, {under}")
     return 1 if trials.failures else 0
 
 

@@ -17,6 +17,8 @@ import time
 
 STATE = pathlib.Path("/run/stand-in")
 FOLDERS = [pathlib.Path("/etc/systemd/system"), pathlib.Path("/lib/systemd/system")]
+# What may stand before a command: `-` if it may fail, `+` if it runs as root.
+PREFIX = re.compile(r"([-+!@:]*)(.*)", re.DOTALL)
 PATHS = "/usr/local/sbin:/usr/local/bin:/usr/sbin:/usr/bin:/sbin:/bin"
 
 
@@ -74,10 +76,13 @@ class Unit:
                 lines += [line for line in path.read_text().splitlines() if line and line[0] not in "#;"]
         return found | dict(line.split("=", 1) for line in lines)
 
-    def words(self, line, environment):
+    def words(self, prefix, line, environment):
         words = [
-            re.sub(r"\$\{(\w+)\}", lambda found: environment.get(found[1], ""), word) for word in shlex.split(line)
+            re.sub(r"\$\$|\$\{(\w+)\}", lambda found: environment.get(found[1], "") if found[1] else "$", word)
+            for word in shlex.split(line)
         ]
+        if "+" in prefix:
+            return words
         user, group = (
             ("nobody", "nogroup")
             if self.one("DynamicUser") == "yes"
@@ -85,24 +90,25 @@ class Unit:
         )
         return ["setpriv", f"--reuid={user}", f"--regid={group}", "--init-groups", "--", *words] if user else words
 
-    def begin(self, line):
+    def begin(self, line, more=()):
         """Starts a command of the unit, with its output in the log."""
-        environment = self.environment()
+        environment = self.environment() | dict(more)
+        prefix, line = PREFIX.fullmatch(line).groups()
         for name in self.all_of("StateDirectory"):
             pathlib.Path("/var/lib", name).mkdir(exist_ok=True)
         STATE.mkdir(exist_ok=True)
         with open(self.log, "ab") as log:
             return subprocess.Popen(
-                self.words(line, environment), cwd=self.one("WorkingDirectory", "/"), env=environment,
+                self.words(prefix, line, environment), cwd=self.one("WorkingDirectory", "/"), env=environment,
                 umask=int(self.one("UMask", "0022"), 8), stdin=subprocess.DEVNULL, stdout=log, stderr=log,
                 start_new_session=True,
             )  # fmt: skip
 
-    def run_all(self, key):
+    def run_all(self, key, more=()):
         """Runs the commands one after the other, up to the first that fails, and gives its status."""
         for line in self.all_of(key):
-            status = self.begin(line.lstrip("-")).wait()
-            if status and not line.startswith("-"):
+            status = self.begin(line, more).wait()
+            if status and "-" not in PREFIX.fullmatch(line)[1]:
                 return status
         return 0
 
@@ -112,6 +118,13 @@ class Unit:
             begin_own("start", name)
 
 
+def result_of(status):
+    """What the commands after a service see of its end."""
+    if status < 0:
+        return {"SERVICE_RESULT": "signal", "EXIT_STATUS": signal.Signals(-status).name.removeprefix("SIG")}
+    return {"SERVICE_RESULT": "exit-code" if status else "success", "EXIT_STATUS": str(status)}
+
+
 def keep(unit):
     """Runs a service that serves, again and again, until it is stopped."""
     ends = []
@@ -119,8 +132,9 @@ def keep(unit):
     current = []
     while not ends:
         current.append(unit.begin(unit.one("ExecStart")))
+        (STATE / f"{unit.name}.main").write_text(str(current[-1].pid))
         status = current[-1].wait()
-        unit.run_all("ExecStopPost")
+        unit.run_all("ExecStopPost", result_of(0 if ends else status))
         if not ends and (
             unit.one("Restart") != "always" or str(status) in unit.one("RestartPreventExitStatus").split()
         ):
@@ -163,6 +177,13 @@ def stop(unit):
     return 0
 
 
+def send_signal(unit):
+    """`systemctl kill --signal=NAME UNIT`"""
+    name = next(word for word in sys.argv if word.startswith("--signal=")).partition("=")[2]
+    os.kill(int((STATE / f"{unit.name}.main").read_text()), signal.Signals[f"SIG{name}"])
+    return 0
+
+
 def restart(unit):
     stop(unit)
     return start(unit)
@@ -182,7 +203,7 @@ def is_state(wanted):
 
 
 COMMANDS = {
-    "start": start, "stop": stop, "restart": restart, "keep": keep,
+    "start": start, "stop": stop, "restart": restart, "keep": keep, "kill": send_signal,
     "reload": lambda unit: unit.run_all("ExecReload"), "enable": enable,
     "is-failed": is_state("failed"), "is-active": is_state("active"),
 }  # fmt: skip
