@@ -11,14 +11,14 @@ the units in their sandboxes, with their timers, restarts and alerts; so it need
 systemd-container and debootstrap. The first run makes a tree of Debian 12 with the packages that the page names, from
 the mirror of this machine, below ~/.cache/berruzpil (300 MB, some minutes). Where that is not possible, or with
 --stand-in, the machines have a stand-in for systemd, and the last line says so: no sandbox, no timer and no reboot is
-tried then. tools/machines.py says what the machines are made of. MemoryMax is tried where cgroup2 counts memory.
+tried then. tools/machines.py says what the machines are made of. Limits of memory are not tried on either.
 
 Each block of commands is pasted into a login shell of its own. Between the two days this carries the request for a
 certificate and the certificate, as mail would. After the days come the parts of PARTS below; with a PART only these.
 
 With --planted the faults in tools/planted_faults.txt are planted, one after the other, in what is deployed: each has
 to make a check of its part fail, and each part has to pass without a fault. A WORD takes the faults that have it in
-their line. It needs a real systemd, and took 20 minutes for 20 faults.
+their line. It needs a real systemd, and takes half an hour for 27 faults.
 
 The last line says how many trials passed and failed, and under what. Status 1 if one failed, 77 if nothing could be
 tried.
@@ -305,7 +305,7 @@ def next_run(machine, unit):
 
 TLS = ("openssl s_client -quiet -connect intake.example:443 -servername intake.example -CAfile "
        "/etc/berruzpil/intake-ca.pem -cert /etc/berruzpil/filer.pem -key /etc/berruzpil/filer.key")  # fmt: skip
-CURL = ("curl -s -m 20 --cacert /etc/berruzpil/intake-ca.pem --cert /root/beta.pem --key /root/beta.key "
+CURL = ("curl -s -m 15 --cacert /etc/berruzpil/intake-ca.pem --cert /root/beta.pem --key /root/beta.key "
         "https://intake.example/filings/BETA")  # fmt: skip
 HEAD = ("POST /filings/ACME HTTP/1.1\\r\\nHost: intake.example\\r\\nIdempotency-Key: \"{}\"\\r\\n"
         "Content-Length: {}\\r\\n\\r\\n")  # fmt: skip
@@ -355,7 +355,7 @@ def slow(page, supervisor, filer):
         try:
             time.sleep(3)
             # Once the intake has made their replies it is free.
-            supervisor.paste("curl -s -m 30 http://127.0.0.1:8080/filings/health")
+            supervisor.paste("curl -s -m 15 http://127.0.0.1:8080/filings/health")
             beside, statuses = times_of(filer, [f"{what[:8]}-{at}" for at in range(2)])
         finally:
             filer.paste("pkill openssl; pkill -f 'sleep 600'")
