@@ -66,6 +66,30 @@ def on_file(kept, given, count, status=201):
     return least(cost) / count
 
 
+def on_connections(given):
+    """What each of these requests costs a server with a register in a file, each on a connection of its own. All are
+    repeats of the first, whose answer is remembered."""
+
+    def cost():
+        with folder() as place:
+            with (CountedServer if counts_instructions() else Server)(place, 2 + len(given)) as server:
+
+                def ask(request):
+                    peer = connect(server.port)
+                    exchange(peer, request, 1)
+                    peer.close()
+
+                # The second reply says that the first connection is over.
+                ask(given[0])
+                ask(given[0])
+                with server.counting():
+                    for request in given:
+                        ask(request)
+            return server.cost
+
+    return least(cost) / len(given)
+
+
 def fill(place, filings, replaced=0, body=example()):
     """Makes a register in a folder with so many filings, of which so many are replaced."""
     with Server(place, 1) as server:
@@ -103,6 +127,8 @@ def filings():
         yield "393 bytes, new, on file", on_file(thousand, pipelined(range(1_000, 1_100), small), 100)
         yield "393 bytes, repeated and not remembered, on file", on_file(thousand, pipelined(range(100), small), 100)
         yield "100 kB, repeated, on file", on_file(register("large", 1, 0, large), pipelined(10 * [0], large), 10)
+        for what, body in (("393 bytes", small), ("100 kB", large)):
+            yield f"{what}, repeated, each on a connection of its own", on_connections(50 * [pipelined([1], body)])
         yield "list of 10 filings", on_file(ten, 10 * (ASKS % b"ACME"), 10, 200)
         yield "list of 1,000 filings", on_file(thousand, ASKS % b"ACME", 1, 200)
         yield "one filing of 1,000", on_file(thousand, 4 * (ASKS % b"ACME/500"), 4, 200)

@@ -31,3 +31,11 @@ def wide():
     """A report with one fact, whose identifier is long and whose dimensions are many and wrong."""
     dimensions = b",".join(b'"%05d":1' % number for number in range(50_000))
     return INFO + b'"%s":{"value":"1","dimensions":{%s}}}}' % (b"a" * 500_000, dimensions)
+
+
+def crowded(most):
+    """A report of at most so many bytes with 1,000 findings, each at a fact of its own. The other members of the facts
+    are all of one name."""
+    named = b"".join(b'"%03d":0,' % number for number in range(999))
+    one, last = b'"x":0,', b'"x":0}}'
+    return INFO + named + one * ((most - len(INFO) - len(named) - len(last)) // len(one)) + last

@@ -35,7 +35,7 @@ from programs import (
     run,
     time_of_children,
 )
-from reports import FACT, SMALLEST, WRONG, facts, report, wide
+from reports import FACT, SMALLEST, WRONG, crowded, facts, report, wide
 
 # What each request may cost, in instructions: a tenth or so more than it does.
 COSTS = {
@@ -50,6 +50,8 @@ COSTS = {
     "393 bytes, new, on file": 353_000,
     "393 bytes, repeated and not remembered, on file": 36_900,
     "100 kB, repeated, on file": 192_000,
+    "393 bytes, repeated, each on a connection of its own": 20_000,
+    "100 kB, repeated, each on a connection of its own": 130_000,
     "list of 10 filings": 55_900,
     "list of 1,000 filings": 3_870_000,
     "one filing of 1,000": 27_500,
@@ -67,6 +69,7 @@ IDLE = 42_000
 GROWTHS = {
     "10 times the facts, to judge a report": 12,
     "10 times the wrong facts, to judge a report": 12,
+    "1,000 findings among 175,000 members, for each byte of a plain report": 4,
     "10 times the new keys (100 to 1,000)": 11,
     "10 times the repeats of one key (100 to 1,000)": 11,
     "in a file, 100 times the requests, to add one": 2,
@@ -207,6 +210,15 @@ def bodies():
     for what, form, status in (("facts", FACT, 0), ("wrong facts", WRONG, 1)):
         fewer, more = (cost_to_judge(facts(form, count), status) for count in (700, 7_000))
         held.append(growth(f"10 times the {what}, to judge a report", fewer, more, unit()))
+    plain, dense = report(BODY_BYTES), crowded(BODY_BYTES)
+    held.append(
+        growth(
+            "1,000 findings among 175,000 members, for each byte of a plain report",
+            cost_to_judge(plain) / len(plain),
+            cost_to_judge(dense, 1) / len(dense),
+            unit(),
+        )
+    )
     print(f"one fact with 50,000 wrong dimensions: {seconds_to_judge(wide(), 1):.3f} s to judge")
     return held
 
