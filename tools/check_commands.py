@@ -43,7 +43,6 @@ BEFORE = [
     ("export --db @r.db --format csv --filer a/b", 2, "", f"--filer: {FILER_CODE}"),
     ("serve --db @r.db --port 1 --connections 1", 1, "", "r.db: there is no such file"),
     ("serve --db @none/r.db --port 1 --connections 1 --new", 3, "", "none/r.db: there is no such folder"),
-    ("serve --db  --port 1 --connections 1 --new", 3, "", ": the name of the file is empty"),
     ("init --db @r.db", 2, "", "there is no init: intake serve --new makes a register"),
 ]
 # A file of no bytes is no register, and stays as it is.
@@ -59,7 +58,7 @@ EMPTY = [
 OUTBOX_TABLES = "not a register: this is an outbox"
 OTHER_TABLES = "not a register: these are the tables of another program"
 NO_TABLES = "not a register: the database has no tables (intake serve --new makes them)"
-AUTO_VACUUM = "it has auto_vacuum, and cannot be read with that: deploy/register-restore makes a database without it"
+AUTO_VACUUM = "it has auto_vacuum, and cannot be read with that: register-restore makes a database without it"
 # Databases of others.
 OTHERS = [
     ("check --db @box.db", 1, "not a register\n", f"box.db: {OUTBOX_TABLES}"),
@@ -172,9 +171,38 @@ OTHER_OUTBOXES = [
     ("migrate --db @changed.db", 1, "damaged at row 0\n", f"changed.db: {WRONG_PAGE}"),
 ]
 
+# Two blanks have an empty name of a file or a folder between them, as has one at the end.
+NAMELESS_TO_INTAKE = [
+    "serve --db  --port 1 --connections 1 --new",
+    "list --db  --filer ACME",
+    "show --db  --number 1",
+    "check --db ",
+    "migrate --db ",
+    "export --db  --format csv",
+    "pages --db  --into @pages",
+    "pages --db @r.db --into ",
+    "lint --filer ACME ",
+    "lint --filer ACME @small ",
+]
+NAMELESS_TO_OUTBOX = [
+    "init --db  --filer ACME",
+    "put --db  --body @small",
+    "put --db @box.db --body ",
+    "send --db  --port 1",
+    "send --db @box.db --port 1 --receipts ",
+    "ask --db  --port 1 --entry 1",
+    "ask --db @box.db --port 1 --entry 1 --receipts ",
+    "status --db ",
+    "show --db ",
+    "migrate --db ",
+    "lint --filer ACME ",
+    "lint --filer ACME @small ",
+]
 # Ports are 1 to 65535, seconds of patience 1 to 86400, seconds to wait 0 to 86400, and the numbers that `--amend` takes
 # 1 to 9223372036854775807; limits, other numbers and ids begin with 0.
 OUT_OF_RANGE = [
+    *((INTAKE, line) for line in NAMELESS_TO_INTAKE),
+    *((OUTBOX, line) for line in NAMELESS_TO_OUTBOX),
     (INTAKE, "serve --db @r.db --port 0 --connections 1"),
     (INTAKE, "serve --db @r.db --port 65536 --connections 1"),
     (INTAKE, "serve --db @r.db --port 1 --connections 0"),

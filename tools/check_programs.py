@@ -306,12 +306,17 @@ def check_files(folder):
     conn.close()
     make_register(linked)
     os.link(linked, folder / "second.db")
+    os.mkfifo(folder / "pipe")
+    (folder / "circle.db").symlink_to("circle.db")
     before = sorted(os.listdir(folder))
     for name, status, output, cause in (
         ("missing.db", 1, "not a register\n", "there is no such file"),
         ("text", 1, "not a register\n", "not a database"),
         ("foreign.db", 1, "not a register\n", "not a register: these are the tables of another program"),
-        (".", 3, "", "not a regular file"),
+        (".", 3, "", "it is a folder, and not a file"),
+        ("pipe", 3, "", "not a regular file"),
+        ("circle.db", 3, "", "too many symbolic links"),
+        ("n" * 300, 3, "", "the name is too long"),
         ("linked.db", 3, "", "the file has a second name (a hard link)"),
     ):
         found = said(run(INTAKE, "check", "--db", folder / name), folder)
@@ -333,7 +338,7 @@ def check_descriptors(folder):
 
 
 DAMAGED = "the sum or the structure of a page is wrong: keep the file and the log beside it, and restore a copy"
-UNSUMMED = "SQLite wrote it without the sums of its pages: deploy/register-restore makes a database that opens"
+UNSUMMED = "SQLite wrote it without the sums of its pages: register-restore makes a database that opens"
 
 
 def make_small_register(database):
@@ -354,8 +359,9 @@ def check_damage(folder):
     whole, changed = folder / "whole.db", folder / "changed.db"
     make_small_register(whole)
     sound = whole.read_bytes()
-    # A byte of a body, of the head's count of pages, of the names of the tables, of a sum, and of a page's head.
-    places = (sound.find(b"documentInfo"), 29, sound.find(b"intake_meta"), 4095, 4096)
+    # A byte of a body, of the head's count of pages, of its number for auto_vacuum, of the names of the tables, of a
+    # sum, and of a page's head.
+    places = (sound.find(b"documentInfo"), 29, 55, sound.find(b"intake_meta"), 4095, 4096)
     for at in places:
         data = bytearray(sound)
         data[at] ^= 1
@@ -387,6 +393,17 @@ def check_copies(folder):
     for name in ("whole.db", "dump.db"):
         hold(f"check of {name}", said(run(INTAKE, "check", "--db", folder / name), folder),
              (0, "sound: 1 kept, 1 filings\n", ""))
+
+
+def check_copy_of_an_outbox(folder):
+    run(OUTBOX, "init", "--db", folder / "box.db", "--filer", "ACME")
+    with sqlite3.connect(folder / "box.db") as old, sqlite3.connect(folder / "backup.db") as new:
+        old.backup(new)
+    old.close()
+    new.close()
+    cause = UNSUMMED.replace("register-restore", "outbox-restore")
+    hold("a copy of an outbox by SQLite", said(run(OUTBOX, "status", "--db", folder / "backup.db"), folder),
+         (1, "", f"outbox: backup.db: {cause}\n"))
 
 
 def check_rights(folder):
@@ -457,6 +474,22 @@ def check_entries(folder):
 # A text with each kind of character that is not shown as it is, and how it is shown.
 HOSTILE = "a\x1b[2J\x7f\x85\x9b31m\u061c\u200e\u202eb\u2028\u2066ü"
 TAME = r"a\u001b[2J\u007f\u0085\u009b31m\u061c\u200e\u202eb\u2028\u2066ü"
+
+
+def check_names_of_files(folder):
+    name, shown = f"x\n{HOSTILE}", f"x\\u000a{TAME}"
+    for program, words in (
+        (INTAKE, ("check", "--db")), (OUTBOX, ("status", "--db")), (INTAKE, ("lint", "--filer", "ACME")),
+        (OUTBOX, ("lint", "--filer", "ACME")),
+    ):
+        errors = said(run(program, *words, folder / name), folder)[2]
+        hold(f"{program.name} {words[0]} of such a name", (errors.split(": ")[1], errors.count("\n")), (shown, 1))
+    bad = folder / name
+    bad.write_bytes(b"{}")
+    line = f"{shown}:1:1: document-info: the member is missing (/documentInfo)\n"
+    hold("lint of such a file", said(run(OUTBOX, "lint", "--filer", "ACME", bad), folder), (1, line, ""))
+    errors = run(INTAKE, f"--{HOSTILE}").stderr.decode()
+    hold("a word that is no option", (HOSTILE in errors, TAME in errors), (False, True))
 
 
 def check_texts_of_reports(folder):
@@ -755,8 +788,8 @@ if __name__ == "__main__":
     try_all(
         (INTAKE, OUTBOX),
         (check_serving, check_patience, check_limit, check_amendments, check_sent_amendments, check_full_register,
-         check_full_outbox, check_files, check_descriptors, check_rights, check_damage, check_copies, check_lint,
-         check_texts_of_reports, check_texts_of_peers,
+         check_full_outbox, check_files, check_descriptors, check_rights, check_damage, check_copies,
+         check_copy_of_an_outbox, check_lint, check_names_of_files, check_texts_of_reports, check_texts_of_peers,
          check_entries, check_round, check_answers, check_questions, check_receipts, check_patience_of_a_round,
          check_same_report, check_closed_output),
     )

@@ -1,7 +1,19 @@
 //! Why a command is not done, in words and as a status.
 
 use std::alloc::AllocError;
+use terminal_text::OneLine;
 use thiserror::Error;
+
+/// The script that makes a database which opens out of one that does not.
+#[derive(Clone, Copy, Debug, PartialEq, Eq, Error)]
+pub enum Restore {
+    /// Of a register.
+    #[error("register-restore")]
+    Register,
+    /// Of an outbox.
+    #[error("outbox-restore")]
+    Outbox,
+}
 
 /// Why the files of a database were not opened.
 #[derive(Clone, Copy, Debug, PartialEq, Eq, Error)]
@@ -19,14 +31,14 @@ pub enum DatabaseFault {
     #[error("the database of another program")]
     Foreign,
     /// The database has pages that only auto_vacuum needs.
-    #[error("it has auto_vacuum, and cannot be read with that: deploy/register-restore makes a database without it")]
-    AutoVacuum,
+    #[error("it has auto_vacuum, and cannot be read with that: {0} makes a database without it")]
+    AutoVacuum(Restore),
     /// The sum of a page is wrong, or what the page says.
     #[error("the sum or the structure of a page is wrong: keep the file and the log beside it, and restore a copy")]
     Damaged,
     /// The pages have room for sums, and SQLite, which does not know of them, wrote some.
-    #[error("SQLite wrote it without the sums of its pages: deploy/register-restore makes a database that opens")]
-    Unsummed,
+    #[error("SQLite wrote it without the sums of its pages: {0} makes a database that opens")]
+    Unsummed(Restore),
     /// Another program has the database open.
     #[error("another program has it open")]
     Busy,
@@ -36,7 +48,13 @@ pub enum DatabaseFault {
     /// The system does not let this program read and write the file, or make one beside it.
     #[error("permission denied: the file and its folder have to be readable and writable")]
     Denied,
-    /// The name is that of a folder, a device or the like.
+    /// The file system is read-only.
+    #[error("the file system is read-only: the file and its folder have to be writable")]
+    ReadOnly,
+    /// The name is that of a folder.
+    #[error("it is a folder, and not a file")]
+    Folder,
+    /// The name is that of a device, a pipe or the like.
     #[error("not a regular file")]
     NotAFile,
     /// Another name leads to the same file, so that a lock by one name would not keep the other out.
@@ -48,9 +66,12 @@ pub enum DatabaseFault {
     /// The folder of the file is not there.
     #[error("there is no such folder")]
     NoFolder,
-    /// The name has no character.
-    #[error("the name of the file is empty")]
-    NoName,
+    /// Symbolic links in the name lead in a circle.
+    #[error("too many symbolic links")]
+    Loop,
+    /// The system takes no name of this length.
+    #[error("the name is too long")]
+    LongName,
     /// The system gives this program no more open files.
     #[error("too many open files: raise the limit (ulimit -n)")]
     Descriptors,
@@ -76,17 +97,20 @@ impl DatabaseFault {
             | DatabaseFault::Empty
             | DatabaseFault::NotADatabase
             | DatabaseFault::Foreign
-            | DatabaseFault::AutoVacuum
+            | DatabaseFault::AutoVacuum(_)
             | DatabaseFault::Damaged
-            | DatabaseFault::Unsummed => 1,
+            | DatabaseFault::Unsummed(_) => 1,
             DatabaseFault::Busy
             | DatabaseFault::Memory
             | DatabaseFault::Denied
+            | DatabaseFault::ReadOnly
+            | DatabaseFault::Folder
             | DatabaseFault::NotAFile
             | DatabaseFault::Linked
             | DatabaseFault::Journal
             | DatabaseFault::NoFolder
-            | DatabaseFault::NoName
+            | DatabaseFault::Loop
+            | DatabaseFault::LongName
             | DatabaseFault::Descriptors
             | DatabaseFault::Full
             | DatabaseFault::Disk => 3,
@@ -103,7 +127,7 @@ pub enum CommandFault<'a> {
     NoTask,
     #[error("--filer: not a filer code, which is 1 to 64 ASCII letters, digits, '.', '_' and '-'")]
     Filer,
-    #[error("{name}: {fault}")]
+    #[error("{file}: {fault}", file = OneLine(*.name))]
     Database { name: &'a str, fault: DatabaseFault },
     #[error("the output cannot be written")]
     Output,

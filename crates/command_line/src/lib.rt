@@ -14,8 +14,10 @@ mod word;
 
 pub use arguments::words;
 pub use bytes::{ReadFault, read_up_to, read_whole};
-pub use fault::{CommandFault, DatabaseFault};
-pub use options::{VERSION, database_option, filer_option, option, port_option};
+pub use fault::{CommandFault, DatabaseFault, Restore};
+pub use options::{
+    VERSION, database_option, filer_option, option, path_option, port_option, report_files,
+};
 pub use output::{DONE, show, show_refusal};
 pub use patience::{Deadline, Patient, Waits};
 pub use report_file::{ReportFault, report};

@@ -1,8 +1,9 @@
 //! The options of a command line that have a value.
 
 ghost use Rattle.std.specs.Prelude.{◌≡◌, Some, pos, true, codes, IfSome};
-ghost use Rattle.clap.specs.declared.builder.value_parser.ValueParser.TheVariants.{Signed};
+ghost use Rattle.clap.specs.declared.builder.value_parser.ValueParser.TheVariants.{NonEmptyString, Signed};
 
+use clap::builder::ValueParser;
 use clap::{Arg, ArgAction, value_parser};
 use std::alloc::Global;
 
@@ -26,13 +27,39 @@ pub fn option<'a>(alloc: Global, name: &'a str, value: &'a str, help: &'a str) -
         .allow_hyphen_values(true)
 }
 
+/// A required option whose value is the name of a file or a folder. An empty one is refused.
+pub fn path_option<'a>(alloc: Global, name: &'a str, value: &'a str, help: &'a str) -> Arg<'a>
+    ensures id { result.id ≡ name.entry }
+    ensures long { result.long ≡ Some name.entry }
+    ensures required { result.required ≡ true }
+    ensures set { result.action ≡ Some ArgAction.Set }
+    ensures any_value { result.allow_hyphen_values ≡ true }
+    ensures not_empty { result.value_parser ≡ Some NonEmptyString }
+{
+    option(alloc, name, value, help).value_parser(ValueParser::NonEmptyString)
+}
+
+/// The names of the files of reports, one or more, and none empty.
+pub fn report_files<'a>(alloc: Global) -> Arg<'a>
+    ensures id { result.id.now ≡ codes "FILE" }
+    ensures required { result.required ≡ true }
+    ensures not_empty { result.value_parser ≡ Some NonEmptyString }
+{
+    Arg::new(alloc, "FILE")
+        .help("The files of the reports, each of at most 1048576 bytes")
+        .required(true)
+        .num_args(1..)
+        .value_parser(ValueParser::NonEmptyString)
+}
+
 /// The option `--db`, a file.
 pub fn database_option<'a>(alloc: Global, help: &'a str) -> Arg<'a>
     ensures id { result.id.now ≡ codes "db" }
     ensures long { IfSome result.long (λ name. name.now ≡ codes "db") }
     ensures required { result.required ≡ true }
+    ensures not_empty { result.value_parser ≡ Some NonEmptyString }
 {
-    option(alloc, "db", "FILE", help)
+    path_option(alloc, "db", "FILE", help)
 }
 
 /// The option `--filer`, a filer's code.

@@ -9,7 +9,9 @@ ghost use Rattle.command_line.specs.declared.fault.CommandFault.TheVariants.{Out
 use crate::fault::CommandFault;
 use clap::Error;
 use clap::error::ErrorKind;
+use std::alloc::Global;
 use std::io::Write;
+use terminal_text::OneLine;
 
 /// The status of a command that is done.
 pub const DONE: u8 = 0;
@@ -25,9 +27,20 @@ pub fn show<'a, O: Write>(output: &mut O, text: &[u8]) -> Result<(), CommandFaul
     Ok(())
 }
 
+/// Writes what the reader says of wrong words. A word of it may be any text.
+fn tell<E: Write>(alloc: Global, error: &Error, errors: &mut E) {
+    // If memory is short, or this text can't be written either, nothing is left to do.
+    if let Ok(text) = format!(in alloc; "{error}") {
+        for line in text.lines() {
+            let _ = writeln!(errors, "{}", OneLine(line));
+        }
+    }
+}
+
 /// Shows what the reader of the command line says, and answers the status: help and the version are what was asked for;
 /// anything else is a fault of the words or of memory.
 pub fn show_refusal<'a, O: Write, E: Write>(
+    alloc: Global,
     error: &Error,
     output: &mut O,
     errors: &mut E,
@@ -42,8 +55,7 @@ pub fn show_refusal<'a, O: Write, E: Write>(
         return Err(CommandFault::Memory);
     }
     if error.use_stderr() {
-        // If this text can't be written either, nothing is left to do.
-        let _ = write!(errors, "{error}");
+        tell(alloc, error, errors);
         return Ok(CommandFault::NoTask.status());
     }
     if write!(output, "{error}").is_err() || output.flush().is_err() {

@@ -8,16 +8,17 @@ use crate::bytes::{ReadFault, read_whole};
 use http_wire::{Device, MAX_BODY_LEN, Source};
 use std::alloc::Global;
 use std::{fs, io};
+use terminal_text::OneLine;
 use thiserror::Error;
 
 /// Why a report was not read. Its text is one line.
 #[derive(Debug, Drop, Error)]
 pub enum ReportFault<'a> {
-    #[error("{name}: {error}")]
+    #[error("{file}: {error}", file = OneLine(*.name))]
     Open { name: &'a str, error: io::Error },
-    #[error("{name}: {fault}")]
+    #[error("{file}: {fault}", file = OneLine(*.name))]
     Read { name: &'a str, fault: ReadFault },
-    #[error("{name}: the report has more than 1048576 bytes")]
+    #[error("{file}: the report has more than 1048576 bytes", file = OneLine(*.name))]
     TooLarge { name: &'a str },
 }
 

@@ -13,9 +13,9 @@ verdict_of Missing = Some verdict.NotOurs
 verdict_of Empty = Some verdict.NotOurs
 verdict_of NotADatabase = Some verdict.NotOurs
 verdict_of Foreign = Some verdict.NotOurs
-verdict_of AutoVacuum = Some verdict.NotOurs
+verdict_of (AutoVacuum restore) = Some verdict.NotOurs
 verdict_of Damaged = Some (verdict.Damaged 0)
-verdict_of Unsummed = Some (verdict.Damaged 0)
+verdict_of (Unsummed restore) = Some (verdict.Damaged 0)
 verdict_of _ = None
 
 -- the line of a verdict on a database that is expected to be this thing
@@ -27,9 +27,9 @@ verdict_text (verdict.Damaged row) thing = codes "damaged at row " ++ decimal ro
 abbrev pub goes_by_pages : DatabaseFault → Bool
 goes_by_pages NotADatabase = true
 goes_by_pages Foreign = true
-goes_by_pages AutoVacuum = true
+goes_by_pages (AutoVacuum restore) = true
 goes_by_pages Damaged = true
-goes_by_pages Unsummed = true
+goes_by_pages (Unsummed restore) = true
 goes_by_pages _ = false
 
 -- this fault is reported instead of that of an opening: another that depends on the pages, if that did, and otherwise

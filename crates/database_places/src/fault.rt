@@ -19,12 +19,16 @@ pub(crate) fn fault_of_files(error: &OpenError) -> DatabaseFault
     }
 }
 
-fn fault_of_io(error: &io::Error) -> DatabaseFault
+pub(crate) fn fault_of_io(error: &io::Error) -> DatabaseFault
     ensures { is_absence result ≡ false }
 {
     match error.kind() {
         ErrorKind::OutOfMemory => DatabaseFault::Memory,
-        ErrorKind::PermissionDenied | ErrorKind::ReadOnlyFilesystem => DatabaseFault::Denied,
+        ErrorKind::PermissionDenied => DatabaseFault::Denied,
+        ErrorKind::ReadOnlyFilesystem => DatabaseFault::ReadOnly,
+        ErrorKind::IsADirectory => DatabaseFault::Folder,
+        ErrorKind::FilesystemLoop => DatabaseFault::Loop,
+        ErrorKind::InvalidFilename => DatabaseFault::LongName,
         ErrorKind::NotFound | ErrorKind::NotADirectory => DatabaseFault::NoFolder,
         ErrorKind::StorageFull | ErrorKind::QuotaExceeded => DatabaseFault::Full,
         _ if is_out_of_descriptors(error) => DatabaseFault::Descriptors,

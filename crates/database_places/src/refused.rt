@@ -5,7 +5,7 @@ ghost use Rattle.database_places.specs.Verdicts.{IsRefusalOf, goes_by_pages};
 
 use crate::holding::{OF_OUTBOXES, OF_REGISTERS};
 use crate::place::Place;
-use command_line::DatabaseFault;
+use command_line::{DatabaseFault, Restore};
 use sqlite_disk::Disk;
 use std::alloc::Global;
 
@@ -53,23 +53,43 @@ pub(crate) fn wrong_pages(page: &[u8]) -> DatabaseFault
     } else if !page.starts_with(MAGIC) {
         DatabaseFault::NotADatabase
     } else if has_auto_vacuum(page) {
-        DatabaseFault::AutoVacuum
+        DatabaseFault::AutoVacuum(restore_of(page))
     } else if lacks_sums(page) {
-        DatabaseFault::Unsummed
+        DatabaseFault::Unsummed(restore_of(page))
     } else {
         DatabaseFault::Damaged
     }
 }
 
-/// Whether the database has pages for auto_vacuum: bytes 52 to 55 then have the number of the largest root page.
+/// Whether the database has pages for auto_vacuum: bytes 52 to 55 then have the number of the largest root page. Only
+/// SQLite makes such a database. If this program wrote the page, these bytes are damaged.
 fn has_auto_vacuum(page: &[u8]) -> bool {
-    is_not_zero(page.get(52..56))
+    is_not_zero(page.get(52..56)) && (is_of_sqlite(page) || !has_room_for_sums(page))
 }
 
-/// Whether the pages have room for sums, and the database was changed by SQLite, which leaves them out: it counts its
-/// changes in bytes 92 to 95, and this program does not.
+/// Whether the pages have room for sums, and the database was changed by SQLite, which leaves them out.
 fn lacks_sums(page: &[u8]) -> bool {
-    page.get(20).is_some_and(|&len| len == SUM_LEN) && is_not_zero(page.get(92..96))
+    has_room_for_sums(page) && is_of_sqlite(page)
+}
+
+/// Whether each page has room for its sum.
+fn has_room_for_sums(page: &[u8]) -> bool {
+    page.get(20).is_some_and(|&len| len == SUM_LEN)
+}
+
+/// Whether SQLite changed the database: it counts its changes in bytes 92 to 95, and this program does not.
+fn is_of_sqlite(page: &[u8]) -> bool {
+    is_not_zero(page.get(92..96))
+}
+
+/// The script that makes a sound database of one with this first page. If the page has the table of neither, it is that
+/// of a register.
+fn restore_of(page: &[u8]) -> Restore {
+    if has(page, OF_OUTBOXES) {
+        Restore::Outbox
+    } else {
+        Restore::Register
+    }
 }
 
 fn is_not_zero(bytes: Option<&[u8]>) -> bool {

@@ -4,7 +4,7 @@ ghost use Rattle.std.specs.Prelude.{◌≡◌, None, false};
 ghost use Rattle.database_places.specs.Faults.{is_absence};
 ghost use Rattle.database_places.specs.Places.{Leaves};
 
-use crate::fault::fault_of_files;
+use crate::fault::{fault_of_files, fault_of_io};
 use crate::opening::PAGE_LEN;
 use crate::place::Place;
 use command_line::{DatabaseFault, read_up_to};
@@ -85,9 +85,6 @@ impl Place<File> for SystemPlace<'_, '_> {
     }
 
     fn take(&mut self) -> Result<Files<File>, DatabaseFault> {
-        if self.name.is_empty() {
-            return Err(DatabaseFault::NoName);
-        }
         match sqlite_std_file::open(self.rt, self.name, Unknown) {
             Ok(files) => Ok(files),
             Err(OpenError::Io(error)) if error.kind() == ErrorKind::Unsupported => {
@@ -139,7 +136,8 @@ fn fault_of_name(rt: &HostRuntime, name: &str) -> DatabaseFault
 {
     match fs::metadata(rt, name) {
         Ok(found) if found.is_file() => DatabaseFault::Linked,
+        Ok(found) if found.is_dir() => DatabaseFault::Folder,
         Ok(_) => DatabaseFault::NotAFile,
-        Err(_) => DatabaseFault::Disk,
+        Err(error) => fault_of_io(&error),
     }
 }

@@ -29,16 +29,19 @@ impl Verdict {
             | DatabaseFault::Empty
             | DatabaseFault::NotADatabase
             | DatabaseFault::Foreign
-            | DatabaseFault::AutoVacuum => Some(Verdict::NotOurs),
-            DatabaseFault::Damaged | DatabaseFault::Unsummed => Some(Verdict::Damaged(0)),
+            | DatabaseFault::AutoVacuum(_) => Some(Verdict::NotOurs),
+            DatabaseFault::Damaged | DatabaseFault::Unsummed(_) => Some(Verdict::Damaged(0)),
             DatabaseFault::Busy
             | DatabaseFault::Memory
             | DatabaseFault::Denied
+            | DatabaseFault::ReadOnly
+            | DatabaseFault::Folder
             | DatabaseFault::NotAFile
             | DatabaseFault::Linked
             | DatabaseFault::Journal
             | DatabaseFault::NoFolder
-            | DatabaseFault::NoName
+            | DatabaseFault::Loop
+            | DatabaseFault::LongName
             | DatabaseFault::Descriptors
             | DatabaseFault::Full
             | DatabaseFault::Disk => None,

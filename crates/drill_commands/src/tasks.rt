@@ -52,11 +52,12 @@ fn perform_script<R: Read, O: Write>(
 }
 
 fn refuse<O: Write, E: Write>(
+    alloc: Global,
     error: &clap::Error,
     output: &mut O,
     errors: &mut E,
 ) -> Result<u8, Fault> {
-    Ok(show_refusal(error, output, errors)?)
+    Ok(show_refusal(alloc, error, output, errors)?)
 }
 
 /// Performs what these words ask for, the program's name first, and answers the status. A fault's text
@@ -70,7 +71,7 @@ pub fn perform<R: Read, O: Write, E: Write>(
 ) -> u8 {
     let done = match options::read(alloc, words) {
         Ok(()) => perform_script(alloc, input, output),
-        Err(error) => refuse(&error, output, errors),
+        Err(error) => refuse(alloc, &error, output, errors),
     };
     match done {
         Ok(status) => status,

@@ -12,6 +12,7 @@ use sqlite::{Error as DatabaseError, ErrorCode};
 use std::alloc::AllocError;
 use std::io::Write;
 use std::{fmt, io};
+use terminal_text::OneLine;
 use thiserror::Error;
 
 /// Why a database gave no register, and what it holds.
@@ -201,7 +202,7 @@ pub(crate) enum Fault<'a> {
     Limit,
     #[error("{0}")]
     InMemory(CreateFault),
-    #[error("{name}: {fault}")]
+    #[error("{file}: {fault}", file = OneLine(*.name))]
     Register { name: &'a str, fault: VisitFault },
     #[error("{0}")]
     Report(ReportFault<'a>),

@@ -3,7 +3,8 @@
 use clap::builder::ValueParser;
 use clap::{Arg, ArgAction, ArgMatches, Command, Error, value_parser};
 use command_line::{
-    ToArg, VERSION, Word, database_option, filer_option, option, port_option, tasks,
+    ToArg, VERSION, Word, database_option, filer_option, option, path_option, port_option,
+    report_files, tasks,
 };
 use fact_records::Form as Format;
 use intake_tasks::Errand;
@@ -161,7 +162,7 @@ fn only_filer<'a>(alloc: Global) -> Arg<'a> {
 }
 
 fn folder<'a>(alloc: Global) -> Arg<'a> {
-    option(
+    path_option(
         alloc,
         "into",
         "FOLDER",
@@ -174,13 +175,6 @@ fn json<'a>(alloc: Global) -> Arg<'a> {
         .long("json")
         .help("Prints each finding as a JSON object on a line of its own [default: as a sentence]")
         .action(ArgAction::SetTrue)
-}
-
-fn files<'a>(alloc: Global) -> Arg<'a> {
-    Arg::new(alloc, "FILE")
-        .help("The files of the reports, each of at most 1048576 bytes")
-        .required(true)
-        .num_args(1..)
 }
 
 /// What a task is given on the command line.
@@ -225,7 +219,7 @@ impl ToArg for Argument {
             Argument::Filer => filer_option(alloc),
             Argument::Number => number(alloc),
             Argument::Json => json(alloc),
-            Argument::Files => files(alloc),
+            Argument::Files => report_files(alloc),
             Argument::Format => format(alloc),
             Argument::OnlyFiler => only_filer(alloc),
             Argument::Folder => folder(alloc),

@@ -94,7 +94,7 @@ fn perform_words<'a>(rt: &HostRuntime, words: &'a [String]) -> Result<u8, Fault<
     match read(rt.alloc(), words) {
         Ok(Some(asked)) => Ok(perform(rt, &asked)),
         Ok(None) => Err(CommandFault::NoTask.into()),
-        Err(error) => Ok(show_refusal(&error, &mut rt.stdout(), &mut rt.stderr())?),
+        Err(error) => Ok(show_refusal(rt.alloc(), &error, &mut rt.stdout(), &mut rt.stderr())?),
     }
 }
 

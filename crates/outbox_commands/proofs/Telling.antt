@@ -3,8 +3,9 @@ use Rattle.std.proofs.Common.{◌≡◌, Bool, true, false, true≢false, refl, 
 use Rattle.command_line.specs.declared.fault.DatabaseFault.{DatabaseFault}
 use Rattle.command_line.specs.declared.fault.DatabaseFault.TheVariants.{Missing, Empty, NotADatabase, Foreign}
 use Rattle.command_line.specs.declared.fault.DatabaseFault.TheVariants.{AutoVacuum, Damaged, Unsummed, Busy, Memory}
-use Rattle.command_line.specs.declared.fault.DatabaseFault.TheVariants.{Denied, NotAFile, Linked, Journal, NoFolder}
-use Rattle.command_line.specs.declared.fault.DatabaseFault.TheVariants.{NoName, Descriptors, Full, Disk}
+use Rattle.command_line.specs.declared.fault.DatabaseFault.TheVariants.{Denied, ReadOnly, Folder, NotAFile, Linked}
+use Rattle.command_line.specs.declared.fault.DatabaseFault.TheVariants.{Journal, NoFolder, Loop, LongName}
+use Rattle.command_line.specs.declared.fault.DatabaseFault.TheVariants.{Descriptors, Full, Disk}
 use Rattle.command_line.specs.Status.{database_status}
 use Rattle.database_places.specs.Verdicts.{goes_by_pages, IsRefusalOf}
 use Rattle.outbox_process.specs.declared.fault.OpeningFault.{OpeningFault}
@@ -15,19 +16,22 @@ use Rattle.outbox_commands.specs.Visits.{IsToldAs}
 paged_status : (fault : DatabaseFault) → goes_by_pages fault ≡ true → database_status fault ≡ 1
 paged_status NotADatabase is = refl
 paged_status Foreign is = refl
-paged_status AutoVacuum is = refl
+paged_status (AutoVacuum restore) is = refl
 paged_status Damaged is = refl
-paged_status Unsummed is = refl
+paged_status (Unsummed restore) is = refl
 paged_status Missing is = refl
 paged_status Empty is = refl
 paged_status Busy is = absurd (true≢false (sym is))
 paged_status Memory is = absurd (true≢false (sym is))
 paged_status Denied is = absurd (true≢false (sym is))
+paged_status ReadOnly is = absurd (true≢false (sym is))
+paged_status Folder is = absurd (true≢false (sym is))
 paged_status NotAFile is = absurd (true≢false (sym is))
 paged_status Linked is = absurd (true≢false (sym is))
 paged_status Journal is = absurd (true≢false (sym is))
 paged_status NoFolder is = absurd (true≢false (sym is))
-paged_status NoName is = absurd (true≢false (sym is))
+paged_status Loop is = absurd (true≢false (sym is))
+paged_status LongName is = absurd (true≢false (sym is))
 paged_status Descriptors is = absurd (true≢false (sym is))
 paged_status Full is = absurd (true≢false (sym is))
 paged_status Disk is = absurd (true≢false (sym is))

@@ -18,6 +18,7 @@ use receipts::ReceiptFault;
 use std::alloc::AllocError;
 use std::io::Write;
 use std::{fmt, io};
+use terminal_text::OneLine;
 use thiserror::Error;
 
 /// What went wrong in a visit to the outbox of a file.
@@ -194,7 +195,7 @@ pub(crate) enum Fault<'a> {
     Key(KeyFault),
     #[error("{0}")]
     Report(#[from] ReportFault<'a>),
-    #[error("{name}: {fault}")]
+    #[error("{file}: {fault}", file = OneLine(*.name))]
     Outbox { name: &'a str, fault: VisitFault },
     #[error("127.0.0.1:{port}: {error}")]
     Connect { port: u16, error: io::Error },
@@ -204,7 +205,7 @@ pub(crate) enum Fault<'a> {
     Patience { port: u16, seconds: u64 },
     #[error("127.0.0.1:{port}: {failed} of {sent} exchanges failed")]
     Round { port: u16, sent: u64, failed: u64 },
-    #[error("{name}: no receipt can be written there: {error}")]
+    #[error("{folder}: no receipt can be written there: {error}", folder = OneLine(*.name))]
     Folder { name: &'a str, error: io::Error },
     #[error("receipts that were not written: {lost}; outbox ask --receipts writes one again")]
     Receipts { lost: u64 },

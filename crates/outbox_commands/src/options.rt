@@ -3,7 +3,8 @@
 use clap::builder::ValueParser;
 use clap::{Arg, ArgAction, ArgMatches, Command, Error, value_parser};
 use command_line::{
-    ToArg, VERSION, Word, database_option, filer_option, option, port_option, tasks,
+    ToArg, VERSION, Word, database_option, filer_option, option, path_option, port_option,
+    report_files, tasks,
 };
 use filing_model::MAX_FILING_NUMBER;
 use outbox_process::{Target, Which};
@@ -121,7 +122,7 @@ fn number_option<'a>(
 }
 
 fn body<'a>(alloc: Global) -> Arg<'a> {
-    option(
+    path_option(
         alloc,
         "body",
         "FILE",
@@ -177,7 +178,7 @@ fn wait<'a>(alloc: Global) -> Arg<'a> {
 }
 
 fn receipts<'a>(alloc: Global) -> Arg<'a> {
-    option(
+    path_option(
         alloc,
         "receipts",
         "FOLDER",
@@ -207,13 +208,6 @@ fn json<'a>(alloc: Global, help: &'a str) -> Arg<'a> {
         .long("json")
         .help(help)
         .action(ArgAction::SetTrue)
-}
-
-fn files<'a>(alloc: Global) -> Arg<'a> {
-    Arg::new(alloc, "FILE")
-        .help("The files of the reports, each of at most 1048576 bytes")
-        .required(true)
-        .num_args(1..)
 }
 
 /// What a task is given on the command line.
@@ -254,7 +248,7 @@ impl ToArg for Argument {
             Argument::All => all(alloc)?,
             Argument::Wait => wait(alloc),
             Argument::Json(help) => json(alloc, help),
-            Argument::Files => files(alloc),
+            Argument::Files => report_files(alloc),
         })
     }
 }

@@ -258,7 +258,7 @@ fn perform_words<'a, O: Write, E: Write>(
             done_but_for(network.lost_receipts())
         }
         Ok(None) => Err(Fault::Command(CommandFault::NoTask)),
-        Err(error) => Ok(show_refusal(&error, output, errors)?),
+        Err(error) => Ok(show_refusal(rt.alloc(), &error, output, errors)?),
     }
 }
 
