@@ -6,6 +6,7 @@ use Rattle.filing_model.specs.Listing.{listings}
 use Rattle.filing_model.specs.Register.{Filing}
 use Rattle.filing_model.specs.Reply.{list_reply}
 use Rattle.intake_answers.specs.Line.{fact_line}
+use Rattle.terminal_text.specs.OneLine.{one_line}
 
 -- a text, and the end of its line
 abbrev pub line : List ℕ → List ℕ
@@ -15,9 +16,10 @@ line text = text ++ codes "\n"
 abbrev pub list_line : List ℕ → List Filing → List ℕ
 list_line filer filings = line (list_reply (listings filer None filings)).content
 
--- a line for each fact
+-- A line for each fact. What is hidden in it are characters of strings, and the escapes are JSON's, so a reader of JSON
+-- finds the same fact.
 abbrev pub fact_lines : List FactRecord → List ℕ
-fact_lines facts = flat_map (λ fact. line (fact_line fact)) facts
+fact_lines facts = flat_map (λ fact. line (one_line (fact_line fact))) facts
 
 -- the line that says that a register is sound, how many requests it keeps and how many of them are filings
 abbrev pub sound_line : ℕ → ℕ → List ℕ

@@ -12,6 +12,7 @@ use register_store::{Store, StoreFault};
 use sqlite::Alter;
 use std::alloc::{AllocError, Global};
 use std::io::Write;
+use terminal_text::OneLine;
 use xbrl_report::Fact;
 
 /// Why the facts of a filing are not shown.
@@ -73,8 +74,9 @@ fn fact_lines(alloc: Global, facts: &[Fact]) -> Result<String, AllocError>
 {
     let mut text = String::new(alloc);
     for fact in facts {
-        text.push_str(fact_line(alloc, fact)?.as_str())?;
-        text.push('\n')?;
+        let line = fact_line(alloc, fact)?;
+        let shown = format!(in alloc; "{}\n", OneLine(line.as_str()))?;
+        text.push_str(shown.as_str())?;
     }
     Ok(text)
 }

@@ -1,15 +1,13 @@
 //! What a peer answered, by the first bytes of its reply.
 
-ghost use Rattle.std.specs.Prelude.{◌≤◌};
-
 use http_messages::{
     Block, Kind, ResponseHead, find_block, read_response, skipped_len, split_at_first,
 };
 use http_wire::{DeviceFailed, Sink, Source};
 use serde_json::Value;
-use std::alloc::Global;
-use std::fmt;
+use std::alloc::{AllocError, Global};
 use std::io::{self, Write};
+use terminal_text::OneLine;
 
 /// How many bytes of a reply are noted to see why it settles nothing.
 pub(crate) const MOST_NOTED: usize = 8_192;
@@ -82,27 +80,9 @@ impl<W: Sink> Sink for Noted<W> {
     }
 }
 
-/// The front of a peer's text, with `?` for each byte that is no printable ASCII character.
-#[derive(Clone, Copy)]
-struct Shown<'a>(&'a [u8]);
-
-/// The character that is shown for a byte: the byte itself if it is printable ASCII.
-fn character_of(byte: u8) -> char
-    ensures { (32 ≤ result) × (result ≤ 126) }
-{
-    match byte {
-        b' '..=b'~' => char::from(byte),
-        _ => '?',
-    }
-}
-
-impl fmt::Display for Shown<'_> {
-    fn fmt<W: fmt::Write>(&self, f: &mut fmt::Formatter<W>) -> fmt::Result {
-        for &byte in self.0.iter().take(MOST_SHOWN) {
-            f.write_char(character_of(byte))?;
-        }
-        Ok(())
-    }
+/// The front of a peer's text, with U+FFFD for bytes that are no UTF-8. It may still have any character.
+fn front_of(alloc: Global, text: &[u8]) -> Result<String, AllocError> {
+    String::from_utf8_lossy(alloc, &text[..text.len().min(MOST_SHOWN)])
 }
 
 /// The final reply among the bytes that were noted.
@@ -198,10 +178,12 @@ pub(crate) fn tell_open<E: Write>(
     let Some(answer) = Answer::of(noted) else {
         return writeln!(errors, "outbox: entry {id}: the reply does not settle it");
     };
-    let status = Shown(answer.status);
+    let status = front_of(alloc, answer.status)?;
+    let status = OneLine(status.as_str());
     match answer.reason(alloc) {
         Some(reason) => {
-            let reason = Shown(reason.as_bytes());
+            let reason = front_of(alloc, reason.as_bytes())?;
+            let reason = OneLine(reason.as_str());
             writeln!(errors, "outbox: entry {id}: answered {status}: {reason}")
         }
         None => writeln!(errors, "outbox: entry {id}: answered {status}"),
