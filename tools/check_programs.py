@@ -406,6 +406,15 @@ def check_copy_of_an_outbox(folder):
          (1, "", f"outbox: backup.db: {cause}\n"))
 
 
+def check_used_port(folder):
+    with socket.create_server(("127.0.0.1", 0)) as other:
+        port = other.getsockname()[1]
+        done = run(INTAKE, "serve", "--db", folder / "r.db", "--port", port, "--connections", 1, "--new")
+    hold("a new register on a port that is used", (done.returncode, done.stderr.startswith(b"intake: 127.0.0.1:")),
+         (3, True))
+    hold("leaves no file", list(folder.iterdir()), [])
+
+
 def check_rights(folder):
     if os.geteuid() != 0 or shutil.which("setpriv") is None:
         print("not tried: a file without rights, for which root and setpriv are needed")
@@ -797,7 +806,7 @@ if __name__ == "__main__":
     try_all(
         (INTAKE, OUTBOX),
         (check_serving, check_patience, check_limit, check_amendments, check_sent_amendments, check_full_register,
-         check_full_outbox, check_files, check_descriptors, check_rights, check_damage, check_copies,
+         check_full_outbox, check_files, check_used_port, check_descriptors, check_rights, check_damage, check_copies,
          check_copy_of_an_outbox, check_lint, check_names_of_files, check_texts_of_reports, check_texts_of_peers,
          check_entries, check_round, check_answers, check_questions, check_receipts, check_patience_of_a_round,
          check_same_report, check_closed_output),

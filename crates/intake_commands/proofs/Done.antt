@@ -29,9 +29,9 @@ pub served_as : {D : Type 0} {g : Ghosts D} (task : Serving) (found : Bool) (key
     → Serves task port port' old new result
 served_as task found keys port port' old new served result found_is keys_is few serves told =
     let limited = subst (λ k. ServesRegister found k task.connections port port' old new served) keys_is serves in
-    inr (
+    inr (inr (
       subst (λ k. k ≤ 2 ^ 62) keys_is few,
       served,
       subst (λ f. ServesRegister f task.limit task.connections port port' old new served) found_is limited,
       told,
-    )
+    ))

@@ -4,6 +4,7 @@ use Rattle.std.specs.Prelude.{◌≡◌, ◌⊎◌, ◌≤◌, ◌<◌, ◌^◌,
 use Rattle.std.specs.Prelude.{Err, MatchBool}
 use Rattle.std.specs.Borrow.{Bor}
 use Rattle.std.specs.Io.KnownBytes.{Appends}
+use Rattle.std_io.specs.declared.io.error.Error.{Error}
 use Rattle.sqlite_disk.specs.declared.Disk.{Ghosts}
 use Rattle.key_string.specs.Filer.{is_filer}
 use Rattle.http_wire.specs.Wire.{Wire}
@@ -72,14 +73,25 @@ IsServingTold task (Err (refused.Register why)) result =
 IsServingTold task (Err (refused.Port (network.Network error))) result = result ≡ Err (fault.Network task.port error)
 IsServingTold task (Err (refused.Port network.Memory)) result = result ≡ Err (fault.Command command.Memory)
 
+-- the port of a new register is not to be had, and nothing is made; only the system refuses a port
+pub record IsWithoutPort {D : Type 0} {g : Ghosts D} (task : Serving) (port port' : Traffic) (old new : Parts g)
+    (result : Result ℕ Fault) : Type 0 where
+  pub new_one : task.new ≡ true
+  pub unknown : port.coming ≡ None
+  pub same : port' ≡ port
+  pub kept : new ≡ old
+  pub error : Error
+  pub told : result ≡ Err (fault.Network task.port error)
+
 -- the port is served with the task's limit and number of connections, on a register that is new or not
 abbrev pub Serves : {D : Type 0} {g : Ghosts D} → Serving → Traffic → Traffic → Parts g → Parts g → Result ℕ Fault
     → Type 0
 Serves task port port' old new result =
     ((2 ^ 62 < task.limit) × (port' ≡ port) × (new ≡ old) × (result ≡ Err fault.Limit))
+    ⊎ (IsWithoutPort task port port' old new result
     ⊎ ((task.limit ≤ 2 ^ 62) × (served : Result (Unit {0}) ServingFault)
     × ServesRegister (not task.new) task.limit task.connections port port' old new served
-    × IsServingTold task served result)
+    × IsServingTold task served result))
 
 -- ---- list, show, check, migrate, export and pages: the register of a file is visited
 

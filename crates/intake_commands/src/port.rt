@@ -33,6 +33,7 @@ pub(crate) struct TimedPort<'r> {
     rt: &'r HostRuntime,
     number: u16,
     port: TcpPort<'r>,
+    is_listening: bool,
     /// How many seconds each connection may take; no limit if none is given.
     patience: Option<u32>,
     taken: u32,
@@ -49,6 +50,7 @@ impl<'r> TimedPort<'r> {
             rt,
             number,
             port: TcpPort::new(rt, number),
+            is_listening: false,
             patience,
             taken: 0,
             deadline: None,
@@ -85,8 +87,13 @@ impl<'r> Port for TimedPort<'r> {
 
     ghost traffic = { λ _. record { coming = None; over = None } };
 
+    // A port that is listened on already is not taken again.
     fn listen(&mut self) -> io::Result<()> {
-        self.port.listen()
+        if !self.is_listening {
+            self.port.listen()?;
+            self.is_listening = true;
+        }
+        Ok(())
     }
 
     fn accept(&mut self) -> io::Result<Option<(Timed<'r>, Timed<'r>)>> {

@@ -1,6 +1,6 @@
 //! Serves the connections of a port on the register of a file.
 
-ghost use Rattle.std.specs.Prelude.{◌≡◌, not, Err};
+ghost use Rattle.std.specs.Prelude.{◌≡◌, not, true, None, Err, IfErr};
 ghost use Rattle.database_places.specs.Opening.{is_found};
 ghost use Rattle.intake_process.specs.Process.{parts};
 ghost use Rattle.intake_commands.specs.Tasks.{Serves, IsServingTold};
@@ -17,10 +17,10 @@ use gateway_ports::PortFault;
 use intake_process::{IntakeProcess, ServingFault, serve_register};
 use sqlite_disk::Disk;
 use std::alloc::Global;
-use std::io::Write;
+use std::io::{self, Write};
 
 /// Serves connections of this port by the register of this process. Standard error says when it is ready and when it
-/// ends.
+/// ends. If the port is not to be had, no new register is made.
 pub(crate) fn serve<'a, D: Disk + Drop, P: Place<D> + Drop, L: StreamPort, E: Write>(
     rt: &HostRuntime,
     serving: Serving<'a>,
@@ -34,6 +34,12 @@ pub(crate) fn serve<'a, D: Disk + Drop, P: Place<D> + Drop, L: StreamPort, E: Wr
     let Some(limit) = Limit::new(serving.limit) else {
         return Err(Fault::Limit);
     };
+    if let Err(error) = listen_before(port, serving.new) {
+        return Err(Fault::Network {
+            port: serving.port,
+            error,
+        });
+    }
     let mut reporter = Reporter::new(rt, serving, errors);
     let served = serve_register(
         rt.alloc(),
@@ -51,6 +57,15 @@ pub(crate) fn serve<'a, D: Disk + Drop, P: Place<D> + Drop, L: StreamPort, E: Wr
         }
         Err(fault) => Err(serving_fault(rt.alloc(), process.place(), serving, fault)),
     }
+}
+
+/// Listens on a port before a new register is made. One that is there is opened first, since that takes its time, and
+/// connections would wait for it.
+fn listen_before<L: StreamPort>(port: &mut L, is_made: bool) -> io::Result<()>
+    ensures same { L.Port.traffic port.new ≡ L.Port.traffic port.old }
+    ensures refused { IfErr result (λ _. (is_made ≡ true) × ((L.Port.traffic port.old).coming ≡ None)) }
+{
+    if is_made { port.listen() } else { Ok(()) }
 }
 
 /// How a register is opened that is new or not.

@@ -1,20 +1,37 @@
-use Rattle.std.proofs.Common.{Ok, Err, refl}
+use Rattle.std.proofs.Common.{Ok, Err, refl, subst, inr, inl}
 use Rattle.database_places.specs.Opening.{is_found}
 use Rattle.intake_process.specs.Process.{parts}
+use Rattle.intake_commands.specs.Tasks.{Serves}
 use Rattle.intake_commands.proofs.Done.{served_as}
 use Rattle.intake_commands.proofs.serving.serve.Goals as goal
 
+pub returns-in-Err-listen_before : goal.returns-in-Err-listen_before
+returns-in-Err-listen_before g c = inr (inl (record {
+  new_one = c.in-Err.ensures.refused.0;
+  unknown = c.in-Err.ensures.refused.1;
+  same = c.in-Err.ensures.same;
+  kept = refl;
+  error = c.in-Err.error;
+  told = refl;
+}))
+
 pub returns-in-Ok : goal.returns-in-Ok
 returns-in-Ok g c =
-    served_as c.args.serving (is_found c.opening.result) c.in-Some.limit.keys (g.L.Port.traffic c.args.port.now)
-    (g.L.Port.traffic c.serve_register-served.new.port) (parts g.P.Place.lying c.args.process.now)
-    (parts g.P.Place.lying c.serve_register-served.new.process)
-    (Ok c.in-Ok.field-0) (Ok 0) c.opening.ensures c.in-Some.ensures c.in-Some.limit.few c.in-Ok.ensures refl
+    subst (λ port. Serves c.args.serving port (g.L.Port.traffic c.serve_register-served.new.port)
+    (parts g.P.Place.lying c.args.process.now) (parts g.P.Place.lying c.serve_register-served.new.process) (Ok 0))
+    c.in_default.ensures.same
+    (served_as c.args.serving (is_found c.opening.result) c.in-Some.limit.keys
+    (g.L.Port.traffic c.listen_before.new.port) (g.L.Port.traffic c.serve_register-served.new.port)
+    (parts g.P.Place.lying c.args.process.now) (parts g.P.Place.lying c.serve_register-served.new.process)
+    (Ok c.in-Ok.field-0) (Ok 0) c.opening.ensures c.in-Some.ensures c.in-Some.limit.few c.in-Ok.ensures refl)
 
 pub returns-in-Err : goal.returns-in-Err
 returns-in-Err g c =
-    served_as c.args.serving (is_found c.opening.result) c.in-Some.limit.keys (g.L.Port.traffic c.args.port.now)
-    (g.L.Port.traffic c.serve_register-served.new.port) (parts g.P.Place.lying c.args.process.now)
-    (parts g.P.Place.lying c.serve_register-served.new.process)
+    subst (λ port. Serves c.args.serving port (g.L.Port.traffic c.serve_register-served.new.port)
+    (parts g.P.Place.lying c.args.process.now) (parts g.P.Place.lying c.serve_register-served.new.process)
+    (Err c.serving_fault.result)) c.in_default.ensures.same
+    (served_as c.args.serving (is_found c.opening.result) c.in-Some.limit.keys
+    (g.L.Port.traffic c.listen_before.new.port) (g.L.Port.traffic c.serve_register-served.new.port)
+    (parts g.P.Place.lying c.args.process.now) (parts g.P.Place.lying c.serve_register-served.new.process)
     (Err c.in-Err.fault) (Err c.serving_fault.result) c.opening.ensures c.in-Some.ensures c.in-Some.limit.few
-    c.in-Err.ensures c.serving_fault.ensures
+    c.in-Err.ensures c.serving_fault.ensures)
