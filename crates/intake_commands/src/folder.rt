@@ -5,13 +5,16 @@ ghost use Rattle.std.specs.Prelude.{◌≡◌, None};
 use markup::Markup;
 use register_pages::{Folder, NotWritten};
 use std::alloc::AllocError;
-use std::{fs, io};
+use std::fs::{self, File, OpenOptions};
+use std::hash::{BuildHasher, RandomState};
+use std::io::{self, Write};
+use terminal_text::OneLine;
 use thiserror::Error;
 
 /// Why a page was not written.
 #[derive(Debug, Drop, Error)]
 pub(crate) enum PageFault {
-    #[error("{path}: {error}")]
+    #[error("{file}: {error}", file = OneLine(.path.as_str()))]
     File { path: String, error: io::Error },
     #[error("out of memory")]
     Memory,
@@ -31,7 +34,7 @@ pub(crate) trait SiteFolder: Folder {
 }
 
 /// A folder of the file system. A page is written under another name first, so that no part of one is left under its
-/// own.
+/// own. Nobody can guess that name, and a link that has it is not followed.
 #[derive(Drop)]
 pub(crate) struct SystemFolder<'r, 'a> {
     rt: &'r HostRuntime,
@@ -52,9 +55,8 @@ impl<'r, 'a> SystemFolder<'r, 'a> {
     /// Writes a page.
     fn put(&self, name: &str, page: &[u8]) -> Result<(), PageFault> {
         let folder = self.path;
-        let draft = format!(in self.rt.alloc(); "{folder}/.{name}.new")?;
         let path = format!(in self.rt.alloc(); "{folder}/{name}")?;
-        match write_whole(self.rt, draft.as_str(), path.as_str(), page) {
+        match write_whole(self.rt, folder, name, path.as_str(), page) {
             Ok(()) => Ok(()),
             Err(error) => Err(PageFault::File { path, error }),
         }
@@ -84,18 +86,39 @@ impl SiteFolder for SystemFolder<'_, '_> {
     }
 }
 
-/// Writes a file whole, first under the name of its draft. If it fails, no draft is left.
-fn write_whole(rt: &HostRuntime, draft: &str, path: &str, bytes: &[u8]) -> io::Result<()> {
-    let written = write_by_draft(rt, draft, path, bytes);
+/// Writes a file of a folder whole, which has this path: first under the name of its draft. If it fails, no draft is
+/// left. At the end the disk has the file and its name.
+fn write_whole(
+    rt: &HostRuntime,
+    folder: &str,
+    name: &str,
+    path: &str,
+    bytes: &[u8],
+) -> io::Result<()> {
+    let number = RandomState::new(rt)?.hash_one(&0u8);
+    let draft = format!(in rt.alloc(); "{folder}/.{name}.{number}.new")?;
+    let mut file = OpenOptions::new()
+        .write(true)
+        .create_new(true)
+        .open(rt, draft.as_str())?;
+    let written = write_by_draft(rt, &mut file, draft.as_str(), path, bytes);
     if written.is_err() {
         // Nothing is left to be done if it can't be removed either.
-        let _ = fs::remove_file(rt, draft);
+        let _ = fs::remove_file(rt, draft.as_str());
     }
-    written
+    written?;
+    File::open(rt, folder)?.sync_all()
 }
 
-/// Writes a file under the name of its draft, and then gives it its own.
-fn write_by_draft(rt: &HostRuntime, draft: &str, path: &str, bytes: &[u8]) -> io::Result<()> {
-    fs::write(rt, draft, bytes)?;
+/// Writes the draft of a file, and then gives it its own name.
+fn write_by_draft(
+    rt: &HostRuntime,
+    file: &mut File,
+    draft: &str,
+    path: &str,
+    bytes: &[u8],
+) -> io::Result<()> {
+    file.write_all(bytes)?;
+    file.sync_all()?;
     fs::rename(rt, draft, path)
 }
