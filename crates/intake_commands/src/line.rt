@@ -6,7 +6,7 @@ use std::fmt;
 use std::fmt::Write;
 
 /// The line of a connection in the log, a JSON object: its number, how it ended, the filers of the requests that were
-/// filed, how many requests and refusals there were, and the statuses of the replies.
+/// filed, how many requests and refusals there were, and the statuses of the first replies.
 #[derive(Clone, Copy)]
 pub(crate) struct ConnectionLine<'a> {
     pub(crate) connection: u32,

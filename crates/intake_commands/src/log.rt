@@ -17,6 +17,9 @@ use std::io::{self, Write};
 /// bytes are left out.
 const MOST_NOTED: usize = 1_064_962;
 
+/// How many statuses a line has at most.
+const MOST_STATUSES: usize = 64;
+
 /// A reader whose first bytes are noted.
 #[derive(Drop)]
 pub(crate) struct Noted<R> {
@@ -61,7 +64,7 @@ impl<R: Source> Source for Noted<R> {
 #[derive(Drop)]
 pub(crate) struct Statuses<W> {
     inner: W,
-    /// The statuses of the replies that were begun, without interim responses.
+    /// The statuses of the first replies that were begun, without interim responses.
     statuses: Vec<u16>,
     is_within: bool,
 }
@@ -87,10 +90,13 @@ fn status_of(text: &[u8]) -> Option<u16> {
     if status >= 200 { Some(status) } else { None }
 }
 
-/// Notes the status of the reply that this text begins.
+/// Notes the status of the reply that this text begins, if the line has room for it.
 fn note_status(statuses: &mut Vec<u16>, text: &[u8]) {
-    if let Some(status) = status_of(text) {
-        let _ = statuses.push(status);
+    match status_of(text) {
+        Some(status) if statuses.len() < MOST_STATUSES => {
+            let _ = statuses.push(status);
+        }
+        _ => {}
     }
 }
 
