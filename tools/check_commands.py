@@ -215,6 +215,7 @@ OUT_OF_RANGE = [
     (OUTBOX, "send --db @box.db --port 65536"),
     (OUTBOX, "send --db @box.db --port 1 --entry -1"),
     (OUTBOX, "send --db @box.db --port 1 --patience 0"),
+    (OUTBOX, "ask --db @box.db --port 1 --entry 1 --strict"),
     (OUTBOX, "send --db @box.db --port 1 --patience 86401"),
     (OUTBOX, "status --db @box.db --wait 86401"),
     (OUTBOX, "ask --db @box.db --port 1"),

@@ -648,6 +648,40 @@ def check_answers(folder):
     hold("what to do with what is refused", said(every, folder), (0, "entry 1 refused\nentry 2 clashed\n", errors))
 
 
+# What a peer answers to the entries of a round, and the status and the last line of `send --strict`.
+STRICT = [
+    ([registered(1), registered(2)], 0, None),
+    ([registered(1), REFUSED], 1, "not filed: 1 refused or clashed, 0 open"),
+    ([CLASHED, registered(2)], 1, "not filed: 1 refused or clashed, 0 open"),
+    ([registered(1), UNSETTLED[0][0]], 3, "not filed: 0 refused or clashed, 1 open"),
+    ([UNSETTLED[0][0], REFUSED], 1, "not filed: 1 refused or clashed, 1 open"),
+    ([registered(1), b""], 3, "not filed: 0 refused or clashed, 1 open"),
+    ([REFUSED, b""], 1, "not filed: 1 refused or clashed, 1 open"),
+]
+
+
+def check_strict(folder):
+    """`send --strict` ends with 0 exactly if each entry that it sent is filed."""
+    for at, (replies, status, last) in enumerate(STRICT):
+        (folder / str(at)).mkdir()
+        outbox = make_outbox(folder / str(at), 2)
+        peer = Peer(*map(answers, replies))
+        every = run(OUTBOX, "send", "--db", outbox, "--port", peer.port, "--all", "--strict")
+        told = said(every, folder)[2].splitlines()
+        hold(f"a strict round: {last}", (every.returncode, told[-1] if told else None),
+             (status, last and f"outbox: {last}"))
+        state = run(OUTBOX, "send", "--db", outbox, "--port", 1, "--entry", 1, "--strict")
+        if b"open" not in state.stdout:
+            hold("and one entry that is settled", state.returncode, 0 if b"confirmed" in state.stdout else 1)
+    (folder / "one").mkdir()
+    outbox = make_outbox(folder / "one", 1)
+    words = "send", "--db", outbox, "--strict", "--port"
+    hold("a strict entry that stays open", run(OUTBOX, *words, Peer(answers(UNSETTLED[3][0])).port).returncode, 3)
+    hold("a strict entry that is refused", run(OUTBOX, *words, Peer(answers(REFUSED)).port).returncode, 1)
+    nothing = said(run(OUTBOX, *words, 1), folder)
+    hold("a strict outbox with nothing open", nothing, (0, "nothing open\n", ""))
+
+
 # What the register answers for a report `{}`, and the line for its one finding.
 NO_INFO = (
     '{"findings":[{"code":"document-info","place":"/documentInfo"}],"reason":"refused","status":422,'
@@ -662,6 +696,12 @@ NO_INFO_OBJECT = (
 NOT_REPLACEABLE = NO_INFO.replace('{"code":"document-info","place":"/documentInfo"}',
                                   '{"code":"not-replaceable","place":""}')
 NOT_REPLACEABLE_LINE = "entry-3:1:1: not-replaceable: the object may not replace that filing ()\n"
+
+
+def contradiction(port, entry, state, told):
+    """What is said of a reply that settles an entry in another way than it is settled."""
+    return (f"outbox: 127.0.0.1:{port}: entry {entry} is {state}, but the reply says {told}: "
+            "another register answers, or it was restored; ask its supervisor\n")
 
 
 def ask(outbox, entry, port, *words):
@@ -693,7 +733,8 @@ def check_questions(folder):
         "entry 2: 422 Unprocessable Content\n"
         '{"reason":"key-reused","status":422,"title":"Unprocessable Content","type":"about:blank"}\n'
     )
-    hold("an answer that differs from the state", said(ask(outbox, 2, other.port), folder), (0, clashed, ""))
+    hold("an answer that contradicts the entry", said(ask(outbox, 2, other.port), folder),
+         (3, clashed, contradiction(other.port, 2, "refused", "clashed")))
     hold("a content that is no line of text", said(ask(outbox, 2, other.port), folder),
          (0, "entry 2: 200 OK\na\\u000ab\ufffd\n", ""))
     hold("an answer without content", said(ask(outbox, 1, other.port), folder), (0, "entry 1: 418\n\n", ""))
@@ -703,11 +744,59 @@ def check_questions(folder):
     hold("the outbox is as it was", said(run(OUTBOX, "show", "--db", outbox), folder), before)
 
 
+def receipt_name(filer, entry, key):
+    """The name of the file of a receipt."""
+    return f"{filer}-{entry}-{hashlib.sha256(key.encode()).hexdigest()[:8]}.json"
+
+
 def receipt_in(folder, entry):
     """The receipt of an entry without its moment, and whether the moment is within the last minute."""
-    receipt = json.loads((folder / f"entry-{entry}.json").read_text())
+    receipt = json.loads((folder / receipt_name("ACME", entry, f"k-{entry}")).read_text())
     moment = datetime.datetime.fromisoformat(receipt.pop("moment").replace("Z", "+00:00"))
     return receipt, abs(datetime.datetime.now(datetime.timezone.utc) - moment) < datetime.timedelta(minutes=1)
+
+
+def check_kept_receipts(folder, outbox, receipt):
+    """A receipt stays if a reply contradicts its entry, and what is no receipt of an entry is never replaced."""
+    kept, first = receipt.parent, receipt.read_bytes()
+    words = "ask", "--db", outbox, "--entry", 2, "--receipts", kept, "--port"
+    front = reply(b"400 Bad Request", b"<html>nginx</html>", "text/html")
+    for text, told in ((registered(8), "confirmed 8"), (REFUSED, "refused"), (CLASHED, "clashed")):
+        peer = Peer(answers(text))
+        asked = said(run(OUTBOX, *words, peer.port), folder)
+        hold(f"a reply that contradicts: {told}", asked[::2], (3, contradiction(peer.port, 2, "confirmed 7", told)))
+        hold("which leaves the receipt", receipt.read_bytes() == first, True)
+    asked = said(run(OUTBOX, *words, Peer(answers(front)).port), folder)
+    hold("the page of a front", (asked[0], receipt.read_bytes() == first), (3, True))
+    # A folder of several outboxes: one of another filer, and one of the same filer, whose entries have the same ids.
+    for filer, key in (("BETA", "k-2"), ("ACME", "other")):
+        (folder / key / filer).mkdir(parents=True)
+        another = folder / key / filer / "box.db"
+        run(OUTBOX, "init", "--db", another, "--filer", filer)
+        for put in ("k-1", key):
+            run(OUTBOX, "put", "--db", another, "--body", folder / "report.json", "--key", put)
+        sent = run(OUTBOX, "send", "--db", another, "--entry", 2, "--receipts", kept,
+                   "--port", Peer(answers(registered(9))).port)
+        here = kept / receipt_name(filer, 2, key)
+        hold(f"a receipt of {filer} beside it", (sent.returncode, here.is_file(), receipt.read_bytes() == first),
+             (0, True, True))
+    taken = f"outbox: entry 2: no receipt: {receipt.name} is there, and is no receipt of this entry\n"
+    taken += "outbox: receipts that were not written: 1; outbox ask --receipts writes one again\n"
+    others = [json.dumps(json.loads(first) | other).encode() for other in
+              ({"filer": "BETA"}, {"key": "k-3"}, {"entry": 3})]
+    for other in [*others, b"", b"[]", b"notes"]:
+        receipt.write_bytes(other)
+        asked = said(run(OUTBOX, *words, Peer(answers(registered(7))).port), folder)
+        hold(f"no receipt over another: {other[:20]}", (asked[::2], receipt.read_bytes()), ((3, taken), other))
+    receipt.unlink()
+    target = folder / "elsewhere"
+    target.write_bytes(first)
+    receipt.symlink_to(target)
+    asked = said(run(OUTBOX, *words, Peer(answers(registered(7))).port), folder)
+    hold("no receipt through a link", (asked[::2], target.read_bytes() == first), ((3, taken), True))
+    receipt.unlink()
+    hold("nothing else is left there", sorted(it.name for it in kept.iterdir()),
+         sorted(receipt_name(filer, 2, key) for filer, key in (("BETA", "k-2"), ("ACME", "other"))))
 
 
 def check_receipts(folder):
@@ -722,14 +811,15 @@ def check_receipts(folder):
     sent = run(OUTBOX, *words, "--port", peer.port, "--all")
     errors = "outbox: entry 1: answered 403 Forbidden: not-yours\n"
     hold("a round with receipts", said(sent, folder), (0, "entry 1 open\nentry 2 confirmed 7\n", errors))
-    hold("a receipt for what is settled", sorted(it.name for it in kept.iterdir()), ["entry-2.json"])
+    name = receipt_name("ACME", 2, "k-2")
+    hold("a receipt for what is settled", sorted(it.name for it in kept.iterdir()), [name])
     of_request = {"entry": 2, "filer": "ACME", "key": "k-2", "target": None,
                   "length": len(SMALLEST), "sha256": hashlib.sha256(SMALLEST).hexdigest()}
     of_reply = {"status": 201, "content": '{"number":7,"status":"registered"}', "port": peer.port}
     hold("what it says", receipt_in(kept, 2), (of_request | of_reply, True))
-    members = list(json.loads((kept / "entry-2.json").read_text()))
+    members = list(json.loads((kept / name).read_text()))
     hold("in the order of names", members, sorted(members))
-    (kept / "entry-2.json").unlink()
+    (kept / name).unlink()
     again = Peer(answers(problem(b"503 Service Unavailable", "unavailable")), answers(registered(7)))
     asked = run(OUTBOX, "ask", "--db", outbox, "--entry", 2, "--port", again.port, "--receipts", kept)
     lost = "outbox: receipts that were not written: 1; outbox ask --receipts writes one again\n"
@@ -740,6 +830,7 @@ def check_receipts(folder):
     asked = run(OUTBOX, "ask", "--db", outbox, "--entry", 2, "--port", again.port, "--receipts", kept)
     hold("a question with a receipt", said(asked, folder), (0, f"entry 2: 201 Created\n{of_reply['content']}\n", ""))
     hold("which says the same", receipt_in(kept, 2), (of_request | of_reply | {"port": again.port}, True))
+    check_kept_receipts(folder, outbox, kept / name)
     shutil.rmtree(kept)
     kept.mkdir()
 
@@ -816,6 +907,6 @@ if __name__ == "__main__":
          check_full_outbox, check_files, check_used_port, check_descriptors, check_rights, check_damage, check_copies,
          check_copy_of_an_outbox, check_lint, check_names_of_files, check_texts_of_reports, check_texts_of_peers,
          check_statuses_of_the_log,
-         check_entries, check_round, check_answers, check_questions, check_receipts, check_patience_of_a_round,
+         check_entries, check_round, check_answers, check_strict, check_questions, check_receipts, check_patience_of_a_round,
          check_same_report, check_closed_output),
     )

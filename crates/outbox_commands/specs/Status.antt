@@ -1,5 +1,5 @@
 -- The exit status of `outbox`.
-use Rattle.std.specs.Prelude.{ℕ, zero, suc, Result, Ok, Err}
+use Rattle.std.specs.Prelude.{ℕ, zero, suc, Bool, true, false, Result, Ok, Err}
 use Rattle.key_string.specs.declared.fault.KeyFault.{KeyFault}
 use Rattle.key_string.specs.declared.fault.KeyFault.TheVariants as key
 use Rattle.outbox_tables.specs.declared.fault.OutboxFault.{OutboxFault}
@@ -16,6 +16,7 @@ use Rattle.outbox_tasks.specs.declared.fault.SendFault.{SendFault}
 use Rattle.outbox_tasks.specs.declared.fault.SendFault.TheVariants as send
 use Rattle.outbox_tasks.specs.declared.fault.TaskFault.{TaskFault}
 use Rattle.outbox_tasks.specs.declared.fault.TaskFault.TheVariants as task
+use Rattle.outbox_tasks.specs.declared.rounds.Round.{Round}
 use Rattle.outbox_process.specs.declared.errand.Done.{Done}
 use Rattle.outbox_process.specs.declared.errand.Done.TheVariants as done
 use Rattle.outbox_process.specs.declared.fault.OpeningFault.{OpeningFault}
@@ -71,6 +72,7 @@ task_status (task.IsOpen id) = 2
 task_status (task.Put why) = put_status why
 task_status (task.NotTold id why) = 3
 task_status (task.Send id why) = send_status why
+task_status (task.Contradicts id state told) = 3
 task_status (task.Line why) = 3
 
 -- 3 if an exchange of a round failed
@@ -78,14 +80,27 @@ abbrev pub failed_status : ℕ → ℕ
 failed_status zero = 0
 failed_status (suc failed) = 3
 
--- 0 exactly if all was done
-abbrev pub done_status : Result Done TaskFault → ℕ
-done_status (Ok (done.Put id)) = 0
-done_status (Ok done.Sent) = 0
-done_status (Ok (done.Round round)) = failed_status round.failed
-done_status (Ok done.Asked) = 0
-done_status (Ok done.Shown) = 0
-done_status (Err why) = task_status why
+-- of entries that are not filed: 1 if some were refused or clashed, and otherwise 3, since all are open
+abbrev pub unfiled_status : ℕ → ℕ
+unfiled_status zero = 3
+unfiled_status (suc refused) = 1
+
+-- by how many entries of a strict round were refused or clashed, were left open by a reply, and by a failed exchange
+abbrev pub strict_status : ℕ → ℕ → ℕ → ℕ
+strict_status zero zero zero = 0
+strict_status refused left_open failed = unfiled_status refused
+
+abbrev pub sent_status : Bool → Round → ℕ
+sent_status true round = strict_status round.refused round.left_open round.failed
+sent_status false round = failed_status round.failed
+
+-- 0 exactly if all was done; a strict errand has to file each entry that it sends
+abbrev pub done_status : Bool → Result Done TaskFault → ℕ
+done_status strict (Ok (done.Put id)) = 0
+done_status strict (Ok (done.Sent round)) = sent_status strict round
+done_status strict (Ok done.Asked) = 0
+done_status strict (Ok done.Shown) = 0
+done_status strict (Err why) = task_status why
 
 -- ---- of what is reported
 
@@ -119,6 +134,8 @@ status_of (fault.Connect port error) = 3
 status_of (fault.Exchange port why) = 3
 status_of (fault.Patience port seconds) = 3
 status_of (fault.Round port sent failed) = 3
+status_of (fault.Unfiled refused left) = unfiled_status refused
+status_of (fault.Contradicts port id state told) = 3
 status_of (fault.Folder name error) = 3
 status_of (fault.Receipts lost) = 3
 status_of (fault.Random error) = 3

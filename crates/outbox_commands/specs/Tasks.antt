@@ -61,7 +61,7 @@ IsNotRead text why = IsNoKeyFor text why
 abbrev pub PutsReport : {D X : Type 0} (g : Ghosts D) → Option (Bor (List ℕ)) → Target → Traffic → Traffic
     → Option (List ℕ) → Option (List ℕ) → Parts g → Parts g → Result X Fault → Type 0
 PutsReport g text target net net' out out' old new result =
-    ((put : Errand) × PutsUnder text target put × VisitsOutbox g put net net' out out' old new (status_by result))
+    ((put : Errand) × PutsUnder text target put × VisitsOutbox g false put net net' out out' old new (status_by result))
     ⊎ ((why : Fault) × (result ≡ Err why) × IsNotRead text why × (new ≡ old) × (net' ≡ net) × (out' ≡ out))
 
 -- ---- migrate
@@ -100,13 +100,13 @@ Does g (Put database body key target) net net' out out' old new result =
     PutsReport g key target net net' out out' old new result
 Does g (Migrate database) net net' out out' old new result =
     MigratesOutbox g out out' old new (status_by result) × (net' ≡ net)
-Does g (Send database peer which) net net' out out' old new result =
-    VisitsOutbox g (errand.Send which) net net' out out' old new (status_by result)
+Does g (Send database peer which strict) net net' out out' old new result =
+    VisitsOutbox g strict (errand.Send which) net net' out out' old new (status_by result)
 Does g (Ask database peer id form) net net' out out' old new result =
-    VisitsOutbox g (errand.Ask id form) net net' out out' old new (status_by result)
+    VisitsOutbox g false (errand.Ask id form) net net' out out' old new (status_by result)
 Does g (Status database) net net' out out' old new result =
-    VisitsOutbox g errand.ShowStates net net' out out' old new (status_by result)
+    VisitsOutbox g false errand.ShowStates net net' out out' old new (status_by result)
 Does g (Show database None) net net' out out' old new result =
-    VisitsOutbox g errand.ShowEach net net' out out' old new (status_by result)
+    VisitsOutbox g false errand.ShowEach net net' out out' old new (status_by result)
 Does g (Show database (Some id)) net net' out out' old new result =
-    VisitsOutbox g (errand.ShowEntry id) net net' out out' old new (status_by result)
+    VisitsOutbox g false (errand.ShowEntry id) net net' out out' old new (status_by result)

@@ -1,5 +1,5 @@
 -- An outbox is opened, an errand is done on it, and it is closed.
-use Rattle.std.specs.Prelude.{◌≡◌, ◌⊎◌, ℕ, List, Option, Some, None, Result, Ok, Err}
+use Rattle.std.specs.Prelude.{◌≡◌, ◌⊎◌, ℕ, Bool, List, Option, Some, None, Result, Ok, Err}
 use Rattle.sqlite_disk.specs.declared.Disk.{Ghosts}
 use Rattle.sqlite.specs.declared.error.Error.{Error}
 use Rattle.database_places.specs.declared.verdict.Verdict.{Verdict}
@@ -40,9 +40,9 @@ OpensTold g beginning old new result =
 -- ---- an errand
 
 -- The outbox that lay there was opened, the errand was done on it, its entries may have been read again, and it was
--- closed. The status says whether all was done.
-pub record DoesOn {D : Type 0} (g : Ghosts D) (errand : Errand) (net net' : Traffic) (out out' : Option (List ℕ))
-    (old new : Parts g) (status : ℕ) : Type 0 where
+-- closed. The status says whether all was done; if it is strict, also whether each entry that was sent is filed.
+pub record DoesOn {D : Type 0} (g : Ghosts D) (strict : Bool) (errand : Errand) (net net' : Traffic)
+    (out out' : Option (List ℕ)) (old new : Parts g) (status : ℕ) : Type 0 where
   pub opened : Parts g
   pub opens : OpensProcess g Found old opened (Ok tt)
   pub done : Parts g
@@ -52,7 +52,7 @@ pub record DoesOn {D : Type 0} (g : Ghosts D) (errand : Errand) (net net' : Traf
   pub looks : IsHonest g → Leaves done looked
   pub closed : Result (Unit {0}) Error
   pub closes : ClosesProcess g looked new closed
-  pub says : status ≡ done_status came
+  pub says : status ≡ done_status strict came
 
 -- The outbox was not opened, the status says why, and nothing was done.
 pub record IsRefused {D : Type 0} (g : Ghosts D) (beginning : Beginning) (old new : Parts g) (status : ℕ) : Type 0 where
@@ -61,10 +61,11 @@ pub record IsRefused {D : Type 0} (g : Ghosts D) (beginning : Beginning) (old ne
   pub says : status ≡ opening_status why
 
 -- the errand was done, or the outbox was refused
-abbrev pub VisitsOutbox : {D : Type 0} (g : Ghosts D) → Errand → Traffic → Traffic → Option (List ℕ) → Option (List ℕ)
-    → Parts g → Parts g → ℕ → Type 0
-VisitsOutbox g errand net net' out out' old new status =
-    DoesOn g errand net net' out out' old new status ⊎ (IsRefused g Found old new status × (net' ≡ net) × (out' ≡ out))
+abbrev pub VisitsOutbox : {D : Type 0} (g : Ghosts D) → Bool → Errand → Traffic → Traffic → Option (List ℕ)
+    → Option (List ℕ) → Parts g → Parts g → ℕ → Type 0
+VisitsOutbox g strict errand net net' out out' old new status =
+    DoesOn g strict errand net net' out out' old new status
+    ⊎ (IsRefused g Found old new status × (net' ≡ net) × (out' ≡ out))
 
 -- ---- the verdict on a database that is not migrated
 

@@ -4,7 +4,7 @@ ghost use Rattle.std.specs.Prelude.{◌≡◌, None};
 ghost use Rattle.database_places.specs.Places.{IsHonest};
 ghost use Rattle.outbox_process.specs.Process.{parts, Leaves, ClosesProcess};
 ghost use Rattle.outbox_commands.specs.Looking.{KeepsEntries};
-ghost use Rattle.outbox_commands.specs.Status.{status_by, done_status};
+ghost use Rattle.outbox_commands.specs.Status.{status_by, failed_status, strict_status, done_status};
 ghost use Rattle.outbox_commands.specs.Visits.{OpensTold, VisitsOutbox};
 
 use crate::fault::{Fault, VisitFault};
@@ -54,7 +54,7 @@ pub(crate) fn close<D: Disk + Drop, P: Place<D> + Drop, E: Write>(
 
 /// Opens the outbox of the file with this name, does this errand on it, and closes it. What was reported stays whether
 /// or not the files are then closed. If the key of a report was drawn at random, it is reported on the standard error
-/// if one of the last entries has the same report.
+/// if one of the last entries has the same report. A strict one files each entry that it sends, or it is a fault.
 pub(crate) fn run_errand<'a, D: Disk + Drop, P: Place<D> + Drop, N: Network, O: Write, E: Write>(
     alloc: Global,
     process: &mut OutboxProcess<D, P>,
@@ -62,12 +62,14 @@ pub(crate) fn run_errand<'a, D: Disk + Drop, P: Place<D> + Drop, N: Network, O: 
     name: &'a str,
     errand: Errand,
     is_random: bool,
+    is_strict: bool,
     output: &mut O,
     errors: &mut E,
 ) -> Result<(), Fault<'a>>
     requires { process.old.outbox ≡ None }
-    ensures { VisitsOutbox D.Disk errand (N.traffic network.old) (N.traffic network.new) (O.contents output.old)
-        (O.contents output.new) (parts P.lying process.old) (parts P.lying process.new) (status_by result) }
+    ensures { VisitsOutbox D.Disk is_strict errand (N.traffic network.old) (N.traffic network.new)
+        (O.contents output.old) (O.contents output.new) (parts P.lying process.old) (parts P.lying process.new)
+        (status_by result) }
 {
     if let Err(fault) = open(alloc, process, Beginning::Found) {
         return Err(Fault::of_opening(fault, name));
@@ -76,7 +78,7 @@ pub(crate) fn run_errand<'a, D: Disk + Drop, P: Place<D> + Drop, N: Network, O: 
     if is_random {
         tell_same(process, &came, errors);
     }
-    let done = answer(network, came, name);
+    let done = answer(network, came, is_strict, name);
     close(process, name, errors);
     done
 }
@@ -86,15 +88,16 @@ pub(crate) fn run_errand<'a, D: Disk + Drop, P: Place<D> + Drop, N: Network, O: 
 fn answer<'a, N: Network>(
     network: &mut N,
     came: Result<Done, TaskFault>,
+    is_strict: bool,
     name: &'a str,
 ) -> Result<(), Fault<'a>>
-    ensures status { status_by result ≡ done_status came }
+    ensures status { status_by result ≡ done_status is_strict came }
     ensures traffic { N.traffic network.new ≡ N.traffic network.old }
 {
     match came {
         Ok(done) => {
             tell_outcome(network, done);
-            fault_of_round(network.port(), done)
+            fault_of_done(network.port(), is_strict, done)
         }
         Err(fault) => Err(Fault::of_task(fault, name, network.port(), network.lost_patience())),
     }
@@ -110,17 +113,48 @@ fn tell_outcome<N: Network>(network: &mut N, done: Done)
     }
 }
 
-/// The fault of a round in which exchanges failed.
-fn fault_of_round<'a>(port: u16, done: Done) -> Result<(), Fault<'a>>
-    ensures { status_by result ≡ done_status (Ok done) }
+/// The fault of an errand that sent entries: exchanges failed, or, if it is strict, entries were not filed.
+fn fault_of_done<'a>(port: u16, is_strict: bool, done: Done) -> Result<(), Fault<'a>>
+    ensures { status_by result ≡ done_status is_strict (Ok done) }
 {
     match done {
-        Done::Round(Round { sent, failed }) if failed > 0 => Err(Fault::Round {
-            port,
-            sent,
+        Done::Sent(round) if is_strict => fault_of_unfiled(round),
+        Done::Sent(round) => fault_of_failed(port, round),
+        Done::Put { .. } | Done::Asked | Done::Shown => Ok(()),
+    }
+}
+
+/// The fault of a round in which exchanges failed.
+fn fault_of_failed<'a>(port: u16, round: Round) -> Result<(), Fault<'a>>
+    ensures { status_by result ≡ failed_status round.failed }
+{
+    let Round { sent, failed, .. } = round;
+    if failed == 0 {
+        return Ok(());
+    }
+    Err(Fault::Round { port, sent, failed })
+}
+
+/// The fault of a round in which entries were not filed.
+fn fault_of_unfiled<'a>(round: Round) -> Result<(), Fault<'a>>
+    ensures { status_by result ≡ strict_status round.refused round.left_open round.failed }
+{
+    match round {
+        Round {
+            failed: 0,
+            left_open: 0,
+            refused: 0,
+            ..
+        } => Ok(()),
+        Round {
             failed,
+            left_open,
+            refused,
+            ..
+        } => Err(Fault::Unfiled {
+            refused,
+            open: left_open.saturating_add(failed),
         }),
-        _ => Ok(()),
     }
 }
 

@@ -11,10 +11,10 @@ use database_places::{Holding, Verdict};
 use filer_client::ExchangeFault;
 use http_wire::ReplyFault;
 use key_string::KeyFault;
-use outbox_core::{OutboxFault, PutFault, StoreFault, TakeFault};
+use outbox_core::{OutboxFault, PutFault, State, StoreFault, TakeFault};
 use outbox_process::OpeningFault;
 use outbox_tasks::{LineFault, SendFault, TaskFault};
-use receipts::ReceiptFault;
+use receipts::{KeepFault, ReceiptFault};
 use std::alloc::AllocError;
 use std::io::Write;
 use std::{fmt, io};
@@ -181,9 +181,9 @@ pub(crate) enum NoReceipt {
     /// The clock gives no moment.
     #[error("the clock failed")]
     Clock(#[from] jiff::Error),
-    /// The file was not written.
+    /// It is not kept.
     #[error("{0}")]
-    Unwritten(#[from] io::Error),
+    Unkept(#[from] KeepFault),
 }
 
 /// Why a task was not done. Its text is one line.
@@ -196,19 +196,53 @@ pub(crate) enum Fault<'a> {
     #[error("{0}")]
     Report(#[from] ReportFault<'a>),
     #[error("{file}: {fault}", file = OneLine(*.name))]
-    Outbox { name: &'a str, fault: VisitFault },
+    Outbox {
+        name: &'a str,
+        fault: VisitFault,
+    },
     #[error("127.0.0.1:{port}: {error}")]
-    Connect { port: u16, error: io::Error },
+    Connect {
+        port: u16,
+        error: io::Error,
+    },
     #[error("127.0.0.1:{port}: {cause}", cause = Cause(*.fault))]
-    Exchange { port: u16, fault: ExchangeFault },
+    Exchange {
+        port: u16,
+        fault: ExchangeFault,
+    },
     #[error("127.0.0.1:{port}: no reply within {seconds} s")]
-    Patience { port: u16, seconds: u64 },
+    Patience {
+        port: u16,
+        seconds: u64,
+    },
     #[error("127.0.0.1:{port}: {failed} of {sent} exchanges failed")]
-    Round { port: u16, sent: u64, failed: u64 },
+    Round {
+        port: u16,
+        sent: u64,
+        failed: u64,
+    },
+    /// A `send` that is to file every entry did not.
+    #[error("not filed: {refused} refused or clashed, {open} open")]
+    Unfiled {
+        refused: u64,
+        open: u64,
+    },
+    #[error("127.0.0.1:{port}: entry {id} is {state}, but the reply says {told}: another register answers, or it was restored; ask its supervisor")]
+    Contradicts {
+        port: u16,
+        id: u64,
+        state: State,
+        told: State,
+    },
     #[error("{folder}: no receipt can be written there: {error}", folder = OneLine(*.name))]
-    Folder { name: &'a str, error: io::Error },
+    Folder {
+        name: &'a str,
+        error: io::Error,
+    },
     #[error("receipts that were not written: {lost}; outbox ask --receipts writes one again")]
-    Receipts { lost: u64 },
+    Receipts {
+        lost: u64,
+    },
     #[error("no random key: {0}")]
     Random(io::Error),
 }
@@ -303,6 +337,12 @@ impl<'a> Fault<'a> {
             } => VisitFault::NotTold { id }.at(name),
             TaskFault::NotTold { fault, .. } => fault.into(),
             TaskFault::Send { id, fault } => Fault::of_sending(fault, name, id, port, late),
+            TaskFault::Contradicts { id, state, told } => Fault::Contradicts {
+                port,
+                id,
+                state,
+                told,
+            },
             TaskFault::Line(fault) => fault.into(),
         }
     }
@@ -329,9 +369,9 @@ impl<'a> Fault<'a> {
 }
 
 impl Fault<'_> {
-    /// The status that the program ends with: 1 for a database that is no outbox or cannot become
-    /// one, 2 for the command line, 3 for a fault of memory, the disk or the network, 4 if an
-    /// entry is missing.
+    /// The status that the program ends with: 1 for a database that is no outbox or cannot become one and for entries
+    /// that were refused, 2 for the command line, 3 for a fault of memory, the disk or the network and for entries that
+    /// are open, 4 if an entry is missing.
     pub(crate) fn status(&self) -> u8
         ensures { result ≡ status_of self.now }
     {
@@ -345,6 +385,9 @@ impl Fault<'_> {
             Fault::Exchange { .. } => 3,
             Fault::Patience { .. } => 3,
             Fault::Round { .. } => 3,
+            Fault::Unfiled { refused: 0, .. } => 3,
+            Fault::Unfiled { .. } => 1,
+            Fault::Contradicts { .. } => 3,
             Fault::Folder { .. } => 3,
             Fault::Receipts { .. } => 3,
             Fault::Random(_) => 3,

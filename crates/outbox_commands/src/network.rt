@@ -12,7 +12,7 @@ use http_wire::{Device, ReplyFault};
 use jiff::Timestamp;
 use outbox_core::State;
 use outbox_tasks::{Dial, TcpDial};
-use receipts::{Exchange, Folder, receipt_of};
+use receipts::{Exchange, Folder, ReceiptFault, receipt_of};
 use std::alloc::Global;
 use std::io::{self, Write};
 use std::net::TcpStream;
@@ -58,7 +58,7 @@ pub(crate) struct PeerDial<'r, E> {
     errors: E,
 }
 
-/// Writes the receipt of an exchange with this port, whose reply came now.
+/// Keeps the receipt of an exchange with this port, whose reply came now.
 fn keep_receipt(
     rt: &HostRuntime,
     folder: &Folder<'_, HostRuntime>,
@@ -66,8 +66,8 @@ fn keep_receipt(
     port: u16,
 ) -> Result<(), NoReceipt> {
     let moment = Timestamp::now(rt)?;
-    let text = receipt_of(rt.alloc(), exchange, moment, port)?;
-    folder.keep(exchange.id, text.as_str())?;
+    let receipt = receipt_of(rt.alloc(), exchange, moment, port)?;
+    folder.keep(&receipt)?;
     Ok(())
 }
 
@@ -97,16 +97,20 @@ impl<'r, E: Write + Drop> PeerDial<'r, E> {
         self.lost_receipts
     }
 
-    /// Keeps the receipt of an exchange that settled the entry of this id, if receipts are kept.
+    /// Keeps the receipt of an exchange for a settled entry, if receipts are kept. The task itself reports a reply that
+    /// contradicts the entry.
     fn keep_receipt(&mut self, exchange: &Exchange<'_>) {
         let Some(folder) = &self.receipts else {
             return;
         };
-        if let Err(error) = keep_receipt(self.rt, folder, exchange, self.port) {
-            self.lost_receipts = self.lost_receipts.saturating_add(1);
-            let id = exchange.id;
-            // Nothing is left to be done if this text can't be written either.
-            let _ = writeln!(self.errors, "outbox: entry {id}: no receipt: {error}");
+        match keep_receipt(self.rt, folder, exchange, self.port) {
+            Ok(()) | Err(NoReceipt::Unmade(ReceiptFault::Contradicts)) => {}
+            Err(error) => {
+                self.lost_receipts = self.lost_receipts.saturating_add(1);
+                let id = exchange.id;
+                // Nothing is left to be done if this text can't be written either.
+                let _ = writeln!(self.errors, "outbox: entry {id}: no receipt: {error}");
+            }
         }
     }
 

@@ -51,6 +51,8 @@ pub(crate) enum Task<'a> {
         database: &'a str,
         peer: Peer<'a>,
         which: Which,
+        /// Whether an entry that is not filed is a fault.
+        is_strict: bool,
     },
     /// Ask about this settled entry, and write the findings so.
     Ask {
@@ -182,7 +184,7 @@ fn receipts<'a>(alloc: Global) -> Arg<'a> {
         alloc,
         "receipts",
         "FOLDER",
-        "Writes FOLDER/entry-ID.json for each reply that settles an entry [default: none]",
+        "Writes FOLDER/FILER-ID-DIGITS.json for each reply that settles an entry [default: none]",
     )
     .required(false)
 }
@@ -203,11 +205,22 @@ fn all<'a>(alloc: Global) -> Result<Arg<'a>, AllocError> {
         .conflicts_with("entry")
 }
 
-fn json<'a>(alloc: Global, help: &'a str) -> Arg<'a> {
-    Arg::new(alloc, "json")
-        .long("json")
+fn flag<'a>(alloc: Global, name: &'a str, help: &'a str) -> Arg<'a> {
+    Arg::new(alloc, name)
+        .long(name)
         .help(help)
         .action(ArgAction::SetTrue)
+}
+
+fn strict<'a>(alloc: Global) -> Arg<'a> {
+    flag(
+        alloc,
+        "strict",
+        concat!(
+            "Ends with 1 if an entry is refused or clashed, and else with 3 if one stays open ",
+            "[default: 0 if each reply was read]",
+        ),
+    )
 }
 
 /// What a task is given on the command line.
@@ -226,6 +239,7 @@ enum Argument {
     /// The id of an entry, which has to be given, with this help.
     ThisEntry(&'static str),
     All,
+    Strict,
     Wait,
     /// Whether lines are JSON objects, with this help.
     Json(&'static str),
@@ -247,6 +261,7 @@ impl ToArg for Argument {
             Argument::ThisEntry(help) => entry(alloc, help).required(true),
             Argument::All => all(alloc)?,
             Argument::Wait => wait(alloc),
+            Argument::Strict => strict(alloc),
             Argument::Json(help) => json(alloc, help),
             Argument::Files => report_files(alloc),
         })
@@ -279,14 +294,16 @@ static WORDS: [Word<Argument>; 8] = [
         example: concat!(
             "Example: outbox send --db outbox.db --port 8080 --all\n\n",
             "A reply that settles nothing, such as 403 or 503, leaves its entry open: standard error shows it.\n",
-            "Exit status: 0 each reply was read; 1 not an outbox, or a damaged one;\n",
-            "3 an exchange failed, nobody listens, or memory or the disk failed; 4 no such entry",
+            "Exit status: 0 each reply was read; 1 not an outbox, a damaged one, or --strict and a report was refused;\n",
+            "3 an exchange failed, nobody listens, memory or the disk failed, or --strict and an entry is open; ",
+            "4 no such entry",
         ),
         arguments: &[
             Argument::Database,
             Argument::Port,
             Argument::Entry("The entry's id [default: the open entry with the least id]"),
             Argument::All,
+            Argument::Strict,
             Argument::Patience,
             Argument::Wait,
             Argument::Receipts,
@@ -303,7 +320,8 @@ static WORDS: [Word<Argument>; 8] = [
             "The register answers the same request as it did at first. ",
             "An open entry is refused: outbox send sends it.\n",
             "Exit status: 0 the reply was read; 1 not an outbox, or a damaged one; 2 the entry is open; ",
-            "3 the exchange failed, nobody listens, or memory or the disk failed; 4 no such entry",
+            "3 the reply contradicts the entry, the exchange failed, nobody listens, or memory or the disk failed; ",
+            "4 no such entry",
         ),
         arguments: &[
             Argument::Database,
@@ -417,6 +435,7 @@ fn task_of<'a>(name: &str, values: &ArgMatches<'a>) -> Option<Task<'a>> {
             database,
             peer: peer_of(values)?,
             which: which_of(values),
+            is_strict: values.get_flag("strict"),
         }),
         "ask" => Some(Task::Ask {
             database,

@@ -106,6 +106,7 @@ fn put<'a, D: Disk + Drop, P: Place<D> + Drop, N: Network, O: Write, E: Write>(
         name,
         errand,
         is_random,
+        false,
         output,
         errors,
     )
@@ -187,28 +188,42 @@ pub(crate) fn perform_task<'a, D: Disk + Drop, P: Place<D> + Drop, N: Network, O
             rt, process, network, name, body, key, target, output, errors,
         ),
         Task::Migrate { .. } => migrate(alloc, process, name, output, errors),
-        Task::Send { which, .. } => {
+        Task::Send {
+            which,
+            is_strict,
+            ..
+        } => {
             let errand = Errand::Send(which);
-            run_errand(alloc, process, network, name, errand, false, output, errors)
+            run_errand(
+                alloc, process, network, name, errand, false, is_strict, output, errors,
+            )
         }
         Task::Ask { id, form, .. } => {
             let errand = Errand::Ask { id, form };
-            run_errand(alloc, process, network, name, errand, false, output, errors)
+            run_errand(
+                alloc, process, network, name, errand, false, false, output, errors,
+            )
         }
         Task::Status { .. } => {
             let errand = Errand::ShowStates;
-            run_errand(alloc, process, network, name, errand, false, output, errors)
+            run_errand(
+                alloc, process, network, name, errand, false, false, output, errors,
+            )
         }
         Task::Show {
             entry: Some(id),
             ..
         } => {
             let errand = Errand::ShowEntry(id);
-            run_errand(alloc, process, network, name, errand, false, output, errors)
+            run_errand(
+                alloc, process, network, name, errand, false, false, output, errors,
+            )
         }
         Task::Show { entry: None, .. } => {
             let errand = Errand::ShowEach;
-            run_errand(alloc, process, network, name, errand, false, output, errors)
+            run_errand(
+                alloc, process, network, name, errand, false, false, output, errors,
+            )
         }
     }
 }

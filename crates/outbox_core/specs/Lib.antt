@@ -9,3 +9,4 @@ pub mod Changes
 pub mod Files
 pub mod HandedOut
 pub mod Calls
+pub mod Saying

@@ -7,6 +7,7 @@ ghost use Rattle.http_messages.specs.Replies.{reply_parts};
 ghost use Rattle.filing_model.specs.Outbox.{has_word, has_status, refuses, confirmed_by, state_by, state_told, moved};
 ghost use Rattle.outbox_tables.specs.Entries.{FitsNumber};
 ghost use Rattle.filing_model.specs.Views.{view_state};
+ghost use Rattle.outbox_core.specs.Saying.{Says};
 
 use filing_model::{MAX_FILING_NUMBER, State};
 use http_messages::Reply;
@@ -14,7 +15,7 @@ use serde_json::Value;
 use std::alloc::{AllocError, Global};
 
 /// Whether the member of this name is this word.
-fn has_word(tree: &Value, name: &str, word: &str) -> bool
+pub fn has_word(tree: &Value, name: &str, word: &str) -> bool
     ensures { result ≡ has_word name.now word.now (view tree.now) }
 {
     let found = tree.get(name).and_then(Value::as_str);
@@ -84,5 +85,27 @@ pub(crate) fn moved(alloc: Global, state: State, reply: &Reply) -> Result<State,
     match state {
         State::Open => state_told(alloc, reply),
         State::Confirmed(_) | State::Refused | State::Clashed => Ok(state),
+    }
+}
+
+/// What a reply says of an entry that is settled.
+#[derive(Clone, Copy, Debug, PartialEq, Eq)]
+pub enum Said {
+    /// Nothing: it would leave an open entry open.
+    Nothing,
+    /// As what the entry is settled.
+    Same,
+    /// Something else: it would settle an open entry as this.
+    Otherwise(State),
+}
+
+/// What a reply says of an entry that is settled as this.
+pub fn said_of(alloc: Global, settled: State, reply: &Reply) -> Result<Said, AllocError>
+    ensures { IfOk result (Says (view_state settled) (reply_parts reply.now)) }
+{
+    match moved(alloc, State::Open, reply)? {
+        State::Open => Ok(Said::Nothing),
+        told if told == settled => Ok(Said::Same),
+        told => Ok(Said::Otherwise(told)),
     }
 }

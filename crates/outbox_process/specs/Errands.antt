@@ -1,11 +1,14 @@
 -- What an errand does with an outbox that is open.
-use Rattle.std.specs.Prelude.{◌≡◌, ℕ, List, Option, Result}
+use Rattle.std.specs.Prelude.{◌≡◌, ℕ, List, Option, Some, None, Result}
 use Rattle.std.specs.Result.{result_map_both}
 use Rattle.sqlite.specs.Store.{Ghosts}
+use Rattle.filing_model.specs.declared.state.State.{State}
 use Rattle.outbox_core.specs.OutboxParts.{OutboxParts}
 use Rattle.outbox_tasks.specs.declared.fault.TaskFault.{TaskFault}
+use Rattle.outbox_tasks.specs.declared.rounds.Round.{Round}
 use Rattle.outbox_tasks.specs.Asking.{AsksEntry}
 use Rattle.outbox_tasks.specs.Dials.{Traffic}
+use Rattle.outbox_tasks.specs.Endings.{none_sent, one_sent}
 use Rattle.outbox_tasks.specs.Looking.{AreAny}
 use Rattle.outbox_tasks.specs.Putting.{PutsAndTells}
 use Rattle.outbox_tasks.specs.Rounds.{SendsAll}
@@ -26,14 +29,19 @@ answer done came = result_map_both done (λ fault. fault) came
 abbrev pub Answers : {A : Type 0} → (A → Done) → Result Done TaskFault → (Result A TaskFault → Type 0) → Type 0
 Answers {A} done result Came = (came : Result A TaskFault) × Came came × (result ≡ answer done came)
 
+-- how many entries were sent, and how they ended: one, or none if none is open
+abbrev pub next_sent : Option State → Round
+next_sent None = none_sent
+next_sent (Some state) = one_sent state
+
 -- the open entry with the least id was sent, or that of this id, or each open entry
 abbrev pub Sends : {S : Type 0} → Ghosts S → Which → Traffic → Traffic → OutboxParts S → OutboxParts S → Option (List ℕ)
     → Option (List ℕ) → Result Done TaskFault → Type 0
 Sends g Next net net' box box' out out' result =
-    Answers (λ _. done.Sent) result (SendsNext g net net' box box' out out')
+    Answers (λ state. done.Sent (next_sent state)) result (SendsNext g net net' box box' out out')
 Sends g (Entry id) net net' box box' out out' result =
-    Answers (λ _. done.Sent) result (SendsEntry g id net net' box box' out out')
-Sends g All net net' box box' out out' result = Answers done.Round result (SendsAll g net net' box box' out out')
+    Answers (λ state. done.Sent (one_sent state)) result (SendsEntry g id net net' box box' out out')
+Sends g All net net' box box' out out' result = Answers done.Sent result (SendsAll g net net' box box' out out')
 
 -- What an errand does. Only to send and to ask are connections made.
 abbrev pub DoesErrand : {S : Type 0} → Ghosts S → Errand → Traffic → Traffic → OutboxParts S → OutboxParts S

@@ -54,10 +54,8 @@ pub enum Errand {
 pub enum Done {
     /// The report is the entry of this id.
     Put { id: u64 },
-    /// The entry was sent, or none is open.
-    Sent,
-    /// Each open entry was sent.
-    Round(Round),
+    /// So many entries were sent, and ended so.
+    Sent(Round),
     /// The reply to the question is printed.
     Asked,
     /// The entries are shown.
@@ -90,7 +88,7 @@ pub(crate) fn do_errand<S: Alter, N: Dial, O: Write>(
     }
 }
 
-/// Sends these entries.
+/// Sends these entries, and answers how they ended.
 fn send<S: Alter, N: Dial, O: Write>(
     alloc: Global,
     network: &mut N,
@@ -103,15 +101,16 @@ fn send<S: Alter, N: Dial, O: Write>(
 {
     match which {
         Which::Next => match send_next(alloc, network, outbox, output) {
-            Ok(_) => Ok(Done::Sent),
+            Ok(Some(state)) => Ok(Done::Sent(Round::of(state))),
+            Ok(None) => Ok(Done::Sent(Round::NONE)),
             Err(fault) => Err(fault),
         },
         Which::Entry(id) => match send_entry(alloc, network, outbox, id, output) {
-            Ok(_) => Ok(Done::Sent),
+            Ok(state) => Ok(Done::Sent(Round::of(state))),
             Err(fault) => Err(fault),
         },
         Which::All => match send_all(alloc, network, outbox, output) {
-            Ok(round) => Ok(Done::Round(round)),
+            Ok(round) => Ok(Done::Sent(round)),
             Err(fault) => Err(fault),
         },
     }

@@ -2,13 +2,12 @@
 use Rattle.std.proofs.Common.{◌≡◌, ◌≢◌, ◌∙◌, ℕ, suc, ◌+◌, ◌<◌, ◌≤◌, Bool, true, false, List, [], ◌∷◌, ◌++◌, length}
 use Rattle.std.proofs.Common.{take, drop, slice_index_or, Option, Result, Ok, Err, refl, sym, ap, ap₂, subst, inl, inr}
 use Rattle.std.proofs.Common.{append_assoc, append-nil, arith, true≢false, option_map}
-use Rattle.std.specs.Prelude.{if◌then◌else◌}
+use Rattle.std.specs.Prelude.{cond, count_by}
 use Rattle.std.specs.List.{AllByRecursion}
 use Rattle.std.specs.Io.KnownBytes.{Appends}
 use Rattle.std.proofs.KnownBytes.{Appends-nil, Appends-trans}
-use mir.Val.{bool_byte}
 use Rattle.std.proofs.Math.Seq.{take-suc}
-use Rattle.std.proofs.lemmas.List.{map-append, take-append-drop, take_all}
+use Rattle.std.proofs.lemmas.List.{length-append, map-append, take-append-drop, take_all}
 use Rattle.std.proofs.lemmas.Grind.{flat_map-append}
 use Rattle.std.proofs.lemmas.List.Sums.{sum_by-append}
 use Rattle.sqlite.specs.Store.{Ghosts}
@@ -22,13 +21,17 @@ use Rattle.outbox_tasks.specs.declared.fault.SendFault.{SendFault}
 use Rattle.outbox_tasks.specs.declared.fault.SendFault.TheVariants.{Connect, Exchange}
 use Rattle.outbox_tasks.specs.declared.fault.TaskFault.{TaskFault}
 use Rattle.outbox_tasks.specs.declared.fault.TaskFault.TheVariants.{Send, Line}
+use Rattle.outbox_tasks.specs.declared.rounds.Ending.{Ending}
+use Rattle.outbox_tasks.specs.declared.rounds.Ending.TheVariants as ending
 use Rattle.outbox_tasks.specs.declared.rounds.Round.{Round}
 use Rattle.outbox_tasks.specs.Dials.{Traffic}
+use Rattle.outbox_tasks.specs.Endings.{ending_of, ending_by, has_failed, was_left_open, was_refused, counts, with_one}
 use Rattle.outbox_tasks.specs.Faults.{belongs_to_entry, IsNotPrinted}
 use Rattle.outbox_tasks.specs.Lines.{line_of, nothing_open}
 use Rattle.outbox_tasks.specs.Looking.{AreAny}
 use Rattle.outbox_tasks.specs.Rounds.{open_ids, EndsIn, FindsNone, SendsSome, SendsWhole, Turn, IsTurn, SentInTurn}
-use Rattle.outbox_tasks.specs.Rounds.{ids_of, lines_of, failures, HaveTurns, EndsRound, StopsAt, AreToSend, TakesTurn}
+use Rattle.outbox_tasks.specs.Rounds.{ids_of, lines_of, endings, HaveTurns, EndsRound, StopsAt, AreToSend, TakesTurn}
+use Rattle.outbox_tasks.specs.Rounds.{SendsEach, SendsAll}
 use Rattle.outbox_tasks.specs.Sending.{IsOpenAt, IsTried, entries_after, IsTold, Tries, Sends}
 use Rattle.outbox_tasks.proofs.Opens.{other_stays, to_send}
 
@@ -47,8 +50,59 @@ joined filer before between after old mid new (x ∷ xs) ys first second = (
       second,
 )
 
-failures_join : (xs ys : List Turn) → failures (xs ++ ys) ≡ failures xs + failures ys
-failures_join xs ys = grind (arith, sum_by-append)
+-- ---- the counts of endings
+
+abbrev of_counts : ℕ → ℕ → ℕ → ℕ → Round
+of_counts s f o r = record { sent = s; failed = f; left_open = o; refused = r }
+
+same_counts : (s f o r s' f' o' r' : ℕ) → s ≡ s' → f ≡ f' → o ≡ o' → r ≡ r'
+    → of_counts s f o r ≡ of_counts s' f' o' r'
+same_counts s f o r s' f' o' r' a b c d = cc
+
+one_more : (p : Ending → Bool) (all : List Ending) (last : Ending)
+    → count_by p (all ++ last ∷ []) ≡ count_by p all + cond (p last) 1 0
+one_more p all last =
+    let joined = sum_by-append (λ (e : Ending). cond (p e) 1 0) all (last ∷ []) in omega (arith, joined)
+
+longer : (all : List Ending) (last : Ending) → length (all ++ last ∷ []) ≡ length all + 1
+longer all last = simp length-append (omega arith)
+
+counts_more : (all : List Ending) (last : Ending) → counts (all ++ last ∷ []) ≡ with_one (counts all) last
+counts_more all ending.Filed =
+    same_counts _ _ _ _ _ _ _ _ (longer all ending.Filed)
+    (let one = one_more has_failed all ending.Filed in omega (arith, one))
+    (let one = one_more was_left_open all ending.Filed in omega (arith, one))
+    (let one = one_more was_refused all ending.Filed in omega (arith, one))
+counts_more all ending.Refused =
+    same_counts _ _ _ _ _ _ _ _ (longer all ending.Refused)
+    (let one = one_more has_failed all ending.Refused in omega (arith, one))
+    (let one = one_more was_left_open all ending.Refused in omega (arith, one))
+    (let one = one_more was_refused all ending.Refused in omega (arith, one))
+counts_more all ending.Open =
+    same_counts _ _ _ _ _ _ _ _ (longer all ending.Open)
+    (let one = one_more has_failed all ending.Open in omega (arith, one))
+    (let one = one_more was_left_open all ending.Open in omega (arith, one))
+    (let one = one_more was_refused all ending.Open in omega (arith, one))
+counts_more all ending.Failed =
+    same_counts _ _ _ _ _ _ _ _ (longer all ending.Failed)
+    (let one = one_more has_failed all ending.Failed in omega (arith, one))
+    (let one = one_more was_left_open all ending.Failed in omega (arith, one))
+    (let one = one_more was_refused all ending.Failed in omega (arith, one))
+
+abbrev pub IsFew : Round → Type 0
+IsFew round = round.failed + round.left_open + round.refused ≤ round.sent
+
+few_more : (round : Round) (last : Ending) → IsFew round → IsFew (with_one round last)
+few_more round ending.Filed few = omega (arith, few)
+few_more round ending.Refused few = omega (arith, few)
+few_more round ending.Open few = omega (arith, few)
+few_more round ending.Failed few = omega (arith, few)
+
+sent_more : (round : Round) (last : Ending) → (with_one round last).sent ≡ round.sent + 1
+sent_more round ending.Filed = refl
+sent_more round ending.Refused = refl
+sent_more round ending.Open = refl
+sent_more round ending.Failed = refl
 
 -- an entry that had no turn is open still
 still_open : (filer : List ℕ) (turns : List Turn) (before after : List Entry) (old new : Traffic) (id : ℕ)
@@ -89,9 +143,6 @@ ends_some : (ids : List ℕ) (out : Option (List ℕ)) → (length ids ≡ 0 →
 ends_some [] out some = absurd (some refl)
 ends_some (id ∷ ids) out some = refl
 
-abbrev round_of : ℕ → ℕ → Round
-round_of sent failed = record { sent = sent; failed = failed }
-
 module _ {S : Type 0} (g : Ghosts S) where
   abbrev Made : List ℕ → List ℕ → Traffic → Traffic → OutboxParts S → OutboxParts S → Option (List ℕ) → Option (List ℕ)
       → Type 0
@@ -102,7 +153,7 @@ module _ {S : Type 0} (g : Ghosts S) where
 
   -- none had a turn
   pub none : (all : List ℕ) (old : Traffic) (box : OutboxParts S) (out : Option (List ℕ))
-      → (made : Made all [] old old box box out out) × (0 ≡ failures made.turns)
+      → (made : Made all [] old old box box out out) × (of_counts 0 0 0 0 ≡ counts (endings made.turns))
   none all old box out = (
     record {
       turns = [];
@@ -154,14 +205,14 @@ module _ {S : Type 0} (g : Ghosts S) where
     clean = λ clean. a.clean (b.clean clean);
   }
 
-  pub more_failures : (all done : List ℕ) (next : ℕ) (rest : List ℕ) (old mid new : Traffic)
+  pub more_endings : (all done : List ℕ) (next : ℕ) (rest : List ℕ) (old mid new : Traffic)
       (box between box' : OutboxParts S) (out so_far out' : Option (List ℕ)) (splits : all ≡ done ++ next ∷ rest)
       (a : Made all done old mid box between out so_far) (b : One next mid new between box' so_far out')
-      → failures (more all done next rest old mid new box between box' out so_far out' splits a b).turns
-      ≡ failures a.turns + failures b.turns
+      → endings (more all done next rest old mid new box between box' out so_far out' splits a b).turns
+      ≡ endings a.turns ++ endings b.turns
   unfolding more
-  more_failures all done next rest old mid new box between box' out so_far out' splits a b =
-      failures_join a.turns b.turns
+  more_endings all done next rest old mid new box between box' out so_far out' splits a b =
+      map-append (λ (turn : Turn). ending_by turn.came) a.turns b.turns
 
   -- the next ends the round
   pub stopped : (all done : List ℕ) (next : ℕ) (rest : List ℕ) (old mid new : Traffic)
@@ -192,11 +243,11 @@ module _ {S : Type 0} (g : Ghosts S) where
 
   -- ---- going through the ids
 
-  -- so many of the exchanges so far failed
+  -- those so far ended so
   abbrev pub Going : List ℕ → List ℕ → Traffic → Traffic → OutboxParts S → OutboxParts S → Option (List ℕ)
-      → Option (List ℕ) → ℕ → Type 0
-  Going all done old new box box' out out' failed =
-      (made : Made all done old new box box' out out') × (failed ≡ failures made.turns)
+      → Option (List ℕ) → Round → Type 0
+  Going all done old new box box' out out' round =
+      (made : Made all done old new box box' out out') × (round ≡ counts (endings made.turns))
 
   split : (ids : List ℕ) (at or : ℕ) → at < length ids
       → ids ≡ take at ids ++ slice_index_or ids at or ∷ drop (suc at) ids
@@ -204,54 +255,50 @@ module _ {S : Type 0} (g : Ghosts S) where
       sym (take-append-drop (suc at) ids) ∙ ap (λ (xs : List ℕ). xs ++ drop (suc at) ids) (take-suc ids at or within)
       ∙ append_assoc (take at ids) (slice_index_or ids at or ∷ []) (drop (suc at) ids)
 
-  counted : (failed now : ℕ) (has_failed : Bool) → now ≡ bool_byte has_failed → (n m : ℕ) → failed ≡ n
-      → m ≡ (if has_failed then 1 else 0) → failed + now ≡ n + m
-  counted failed now true byte n m were is = omega (arith, byte, were, is)
-  counted failed now false byte n m were is = omega (arith, byte, were, is)
-
-  at_most_one : (now : ℕ) (has_failed : Bool) → now ≡ bool_byte has_failed → now ≤ 1
-  at_most_one now true byte = omega (arith, byte)
-  at_most_one now false byte = omega (arith, byte)
-
   pub step : (ids : List ℕ) (at or : ℕ) (old mid new : Traffic) (box between box' : OutboxParts S)
-      (out so_far out' : Option (List ℕ)) (failed now : ℕ) (has_failed : Bool) → at < length ids
-      → (made : Made ids (take at ids) old mid box between out so_far) × (failed ≡ failures made.turns) × (failed ≤ at)
-      → TakesTurn g (slice_index_or ids at or) mid new between box' so_far out' (Ok has_failed)
-      → now ≡ bool_byte has_failed
-      → (made : Made ids (take (at + 1) ids) old new box box' out out') × (failed + now ≡ failures made.turns)
-      × (failed + now ≤ at + 1)
-  step ids at or old mid new box between box' out so_far out' failed now has_failed within had takes byte =
+      (out so_far out' : Option (List ℕ)) (round next : Round) (last : Ending) → at < length ids
+      → (made : Made ids (take at ids) old mid box between out so_far) × (round ≡ counts (endings made.turns))
+      × (round.sent ≡ at) × IsFew round
+      → TakesTurn g (slice_index_or ids at or) mid new between box' so_far out' (Ok last)
+      → next ≡ with_one round last
+      → (made : Made ids (take (at + 1) ids) old new box box' out out') × (next ≡ counts (endings made.turns))
+      × (next.sent ≡ at + 1) × IsFew next
+  step ids at or old mid new box between box' out so_far out' round next last within had takes is =
       let id = slice_index_or ids at or in
       let splits = split ids at or within in
       let rest = drop (suc at) ids in
       let made = more ids (take at ids) id rest old mid new box between box' out so_far out' splits had.0 takes.0 in
-      let count : failed + now ≡ failures made.turns =
-      counted failed now has_failed byte (failures had.0.turns) (failures takes.0.turns) had.1 takes.1
-      ∙ sym (more_failures ids (take at ids) id rest old mid new box between box' out so_far out' splits had.0
-      takes.0) in
-      let next : at + 1 ≡ suc at = omega arith in
+      let ended : endings made.turns ≡ endings had.0.turns ++ last ∷ [] =
+      more_endings ids (take at ids) id rest old mid new box between box' out so_far out' splits had.0 takes.0
+      ∙ ap (λ (es : List Ending). endings had.0.turns ++ es) takes.1 in
+      let count : next ≡ counts (endings made.turns) =
+      is ∙ ap (λ (r : Round). with_one r last) had.1 ∙ sym (counts_more (endings had.0.turns) last)
+      ∙ sym (ap counts ended) in
+      let after : at + 1 ≡ suc at = omega arith in
       let done : take at ids ++ id ∷ [] ≡ take (at + 1) ids =
-      sym (ap (λ n. take n ids) next ∙ take-suc ids at or within) in
-      let going : Going ids (take at ids ++ id ∷ []) old new box box' out out' (failed + now) = (made, count) in
-      let all = subst (λ ids_done. Going ids ids_done old new box box' out out' (failed + now)) done going in
-      (all.0, all.1, omega (arith, had.2, at_most_one now has_failed byte))
+      sym (ap (λ n. take n ids) after ∙ take-suc ids at or within) in
+      let going : Going ids (take at ids ++ id ∷ []) old new box box' out out' next = (made, count) in
+      let all = subst (λ ids_done. Going ids ids_done old new box box' out out' next) done going in (
+        all.0,
+        all.1,
+        ap (λ (r : Round). r.sent) is ∙ sent_more round last ∙ ap (λ n. n + 1) had.2,
+        subst IsFew (sym is) (few_more round last had.3),
+      )
 
   pub stop : (ids : List ℕ) (at or : ℕ) (old mid new : Traffic) (box between box' : OutboxParts S)
-      (out so_far out' : Option (List ℕ)) (failed : ℕ) (fault : TaskFault) → at < length ids
-      → (made : Made ids (take at ids) old mid box between out so_far) × (failed ≡ failures made.turns) × (failed ≤ at)
+      (out so_far out' : Option (List ℕ)) (fault : TaskFault) → at < length ids
+      → Made ids (take at ids) old mid box between out so_far
       → TakesTurn g (slice_index_or ids at or) mid new between box' so_far out' (Err fault)
       → StopsAt g (AreToSend ids) ids old new box box' out out' fault
-  stop ids at or old mid new box between box' out so_far out' failed fault within had takes =
+  stop ids at or old mid new box between box' out so_far out' fault within had takes =
       stopped ids (take at ids) (slice_index_or ids at or) (drop (suc at) ids) old mid new box between box' out so_far
-      out' fault (split ids at or within) had.0 takes.0 takes.1
+      out' fault (split ids at or within) had takes.0 takes.1
 
   pub end : (ids : List ℕ) (at : ℕ) (old new : Traffic) (box box' : OutboxParts S) (out out' : Option (List ℕ))
-      (failed : ℕ) → length ids ≤ at → (made : Made ids (take at ids) old new box box' out out')
-      × (failed ≡ failures made.turns) × (failed ≤ at)
-      → Going ids ids old new box box' out out' failed
-  end ids at old new box box' out out' failed least had =
-      let going : Going ids (take at ids) old new box box' out out' failed = (had.0, had.1) in
-      subst (λ done. Going ids done old new box box' out out' failed) (take_all at ids least) going
+      (round : Round) → length ids ≤ at → Going ids (take at ids) old new box box' out out' round
+      → Going ids ids old new box box' out out' round
+  end ids at old new box box' out out' round least going =
+      subst (λ done. Going ids done old new box box' out out' round) (take_all at ids least) going
 
   -- ---- a round begins with a look at the entries
 
@@ -264,7 +311,7 @@ module _ {S : Type 0} (g : Ghosts S) where
 
     pub all_turns : (old new : Traffic) (box' : OutboxParts S) (out out' : Option (List ℕ))
         (made : Made ids ids old new mid box' out out')
-        → (all : HaveTurns g AreAny ids old new box box' out out') × (failures all.turns ≡ failures made.turns)
+        → (all : HaveTurns g AreAny ids old new box box' out out') × (endings all.turns ≡ endings made.turns)
     all_turns old new box' out out' made = (
       record {
         turns = made.turns;
@@ -281,10 +328,10 @@ module _ {S : Type 0} (g : Ghosts S) where
     )
 
     -- all of them had their turns
-    pub whole : (old new : Traffic) (box' : OutboxParts S) (out out' : Option (List ℕ)) (sent failed : ℕ)
-        → Going ids ids old new mid box' out out' failed → (length ids ≡ 0 → ⊥) → sent ≡ length ids
-        → SendsWhole g old new box box' out out' (record { sent = sent; failed = failed })
-    whole old new box' out out' sent failed going some count =
+    pub whole : (old new : Traffic) (box' : OutboxParts S) (out out' : Option (List ℕ)) (round : Round)
+        → Going ids ids old new mid box' out out' round → (length ids ≡ 0 → ⊥)
+        → SendsWhole g old new box box' out out' round
+    whole old new box' out out' round going some =
         let all = all_turns old new box' out out' going.0 in
         record {
           ids = ids;
@@ -292,12 +339,12 @@ module _ {S : Type 0} (g : Ghosts S) where
           so_far = out';
           made = all.0;
           last = ends_some ids out' some;
-          counts = ap₂ (λ (s f : ℕ). round_of s f) count (going.1 ∙ sym all.1);
+          counts_are = going.1 ∙ sym (ap counts all.1);
         }
 
     -- none is open, and that was printed
     pub whole_none : (old : Traffic) (out out' : Option (List ℕ)) → length ids ≡ 0 → Appends out out' nothing_open
-        → SendsWhole g old old box mid out out' (record { sent = 0; failed = 0 })
+        → SendsWhole g old old box mid out out' (of_counts 0 0 0 0)
     whole_none old out out' empty told =
         let is : ids ≡ [] = empty_list ids empty in
         record {
@@ -313,7 +360,7 @@ module _ {S : Type 0} (g : Ghosts S) where
             clean = clean_before;
           };
           last = told;
-          counts = refl;
+          counts_are = refl;
         }
 
     -- none is open, and that could not be printed
@@ -355,6 +402,13 @@ module _ {S : Type 0} (g : Ghosts S) where
       };
     }
 
+    -- some were sent
+    pub sent_each : (old new : Traffic) (box' : OutboxParts S) (out out' : Option (List ℕ))
+        (result : Result Round TaskFault) → (length ids ≡ 0 → ⊥) → SendsEach g ids old new mid box' out out' result
+        → SendsAll g old new box box' out out' result
+    sent_each old new box' out out' (Ok round) some sends = whole old new box' out out' round sends some
+    sent_each old new box' out out' (Err fault) some sends = inl (some_turns old new box' out out' fault sends)
+
   -- ---- what came of one
 
   abbrev Sent : ℕ → Traffic → Traffic → OutboxParts S → OutboxParts S → Option (List ℕ) → Option (List ℕ)
@@ -385,14 +439,16 @@ module _ {S : Type 0} (g : Ghosts S) where
 
   -- it was sent
   pub turn_sent : (id : ℕ) (old new : Traffic) (box box' : OutboxParts S) (out out' : Option (List ℕ)) (state : State)
-      → Sent id old new box box' out out' (Ok state) → TakesTurn g id old new box box' out out' (Ok false)
+      → Sent id old new box box' out out' (Ok state) → TakesTurn g id old new box box' out out' (Ok (ending_of state))
   unfolding turn
   turn_sent id old new box box' out out' state sends = go sends.came sends.tries sends.told
     where
       go : (came : Result State SendFault) → Tries g (λ entries. IsOpenAt entries id) id old new box box' came
-          → IsTold id came out out' (Ok state) → TakesTurn g id old new box box' out out' (Ok false)
-      go (Ok to) tries (inl told) =
-          (turn id old new box box' out out' (Ok to) (Ok to) tries (λ entries t. t) (λ entries. refl) refl told.1, refl)
+          → IsTold id came out out' (Ok state) → TakesTurn g id old new box box' out out' (Ok (ending_of state))
+      go (Ok to) tries (inl told) = let same : to ≡ state = cc in (
+        turn id old new box box' out out' (Ok to) (Ok to) tries (λ entries t. t) (λ entries. refl) refl told.1,
+        ap (λ (s : State). ending_of s ∷ []) same,
+      )
       go (Ok to) tries (inr fault) = absurd cc
       go (Err fault) tries (inl told) = absurd cc
       go (Err fault) tries (inr why) = absurd cc
@@ -401,12 +457,12 @@ module _ {S : Type 0} (g : Ghosts S) where
   pub turn_failed : (id : ℕ) (old new : Traffic) (box box' : OutboxParts S) (out out' : Option (List ℕ))
       (fault : TaskFault) → Sent id old new box box' out out' (Err fault) → belongs_to_entry fault ≡ true
       → new.gives_up ≡ false
-      → TakesTurn g id old new box box' out out' (Ok true)
+      → TakesTurn g id old new box box' out out' (Ok ending.Failed)
   unfolding turn
   turn_failed id old new box box' out out' fault sends own goes_on = go sends.came sends.tries sends.told
     where
       go : (came : Result State SendFault) → Tries g (λ entries. IsOpenAt entries id) id old new box box' came
-          → IsTold id came out out' (Err fault) → TakesTurn g id old new box box' out out' (Ok true)
+          → IsTold id came out out' (Err fault) → TakesTurn g id old new box box' out out' (Ok ending.Failed)
       go (Ok to) tries (inl told) = absurd cc
       go (Ok to) tries (inr why) = let is : fault ≡ Line why.2.0 = cc in let no : belongs_to_entry fault ≡ false =
           ap belongs_to_entry is in absurd (true≢false (sym own ∙ no))

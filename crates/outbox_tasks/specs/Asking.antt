@@ -3,17 +3,20 @@ use Rattle.std.specs.Prelude.{◌≡◌, ◌≢◌, ◌⊎◌, ◌≤◌, ℕ, L
 use Rattle.std.specs.Io.KnownBytes.{Appends}
 use Rattle.sqlite.specs.Store.{Ghosts}
 use Rattle.table_rows.specs.Standing.{CommitsNothing}
+use Rattle.http_messages.specs.Reply.{ReplyParts}
 use Rattle.http_messages.specs.Replies.{reply_parts}
 use Rattle.http_messages.specs.declared.reply.Reply.{Reply}
 use Rattle.http_wire.specs.Wire.{Wire}
 use Rattle.finding_lines.specs.declared.form.Form.{Form}
-use Rattle.filing_model.specs.Outbox.{Entry, Open, bytes_of, request_of}
+use Rattle.filing_model.specs.Outbox.{Entry, State as Shown, Open, bytes_of, request_of}
 use Rattle.filing_model.specs.Views.{view_state}
 use Rattle.filing_model.specs.declared.state.State.{State}
 use Rattle.outbox_core.specs.Entries.{found_at}
 use Rattle.outbox_core.specs.Reading.{view_entry}
+use Rattle.outbox_core.specs.Saying.{Says}
 use Rattle.outbox_core.specs.declared.entry.Entry.{Entry as Read}
 use Rattle.outbox_core.specs.declared.fault.TakeFault.{TakeFault}
+use Rattle.outbox_core.specs.declared.state.Said.TheVariants.{Nothing, Same, Otherwise}
 use Rattle.outbox_core.specs.OutboxParts.{OutboxParts, shows, HasEntries, ForEntries}
 use Rattle.filer_client.specs.Exchange.{Hears, IsFault}
 use Rattle.filer_client.specs.declared.fault.ExchangeFault.{ExchangeFault}
@@ -22,7 +25,7 @@ use Rattle.outbox_tasks.specs.declared.asking.Question.{Question}
 use Rattle.outbox_tasks.specs.declared.fault.SendFault.{SendFault}
 use Rattle.outbox_tasks.specs.declared.fault.SendFault.TheVariants.{Connect, Exchange}
 use Rattle.outbox_tasks.specs.declared.fault.TaskFault.{TaskFault}
-use Rattle.outbox_tasks.specs.declared.fault.TaskFault.TheVariants.{IsOpen, Send}
+use Rattle.outbox_tasks.specs.declared.fault.TaskFault.TheVariants.{IsOpen, Send, Contradicts}
 use Rattle.outbox_tasks.specs.Answering.{PrintsAnswer}
 use Rattle.outbox_tasks.specs.Dials.{Traffic}
 use Rattle.outbox_tasks.specs.Faults.{IsNotPrinted}
@@ -84,13 +87,27 @@ IsReplied id state request old new (Err (Exchange fault)) =
 
 -- ---- all of it
 
--- the reply was printed, or could not be; or no reply was read, and nothing was printed
-abbrev pub IsAnswered : {X : Type 0} → Form → List ℕ → ℕ → ℕ × Entry → Result Reply SendFault → Option (List ℕ)
+-- a reply says nothing of an entry in this state, or as what it is settled
+abbrev pub Agrees : Shown → ReplyParts → Type 0
+Agrees state reply = Says state reply Nothing ⊎ Says state reply Same
+
+-- The reply was printed, and it agrees with the entry of an id in this state. Or it could not be printed; or it was,
+-- and it contradicts the entry, as the fault says.
+abbrev pub TellsReply : {X : Type 0} → Form → List ℕ → ℕ → State → ℕ × Entry → ReplyParts → Option (List ℕ)
     → Option (List ℕ) → Result X TaskFault → Type 0
-IsAnswered form filer id entry (Ok reply) out out' (Ok done) =
-    PrintsAnswer form filer entry (reply_parts reply) out out'
-IsAnswered form filer id entry (Ok reply) out out' (Err fault) = IsNotPrinted fault
-IsAnswered form filer id entry (Err why) out out' result = (result ≡ Err (Send id why)) × (out' ≡ out)
+TellsReply form filer id state entry reply out out' (Ok done) =
+    PrintsAnswer form filer entry reply out out' × Agrees (view_state state) reply
+TellsReply form filer id state entry reply out out' (Err fault) =
+    IsNotPrinted fault
+    ⊎ ((told : State) × (fault ≡ Contradicts id state told) × Says (view_state state) reply (Otherwise told)
+    × PrintsAnswer form filer entry reply out out')
+
+-- what was said of the reply; or no reply was read, and nothing was printed
+abbrev pub IsAnswered : {X : Type 0} → Form → List ℕ → ℕ → State → ℕ × Entry → Result Reply SendFault
+    → Option (List ℕ) → Option (List ℕ) → Result X TaskFault → Type 0
+IsAnswered form filer id state entry (Ok reply) out out' result =
+    TellsReply form filer id state entry (reply_parts reply) out out' result
+IsAnswered form filer id state entry (Err why) out out' result = (result ≡ Err (Send id why)) × (out' ≡ out)
 
 -- The settled entry of an id was asked about.
 pub record Asks {S X : Type 0} (g : Ghosts S) (form : Form) (id : ℕ) (old new : Traffic) (box box' : OutboxParts S)
@@ -101,7 +118,7 @@ pub record Asks {S X : Type 0} (g : Ghosts S) (form : Form) (id : ℕ) (old new 
   pub settled : view_state entry.state ≢ Open
   pub came : Result Reply SendFault
   pub replied : IsReplied id entry.state request old new came
-  pub answered : IsAnswered form box.filer id (view_entry entry) came out out' result
+  pub answered : IsAnswered form box.filer id entry.state (view_entry entry) came out out' result
 
 -- the settled entry of an id was asked about, or it was not, and nothing was sent or printed; the outbox was only read
 abbrev pub AsksEntry : {S X : Type 0} → Ghosts S → Form → ℕ → Traffic → Traffic → OutboxParts S → OutboxParts S

@@ -1,6 +1,7 @@
 pub mod Answering
 pub mod Asking
 pub mod Dials
+pub mod Endings
 pub mod Faults
 pub mod Lines
 pub mod Looking

@@ -1,6 +1,6 @@
 -- Entries that are sent one after another; own rules.
-use Rattle.std.specs.Prelude.{◌≡◌, ◌≢◌, ◌⊎◌, ℕ, Bool, true, false, List, [], ◌∷◌, ◌++◌, length, map, filter, count_by}
-use Rattle.std.specs.Prelude.{flat_map, is_err, Option, Result, Ok, Err, if◌then◌else◌}
+use Rattle.std.specs.Prelude.{◌≡◌, ◌≢◌, ◌⊎◌, ℕ, Bool, true, false, List, [], ◌∷◌, ◌++◌, map, filter}
+use Rattle.std.specs.Prelude.{flat_map, Option, Result, Ok, Err}
 use Rattle.std.specs.List.{AllByRecursion}
 use Rattle.std.specs.Io.KnownBytes.{Appends}
 use Rattle.sqlite.specs.Store.{Ghosts}
@@ -15,8 +15,10 @@ use Rattle.filer_client.specs.declared.fault.ExchangeFault.{ExchangeFault}
 use Rattle.outbox_tasks.specs.declared.fault.SendFault.{SendFault}
 use Rattle.outbox_tasks.specs.declared.fault.SendFault.TheVariants.{Exchange}
 use Rattle.outbox_tasks.specs.declared.fault.TaskFault.{TaskFault}
+use Rattle.outbox_tasks.specs.declared.rounds.Ending.{Ending}
 use Rattle.outbox_tasks.specs.declared.rounds.Round.{Round}
 use Rattle.outbox_tasks.specs.Dials.{Traffic}
+use Rattle.outbox_tasks.specs.Endings.{ending_by, counts}
 use Rattle.outbox_tasks.specs.Faults.{is_of_entry, belongs_to_entry, IsUnread, IsNotPrinted}
 use Rattle.outbox_tasks.specs.Lines.{line_of, nothing_open}
 use Rattle.outbox_tasks.specs.Looking.{AreAny, DoesNothing}
@@ -56,8 +58,9 @@ ids_of turns = map (λ turn. turn.id) turns
 abbrev pub lines_of : List Turn → List ℕ
 lines_of turns = flat_map (λ turn. line_of turn.id turn.came) turns
 
-abbrev pub failures : List Turn → ℕ
-failures turns = count_by (λ turn. is_err turn.came) turns
+-- how they ended
+abbrev pub endings : List Turn → List Ending
+endings turns = map (λ turn. ending_by turn.came) turns
 
 -- ---- a round
 
@@ -103,21 +106,20 @@ abbrev pub AreToSend : List ℕ → List Entry → Type 0
 AreToSend [] entries = Unit {0}
 AreToSend (id ∷ ids) entries = IsOpenAt entries id × AllByRecursion (λ other. other ≢ id) ids × AreToSend ids entries
 
--- the entry of this id had its turn, and the answer says whether its exchange failed; or it ended the round
+-- the entry of this id had its turn, and the answer says how it ended; or it ended the round
 abbrev pub TakesTurn : {S : Type 0} → Ghosts S → ℕ → Traffic → Traffic → OutboxParts S → OutboxParts S → Option (List ℕ)
-    → Option (List ℕ) → Result Bool TaskFault → Type 0
-TakesTurn g id old new box box' out out' (Ok failed) =
+    → Option (List ℕ) → Result Ending TaskFault → Type 0
+TakesTurn g id old new box box' out out' (Ok ending) =
     (made : HaveTurns g (λ entries. IsOpenAt entries id) (id ∷ []) old new box box' out out')
-    × (failures made.turns ≡ (if failed then 1 else 0))
+    × (endings made.turns ≡ ending ∷ [])
 TakesTurn g id old new box box' out out' (Err fault) =
     Sends g (λ entries. IsOpenAt entries id) id old new box box' out out' (Err fault) × EndsRound new fault
 
--- the entries of these ids had their turns, and the answer says how many exchanges failed; or one of them ended the
--- round
+-- the entries of these ids had their turns, and the answer says how they ended; or one of them ended the round
 abbrev pub SendsEach : {S : Type 0} → Ghosts S → List ℕ → Traffic → Traffic → OutboxParts S → OutboxParts S
-    → Option (List ℕ) → Option (List ℕ) → Result ℕ TaskFault → Type 0
-SendsEach g ids old new box box' out out' (Ok failed) =
-    (made : HaveTurns g (AreToSend ids) ids old new box box' out out') × (failed ≡ failures made.turns)
+    → Option (List ℕ) → Option (List ℕ) → Result Round TaskFault → Type 0
+SendsEach g ids old new box box' out out' (Ok round) =
+    (made : HaveTurns g (AreToSend ids) ids old new box box' out out') × (round ≡ counts (endings made.turns))
 SendsEach g ids old new box box' out out' (Err fault) = StopsAt g (AreToSend ids) ids old new box box' out out' fault
 
 -- one more line was printed if there are no ids, and otherwise none
@@ -125,8 +127,8 @@ abbrev pub EndsIn : List ℕ → Option (List ℕ) → Option (List ℕ) → Typ
 EndsIn [] so_far out' = Appends so_far out' nothing_open
 EndsIn (id ∷ ids) so_far out' = out' ≡ so_far
 
--- Each entry that was open had one turn, in the order of the ids, and the answer says how many were sent and how many
--- failed.
+-- Each entry that was open had one turn, in the order of the ids, and the answer says how many there were and how they
+-- ended.
 pub record SendsWhole {S : Type 0} (g : Ghosts S) (old new : Traffic) (box box' : OutboxParts S)
     (out out' : Option (List ℕ)) (round : Round) : Type 0 where
   pub ids : List ℕ
@@ -134,7 +136,7 @@ pub record SendsWhole {S : Type 0} (g : Ghosts S) (old new : Traffic) (box box' 
   pub so_far : Option (List ℕ)
   pub made : HaveTurns g AreAny ids old new box box' out so_far
   pub last : EndsIn ids so_far out'
-  pub counts : round ≡ record { sent = length ids; failed = failures made.turns }
+  pub counts_are : round ≡ counts (endings made.turns)
 
 -- An open entry ended the round.
 pub record SendsSome {S : Type 0} (g : Ghosts S) (old new : Traffic) (box box' : OutboxParts S)

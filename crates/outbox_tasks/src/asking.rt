@@ -3,16 +3,17 @@
 ghost use Rattle.std.specs.Prelude.{◌≡◌, IfOk, IfErr};
 ghost use Rattle.http_messages.specs.Replies.{reply_parts};
 ghost use Rattle.filer_client.specs.Exchange.{HearsFrom, IsFaultOf};
-ghost use Rattle.outbox_tasks.specs.Asking.{FindsQuestion, WritesQuestion, IsReplied, AsksEntry};
+ghost use Rattle.outbox_core.specs.Reading.{view_entry};
+ghost use Rattle.outbox_tasks.specs.Asking.{FindsQuestion, WritesQuestion, IsReplied, TellsReply, AsksEntry};
 
 use crate::answering::print_answer;
 use crate::dial::Dial;
-use crate::fault::{SendFault, TaskFault};
+use crate::fault::{LineFault, SendFault, TaskFault};
 use crate::looking::{entry_of, is_open};
 use filer_client::{ExchangeFault, request_bytes};
 use finding_lines::Form;
 use http_wire::{Reply, Sink, Source, read_reply, write_all};
-use outbox_core::{Entry, Outbox};
+use outbox_core::{Entry, Outbox, Said, said_of};
 use sqlite::Alter;
 use std::alloc::Global;
 use std::io::Write;
@@ -95,9 +96,38 @@ fn ask_once<N: Dial>(
     }
 }
 
+/// Prints the reply to a question about the entry of this id, which is of this filer, and refuses one that contradicts
+/// the entry.
+fn tell_reply<O: Write>(
+    alloc: Global,
+    form: Form,
+    filer: &str,
+    id: u64,
+    entry: &Entry,
+    reply: &Reply,
+    output: &mut O,
+) -> Result<(), TaskFault>
+    ensures { TellsReply form filer.now id entry.now.state (view_entry entry.now) (reply_parts reply.now)
+        (O.contents output.old) (O.contents output.new) result }
+{
+    let Ok(said) = said_of(alloc, entry.state, reply) else {
+        return Err(TaskFault::Line(LineFault::Memory));
+    };
+    print_answer(alloc, form, filer, entry, reply, output)?;
+    match said {
+        Said::Otherwise(told) => Err(TaskFault::Contradicts {
+            id,
+            state: entry.state,
+            told,
+        }),
+        Said::Nothing | Said::Same => Ok(()),
+    }
+}
+
 /// Sends the request of a settled entry again, on a connection of its own, and prints the reply: its status, its
-/// content, and a line for each finding for which it refuses the report. The outbox stays as it is, whatever the reply
-/// says. An open entry is refused, since asking about it would be sending it.
+/// content, and a line for each finding for which it refuses the report. A reply that contradicts the entry is a fault.
+/// The outbox stays as it is, whatever the reply says. An open entry is refused, since asking about it would be sending
+/// it.
 pub fn ask<S: Alter, N: Dial, O: Write>(
     alloc: Global,
     network: &mut N,
@@ -112,8 +142,15 @@ pub fn ask<S: Alter, N: Dial, O: Write>(
     let question = question_of(alloc, outbox, id)?;
     match ask_once(alloc, network, id, &question) {
         Ok(reply) => {
-            print_answer(alloc, form, outbox.filer(), &question.entry, &reply, output)?;
-            Ok(())
+            tell_reply(
+                alloc,
+                form,
+                outbox.filer(),
+                id,
+                &question.entry,
+                &reply,
+                output,
+            )
         }
         Err(fault) => Err(TaskFault::Send { id, fault }),
     }

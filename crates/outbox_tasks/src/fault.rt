@@ -5,7 +5,7 @@ ghost use Rattle.outbox_tasks.specs.Faults.{is_of_entry, belongs_to_entry};
 
 use filer_client::ExchangeFault;
 use http_wire::ReplyFault;
-use outbox_core::{PutFault, StoreFault};
+use outbox_core::{PutFault, State, StoreFault};
 use std::alloc::AllocError;
 use std::io;
 
@@ -48,6 +48,9 @@ pub enum TaskFault {
     NotTold { id: u64, fault: LineFault },
     /// The entry of this id was tried and is open still, and this was printed.
     Send { id: u64, fault: SendFault },
+    /// The reply to the question about the entry of this id is printed, and contradicts the entry, which is in this
+    /// state: it would settle an open entry as the other.
+    Contradicts { id: u64, state: State, told: State },
     /// What was done could not be printed.
     Line(LineFault),
 }

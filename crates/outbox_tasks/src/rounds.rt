@@ -1,8 +1,9 @@
 //! A round, which sends each open entry once, in the order of the ids.
 
-ghost use Rattle.std.specs.Prelude.{◌≡◌, IfOk, IfErr, map, filter};
+ghost use Rattle.std.specs.Prelude.{◌≡◌, ◌+◌, ◌<◌, ◌≤◌, ◌^◌, IfOk, IfErr, map, filter};
 ghost use Rattle.sqlite.specs.State.{HasCleanDisk};
 ghost use Rattle.outbox_core.specs.OutboxParts.{shows, HasEntries, ForEntries};
+ghost use Rattle.outbox_tasks.specs.Endings.{ending_of, with_one, one_sent};
 ghost use Rattle.outbox_tasks.specs.Faults.{IsUnread};
 ghost use Rattle.outbox_tasks.specs.Rounds.{open_ids, is_open_pair, TakesTurn, SendsEach, SendsAll};
 
@@ -16,11 +17,86 @@ use sqlite::Alter;
 use std::alloc::{AllocError, Global};
 use std::io::Write;
 
-/// How many entries of a round were sent, and how many of these exchanges failed.
+/// How an entry ended that was sent.
+#[derive(Clone, Copy, Debug, PartialEq, Eq)]
+enum Ending {
+    /// The register has its report.
+    Filed,
+    /// Its report was refused, or its key has another one.
+    Refused,
+    /// The reply left it open.
+    Open,
+    /// Its exchange failed, and left it open.
+    Failed,
+}
+
+impl Ending {
+    /// The ending of an entry that a reply left in this state.
+    fn of(state: State) -> Ending
+        ensures { result ≡ ending_of state }
+    {
+        match state {
+            State::Open => Ending::Open,
+            State::Confirmed(_) => Ending::Filed,
+            State::Refused | State::Clashed => Ending::Refused,
+        }
+    }
+}
+
+/// How many entries were sent, and how they ended if their report was not filed.
 #[derive(Clone, Copy, Debug, PartialEq, Eq)]
 pub struct Round {
     pub sent: u64,
+    /// Those whose exchange failed.
     pub failed: u64,
+    /// Those that a reply left open.
+    pub left_open: u64,
+    /// Those that were refused, or whose key has another report.
+    pub refused: u64,
+}
+
+impl Round {
+    /// None was sent.
+    pub const NONE: Round = Round {
+        sent: 0,
+        failed: 0,
+        left_open: 0,
+        refused: 0,
+    };
+
+    /// One was sent, and is in this state.
+    pub fn of(state: State) -> Round
+        ensures { result ≡ one_sent state }
+    {
+        Round::NONE.with(Ending::of(state))
+    }
+
+    /// With one more, which ended so.
+    fn with(self, ending: Ending) -> Round
+        requires room { self.sent + 1 < 2 ^ 64 }
+        requires few { self.failed + self.left_open + self.refused ≤ self.sent }
+        ensures { result ≡ with_one self ending }
+    {
+        let sent = self.sent + 1;
+        match ending {
+            Ending::Filed => Round { sent, ..self },
+            Ending::Refused => Round {
+                sent,
+                refused: self.refused + 1,
+                ..self
+            },
+            Ending::Open => Round {
+                sent,
+                left_open: self.left_open + 1,
+                ..self
+            },
+            Ending::Failed => Round {
+                sent,
+                failed: self.failed + 1,
+                ..self
+            },
+        }
+    }
 }
 
 /// The ids of those that are open.
@@ -52,23 +128,23 @@ fn open_entries<S: Alter>(alloc: Global, outbox: &mut Outbox<S>) -> Result<Vec<u
     }
 }
 
-/// Sends an entry that is open, and answers whether its exchange failed by a fault of its own. Any other fault ends the
-/// round, and so does each after which the network gives up.
+/// Sends an entry that is open, and answers how it ended. A fault that is not of its exchange ends the round, and so
+/// does each after which the network gives up.
 fn send_in_round<S: Alter, N: Dial, O: Write>(
     alloc: Global,
     network: &mut N,
     outbox: &mut Outbox<S>,
     id: u64,
     output: &mut O,
-) -> Result<bool, TaskFault>
+) -> Result<Ending, TaskFault>
     ensures { TakesTurn S.Store id (N.traffic network.old) (N.traffic network.new) outbox.old outbox.new
         (O.contents output.old) (O.contents output.new) result }
 {
     match send_open(alloc, network, outbox, id, output) {
-        Ok(_) => Ok(false),
+        Ok(state) => Ok(Ending::of(state)),
         Err(fault) => {
             if fault.is_of_entry() && !network.gives_up() {
-                Ok(true)
+                Ok(Ending::Failed)
             } else {
                 Err(fault)
             }
@@ -76,28 +152,28 @@ fn send_in_round<S: Alter, N: Dial, O: Write>(
     }
 }
 
-/// Sends the entries of these ids, which are open, and answers how many of the exchanges failed.
+/// Sends the entries of these ids, which are open, and answers how they ended.
 fn send_each<S: Alter, N: Dial, O: Write>(
     alloc: Global,
     network: &mut N,
     outbox: &mut Outbox<S>,
     ids: &[u64],
     output: &mut O,
-) -> Result<u64, TaskFault>
+) -> Result<Round, TaskFault>
     ensures { SendsEach S.Store ids.now (N.traffic network.old) (N.traffic network.new) outbox.old outbox.new
         (O.contents output.old) (O.contents output.new) result }
 {
-    let mut failed = 0;
+    let mut round = Round::NONE;
     for &id in ids {
-        let has_failed = send_in_round(alloc, network, outbox, id, output)?;
-        failed += u64::from(has_failed);
+        let ending = send_in_round(alloc, network, outbox, id, output)?;
+        round = round.with(ending);
     }
-    Ok(failed)
+    Ok(round)
 }
 
-/// Sends each open entry once, in the order of the ids, and prints its state after the reply. An entry whose exchange
-/// failed by a fault of its own is printed as open, and the round goes on, unless the network gives up. Any other fault
-/// ends the round. If no entry is open, it prints that.
+/// Sends each open entry once, in the order of the ids, prints its state after the reply, and answers how they ended.
+/// An entry whose exchange failed by a fault of its own is printed as open, and the round goes on, unless the network
+/// gives up. Any other fault ends the round. If no entry is open, it prints that.
 pub fn send_all<S: Alter, N: Dial, O: Write>(
     alloc: Global,
     network: &mut N,
@@ -110,11 +186,7 @@ pub fn send_all<S: Alter, N: Dial, O: Write>(
     let ids = open_entries(alloc, outbox)?;
     if ids.is_empty() {
         print_none(output)?;
-        return Ok(Round { sent: 0, failed: 0 });
+        return Ok(Round::NONE);
     }
-    let failed = send_each(alloc, network, outbox, ids.as_slice(), output)?;
-    Ok(Round {
-        sent: ids.len() as u64,
-        failed,
-    })
+    send_each(alloc, network, outbox, ids.as_slice(), output)
 }

@@ -1,3 +1,4 @@
 pub mod Moment
+pub mod Name
 pub mod Receipt
 pub mod Text

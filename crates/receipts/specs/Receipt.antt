@@ -1,7 +1,5 @@
 -- The receipt of an exchange.
-use Rattle.std.specs.Prelude.{◌≡◌, ◌≢◌, ◌⊎◌, ℕ, ◌==◌, Bool, true, false, ◌||◌, List, Option, Some, Result, Ok, Err}
-use Rattle.std.specs.Prelude.{String, string_bytes}
-use Rattle.std.specs.Global.{Global}
+use Rattle.std.specs.Prelude.{◌≡◌, ◌≢◌, ℕ, List, Option, Some, Result, Ok, Err, string_bytes}
 use Rattle.jiff_core.specs.declared.timestamp.Timestamp.{Timestamp}
 use Rattle.http_messages.specs.Reply.{ReplyParts}
 use Rattle.http_messages.specs.Replies.{reply_parts}
@@ -10,10 +8,13 @@ use Rattle.http_messages.specs.declared.reply.Reply.{Reply}
 use Rattle.http_wire.specs.ReplyFaults.{HasGiven, IsReplyFailure}
 use Rattle.filing_model.specs.Outbox.{bytes_of, IsSendable}
 use Rattle.filing_model.specs.Request.{Request}
+use Rattle.filing_model.specs.Views.{view_state}
 use Rattle.filing_model.specs.declared.state.State.{State}
-use Rattle.filing_model.specs.declared.state.State.TheVariants.{Open}
+use Rattle.outbox_core.specs.Saying.{Says}
+use Rattle.outbox_core.specs.declared.state.Said.TheVariants.{Nothing, Same, Otherwise}
 use Rattle.receipts.specs.declared.fault.ReceiptFault.{ReceiptFault}
-use Rattle.receipts.specs.declared.fault.ReceiptFault.TheVariants.{NoRequest, NoReply, Unsettled, Memory}
+use Rattle.receipts.specs.declared.fault.ReceiptFault.TheVariants.{NoRequest, NoReply, Unsettled, Contradicts, Memory}
+use Rattle.receipts.specs.declared.receipt.Receipt.{Receipt}
 use Rattle.receipts.specs.Moment.{IsMomentText}
 use Rattle.receipts.specs.Text.{receipt_text}
 
@@ -31,31 +32,29 @@ abbrev pub BeginsReply : List ℕ → Result Reply ReceiptFault → Type 0
 BeginsReply bytes (Ok reply) = IsReplyIn bytes (reply_parts reply)
 BeginsReply bytes (Err fault) = HasNoReply bytes fault
 
--- the statuses by which a reply can settle an entry, as PROTOCOL has them
-abbrev pub can_settle : ℕ → Bool
-can_settle status = (status == 201) || (status == 400) || (status == 422)
-
--- A text is the receipt of an exchange: the entry is settled, and the text has the request that was sent, and the reply
--- that came, which can settle an entry.
+-- A receipt of an exchange for the entry of an id: the reply that came would have settled an open entry as this one is
+-- settled, and the text has the request that was sent and that reply.
 pub record IsReceipt (id : ℕ) (state : State) (sent came : List ℕ) (moment : Timestamp) (port : ℕ)
-    (text : List ℕ) : Type 0 where
-  pub settled : state ≢ Open
+    (receipt : Receipt) : Type 0 where
   pub reply : ReplyParts
   pub answered : IsReplyIn came reply
-  pub settles : can_settle reply.status ≡ true
+  pub settles : Says (view_state state) reply Same
   pub when : List ℕ
   pub moment_is : IsMomentText moment when
+  pub of_entry : receipt.id ≡ id
   pub tells : (request : Request) → IsSendable request → sent ≡ bytes_of request
-      → text ≡ receipt_text id request reply when port
+      → (receipt.sent ≡ request) × (string_bytes receipt.text ≡ receipt_text id request reply when port)
 
 -- why there is no receipt
 abbrev pub HasNoReceipt : State → List ℕ → List ℕ → ReceiptFault → Type 0
 HasNoReceipt state sent came NoRequest = (request : Request) → IsSendable request → sent ≢ bytes_of request
 HasNoReceipt state sent came (NoReply why) = HasNoReply came (NoReply why)
 HasNoReceipt state sent came Unsettled =
-    (state ≡ Open) ⊎ ((reply : ReplyParts) × IsReplyIn came reply × (can_settle reply.status ≡ false))
+    (reply : ReplyParts) × IsReplyIn came reply × Says (view_state state) reply Nothing
+HasNoReceipt state sent came Contradicts =
+    (reply : ReplyParts) × IsReplyIn came reply × ((told : State) × Says (view_state state) reply (Otherwise told))
 HasNoReceipt state sent came Memory = Unit {0}
 
-abbrev pub ReceiptOf : ℕ → State → List ℕ → List ℕ → Timestamp → ℕ → Result (String Global) ReceiptFault → Type 0
-ReceiptOf id state sent came moment port (Ok text) = IsReceipt id state sent came moment port (string_bytes text)
+abbrev pub ReceiptOf : ℕ → State → List ℕ → List ℕ → Timestamp → ℕ → Result Receipt ReceiptFault → Type 0
+ReceiptOf id state sent came moment port (Ok receipt) = IsReceipt id state sent came moment port receipt
 ReceiptOf id state sent came moment port (Err fault) = HasNoReceipt state sent came fault

@@ -1,7 +1,8 @@
-//! Why there is no receipt.
+//! Why there is no receipt, and why one is not kept.
 
 use http_wire::ReplyFault;
 use std::alloc::AllocError;
+use std::io;
 use thiserror::Error;
 
 /// Why there is no receipt of an exchange.
@@ -13,9 +14,12 @@ pub enum ReceiptFault {
     /// The bytes that were noted as received are no whole reply.
     #[error("{0}")]
     NoReply(ReplyFault),
-    /// The reply settles nothing, or left the entry open.
+    /// The reply settles nothing.
     #[error("the reply does not settle it")]
     Unsettled,
+    /// The reply would settle an open entry, but not as this one is settled.
+    #[error("the reply contradicts it")]
+    Contradicts,
     #[error("out of memory")]
     Memory,
 }
@@ -28,5 +32,22 @@ impl From<AllocError> for ReceiptFault {
 
     fn from(_error: AllocError) -> ReceiptFault {
         ReceiptFault::Memory
+    }
+}
+
+/// Why a receipt is not kept.
+#[derive(Debug, Drop, Error)]
+pub enum KeepFault {
+    /// What has its name is no receipt of its entry.
+    #[error("{name} is there, and is no receipt of this entry")]
+    Taken { name: String },
+    /// The file was not read or written.
+    #[error("{0}")]
+    File(#[from] io::Error),
+}
+
+impl From<AllocError> for KeepFault {
+    fn from(error: AllocError) -> KeepFault {
+        KeepFault::File(io::Error::from(error))
     }
 }

@@ -1,53 +1,78 @@
 //! The folder in which receipts are kept.
 
-use std::alloc::{AllocError, Global};
-use std::fs;
-use std::fs::{File, OpenFile};
-use std::io::{self, Write};
+use crate::fault::KeepFault;
+use crate::name::{is_receipt_of, name_of};
+use crate::receipt::Receipt;
+use hex::encode;
+use std::alloc::Global;
+use std::fs::{self, File, OpenFile};
+use std::io::{self, ErrorKind, Read, Write};
+use std::random::RandomSource;
 use std::rt::Files;
 
 /// A folder of receipts.
 #[derive(Drop)]
 pub struct Folder<'a, F> {
-    files: &'a F,
+    rt: &'a F,
     alloc: Global,
     path: &'a str,
 }
 
-impl<'a, F: Files> Folder<'a, F> {
+impl<'a, F: Files + RandomSource> Folder<'a, F> {
     /// The folder of this path, in which files can be made: one was, and is removed again.
-    pub fn open(files: &'a F, alloc: Global, path: &'a str) -> io::Result<Folder<'a, F>> {
-        let folder = Folder { files, alloc, path };
-        let probe = folder.path_of(0, ".probe")?;
-        fs::write(files, probe.as_str(), "")?;
-        fs::remove_file(files, probe.as_str())?;
+    pub fn open(rt: &'a F, alloc: Global, path: &'a str) -> io::Result<Folder<'a, F>> {
+        let folder = Folder { rt, alloc, path };
+        let probe = folder.new_path("probe")?;
+        File::create_new(rt, probe.as_str())?;
+        fs::remove_file(rt, probe.as_str())?;
         Ok(folder)
     }
 
-    /// The path of the file for the entry of this id, with this at its end.
-    fn path_of(&self, id: u64, end: &str) -> Result<String, AllocError> {
-        format!(in self.alloc; "{path}/entry-{id}{end}", path = self.path)
+    /// Keeps a receipt under the name of its entry, in the place of an earlier one of that entry and of nothing else.
+    /// It is written under a name of its own first, so that the file is never there in part.
+    pub fn keep(&self, receipt: &Receipt) -> Result<(), KeepFault> {
+        let name = name_of(self.alloc, receipt)?;
+        let whole = format!(in self.alloc; "{path}/{name}", path = self.path)?;
+        if !self.is_free_for(whole.as_str(), receipt)? {
+            return Err(KeepFault::Taken { name });
+        }
+        let part = self.new_path("part")?;
+        let written = self.write_by_part(part.as_str(), whole.as_str(), receipt.text.as_str());
+        if written.is_err() {
+            // If the part can't be removed either, it does no harm.
+            let _ = fs::remove_file(self.rt, part.as_str());
+        }
+        Ok(written?)
     }
 
-    /// Keeps the text of the receipt for the entry of this id, in the place of an earlier one. It is written under
-    /// another name first, so that the file is never there in part.
-    pub fn keep(&self, id: u64, text: &str) -> io::Result<()> {
-        let part = self.path_of(id, ".part")?;
-        let whole = self.path_of(id, ".json")?;
-        match self.write_part(part.as_str(), text) {
-            Ok(()) => fs::rename(self.files, part.as_str(), whole.as_str()),
-            Err(error) => {
-                // If the part can't be removed either, it does no harm.
-                let _ = fs::remove_file(self.files, part.as_str());
-                Err(error)
+    /// A path in the folder that nobody can guess, with this at its end.
+    fn new_path(&self, end: &str) -> io::Result<String> {
+        let mut bytes = [0u8; 16];
+        self.rt.fill_bytes(&mut bytes)?;
+        let word = encode(self.alloc, bytes.as_slice())?;
+        Ok(format!(in self.alloc; "{path}/{word}.{end}", path = self.path)?)
+    }
+
+    /// Whether this path has no file, or an earlier receipt of the same entry.
+    fn is_free_for(&self, path: &str, receipt: &Receipt) -> io::Result<bool> {
+        match fs::symlink_metadata(self.rt, path) {
+            Ok(found) if found.is_file() => {
+                let mut text = Vec::new(self.alloc);
+                File::open(self.rt, path)?.read_to_end(&mut text)?;
+                Ok(is_receipt_of(self.alloc, text.as_slice(), receipt)?)
             }
+            Ok(_) => Ok(false),
+            Err(error) if error.kind() == ErrorKind::NotFound => Ok(true),
+            Err(error) => Err(error),
         }
     }
 
-    /// Writes the text, and waits until the disk has it.
-    fn write_part(&self, part: &str, text: &str) -> io::Result<()> {
-        let mut file = File::create(self.files, part)?;
+    /// Writes the text to a new file, gives that its name, and waits until the disk has both.
+    fn write_by_part(&self, part: &str, whole: &str, text: &str) -> io::Result<()> {
+        let mut file = File::create_new(self.rt, part)?;
         file.write_all(text.as_bytes())?;
-        file.sync_all()
+        file.sync_all()?;
+        fs::rename(self.rt, part, whole)?;
+        File::open(self.rt, self.path)?.sync_all()
     }
 }

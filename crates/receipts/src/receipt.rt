@@ -1,15 +1,15 @@
 //! The receipt of an exchange.
 
-ghost use Rattle.std.specs.Prelude.{◌≡◌};
-ghost use Rattle.receipts.specs.Receipt.{can_settle, BeginsReply, ReceiptOf};
+ghost use Rattle.receipts.specs.Receipt.{BeginsReply, ReceiptOf};
 
 use crate::fault::ReceiptFault;
 use crate::moment::moment_text;
 use crate::sent::request_in;
 use crate::text::receipt_text;
-use filing_model::State;
+use filing_model::{Completed, State};
 use http_wire::{Device, Reply, read_reply};
 use jiff::Timestamp;
+use outbox_core::{Said, said_of};
 use std::alloc::Global;
 
 /// An exchange for the entry of an id: the state that the entry is in since then, the bytes that were sent, and those
@@ -22,11 +22,12 @@ pub struct Exchange<'a> {
     pub came: &'a [u8],
 }
 
-/// Whether a reply of this status can settle an entry.
-fn can_settle(status: u16) -> bool
-    ensures { result ≡ can_settle status }
-{
-    matches!(status, 201 | 400 | 422)
+/// A receipt for the entry of an id: the request that was sent for it, and its text.
+#[derive(Drop)]
+pub struct Receipt {
+    pub id: u64,
+    pub sent: Completed,
+    pub text: String,
 }
 
 /// The reply with which these bytes begin.
@@ -40,27 +41,31 @@ fn reply_in(alloc: Global, bytes: &[u8]) -> Result<Reply, ReceiptFault>
     }
 }
 
-/// The receipt of an exchange with this port that settled its entry. Its reply came at this moment.
+/// The receipt of an exchange with this port, whose reply came at this moment. There is one exactly if the reply could
+/// have settled the entry as it is settled.
 pub fn receipt_of(
     alloc: Global,
     exchange: &Exchange<'_>,
     moment: Timestamp,
     port: u16,
-) -> Result<String, ReceiptFault>
+) -> Result<Receipt, ReceiptFault>
     ensures { ReceiptOf exchange.now.id exchange.now.state exchange.now.sent.now exchange.now.came.now moment port
         result }
 {
-    if exchange.state == State::Open {
-        return Err(ReceiptFault::Unsettled);
-    }
-    let Some(request) = request_in(alloc, exchange.sent)? else {
+    let Some(sent) = request_in(alloc, exchange.sent)? else {
         return Err(ReceiptFault::NoRequest);
     };
     let reply = reply_in(alloc, exchange.came)?;
-    if !can_settle(reply.status) {
-        return Err(ReceiptFault::Unsettled);
+    match said_of(alloc, exchange.state, &reply)? {
+        Said::Same => {}
+        Said::Nothing => return Err(ReceiptFault::Unsettled),
+        Said::Otherwise(_) => return Err(ReceiptFault::Contradicts),
     }
     let moment = moment_text(alloc, moment)?;
-    let text = receipt_text(alloc, exchange.id, &request, &reply, moment.as_str(), port)?;
-    Ok(text)
+    let text = receipt_text(alloc, exchange.id, &sent, &reply, moment.as_str(), port)?;
+    Ok(Receipt {
+        id: exchange.id,
+        sent,
+        text,
+    })
 }

@@ -1,7 +1,7 @@
 use Rattle.std.proofs.Common.{◌≡◌, ◌∙◌, sym, length, inl, inr, arith, vec_len, true≢false}
 use Rattle.std.proofs.lemmas.Bool.{eqb-true, eq-eqb}
 use Rattle.std.proofs.lemmas.Result.{err_from_is_err_and}
-use Rattle.outbox_tasks.proofs.Turns.{whole, whole_none, found_none, some_turns}
+use Rattle.outbox_tasks.proofs.Turns.{whole_none, found_none, sent_each}
 use Rattle.outbox_tasks.proofs.rounds.send_all.Goals as goal
 
 pub returns-then-is_empty : goal.returns-then-is_empty
@@ -34,30 +34,15 @@ returns-in_err-print_none g c =
     c.open_entries.ensures.filer c.open_entries.ensures.clean (g.N.Dial.traffic c.args.network.now) told.0 empty
     (c.in_err-print_none.field-0.0, told.2))))
 
-pub returns-in_err-failed : goal.returns-in_err-failed
-returns-in_err-failed g c =
-    let told = err_from_is_err_and c.from_residual-in_err-failed.result c.from_residual-in_err-failed.ensures.1 in
-    rw (told.1, told.2)
-    (inl (some_turns g.S.Store c.as_slice.result.now c.args.outbox.now c.open_entries.new.outbox
-    (λ clean entries had. (
-      c.as_slice.ensures.value ∙ c.in_ok-ids.ensures.found clean entries had,
-      c.open_entries.ensures.kept clean entries had,
-    )) c.open_entries.ensures.filer c.open_entries.ensures.clean
-    (g.N.Dial.traffic c.args.network.now) (g.N.Dial.traffic c.send_each.new.network) c.send_each.new.outbox
-    (g.O.Write.contents c.args.output.now) (g.O.Write.contents c.send_each.new.output) c.in_err-failed.field-0.0
-    c.in_err-failed.ensures))
-
 pub returns : goal.returns
 returns g c =
-    whole g.S.Store c.as_slice.result.now c.args.outbox.now c.open_entries.new.outbox
+    sent_each g.S.Store c.as_slice.result.now c.args.outbox.now c.open_entries.new.outbox
     (λ clean entries had. (
       c.as_slice.ensures.value ∙ c.in_ok-ids.ensures.found clean entries had,
       c.open_entries.ensures.kept clean entries had,
     )) c.open_entries.ensures.filer c.open_entries.ensures.clean
     (g.N.Dial.traffic c.args.network.now) (g.N.Dial.traffic c.send_each.new.network) c.send_each.new.outbox
-    (g.O.Write.contents c.args.output.now) (g.O.Write.contents c.send_each.new.output) c.len.result
-    c.in_ok-failed.failed
-    c.in_ok-failed.ensures
+    (g.O.Write.contents c.args.output.now) (g.O.Write.contents c.send_each.new.output) c.send_each.result
     (λ empty. true≢false (sym (eq-eqb (vec_len c.in_ok-ids.ids) 0 (sym c.as_slice.ensures.len ∙ empty))
     ∙ (sym c.is_empty.ensures ∙ c.if-is_empty.false)))
-    (c.len.ensures ∙ sym c.as_slice.ensures.len)
+    c.send_each.ensures

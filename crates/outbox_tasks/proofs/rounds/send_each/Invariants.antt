@@ -1,5 +1,7 @@
-use Rattle.std.proofs.Common.{◌≡◌, ◌≤◌, take}
-use Rattle.outbox_tasks.specs.Rounds.{AreToSend, HaveTurns, failures}
+use Rattle.std.proofs.Common.{◌≡◌, take}
+use Rattle.outbox_tasks.specs.Endings.{counts}
+use Rattle.outbox_tasks.specs.Rounds.{AreToSend, HaveTurns, endings}
+use Rattle.outbox_tasks.proofs.Turns.{IsFew}
 use Rattle.outbox_tasks.proofs.rounds.send_each.Given as goal
 
 abbrev pub invariant-loop-id : goal.invariant-loop-id
@@ -7,4 +9,4 @@ invariant-loop-id g l =
     (made : HaveTurns g.S.Store (AreToSend l.ids) (take l.id-index l.ids) (g.N.Dial.traffic l.fn.network)
     (g.N.Dial.traffic l.network) l.fn.outbox l.outbox (g.O.Write.contents l.fn.output)
     (g.O.Write.contents l.output))
-    × (l.failed ≡ failures made.turns) × (l.failed ≤ l.id-index)
+    × (l.round ≡ counts (endings made.turns)) × (l.round.sent ≡ l.id-index) × IsFew l.round

@@ -4,9 +4,10 @@ use Rattle.outbox_tasks.proofs.rounds.send_in_round.Goals as goal
 
 pub returns-in-Ok : goal.returns-in-Ok
 returns-in-Ok g c =
-    turn_sent g.S.Store c.args.id (g.N.Dial.traffic c.args.network.now) (g.N.Dial.traffic c.send_open.new.network)
+    rw c.of.ensures
+    (turn_sent g.S.Store c.args.id (g.N.Dial.traffic c.args.network.now) (g.N.Dial.traffic c.send_open.new.network)
     c.args.outbox.now c.send_open.new.outbox (g.O.Write.contents c.args.output.now)
-    (g.O.Write.contents c.send_open.new.output) c.in-Ok.field-0 (rw c.in-Ok.is at c.send_open.ensures)
+    (g.O.Write.contents c.send_open.new.output) c.in-Ok.state (rw c.in-Ok.is at c.send_open.ensures))
 
 pub returns-then-not-gives_up : goal.returns-then-not-gives_up
 returns-then-not-gives_up g c =
