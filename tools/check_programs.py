@@ -906,7 +906,6 @@ if __name__ == "__main__":
         (check_serving, check_patience, check_limit, check_amendments, check_sent_amendments, check_full_register,
          check_full_outbox, check_files, check_used_port, check_descriptors, check_rights, check_damage, check_copies,
          check_copy_of_an_outbox, check_lint, check_names_of_files, check_texts_of_reports, check_texts_of_peers,
-         check_statuses_of_the_log,
-         check_entries, check_round, check_answers, check_strict, check_questions, check_receipts, check_patience_of_a_round,
-         check_same_report, check_closed_output),
+         check_statuses_of_the_log, check_entries, check_round, check_answers, check_strict, check_questions,
+         check_receipts, check_patience_of_a_round, check_same_report, check_closed_output),
     )
