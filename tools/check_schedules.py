@@ -178,6 +178,54 @@ def check_events_that_name_nothing(_):
         hold(events, play(SENT, events), (1, "", f"drill: event {number}: no such\n"))
 
 
+NUMBER = "number from 0 to 9223372036854775807"
+WORDS = "put, amend, send, stranger, deliver, hand or restart"
+# Lines behind `outbox ACME` that say no event, and what is said of them.
+UNREADABLE = [
+    ("", f'"" is no event: {WORDS}'),
+    ("sned 1 1", f'"sned" is no event: {WORDS}'),
+    ("outbox a/b", f'"outbox" is no event: {WORDS}'),
+    ("send", f"a word is missing: no {NUMBER}"),
+    ("send 1", f"a word is missing: no {NUMBER}"),
+    ("send 01 1", f'"01" is no {NUMBER}'),
+    ("send 1 x", f'"x" is no {NUMBER}'),
+    ("send 1  1", f'"" is no {NUMBER}'),
+    ("send 1 1 2 3", '"2" is a word too many'),
+    ("put x k {}", f'"x" is no {NUMBER}'),
+    ("put 1 k-1 {}", '"k-1 {}" is no key in double quotes, a space and a report'),
+    ('amend 1 0 "k" {}', '"0" is no number of a filing, from 1 on'),
+    ("stranger a\\q", '"a\\q" is no text in which a backslash stands before r, n or a backslash alone'),
+    ("deliver 1 every", '"every" is no number of bytes, nor `all`'),
+    ("deliver 1 all befor 1", '"befor" is no `before`, nor `after`'),
+    ("deliver 1 all before", "a word is missing: no number from 0 to 4294967295"),
+    ("deliver 1 all before 4294967296", '"4294967296" is no number from 0 to 4294967295'),
+    ("hand 1 all after 1", '"1" is a word too many'),
+    ("restart intake", '"intake" is no `server`, nor `outbox`'),
+    ("restart server 1", '"1" is a word too many'),
+    ("restart outbox", f"a word is missing: no {NUMBER}"),
+    ("send " + "9" * 60 + " 1", f'"{"9" * 40}".. is no {NUMBER}'),
+    ("send \x1b[31m 1", f'"\\u001b[31m" is no {NUMBER}'),
+    ("send \u202e\u009b 1", f'"\\u202e\\u009b" is no {NUMBER}'),
+]
+# Whole scripts that are refused: the line, and what is said of it.
+REFUSED = [
+    ("", 1, '"" is neither limit N nor outbox FILER'),
+    ("limit 05\noutbox ACME\n", 1, '"limit 05" is neither limit N nor outbox FILER'),
+    ("limit 5\nsend 1 1\n", 2, '"send 1 1" is no outbox FILER'),
+    ("limit 5\n", 2, '"" is no outbox FILER'),
+    ("outbox ACME\nsend 1 1", 2, '"send 1 1" does not end in a line feed'),
+]
+
+
+def check_lines_that_say_nothing(_):
+    """The refusal of a script names the line, the word and what is wrong with it, on one line of printable text."""
+    scripts = [(f"outbox ACME\nrestart server\n{line}\n", 3, why) for line, why in UNREADABLE]
+    for script, line, why in scripts + REFUSED:
+        done = run(DRILL, given=script.encode())
+        hold(f"{script[-40:]!r}", (done.returncode, done.stdout, done.stderr.decode()),
+             (2, b"", f"drill: line {line}: {why}\n"))
+
+
 def check_long_script(_):
     """200 reports, each delivered twice and its repeat's reply handed back; after each 20th both ends are started
     again."""
@@ -200,5 +248,5 @@ if __name__ == "__main__":
         (DRILL,),
         (check_stops_of_the_intake, check_stops_within_a_connection, check_stops_of_an_outbox,
          check_cut_lost_or_repeated, check_reports_that_replace_filings, check_refused_and_unavailable,
-         check_events_that_name_nothing, check_long_script),
+         check_events_that_name_nothing, check_lines_that_say_nothing, check_long_script),
     )

@@ -3,6 +3,7 @@
 //! prints. What a script says and what an event does is not known here.
 #![tactic(auto)]
 
+mod complaint;
 mod fault;
 mod lines;
 mod options;

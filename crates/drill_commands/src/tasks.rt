@@ -4,12 +4,15 @@ ghost use Rattle.std.specs.Prelude.{◌≡◌, IfOk, IfErr, OnOk};
 ghost use Rattle.command_line.specs.Reading.{IsWhole};
 ghost use Rattle.drill_commands.specs.Refusals.{IsNotRead};
 ghost use Rattle.drill_commands.specs.Shown.{IsShownOf};
+ghost use Rattle.drill_commands.specs.Status.{status_of};
 
+use crate::complaint::complaint;
 use crate::fault::Fault;
 use crate::lines::shown;
 use crate::options;
 use crate::playing::played;
 use command_line::{DONE, read_whole, show, show_refusal, words};
+use event_script::ScriptFault;
 use http_wire::{Device, Source};
 use schedule::{Durable, Honest, World};
 use std::alloc::Global;
@@ -40,15 +43,35 @@ fn drill<D: Honest>(alloc: Global, bytes: &[u8]) -> Result<Vec<u8>, Fault>
     shown(alloc, &mut world)
 }
 
-fn perform_script<R: Read, O: Write>(
+/// Says on the standard error why a script is not played to its end, and answers the status. Of a line that may not
+/// stand there it says what is wrong.
+fn tell<E: Write>(fault: Fault, script: &[u8], errors: &mut E) -> u8
+    ensures { result ≡ status_of fault }
+{
+    if let Fault::Script(ScriptFault::Unreadable { line }) = fault {
+        if let Some(complaint) = complaint(script, line) {
+            // Nothing is left to be done if this text can't be written either.
+            let _ = writeln!(errors, "drill: line {line}: {complaint}");
+            return fault.status();
+        }
+    }
+    fault.tell(errors)
+}
+
+fn perform_script<R: Read, O: Write, E: Write>(
     alloc: Global,
     input: &mut R,
     output: &mut O,
+    errors: &mut E,
 ) -> Result<u8, Fault> {
-    let bytes = read_bytes(alloc, &mut Device::new(input))?;
-    let text = drill::<Durable>(alloc, bytes.as_slice())?;
-    show(output, text.as_slice())?;
-    Ok(DONE)
+    let script = read_bytes(alloc, &mut Device::new(input))?;
+    match drill::<Durable>(alloc, script.as_slice()) {
+        Ok(text) => {
+            show(output, text.as_slice())?;
+            Ok(DONE)
+        }
+        Err(fault) => Ok(tell(fault, script.as_slice(), errors)),
+    }
 }
 
 fn refuse<O: Write, E: Write>(
@@ -70,7 +93,7 @@ pub fn perform<R: Read, O: Write, E: Write>(
     errors: &mut E,
 ) -> u8 {
     let done = match options::read(alloc, words) {
-        Ok(()) => perform_script(alloc, input, output),
+        Ok(()) => perform_script(alloc, input, output, errors),
         Err(error) => refuse(alloc, &error, output, errors),
     };
     match done {

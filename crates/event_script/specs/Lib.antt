@@ -5,3 +5,4 @@ pub mod Text
 pub mod Scripts
 pub mod Restarts
 pub mod Shown
+pub mod Complaints

@@ -3,6 +3,7 @@
 //! what they led to. What an event does is not known here.
 #![tactic(auto)]
 
+mod complaint;
 mod event;
 mod fault;
 mod line;
@@ -14,6 +15,7 @@ mod shown;
 mod stranger;
 mod words;
 
+pub use complaint::{Complaint, Kind, Wrong, complaint_of};
 pub use event::{Crash, Event};
 pub use fault::ScriptFault;
 pub use read::read_script;
