@@ -262,7 +262,7 @@ impl ToArg for Argument {
             Argument::All => all(alloc)?,
             Argument::Wait => wait(alloc),
             Argument::Strict => strict(alloc),
-            Argument::Json(help) => json(alloc, help),
+            Argument::Json(help) => flag(alloc, "json", help),
             Argument::Files => report_files(alloc),
         })
     }
