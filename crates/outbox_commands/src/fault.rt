@@ -186,6 +186,9 @@ pub(crate) enum NoReceipt {
     Unkept(#[from] KeepFault),
 }
 
+/// Why a reply may contradict an entry, and what to do then.
+const OTHER_REGISTER: &str = "another register answers, or it was restored; ask its supervisor";
+
 /// Why a task was not done. Its text is one line.
 #[derive(Debug, Drop, Error)]
 pub(crate) enum Fault<'a> {
@@ -227,7 +230,7 @@ pub(crate) enum Fault<'a> {
         refused: u64,
         open: u64,
     },
-    #[error("127.0.0.1:{port}: entry {id} is {state}, but the reply says {told}: another register answers, or it was restored; ask its supervisor")]
+    #[error("127.0.0.1:{port}: entry {id} is {state}, but the reply says {told}: {why}", why = OTHER_REGISTER)]
     Contradicts {
         port: u16,
         id: u64,

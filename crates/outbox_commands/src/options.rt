@@ -294,7 +294,8 @@ static WORDS: [Word<Argument>; 8] = [
         example: concat!(
             "Example: outbox send --db outbox.db --port 8080 --all\n\n",
             "A reply that settles nothing, such as 403 or 503, leaves its entry open: standard error shows it.\n",
-            "Exit status: 0 each reply was read; 1 not an outbox, a damaged one, or --strict and a report was refused;\n",
+            "Exit status: 0 each reply was read; ",
+            "1 not an outbox, a damaged one, or --strict and a report was refused;\n",
             "3 an exchange failed, nobody listens, memory or the disk failed, or --strict and an entry is open; ",
             "4 no such entry",
         ),
