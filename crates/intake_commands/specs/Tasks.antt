@@ -4,7 +4,6 @@ use Rattle.std.specs.Prelude.{◌≡◌, ◌⊎◌, ◌≤◌, ◌<◌, ◌^◌,
 use Rattle.std.specs.Prelude.{Err, MatchBool}
 use Rattle.std.specs.Borrow.{Bor}
 use Rattle.std.specs.Io.KnownBytes.{Appends}
-use Rattle.std_io.specs.declared.io.error.Error.{Error}
 use Rattle.sqlite_disk.specs.declared.Disk.{Ghosts}
 use Rattle.key_string.specs.Filer.{is_filer}
 use Rattle.http_wire.specs.Wire.{Wire}
@@ -73,6 +72,11 @@ IsServingTold task (Err (refused.Register why)) result =
 IsServingTold task (Err (refused.Port (network.Network error))) result = result ≡ Err (fault.Network task.port error)
 IsServingTold task (Err (refused.Port network.Memory)) result = result ≡ Err (fault.Command command.Memory)
 
+-- this fault says that this port is not to be had
+abbrev pub IsPortRefused : ℕ → Result ℕ Fault → Type 0
+IsPortRefused port (Err (fault.Network number error)) = number ≡ port
+IsPortRefused port other = ⊥
+
 -- the port of a new register is not to be had, and nothing is made; only the system refuses a port
 pub record IsWithoutPort {D : Type 0} {g : Ghosts D} (task : Serving) (port port' : Traffic) (old new : Parts g)
     (result : Result ℕ Fault) : Type 0 where
@@ -80,8 +84,7 @@ pub record IsWithoutPort {D : Type 0} {g : Ghosts D} (task : Serving) (port port
   pub unknown : port.coming ≡ None
   pub same : port' ≡ port
   pub kept : new ≡ old
-  pub error : Error
-  pub told : result ≡ Err (fault.Network task.port error)
+  pub told : IsPortRefused task.port result
 
 -- the port is served with the task's limit and number of connections, on a register that is new or not
 abbrev pub Serves : {D : Type 0} {g : Ghosts D} → Serving → Traffic → Traffic → Parts g → Parts g → Result ℕ Fault

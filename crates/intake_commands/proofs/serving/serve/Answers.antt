@@ -5,13 +5,12 @@ use Rattle.intake_commands.specs.Tasks.{Serves}
 use Rattle.intake_commands.proofs.Done.{served_as}
 use Rattle.intake_commands.proofs.serving.serve.Goals as goal
 
-pub returns-in-Err-listen_before : goal.returns-in-Err-listen_before
-returns-in-Err-listen_before g c = inr (inl (record {
+pub returns-in-Err : goal.returns-in-Err
+returns-in-Err g c = inr (inl (record {
   new_one = c.in-Err.ensures.refused.0;
   unknown = c.in-Err.ensures.refused.1;
   same = c.in-Err.ensures.same;
   kept = refl;
-  error = c.in-Err.error;
   told = refl;
 }))
 
@@ -19,19 +18,19 @@ pub returns-in-Ok : goal.returns-in-Ok
 returns-in-Ok g c =
     subst (λ port. Serves c.args.serving port (g.L.Port.traffic c.serve_register-served.new.port)
     (parts g.P.Place.lying c.args.process.now) (parts g.P.Place.lying c.serve_register-served.new.process) (Ok 0))
-    c.in_default.ensures.same
+    c.in_default-listen_before.ensures.same
     (served_as c.args.serving (is_found c.opening.result) c.in-Some.limit.keys
     (g.L.Port.traffic c.listen_before.new.port) (g.L.Port.traffic c.serve_register-served.new.port)
     (parts g.P.Place.lying c.args.process.now) (parts g.P.Place.lying c.serve_register-served.new.process)
     (Ok c.in-Ok.field-0) (Ok 0) c.opening.ensures c.in-Some.ensures c.in-Some.limit.few c.in-Ok.ensures refl)
 
-pub returns-in-Err : goal.returns-in-Err
-returns-in-Err g c =
+pub returns-in-Err-served : goal.returns-in-Err-served
+returns-in-Err-served g c =
     subst (λ port. Serves c.args.serving port (g.L.Port.traffic c.serve_register-served.new.port)
     (parts g.P.Place.lying c.args.process.now) (parts g.P.Place.lying c.serve_register-served.new.process)
-    (Err c.serving_fault.result)) c.in_default.ensures.same
+    (Err c.serving_fault.result)) c.in_default-listen_before.ensures.same
     (served_as c.args.serving (is_found c.opening.result) c.in-Some.limit.keys
     (g.L.Port.traffic c.listen_before.new.port) (g.L.Port.traffic c.serve_register-served.new.port)
     (parts g.P.Place.lying c.args.process.now) (parts g.P.Place.lying c.serve_register-served.new.process)
-    (Err c.in-Err.fault) (Err c.serving_fault.result) c.opening.ensures c.in-Some.ensures c.in-Some.limit.few
-    c.in-Err.ensures c.serving_fault.ensures)
+    (Err c.in-Err-served.fault) (Err c.serving_fault.result) c.opening.ensures c.in-Some.ensures c.in-Some.limit.few
+    c.in-Err-served.ensures c.serving_fault.ensures)
