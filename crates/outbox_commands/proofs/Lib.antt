@@ -1,3 +1,4 @@
+mod Keyless
 mod Looks
 mod Opened
 mod Telling
