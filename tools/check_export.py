@@ -94,7 +94,8 @@ print(json.dumps([list(facts.columns)] + facts.values.tolist()))
 READ_LINES = """
 import json, sys, pandas
 facts = pandas.read_json(sys.argv[1], lines=True, dtype=False, convert_dates=False)
-print(json.dumps([list(facts.columns), facts["value"].tolist(), facts["dimensions"].tolist()]))
+values = [None if value != value else value for value in facts["value"]]  # pandas has NaN for null
+print(json.dumps([list(facts.columns), values, facts["dimensions"].tolist()]))
 """
 
 
