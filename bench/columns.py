@@ -72,7 +72,7 @@ def on_connections(given):
 
     def cost():
         with folder() as place:
-            with (CountedServer if counts_instructions() else Server)(place, 2 + len(given)) as server:
+            with (CountedServer if counts_instructions() else Server)(place, 3 + len(given)) as server:
 
                 def ask(request):
                     peer = connect(server.port)
@@ -85,6 +85,8 @@ def on_connections(given):
                 with server.counting():
                     for request in given:
                         ask(request)
+                # The server ends by itself, and not while it is counted.
+                ask(given[0])
             return server.cost
 
     return least(cost) / len(given)
