@@ -539,11 +539,12 @@ def check_texts_of_peers(folder):
          (0, f"entry 1: 200 OK\nx\\u000a{TAME}\ufffd\n", ""))
 
 
-def check_statuses_of_the_log(folder):
+def check_line_of_a_long_connection(folder):
     serving = Serving(folder / "register.db", 1, "--new", "--log")
-    exchange(serving.port, b"GET /filings/ACME HTTP/1.1\r\nHost: h\r\n\r\n" * 100)
+    exchange(serving.port, request("k-1", REPORT, close=False) * 100)
     line = json.loads(serving.end()[1])
-    hold("the statuses of a long connection", (line["places"], line["statuses"]), (100, [200] * 64))
+    hold("the line of a long connection", (line["places"], line["statuses"], line["filers"]),
+         (100, [201] * 64, ["ACME"] * 64))
 
 
 # ---- peers that answer wrongly, or not at all
@@ -906,6 +907,6 @@ if __name__ == "__main__":
         (check_serving, check_patience, check_limit, check_amendments, check_sent_amendments, check_full_register,
          check_full_outbox, check_files, check_used_port, check_descriptors, check_rights, check_damage, check_copies,
          check_copy_of_an_outbox, check_lint, check_names_of_files, check_texts_of_reports, check_texts_of_peers,
-         check_statuses_of_the_log, check_entries, check_round, check_answers, check_strict, check_questions,
+         check_line_of_a_long_connection, check_entries, check_round, check_answers, check_strict, check_questions,
          check_receipts, check_patience_of_a_round, check_same_report, check_closed_output),
     )

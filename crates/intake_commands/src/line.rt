@@ -5,8 +5,11 @@ use register_store::Completed;
 use std::fmt;
 use std::fmt::Write;
 
-/// The line of a connection in the log, a JSON object: its number, how it ended, the filers of the requests that were
-/// filed, how many requests and refusals there were, and the statuses of the first replies.
+/// How many filers a line has at most.
+const MOST_FILERS: usize = 64;
+
+/// The line of a connection in the log, a JSON object: its number, how it ended, the filers of the first requests that
+/// were filed, how many requests and refusals there were, and the statuses of the first replies.
 #[derive(Clone, Copy)]
 pub(crate) struct ConnectionLine<'a> {
     pub(crate) connection: u32,
@@ -24,7 +27,7 @@ fn write_ended<W: fmt::Write>(ended: Ended, f: &mut fmt::Formatter<W>) -> fmt::R
 }
 
 fn write_filers<W: fmt::Write>(list: &[Completed], f: &mut fmt::Formatter<W>) -> fmt::Result {
-    for (at, it) in list.iter().enumerate() {
+    for (at, it) in list.iter().take(MOST_FILERS).enumerate() {
         let comma = if at == 0 { "" } else { "," };
         // A filer's code has letters, digits, '.', '_' and '-' alone.
         write!(f, "{comma}\"{}\"", it.filer)?;
