@@ -1,9 +1,8 @@
 -- Connections that are served, one behind another.
 use Rattle.std.proofs.Common.{◌≡◌, ℕ, ◌+◌, ◌≤◌, List, [], ◌∷◌, ◌++◌, length, Option, Some, None, refl, sym, ◌∙◌, ap}
-use Rattle.std.proofs.Common.{subst, arith, append_assoc, true≢false}
+use Rattle.std.proofs.Common.{subst, arith, append_assoc, true≢false, inl, inr}
 use Rattle.std.specs.Prelude.{IfSome, option_map, Result, Ok, Err}
 use Rattle.std.specs.Result.{IsErr, result_ok}
-use Rattle.std.proofs.lemmas.Option.{IfSome_then}
 use Rattle.std.proofs.lemmas.List.{length-append}
 use Rattle.std.specs.Io.KnownBytes.{Consumes, Appends, IsAtEnd}
 use Rattle.http_messages.specs.declared.refusal.ConnFault.TheVariants as fault
@@ -18,8 +17,8 @@ use Rattle.intake_core.specs.Held.{limit_of, old_style_in}
 use Rattle.gateway_server.specs.declared.serving.Served.{Served}
 use Rattle.http_wire.specs.Wire.{Wire}
 use Rattle.gateway_server.specs.Progress.{ServesToEnd}
-use Rattle.gateway_ports.specs.Ports.{Output, Traffic, Takes, IsUnwritten, Grows, Adds}
-use Rattle.gateway_ports.specs.InTurn.{Connection, Came, ServeInTurn, outputs_of, AreCounted, AreServed, ServesSome}
+use Rattle.gateway_ports.specs.Ports.{Connection, Traffic, Takes, IsNew, Grows, Adds, connection_with}
+use Rattle.gateway_ports.specs.InTurn.{Came, ServeInTurn, AreCounted, AreTold, AreServed, ServesSome}
 
 -- ---- no connection
 
@@ -34,9 +33,19 @@ counted_none (Some coming) = refl
 pub counted_given_up : AreCounted None [] 1
 counted_given_up = omega arith
 
-pub grows_none : (old : Option (List Output)) → Grows old old []
+grows_none : (old : Option (List Connection)) → Grows old old []
 grows_none None = tt
-grows_none (Some outputs) = ap Some (sym (append_nil outputs))
+grows_none (Some connections) = ap Some (sym (append_nil connections))
+
+pub told_none : (old : Option (List Connection)) (taken : Option ℕ) → AreTold old old [] taken
+told_none old None = inl (grows_none old)
+told_none old (Some n) = grows_none old
+
+-- where it is not answered how many came
+pub told_untold : (old new : Option (List Connection)) (cs : List Connection) (taken : Option ℕ)
+    → AreTold old new cs taken → AreTold old new cs None
+told_untold old new cs None told = told
+told_untold old new cs (Some n) told = inl told
 
 -- ---- one connection
 
@@ -54,28 +63,55 @@ came_one (Some (first ∷ more)) new left left' c takes reads end limited =
     known None reads end = absurd reads
     known (Some rest) reads end = (record { more = rest; splits = reads; at_end = end; limited = limited }, takes.0)
 
-pub counted_one : (old : Option (List (List ℕ))) (c : Connection) → AreCounted old (c ∷ []) 1
+counted_one : (old : Option (List (List ℕ))) (c : Connection) → AreCounted old (c ∷ []) 1
 counted_one None c = omega arith
 counted_one (Some coming) c = refl
 
--- what was written on it is its output
-pub grows_one : (old new : Option (List Output)) (written written' : Option (List ℕ)) (served : Served) (text : List ℕ)
-    → IsUnwritten old written → Appends written written' text → Adds old new served written'
-    → Grows old new (record { marks = served.marks.items; ended = served.ended; bytes = text } ∷ [])
-grows_one None new written written' served text unwritten wrote adds = tt
-grows_one (Some outputs) new written written' served text unwritten wrote adds =
-    known written' (subst (λ w. Appends w written' text) unwritten wrote) adds
+-- what was read of it and written on it is kept
+grows_one : (old new : Option (List Connection)) (given : Option (List ℕ)) (from to : Wire) (served : Served)
+    (read text : List ℕ) → IsNew old given from → Consumes from.left to.left read
+    → Appends from.written to.written text → Adds old new served given to.left to.written
+    → Grows old new (connection_with served read text ∷ [])
+grows_one None new given from to served read text fresh reads wrote adds = tt
+grows_one (Some connections) new given from to served read text fresh reads wrote adds =
+    known to.written (subst (λ w. Appends w to.written text) fresh.3 wrote)
+    (subst (λ g. Adds (Some connections) new served g to.left to.written) fresh.1 adds)
   where
-    known : (written' : Option (List ℕ)) → Appends (Some []) written' text → Adds (Some outputs) new served written'
-        → Grows (Some outputs) new (record { marks = served.marks.items; ended = served.ended; bytes = text } ∷ [])
+    known : (written : Option (List ℕ)) → Appends (Some []) written text
+        → Adds (Some connections) new served (Some fresh.0) to.left written
+        → Grows (Some connections) new (connection_with served read text ∷ [])
     known None wrote adds = absurd wrote
     known (Some all) wrote adds =
-        subst (λ t. Grows (Some outputs) new (record {
-          marks = served.marks.items;
-          ended = served.ended;
-          bytes =
-              t;
-        } ∷ [])) wrote adds
+        subst (λ t. Grows (Some connections) new (connection_with served read t ∷ [])) wrote
+        (adds read (subst (λ l. Consumes l to.left read) fresh.2 reads))
+
+-- it was told to the port that one came, and what became of it; or the port refused that, and is as it was
+abbrev pub IsEndTold : Traffic → Traffic → Wire → Served → Option ℕ → Type 0
+IsEndTold mid port' to served None = port'.over ≡ mid.over
+IsEndTold mid port' to served (Some n) =
+    (n ≡ 1) × Adds mid.over port'.over served mid.given to.left to.written
+
+pub counted_told : (old : Option (List (List ℕ))) (mid port' : Traffic) (to : Wire) (served : Served) (c : Connection)
+    (taken : Option ℕ) → IsEndTold mid port' to served taken → IfSome taken (AreCounted old (c ∷ []))
+counted_told old mid port' to served c None told = tt
+counted_told old mid port' to served c (Some n) told =
+    subst (λ k. AreCounted old (c ∷ []) k) (sym told.0) (counted_one old c)
+
+pub told_one : (port mid port' : Traffic) (from to : Wire) (served : Served) (read text : List ℕ) (taken : Option ℕ)
+    → mid.over ≡ port.over → IsNew port.over mid.given from → Consumes from.left to.left read
+    → Appends from.written to.written text → IsEndTold mid port' to served taken
+    → AreTold port.over port'.over (connection_with served read text ∷ []) taken
+told_one port mid port' from to served read text None same fresh reads wrote told =
+    inr (
+      [],
+      connection_with served read text,
+      refl,
+      subst (λ o. Grows port.over o []) (sym (told ∙ same))
+          (grows_none port.over),
+    )
+told_one port mid port' from to served read text (Some n) same fresh reads wrote told =
+    grows_one port.over port'.over mid.given from to served read text fresh reads wrote
+    (subst (λ over. Adds over port'.over served mid.given to.left to.written) same told.1)
 
 -- ---- some, and then more
 
@@ -113,17 +149,24 @@ counted_join None mid cs ds m n came first second =
 counted_join (Some coming) mid cs ds m n came first second =
     omega (arith, length-append cs ds, first, counted_known coming mid cs ds n came second)
 
-outputs_join : (cs ds : List Connection) → outputs_of (cs ++ ds) ≡ outputs_of cs ++ outputs_of ds
-outputs_join [] ds = refl
-outputs_join (c ∷ cs) ds = ap (λ os. c.output ∷ os) (outputs_join cs ds)
-
-pub grows_join : (old mid new : Option (List Output)) (cs ds : List Connection) → Grows old mid (outputs_of cs)
-    → Grows mid new (outputs_of ds) → Grows old new (outputs_of (cs ++ ds))
+grows_join : (old mid new : Option (List Connection)) (cs ds : List Connection) → Grows old mid cs
+    → Grows mid new ds → Grows old new (cs ++ ds)
 grows_join None mid new cs ds first second = tt
-grows_join (Some outputs) mid new cs ds first second =
-    subst (λ m. Grows m new (outputs_of ds)) first second
-    ∙ ap Some (append_assoc outputs (outputs_of cs) (outputs_of ds)
-    ∙ ap (λ os. outputs ++ os) (sym (outputs_join cs ds)))
+grows_join (Some connections) mid new cs ds first second =
+    subst (λ m. Grows m new ds) first second ∙ ap Some (append_assoc connections cs ds)
+
+pub told_join : (old mid new : Option (List Connection)) (cs ds : List Connection) (m : ℕ) (taken : Option ℕ)
+    → AreTold old mid cs (Some m) → AreTold mid new ds taken
+    → AreTold old new (cs ++ ds) (option_map (λ n. m + n) taken)
+told_join old mid new cs ds m (Some n) first second = grows_join old mid new cs ds first second
+told_join old mid new cs ds m None first (inl second) = inl (grows_join old mid new cs ds first second)
+told_join old mid new cs ds m None first (inr (told, last, is, second)) =
+    inr (
+      cs ++ told,
+      last,
+      ap (λ es. cs ++ es) is ∙ sym (append_assoc cs told (last ∷ [])),
+      grows_join old mid new cs told first second,
+    )
 
 served_join : (limit : ℕ) (old_style before between after : List Request) (first mid last : Traffic)
     (cs ds : List Connection) (m : ℕ) (taken : Option ℕ)
@@ -134,13 +177,13 @@ served_join limit old_style before between after first mid last cs ds m None a b
   in_turn = turns_join limit old_style before between after cs ds a.in_turn b.in_turn;
   came = came_join first.coming mid.coming last.coming cs ds a.came b.came;
   counted = tt;
-  told = tt;
+  told = told_join first.over mid.over last.over cs ds m None a.told b.told;
 }
 served_join limit old_style before between after first mid last cs ds m (Some n) a b = record {
   in_turn = turns_join limit old_style before between after cs ds a.in_turn b.in_turn;
   came = came_join first.coming mid.coming last.coming cs ds a.came b.came;
   counted = counted_join first.coming mid.coming cs ds m n a.came a.counted b.counted;
-  told = grows_join first.over mid.over last.over cs ds a.told b.told;
+  told = told_join first.over mid.over last.over cs ds m (Some n) a.told b.told;
 }
 
 -- ---- what an intake does
@@ -176,7 +219,20 @@ module _ {S : Type 0} (g : Ghosts S) where
   untold port port' old new taken a = record {
     serves = λ clean before holds.
         let t = a.serves clean before holds in
-        (t.0, t.1, t.2, (t.3.0, record { in_turn = t.3.1.in_turn; came = t.3.1.came; counted = tt; told = tt }));
+        let s = t.3.1 in (
+          t.0,
+          t.1,
+          t.2,
+          (
+            t.3.0,
+            record {
+              in_turn = s.in_turn;
+              came = s.came;
+              counted = tt;
+              told = told_untold port.over port'.over t.3.0 taken s.told;
+            },
+          ),
+        );
     setting = a.setting;
   }
 
@@ -188,34 +244,21 @@ module _ {S : Type 0} (g : Ghosts S) where
       before,
       holds,
       refl,
-      ([], record { in_turn = refl; came = came_none port.coming; counted = counted; told = told taken }),
+      ([], record { in_turn = refl; came = came_none port.coming; counted = counted; told = told_none port.over taken }),
     );
     setting = record { clean = λ clean. clean; limit = refl; old_style = refl };
   })
-    where
-      told : (taken : Option ℕ) → IfSome taken (λ _. Grows port.over port.over [])
-      told None = tt
-      told (Some n) = grows_none port.over
 
   -- one connection was served, and, where that is told, it was told to the port
   pub one : (port mid port' : Traffic) (from to : Wire) (old new : Intake S) (served : Served) (taken : Option ℕ)
-      → (mid.over ≡ port.over) × Takes port.coming mid.coming from.left × IsUnwritten port.over from.written
+      → (mid.over ≡ port.over) × Takes port.coming mid.coming from.left × IsNew port.over mid.given from
       → ServesToEnd g from to old new served → port'.coming ≡ mid.coming
-      → IfSome taken (λ n. (n ≡ 1) × Adds mid.over port'.over served to.written) → ServesSome g port port' old new taken
+      → IsEndTold mid port' to served taken → ServesSome g port port' old new taken
   one port mid port' from to old new served taken fresh serves same told = record {
     serves = λ clean before holds.
         let t = serves.serves clean before holds in
         let s = t.3 in
-        let c : Connection =
-        record {
-          read = s.got;
-          output = record {
-            marks = served.marks.items;
-            ended = served.ended;
-            bytes =
-                s.sent;
-          };
-        } in (
+        let c = connection_with served s.got s.sent in (
           t.0,
           t.1,
           t.2,
@@ -225,11 +268,8 @@ module _ {S : Type 0} (g : Ghosts S) where
               in_turn = (t.0, s.serves, refl);
               came = subst (λ after. Came port.coming after (c ∷ [])) (sym same)
                   (came_one port.coming mid.coming from.left to.left c fresh.1 s.read s.at_end s.limited);
-              counted =
-                  IfSome_then taken told (λ n is. subst (λ k. AreCounted port.coming (c ∷ []) k) (sym is.0)
-                  (counted_one port.coming c));
-              told = IfSome_then taken told (λ n is. grows_one port.over port'.over from.written to.written served
-                  s.sent fresh.2 s.wrote (subst (λ over. Adds over port'.over served to.written) fresh.0 is.1));
+              counted = counted_told port.coming mid port' to served c taken told;
+              told = told_one port mid port' from to served s.got s.sent taken fresh.0 fresh.2 s.read s.wrote told;
             },
           ),
         );

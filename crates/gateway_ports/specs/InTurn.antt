@@ -1,5 +1,5 @@
 -- Connections that an intake serves one after another; own rules.
-use Rattle.std.specs.Prelude.{◌≡◌, ℕ, ◌≤◌, List, [], ◌∷◌, ◌++◌, length, map, Option, Some, None, IfSome}
+use Rattle.std.specs.Prelude.{◌≡◌, ◌⊎◌, ℕ, ◌≤◌, List, [], ◌∷◌, ◌++◌, length, Option, Some, None, IfSome}
 use Rattle.sqlite.specs.Store.{Ghosts}
 use Rattle.http_messages.specs.declared.refusal.ConnFault.TheVariants as fault
 use Rattle.http_messages.specs.Reads.{max_reads}
@@ -8,15 +8,7 @@ use Rattle.filing_model.specs.Request.{Request}
 use Rattle.filing_model.specs.Serving.{Keeping, keeping, Serves}
 use Rattle.intake_core.specs.declared.intake.Intake.{Intake}
 use Rattle.intake_core.specs.Held.{limit_of, KeepsSetting, IsTransition}
-use Rattle.gateway_ports.specs.Ports.{Output, Traffic, Grows}
-
--- a connection that was served: what was read of it, and what it came to
-pub record Connection : Type 0 where
-  pub read : List ℕ
-  pub output : Output
-
-abbrev pub outputs_of : List Connection → List Output
-outputs_of connections = map (λ connection. connection.output) connections
+use Rattle.gateway_ports.specs.Ports.{Connection, Traffic, Grows}
 
 -- each is served after the requests that the one before it left
 abbrev pub ServeInTurn : Keeping → List Connection → Type 0
@@ -42,6 +34,13 @@ Came (Some []) after (connection ∷ connections) = ⊥
 Came (Some (bytes ∷ coming)) after (connection ∷ connections) =
     IsReadOf bytes connection × Came (Some coming) after connections
 
+-- The port has these connections; or, if no answer says how many were taken, perhaps all but the last, since it refused
+-- that one.
+abbrev pub AreTold : Option (List Connection) → Option (List Connection) → List Connection → Option ℕ → Type 0
+AreTold before after connections (Some taken) = Grows before after connections
+AreTold before after connections None = Grows before after connections
+    ⊎ ((told : List Connection) × (last : Connection) × (connections ≡ told ++ last ∷ []) × Grows before after told)
+
 -- How many connections came: these, and, if the coming ones are not known, perhaps some that their peers gave up first.
 abbrev pub AreCounted : Option (List (List ℕ)) → List Connection → ℕ → Type 0
 AreCounted None connections count = length connections ≤ count
@@ -52,9 +51,9 @@ pub record AreServed (requests : Keeping) (old new : Traffic) (connections : Lis
     : Type 0 where
   pub in_turn : ServeInTurn requests connections
   pub came : Came old.coming new.coming connections
-  -- if the answer says how many were taken, these are as many, and the port got what became of each
+  -- if the answer says how many were taken, these are as many
   pub counted : IfSome taken (AreCounted old.coming connections)
-  pub told : IfSome taken (λ _. Grows old.over new.over (outputs_of connections))
+  pub told : AreTold old.over new.over connections taken
 
 -- What serving some connections of a port does with it and with an intake. `taken` says how many came, if the answer
 -- has it.

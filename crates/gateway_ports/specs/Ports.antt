@@ -1,5 +1,6 @@
 -- What comes on a port and what becomes of its connections, as far as that is known; own rules.
 use Rattle.std.specs.Prelude.{◌≡◌, ℕ, List, [], ◌∷◌, ◌++◌, Option, Some, None, Result, Ok, Err}
+use Rattle.std.specs.Io.KnownBytes.{Consumes}
 use Rattle.http_wire.specs.Wire.{Wire}
 use Rattle.filing_model.specs.declared.served.Mark.{Mark}
 use Rattle.filing_model.specs.declared.served.Ended.{Ended}
@@ -11,11 +12,17 @@ pub record Output : Type 0 where
   pub ended : Ended
   pub bytes : List ℕ
 
--- What contracts see of a port, if it is known: the bytes of each connection that comes from here on, and what became
--- of each that is over.
+-- a connection that is over: what was read of it, and what it came to
+pub record Connection : Type 0 where
+  pub read : List ℕ
+  pub output : Output
+
+-- What contracts see of a port, if it is known: the bytes of each connection that comes from here on, the bytes of the
+-- one that came last, and each that is over.
 pub record Traffic : Type 0 where
   pub coming : Option (List (List ℕ))
-  pub over : Option (List Output)
+  pub given : Option (List ℕ)
+  pub over : Option (List Connection)
 
 -- the first of the known connections is taken, and has these bytes
 abbrev pub Takes : Option (List (List ℕ)) → Option (List (List ℕ)) → Option (List ℕ) → Type 0
@@ -23,10 +30,11 @@ Takes None after bytes = Unit {0}
 Takes (Some []) after bytes = ⊥
 Takes (Some (first ∷ more)) after bytes = (after ≡ Some more) × (bytes ≡ Some first)
 
--- nothing is written yet on a new connection, if the port records what becomes of each
-abbrev pub IsUnwritten : Option (List Output) → Option (List ℕ) → Type 0
-IsUnwritten None written = Unit {0}
-IsUnwritten (Some outputs) written = written ≡ Some []
+-- a port that records what becomes of each connection knows the bytes of a new one, on which nothing is written yet
+abbrev pub IsNew : Option (List Connection) → Option (List ℕ) → Wire → Type 0
+IsNew None given wire = Unit {0}
+IsNew (Some connections) given wire =
+    (bytes : List ℕ) × (given ≡ Some bytes) × (wire.left ≡ Some bytes) × (wire.written ≡ Some [])
 
 -- none of the known connections is left
 abbrev pub NoneIsLeft : Option (List (List ℕ)) → Type 0
@@ -39,17 +47,25 @@ NoneIsLeft (Some coming) = coming ≡ []
 abbrev pub Comes : {R W E : Type 0} → (R → W → Wire) → Traffic → Traffic → Result (Option (R × W)) E → Type 0
 Comes shows old new (Ok (Some (reader, writer))) =
     (new.over ≡ old.over) × Takes old.coming new.coming (shows reader writer).left
-    × IsUnwritten old.over (shows reader writer).written
+    × IsNew old.over new.given (shows reader writer)
 Comes shows old new (Ok None) = (new ≡ old) × (old.coming ≡ None)
 Comes shows old new (Err error) = (new ≡ old) × NoneIsLeft old.coming
 
--- the known outputs, and behind them these
-abbrev pub Grows : Option (List Output) → Option (List Output) → List Output → Type 0
-Grows None after outputs = Unit {0}
-Grows (Some outputs) after more = after ≡ Some (outputs ++ more)
+-- the known connections, and behind them these
+abbrev pub Grows : Option (List Connection) → Option (List Connection) → List Connection → Type 0
+Grows None after connections = Unit {0}
+Grows (Some connections) after more = after ≡ Some (connections ++ more)
 
--- the known outputs, and behind them that of a connection with this end, on which this was written
-abbrev pub Adds : Option (List Output) → Option (List Output) → Served → Option (List ℕ) → Type 0
-Adds old new served None = Unit {0}
-Adds old new served (Some written) =
-    Grows old new (record { marks = served.marks.items; ended = served.ended; bytes = written } ∷ [])
+-- a connection with this end, of which this was read and on which this was written
+abbrev pub connection_with : Served → List ℕ → List ℕ → Connection
+connection_with served read written =
+    record { read = read; output = record { marks = served.marks.items; ended = served.ended; bytes = written } }
+
+-- The known connections, and behind them the one that came last, with this end: these bytes of it are left, the others
+-- were read, and this was written on it.
+abbrev pub Adds : Option (List Connection) → Option (List Connection) → Served → Option (List ℕ) → Option (List ℕ)
+    → Option (List ℕ) → Type 0
+Adds old new served None left written = Unit {0}
+Adds old new served (Some bytes) left None = Unit {0}
+Adds old new served (Some bytes) left (Some written) =
+    (read : List ℕ) → Consumes (Some bytes) left read → Grows old new (connection_with served read written ∷ [])

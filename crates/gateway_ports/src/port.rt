@@ -17,7 +17,7 @@ pub trait Port {
     /// What writes on it.
     type Writer: Sink + Drop;
 
-    // What comes from here on, and what became of the connections that are over, if that is known.
+    // What comes from here on, what came last, and the connections that are over, if that is known.
     ghost traffic: { Self → Traffic };
 
     /// Begins to listen. No connection comes on a port that isn't listened on. A port whose connections are known
@@ -39,5 +39,6 @@ pub trait Port {
     ) -> Result<(), AllocError>
         ensures coming { (traffic self.new).coming ≡ (traffic self.old).coming }
         ensures over { OnOk result (Adds (traffic self.old).over (traffic self.new).over served
-            (Self.Writer.written writer)) };
+            (traffic self.old).given (Self.Reader.left reader) (Self.Writer.written writer)) }
+        ensures refused { IfErr result (λ _. (traffic self.new).over ≡ (traffic self.old).over) };
 }

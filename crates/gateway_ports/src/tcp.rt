@@ -50,7 +50,7 @@ impl Port for TcpPort<'_> {
 
     type Writer = Device<TcpStream>;
 
-    ghost traffic = { λ _. record { coming = None; over = None } };
+    ghost traffic = { λ _. record { coming = None; given = None; over = None } };
 
     fn listen(&mut self) -> io::Result<()> {
         self.listener = Some(TcpListener::bind(self.rt, ("127.0.0.1", self.number))?);

@@ -85,7 +85,7 @@ impl<'r> Port for TimedPort<'r> {
 
     type Writer = Timed<'r>;
 
-    ghost traffic = { λ _. record { coming = None; over = None } };
+    ghost traffic = { λ _. record { coming = None; given = None; over = None } };
 
     // A port that is listened on already is not taken again.
     fn listen(&mut self) -> io::Result<()> {

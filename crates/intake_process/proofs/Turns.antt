@@ -2,7 +2,6 @@
 use Rattle.std.proofs.Common.{◌≡◌, ℕ, ◌+◌, Bool, List, [], ◌∷◌, ◌++◌, map, take, Option, Some, None, Ok, arith, refl}
 use Rattle.std.proofs.Common.{sym, ◌∙◌, ap, ap₂, subst}
 use Rattle.std.specs.Prelude.{IfSome, option_map}
-use Rattle.std.proofs.lemmas.Option.{IfSome_then}
 use Rattle.sqlite_disk.specs.declared.Disk.{Ghosts}
 use Rattle.sqlite_disk.specs.declared.Files.{Files}
 use Rattle.sqlite_store.specs.declared.store.FileStore.{FileStore}
@@ -11,10 +10,10 @@ use Rattle.http_wire.specs.Wire.{Wire}
 use Rattle.filing_model.specs.Request.{Request}
 use Rattle.filing_model.specs.Serving.{Keeping, keeping}
 use Rattle.intake_core.specs.declared.intake.Intake.{Intake}
-use Rattle.gateway_ports.specs.InTurn.{Connection, outputs_of, ServeInTurn, Came, AreCounted, AreServed}
-use Rattle.gateway_ports.specs.Ports.{Traffic, Takes, IsUnwritten, Grows, Adds}
-use Rattle.gateway_ports.proofs.Turns.{came_none, grows_none, came_one, counted_one, grows_one, turns_join, came_join}
-use Rattle.gateway_ports.proofs.Turns.{counted_join, grows_join}
+use Rattle.gateway_ports.specs.InTurn.{ServeInTurn, Came, AreCounted, AreTold, AreServed}
+use Rattle.gateway_ports.specs.Ports.{Connection, Traffic, Takes, IsNew, connection_with}
+use Rattle.gateway_ports.proofs.Turns.{IsEndTold, came_none, told_none, came_one, counted_told, told_one, told_untold}
+use Rattle.gateway_ports.proofs.Turns.{turns_join, came_join, counted_join, told_join}
 use Rattle.gateway_ports.proofs.Turns as ports
 use Rattle.table_rows.proofs.CleanLemmas.{always_clean}
 use Rattle.database_places.specs.Places.{IsHonest}
@@ -49,6 +48,13 @@ away_join [] us first second = second
 away_join (Served c ∷ ts) us first second = away_join ts us first second
 away_join (TurnedAway c ∷ ts) us first second = (first.0, away_join ts us first.1 second)
 
+told_turns : (old mid new : Option (List Connection)) (ts us : List Turn) (m : ℕ) (taken : Option ℕ)
+    → AreTold old mid (connections_of ts) (Some m) → AreTold mid new (connections_of us) taken
+    → AreTold old new (connections_of (ts ++ us)) (option_map (λ n. m + n) taken)
+told_turns old mid new ts us m taken first second =
+    subst (λ cs. AreTold old new cs (option_map (λ n. m + n) taken)) (sym (connections_join ts us))
+    (told_join old mid new (connections_of ts) (connections_of us) m taken first second)
+
 answered_join : (limit : ℕ) (was_clean before between after : List Request) (first mid last : Traffic)
     (ts us : List Turn) (m : ℕ) (taken : Option ℕ)
     → AreAnswered (keeping limit was_clean before between) first mid ts (Some m)
@@ -62,7 +68,7 @@ answered_join limit was_clean before between after first mid last ts us m None a
   came = subst (Came first.coming last.coming) (sym (connections_join ts us))
       (came_join first.coming mid.coming last.coming (connections_of ts) (connections_of us) a.came b.came);
   counted = tt;
-  told = tt;
+  told = told_turns first.over mid.over last.over ts us m None a.told b.told;
 }
 answered_join limit was_clean before between after first mid last ts us m (Some n) a b = record {
   in_turn =
@@ -74,8 +80,7 @@ answered_join limit was_clean before between after first mid last ts us m (Some 
   counted =
       subst (λ cs. AreCounted first.coming cs (m + n)) (sym (connections_join ts us))
       (counted_join first.coming mid.coming (connections_of ts) (connections_of us) m n a.came a.counted b.counted);
-  told = subst (λ cs. Grows first.over last.over (outputs_of cs)) (sym (connections_join ts us))
-      (grows_join first.over mid.over last.over (connections_of ts) (connections_of us) a.told b.told);
+  told = told_turns first.over mid.over last.over ts us m (Some n) a.told b.told;
 }
 
 -- ---- all were served
@@ -99,7 +104,7 @@ all_served requests port port' cs taken a = record {
   away = none_away cs;
   came = subst (Came port.coming port'.coming) (sym (connections_all cs)) a.came;
   counted = subst (λ ds. IfSome taken (AreCounted port.coming ds)) (sym (connections_all cs)) a.counted;
-  told = subst (λ ds. IfSome taken (λ _. Grows port.over port'.over (outputs_of ds))) (sym (connections_all cs)) a.told;
+  told = subst (λ ds. AreTold port.over port'.over ds taken) (sym (connections_all cs)) a.told;
 }
 
 -- ---- what a process does
@@ -142,7 +147,7 @@ module _ {D : Type 0} {g : Ghosts D} (limit : ℕ) where
             came = one.4.came;
             counted =
                 tt;
-            told = tt;
+            told = told_untold port.over port'.over (connections_of one.3) taken one.4.told;
           },
           one.5,
         );
@@ -160,15 +165,17 @@ module _ {D : Type 0} {g : Ghosts D} (limit : ℕ) where
               keeps certain,
               refl,
               [],
-              record { in_turn = refl; away = tt; came = came_none port.coming; counted = counted; told = told taken },
+              record {
+                in_turn = refl;
+                away = tt;
+                came = came_none port.coming;
+                counted = counted;
+                told = told_none port.over taken;
+              },
               λ u. refl,
             );
         certain = λ certain. certain;
       })
-    where
-      told : (taken : Option ℕ) → IfSome taken (λ _. Grows port.over port.over [])
-      told None = tt
-      told (Some n) = grows_none port.over
 
   -- some were answered after a call that answered none, and before one
   pub between : (port port' : Traffic) (old first last new : Parts g) (taken : Option ℕ)
@@ -188,9 +195,9 @@ module _ {D : Type 0} {g : Ghosts D} (limit : ℕ) where
   one_by : IsHonest g → (port mid port' : Traffic) (from to : Wire) (old new : Option (Intake (FileStore D g)))
       (lying lying' : Option (Option (Files D))) (is was : Bool) (calls calls' : ℕ) (answered : Answered)
       (taken : Option ℕ)
-      → (mid.over ≡ port.over) × Takes port.coming mid.coming from.left × IsUnwritten port.over from.written
+      → (mid.over ≡ port.over) × Takes port.coming mid.coming from.left × IsNew port.over mid.given from
       → AnswersBy from to old new answered → lying' ≡ lying → is ≡ was
-      → port'.coming ≡ mid.coming → IfSome taken (λ n. (n ≡ 1) × Adds mid.over port'.over answered.served to.written)
+      → port'.coming ≡ mid.coming → IsEndTold mid port' to answered.served taken
       → AnswersSome limit port port' (record { intake = old; lying = lying; is_certain = was; refused_calls = calls })
       (record { intake = new; lying = lying'; is_certain = is; refused_calls = calls' }) taken
   one_by honest port mid port' from to (Some intake) new lying lying' is was calls calls' answered taken fresh by there
@@ -227,16 +234,7 @@ module _ {D : Type 0} {g : Ghosts D} (limit : ℕ) where
             let kept = keeps (sym sure ∙ certain) in
             let away = by.1 in
             let served = answered.served in
-            let c : Connection =
-            record {
-              read = away.got;
-              output = record {
-                marks = served.marks.items;
-                ended = served.ended;
-                bytes =
-                    away.sent;
-              };
-            } in (
+            let c = connection_with served away.got away.sent in (
               before,
               subst (λ i. KeepsBy i lying' limit was_clean before) (sym by.0)
                   (subst (λ l. KeepsBy {g = g} None l limit was_clean before) (sym there) kept),
@@ -247,11 +245,9 @@ module _ {D : Type 0} {g : Ghosts D} (limit : ℕ) where
                 away = (away.turned, tt);
                 came = subst (λ after. Came port.coming after (c ∷ [])) (sym coming)
                     (came_one port.coming mid.coming from.left to.left c fresh.1 away.read away.at_end away.limited);
-                counted =
-                    IfSome_then taken told (λ n is. subst (λ k. AreCounted port.coming (c ∷ []) k) (sym is.0)
-                    (counted_one port.coming c));
-                told = IfSome_then taken told (λ n is. grows_one port.over port'.over from.written to.written served
-                    away.sent fresh.2 away.wrote (subst (λ over. Adds over port'.over served to.written) fresh.0 is.1));
+                counted = counted_told port.coming mid port' to served c taken told;
+                told = told_one port mid port' from to served away.got away.sent taken fresh.0 fresh.2 away.read
+                    away.wrote told;
               },
               λ u. absurd u.up,
             );
@@ -261,8 +257,8 @@ module _ {D : Type 0} {g : Ghosts D} (limit : ℕ) where
   -- one connection was answered, and, where that is told, it was told to the port
   pub one : IsHonest g → (port mid port' : Traffic) (from to : Wire) (old new : Parts g) (answered : Answered)
       (taken : Option ℕ) → (mid.over ≡ port.over) × Takes port.coming mid.coming from.left
-      × IsUnwritten port.over from.written → AnswersWire from to old new answered
-      → port'.coming ≡ mid.coming → IfSome taken (λ n. (n ≡ 1) × Adds mid.over port'.over answered.served to.written)
+      × IsNew port.over mid.given from → AnswersWire from to old new answered
+      → port'.coming ≡ mid.coming → IsEndTold mid port' to answered.served taken
       → AnswersSome limit port port' old new taken
   one honest port mid port' from to old new answered taken fresh by coming told =
       one_by honest port mid port' from to old.intake new.intake old.lying new.lying new.is_certain old.is_certain

@@ -5,8 +5,8 @@ use Rattle.std.specs.Result.{result_ok}
 use Rattle.sqlite_disk.specs.declared.Disk.{Ghosts}
 use Rattle.filing_model.specs.Request.{Request}
 use Rattle.filing_model.specs.Serving.{Keeping, keeping}
-use Rattle.gateway_ports.specs.InTurn.{Connection, outputs_of, ServeInTurn, Came, AreCounted}
-use Rattle.gateway_ports.specs.Ports.{Traffic, Grows}
+use Rattle.gateway_ports.specs.InTurn.{ServeInTurn, Came, AreCounted, AreTold}
+use Rattle.gateway_ports.specs.Ports.{Connection, Traffic}
 use Rattle.database_places.specs.Places.{IsHonest}
 use Rattle.intake_process.specs.declared.begun.Totals.{Totals}
 use Rattle.intake_process.specs.declared.process.Closed.{Closed}
@@ -48,9 +48,9 @@ pub record AreAnswered (requests : Keeping) (old new : Traffic) (turns : List Tu
   pub in_turn : ServeInTurn requests (served_in turns)
   pub away : AreTurnedAway turns
   pub came : Came old.coming new.coming (connections_of turns)
-  -- if the answer says how many were taken, these are as many, and the port got what became of each
+  -- if the answer says how many were taken, these are as many
   pub counted : IfSome taken (AreCounted old.coming (connections_of turns))
-  pub told : IfSome taken (λ _. Grows old.over new.over (outputs_of (connections_of turns)))
+  pub told : AreTold old.over new.over (connections_of turns) taken
 
 -- What answering some connections of a port does with it and with the process of an intake. `taken` says how many came,
 -- if the answer has it.

@@ -18,8 +18,8 @@ use Rattle.filing_world.proofs.Keeping.{holds_after}
 use Rattle.sqlite.specs.Store.{Ghosts}
 use Rattle.intake_core.specs.declared.intake.Intake.{Intake}
 use Rattle.intake_core.specs.Held.{old_style_of, IsClean, HoldsRequests}
-use Rattle.gateway_ports.specs.Ports.{Traffic}
-use Rattle.gateway_ports.specs.InTurn.{Connection, ServeInTurn, ServesSome}
+use Rattle.gateway_ports.specs.Ports.{Connection, Traffic}
+use Rattle.gateway_ports.specs.InTurn.{ServeInTurn, ServesSome}
 use Rattle.programs.specs.Deliveries.{Delivery, AreOf, events_of, end_in_world, GoesOnTo, StandsFor, IsServedIn}
 
 -- a connection that a fault ended is one for which memory ran out

@@ -11,8 +11,8 @@ use Rattle.filing_world.specs.Step.{Run}
 use Rattle.sqlite.specs.Store.{Ghosts}
 use Rattle.intake_core.specs.declared.intake.Intake.{Intake}
 use Rattle.intake_core.specs.Held.{old_style_of, limit_of, HoldsRequests}
-use Rattle.gateway_ports.specs.Ports.{Traffic}
-use Rattle.gateway_ports.specs.InTurn.{Connection, AreServed}
+use Rattle.gateway_ports.specs.Ports.{Connection, Traffic}
+use Rattle.gateway_ports.specs.InTurn.{AreServed}
 
 -- what came on a connection: so many of the first bytes of the item that was sent under this number
 pub record Delivery : Type 0 where

@@ -10,7 +10,7 @@ ghost use Rattle.filing_model.specs.Serving.{keeping};
 ghost use Rattle.filing_world.specs.World.{World, Outbox, Event};
 ghost use Rattle.filing_world.specs.Headline.{AreFilers, start, Holds};
 ghost use Rattle.filer_client.specs.Exchange.{IsOpenRequest, Hears};
-ghost use Rattle.gateway_ports.specs.InTurn.{ServeInTurn, Connection, ServesSome};
+ghost use Rattle.gateway_ports.specs.InTurn.{ServeInTurn, ServesSome};
 ghost use Rattle.intake_process.specs.Turns.{Turn, connections_of, served_in, AreTurnedAway};
 ghost use Rattle.programs.specs.Deliveries.{Delivery, AreOf, GoesOnTo, StandsFor, IsServedIn};
 ghost use Rattle.programs.specs.Exchanged.{IsBox, IsSent, ComesOf, IsMoved};
@@ -19,7 +19,7 @@ ghost use Rattle.programs.specs.Happenings.{TurnsHappen};
 ghost use Rattle.filing_world.specs.Step.{Run};
 ghost use Rattle.intake_core.specs.declared.intake.Intake.{Intake};
 ghost use Rattle.intake_core.specs.Held.{IsClean};
-ghost use Rattle.gateway_ports.specs.Ports.{Traffic};
+ghost use Rattle.gateway_ports.specs.Ports.{Connection, Traffic};
 
 use sqlite::Alter;
 

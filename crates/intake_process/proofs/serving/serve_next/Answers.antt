@@ -37,7 +37,7 @@ returns-in_err-end-clause-answers g c = λ honest.
     (g.L.Port.traffic c.end.new.self) (wire g.L.Reader.Source g.L.Writer.Sink c.in-Some.reader c.in-Some.writer)
     (wire g.L.Reader.Source g.L.Writer.Sink c.answer-answered.new.reader c.answer-answered.new.writer) first last
     c.answer-answered.result None (rw c.in-Some.is at c.in_ok-came.ensures) c.answer-answered.ensures
-    c.end.ensures.coming tt)
+    c.end.ensures.coming c.in_err-end.ensures.refused)
     (same c.args.limit last))
 
 pub returns-in_ok-end-clause-answers : goal.returns-in_ok-end-clause-answers
