@@ -1,6 +1,6 @@
 -- What follows from what is known of some bytes, and what more bytes leave as it was.
-use Rattle.std.proofs.Common.{◌≡◌, ℕ, ◌+◌, ◌-◌, ◌<◌, ◌≤◌, Bool, true, false, List, ◌++◌, length, take, drop, refl, sym, ap}
-use Rattle.std.proofs.Common.{ap₂, ◌∙◌, subst, arith, nat_lt, ◌&&◌, append_assoc}
+use Rattle.std.proofs.Common.{◌≡◌, ℕ, ◌+◌, ◌-◌, ◌<◌, ◌≤◌, Bool, true, false, List, ◌++◌, length, take, drop, refl, sym}
+use Rattle.std.proofs.Common.{ap, ap₂, ◌∙◌, subst, arith, nat_lt, ◌&&◌, append_assoc}
 use Rattle.std.proofs.lemmas.Bool.Decides.{nat_tests}
 use Rattle.std.proofs.lemmas.Grind.{common_steps}
 use Rattle.std.proofs.lemmas.List.{take-append-drop}
