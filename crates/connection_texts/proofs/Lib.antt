@@ -1,0 +1,5 @@
+pub mod Alone
+pub mod Among
+pub mod Growing
+pub mod Joining
+pub mod Standing
