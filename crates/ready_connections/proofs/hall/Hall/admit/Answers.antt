@@ -1,0 +1,29 @@
+use Rattle.std.proofs.Common.{◌≡◌, ◌<◌, ◌∙◌, Bool, true, false, not, ℕ, List, Option, Some, None, get_or, sym, refl, length, arith}
+use Rattle.std.specs.Prelude.{is_some}
+use Rattle.std.proofs.lemmas.Grind.{common_steps}
+use Rattle.ready_connections.proofs.Halls.{came}
+use Rattle.ready_connections.proofs.hall.Hall.admit.Goals as goal
+use Rattle.ready_connections.proofs.hall.Hall.admit.Goals.{then-is_none+in_ok-stream+in-Some, else-is_none}
+
+free_at : {X : Type 0} (xs : List (Option X)) (i : ℕ) (x : Option X) (b : Bool) → x ≡ get_or xs i x
+    → is_some x ≡ not b → b ≡ true → get_or xs i None ≡ None
+free_at xs i None b read some is = sym read
+free_at xs i (Some x) b read some is = absurd (let h : true ≡ not true = rw is at some in cc)
+
+pub loop-place-preserved : goal.loop-place-preserved
+loop-place-preserved g c = elim c.if-is_none.branch [
+  | then-is_none+in_ok-stream+in-Some w ↦ rw (w.self-is, w.sockets-is) (record {
+    running = λ done running.
+        let old = c.loop-place.self in
+        let low : c.loop-place.place < length old.places.items =
+        grind (arith, common_steps, c.loop-place-test.true, c.len-place-end.ensures) in
+        let free = free_at old.places.items c.loop-place.place c.index.result.now c.is_none.result c.index.ensures
+        c.is_none.ensures w.if-is_none.true in
+        let comes = rw w.in-Some.is at w.in_ok-stream.ensures in
+        came g.S.Stream done old w.enter.new.self (g.P.Sockets.traffic c.loop-place.sockets)
+        (g.P.Sockets.traffic w.accept.new.self) c.loop-place.place w.new.result low c.loop-place.invariant.out free
+        w.enter.ensures comes.1 (w.new.ensures.told done) (c.loop-place.invariant.running done running);
+    out = w.enter.ensures.out ∙ c.loop-place.invariant.out;
+  })
+  | else-is_none w ↦ rw (w.self-is, w.sockets-is) c.loop-place.invariant
+]

@@ -1,0 +1,36 @@
+-- What contracts see of one connection; own rules.
+use Rattle.std.specs.Prelude.{◌≡◌, ◌≢◌, ◌⊎◌, ℕ, ◌<◌, Bool, true, false, List, [], ◌∷◌, ◌++◌, ◌||◌, length, take}
+use Rattle.http_messages.specs.Message.{IsRefused, IsRest, Asks}
+use Rattle.http_messages.specs.declared.refusal.Refusal.{Refusal}
+use Rattle.ready_connections.specs.declared.connection.Connection.{Connection}
+use Rattle.ready_connections.specs.declared.stream.Stream.{Ghosts}
+use Rattle.ready_connections.specs.Pieces.{Piece, IsWhole, IsTold}
+
+-- a connection none of whose pieces is out was told what its pieces got
+abbrev pub IsServed : {S : Type 0} → Ghosts S → List Piece → Connection S → Type 0
+IsServed s done c =
+    IsTold done (s.came c.stream) (s.went c.stream) [] c.held.bytes.items c.owed.items c.is_awaited c.is_closing
+
+-- A connection whose piece is out: it is whole, or the last one; nothing is owed until it comes back.
+pub record IsOut {S : Type 0} (s : Ghosts S) (done : List Piece) (read : List ℕ) (c : Connection S) : Type 0 where
+  pub told : IsTold done (s.came c.stream) (s.went c.stream) read c.held.bytes.items [] c.is_awaited false
+  pub owes_nothing : c.owed.items ≡ []
+  pub whole : c.is_closing ≡ false → IsWhole read
+
+-- the piece that was out of this connection, with its bytes, and what came back for it
+abbrev pub piece_back : {S : Type 0} → Connection S → List ℕ → List ℕ → Bool → Piece
+piece_back c read output closes =
+    record { read = read; output = output; is_early = c.is_awaited; closes = c.is_closing || closes }
+
+-- Nothing that is held can be handed out, and the interim response that it asks for went, or is owed.
+pub record HoldsNoPiece {S : Type 0} (c : Connection S) : Type 0 where
+  pub rest : IsRest c.held.bytes.items
+  pub interim : Asks c.held.bytes.items true → c.is_awaited ≡ true
+
+-- The connection can do nothing before the system says that it may: what it owes was not all taken, or it owes nothing,
+-- holds no piece, and nothing was there to be read.
+abbrev pub IsWaiting : {S : Type 0} → Ghosts S → Connection S → Type 0
+IsWaiting s c =
+    ((0 < length c.owed.items) × (s.is_stuck c.stream ≡ true))
+    ⊎ ((c.owed.items ≡ []) × (c.is_closing ≡ false) × (c.has_ended ≡ false) × HoldsNoPiece c
+    × (s.is_idle c.stream ≡ true))

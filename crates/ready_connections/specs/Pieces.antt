@@ -1,0 +1,63 @@
+-- The pieces of connections, in the order in which they were handed out, and what a connection got for its own; own
+-- rules.
+use Rattle.std.specs.Prelude.{◌≡◌, ◌⊎◌, ℕ, ◌≤◌, Bool, true, false, List, [], ◌∷◌, ◌++◌, length, take, drop, Option, IfSome}
+use Rattle.std.specs.Prelude.{if◌then◌else◌, nat_eq}
+use Rattle.std.specs.List.{flat_map, starts_with}
+use Rattle.http_messages.specs.Message.{SpellsRequest, interim}
+use Rattle.http_messages.specs.Request.{Request}
+
+-- A piece that was handed out, and what was given back for it: its bytes, its output, whether the interim response that
+-- it asks for went before it was whole, and whether the connection closes with it.
+pub record Piece : Type 0 where
+  pub read : List ℕ
+  pub output : List ℕ
+  pub is_early : Bool
+  pub closes : Bool
+
+-- the bytes spell a whole request
+abbrev pub IsWhole : List ℕ → Type 0
+IsWhole bytes = (request : Request) × SpellsRequest bytes request
+
+-- the interim response, if it went before
+abbrev pub early_text : Bool → List ℕ
+early_text is_early = if is_early then interim else []
+
+-- what is left to be written of an output, if the interim response went before
+abbrev pub text_left : Bool → List ℕ → List ℕ
+text_left false output = output
+text_left true output = if starts_with nat_eq output interim then drop (length interim) output else output
+
+-- What a connection gets for a piece: its output. The interim response at its front goes once, even if it went before.
+abbrev pub text_of : Piece → List ℕ
+text_of piece = early_text piece.is_early ++ text_left piece.is_early piece.output
+
+-- what these pieces were read of, and what they got
+abbrev pub reads_of : List Piece → List ℕ
+reads_of pieces = flat_map (λ piece. piece.read) pieces
+
+abbrev pub texts_of : List Piece → List ℕ
+texts_of pieces = flat_map text_of pieces
+
+-- these are some of the pieces that were done, in their order
+abbrev pub AreAmong : List Piece → List Piece → Type 0
+AreAmong [] done = Unit {0}
+AreAmong (piece ∷ pieces) done =
+    (before : List Piece) × (after : List Piece) × (done ≡ before ++ (piece ∷ after)) × AreAmong pieces after
+
+-- each is a whole request that left its connection open, but for the last one, if the connection is closing
+abbrev pub AreInTurn : Bool → List Piece → Type 0
+AreInTurn is_closing [] = Unit {0}
+AreInTurn is_closing (piece ∷ pieces) =
+    (IsWhole piece.read × (piece.closes ≡ false) × AreInTurn is_closing pieces)
+    ⊎ ((is_closing ≡ true) × (piece.closes ≡ true) × (pieces ≡ []))
+
+-- What came on a connection and what went, if these are known: its pieces, then the piece that is out, then what is
+-- held; and what its pieces got, then the interim response that the next one asks for, if it went already. The last of
+-- this is what is owed.
+pub record IsTold (done : List Piece) (came went : Option (List ℕ)) (out held owed : List ℕ)
+    (is_early is_closing : Bool) : Type 0 where
+  pub pieces : List Piece
+  pub among : AreAmong pieces done
+  pub in_turn : AreInTurn is_closing pieces
+  pub read : IfSome came (λ bytes. bytes ≡ reads_of pieces ++ (out ++ held))
+  pub wrote : IfSome went (λ bytes. bytes ++ owed ≡ texts_of pieces ++ early_text is_early)

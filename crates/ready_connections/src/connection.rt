@@ -1,0 +1,255 @@
+//! One connection: what came and was not handed out yet, and what is owed to it.
+ghost use Rattle.std.specs.Prelude.{◌≡◌, ◌≤◌, ◌<◌, ◌+◌, ℕ, true, false, List, [], ◌++◌, length, take, drop, vec_len, ◌∷◌};
+ghost use Rattle.http_messages.specs.Message.{interim};
+ghost use Rattle.ready_connections.specs.Arriving.{IsFresh};
+ghost use Rattle.ready_connections.specs.Pieces.{Piece, IsWhole, text_left};
+ghost use Rattle.ready_connections.specs.Connections.{IsServed, IsOut, HoldsNoPiece, piece_back};
+ghost use Rattle.ready_connections.specs.Turns.{IsAfterTurn};
+
+use crate::held::{Found, Held};
+use crate::stream::{Got, Stream};
+use std::alloc::Global;
+
+/// `100 Continue` and an empty line (RFC 9110, section 15.2.1).
+const INTERIM: &[u8] = b"HTTP/1.1 100 Continue\r\n\r\n";
+
+/// The most bytes of a piece: a skipped CRLF, 16,384 bytes of a head and 1,048,576 of a body.
+pub(crate) const MAX_PIECE: usize = 1_064_962;
+
+/// How many things a connection does before the others have their turn.
+const SHARE: u32 = 16;
+
+/// What a connection did with its turn.
+#[derive(Drop)]
+pub(crate) enum Turn {
+    /// It may go on at once.
+    Again,
+    /// It goes on when the system says so.
+    Waits,
+    /// It is over.
+    Over,
+    /// It hands this piece out, and goes on when the output comes back.
+    HandsOut(Vec<u8>),
+}
+
+/// A connection.
+#[derive(Drop)]
+pub(crate) struct Connection<S> {
+    pub(crate) stream: S,
+    /// What came and was not handed out yet.
+    pub(crate) held: Held,
+    /// What was not written yet.
+    pub(crate) owed: Vec<u8>,
+    /// Whether nothing comes any more.
+    pub(crate) has_ended: bool,
+    /// Whether it is over once nothing is owed.
+    pub(crate) is_closing: bool,
+    /// Whether the interim response that the next piece asks for went already, or is owed.
+    pub(crate) is_awaited: bool,
+}
+
+impl<S: Stream> Connection<S> {
+    /// A connection on which nothing came and nothing went.
+    pub(crate) fn new(alloc: Global, stream: S) -> Connection<S>
+        requires { IsFresh S.Stream stream }
+        ensures told { (done : List Piece) → IsServed S.Stream done result }
+        ensures held { result.held.bytes.items ≡ [] }
+        ensures owed { result.owed.items ≡ [] }
+    {
+        Connection {
+            stream,
+            held: Held::new(alloc),
+            owed: Vec::new(alloc),
+            has_ended: false,
+            is_closing: false,
+            is_awaited: false,
+        }
+    }
+
+    /// The stream.
+    pub(crate) fn into_stream(self) -> S
+        ensures { result ≡ self.stream }
+    {
+        let Connection {
+            stream,
+            held: _,
+            owed: _,
+            has_ended: _,
+            is_closing: _,
+            is_awaited: _,
+        } = self;
+        stream
+    }
+
+    /// Goes on until it waits, is over, hands a piece out, or has had its share.
+    pub(crate) fn go_on(&mut self, alloc: Global, room: &mut [u8]) -> Turn
+        ensures told { (done : List Piece) → IsServed S.Stream done self.old
+            → IsAfterTurn S.Stream done result self.new }
+        ensures held { (most : ℕ) → MAX_PIECE + length room.old ≤ most → vec_len self.old.held.bytes ≤ most
+            → vec_len self.new.held.bytes ≤ most }
+        ensures owed { (most : ℕ) → length interim ≤ most → vec_len self.old.owed ≤ most
+            → vec_len self.new.owed ≤ most }
+    {
+        for _ in 0..SHARE {
+            match self.step(alloc, room) {
+                Turn::Again => {}
+                turn => return turn,
+            }
+        }
+        Turn::Again
+    }
+
+    /// Does one thing: writes what is owed, or else hands out the next piece, or else owes the interim response, or
+    /// else reads.
+    fn step(&mut self, alloc: Global, room: &mut [u8]) -> Turn
+        ensures told { (done : List Piece) → IsServed S.Stream done self.old
+            → IsAfterTurn S.Stream done result self.new }
+        ensures held { (most : ℕ) → MAX_PIECE + length room.old ≤ most → vec_len self.old.held.bytes ≤ most
+            → vec_len self.new.held.bytes ≤ most }
+        ensures owed { (most : ℕ) → length interim ≤ most → vec_len self.old.owed ≤ most
+            → vec_len self.new.owed ≤ most }
+    {
+        if !self.owed.is_empty() {
+            return self.write();
+        }
+        if self.is_closing || self.has_ended && self.held.is_empty() {
+            return Turn::Over;
+        }
+        match self.held.find(alloc, self.has_ended) {
+            Ok(Found::Whole(len)) => self.hand_out(alloc, len),
+            Ok(Found::Last) => self.hand_out_all(alloc),
+            Ok(Found::Asks) if self.is_awaited => self.read(room),
+            Ok(Found::Asks) => self.owe_interim(),
+            Ok(Found::More) => self.read(room),
+            Err(_) => Turn::Over,
+        }
+    }
+
+    /// Writes what goes of what is owed.
+    fn write(&mut self) -> Turn
+        requires { 0 < vec_len self.old.owed }
+        ensures told { (done : List Piece) → IsServed S.Stream done self.old
+            → IsAfterTurn S.Stream done result self.new }
+        ensures held { self.new.held.bytes ≡ self.old.held.bytes }
+        ensures owed { vec_len self.new.owed ≤ vec_len self.old.owed }
+    {
+        match self.stream.write(self.owed.as_slice()) {
+            Ok(0) => Turn::Waits,
+            Ok(count) => {
+                drop_front(&mut self.owed, count);
+                Turn::Again
+            }
+            Err(_) => Turn::Over,
+        }
+    }
+
+    /// Hands out the whole request that these first bytes of what is held are.
+    fn hand_out(&mut self, alloc: Global, len: usize) -> Turn
+        requires within { len ≤ vec_len self.old.held.bytes }
+        requires whole { IsWhole (take len self.old.held.bytes.items) }
+        requires none_owed { self.old.owed.items ≡ [] }
+        requires open { self.old.is_closing ≡ false }
+        ensures told { (done : List Piece) → IsServed S.Stream done self.old
+            → IsAfterTurn S.Stream done result self.new }
+        ensures held { vec_len self.new.held.bytes ≤ vec_len self.old.held.bytes }
+        ensures owed { self.new.owed ≡ self.old.owed }
+    {
+        match self.held.take_front(alloc, len) {
+            Some(piece) => Turn::HandsOut(piece),
+            None => Turn::Over,
+        }
+    }
+
+    /// Hands out all that is held, as the last piece.
+    fn hand_out_all(&mut self, alloc: Global) -> Turn
+        requires none_owed { self.old.owed.items ≡ [] }
+        requires open { self.old.is_closing ≡ false }
+        ensures told { (done : List Piece) → IsServed S.Stream done self.old
+            → IsAfterTurn S.Stream done result self.new }
+        ensures held { vec_len self.new.held.bytes ≤ vec_len self.old.held.bytes }
+        ensures owed { self.new.owed ≡ self.old.owed }
+    {
+        self.is_closing = true;
+        Turn::HandsOut(self.held.take_all(alloc))
+    }
+
+    /// Owes the interim response that what is held asks for.
+    fn owe_interim(&mut self) -> Turn
+        requires none_owed { self.old.owed.items ≡ [] }
+        requires once { self.old.is_awaited ≡ false }
+        ensures told { (done : List Piece) → IsServed S.Stream done self.old
+            → IsAfterTurn S.Stream done result self.new }
+        ensures held { self.new.held.bytes ≡ self.old.held.bytes }
+        ensures owed { vec_len self.new.owed ≤ length interim }
+    {
+        if self.owed.extend_from_slice(INTERIM).is_err() {
+            return Turn::Over;
+        }
+        self.is_awaited = true;
+        Turn::Again
+    }
+
+    /// Reads what is there.
+    fn read(&mut self, room: &mut [u8]) -> Turn
+        requires none_owed { self.old.owed.items ≡ [] }
+        requires open { self.old.is_closing ≡ false }
+        requires goes_on { self.old.has_ended ≡ false }
+        requires no_piece { HoldsNoPiece self.old }
+        requires short { vec_len self.old.held.bytes < MAX_PIECE }
+        ensures told { (done : List Piece) → IsServed S.Stream done self.old
+            → IsAfterTurn S.Stream done result self.new }
+        ensures held { (most : ℕ) → MAX_PIECE + length room.old ≤ most → vec_len self.old.held.bytes ≤ most
+            → vec_len self.new.held.bytes ≤ most }
+        ensures owed { self.new.owed ≡ self.old.owed }
+    {
+        if self.held.reserve(room.len()).is_err() {
+            return Turn::Over;
+        }
+        match self.stream.read(room) {
+            Got::Bytes(count) => {
+                self.held.append(&room[..count]);
+                Turn::Again
+            }
+            Got::Nothing => Turn::Waits,
+            Got::End => {
+                self.has_ended = true;
+                Turn::Again
+            }
+        }
+    }
+
+    /// Owes the output that came back for the piece that is out. After one that closes the connection is over once it
+    /// is written.
+    pub(crate) fn take_back(&mut self, output: Vec<u8>, closes: bool)
+        ensures told { (done : List Piece) (read : List ℕ) → IsOut S.Stream done read self.old
+            → IsServed S.Stream (done ++ piece_back self.old read output.items closes ∷ []) self.new }
+        ensures held { self.new.held.bytes ≡ self.old.held.bytes }
+        ensures owed { vec_len self.new.owed ≤ vec_len output }
+    {
+        self.owed = without_interim(output, self.is_awaited);
+        self.is_awaited = false;
+        self.is_closing |= closes;
+    }
+}
+
+/// What is left to be written of an output, if the interim response went before.
+fn without_interim(mut output: Vec<u8>, is_early: bool) -> Vec<u8>
+    ensures text { result.items ≡ text_left is_early output.items }
+    ensures len { vec_len result ≤ vec_len output }
+{
+    if is_early && output.as_slice().starts_with(INTERIM) {
+        drop_front(&mut output, INTERIM.len());
+    }
+    output
+}
+
+/// Drops the first bytes.
+fn drop_front(bytes: &mut Vec<u8>, count: usize)
+    requires { count ≤ vec_len bytes.old }
+    ensures items { bytes.new.items ≡ drop count bytes.old.items }
+    ensures len { vec_len bytes.new + count ≡ vec_len bytes.old }
+{
+    let left = bytes.len() - count;
+    bytes.rotate_left(count);
+    bytes.truncate(left);
+}
