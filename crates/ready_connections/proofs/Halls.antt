@@ -10,9 +10,10 @@ use Rattle.ready_connections.specs.declared.stream.Stream.{Ghosts}
 use Rattle.ready_connections.specs.declared.connection.Connection.{Connection}
 use Rattle.ready_connections.specs.declared.hall.Hall.{Hall}
 use Rattle.ready_connections.specs.declared.hall.Out.{Out}
-use Rattle.ready_connections.specs.Streams.{Traffic, one_came, one_over}
+use Rattle.ready_connections.specs.Streams.{Traffic, Gone, one_came, one_over}
+use Rattle.ready_connections.specs.declared.why.Why.{Why}
 use Rattle.ready_connections.specs.Pieces.{Piece, IsTold}
-use Rattle.ready_connections.specs.Connections.{IsServed, IsOut, IsWaiting}
+use Rattle.ready_connections.specs.Connections.{IsServed, IsOut, IsWaiting, IsEnd}
 use Rattle.ready_connections.specs.Running.{taken, taken_places, out_count, IsInPlace, IsOutOf, WasTold, AreOver, AreRunning, IsRunning, IsEmpty, Puts}
 use Rattle.ready_connections.proofs.Told.{told_more}
 
@@ -88,17 +89,18 @@ module _ {S : Type 0} (s : Ghosts S) where
   more_place : (done more : List Piece) (has_turn : Bool) (c : Connection S) → IsInPlace s done has_turn c
       → IsInPlace s (done ++ more) has_turn c
   more_place done more has_turn c at = record {
-    told = told_more done more _ _ _ _ _ _ _ at.told;
+    told = record { told = told_more done more _ _ _ _ _ _ _ _ at.told.told; ended = at.told.ended };
     awake = at.awake;
   }
 
-  more_stream : (done more : List Piece) (stream : S) → WasTold s done stream → WasTold s (done ++ more) stream
-  more_stream done more stream was = record {
+  more_stream : (done more : List Piece) (gone : Gone S) → WasTold s done gone → WasTold s (done ++ more) gone
+  more_stream done more gone was = record {
     held = was.held;
     owed = was.owed;
     is_early = was.is_early;
     is_closing = was.is_closing;
-    told = told_more done more _ _ _ _ _ _ _ was.told;
+    told = told_more done more _ _ _ _ _ _ _ _ was.told;
+    why = was.why;
   }
 
   -- ---- one place is changed
@@ -194,13 +196,13 @@ module _ {S : Type 0} (s : Ghosts S) where
 
   -- it is over
   pub ended : (done : List Piece) (old left : Hall S) (places : List (Option (Connection S))) (turns : List Bool)
-      (out : Option (Out S)) (traffic traffic' : Option (Traffic S)) (place : ℕ)
+      (out : Option (Out S)) (traffic traffic' : Option (Traffic S)) (place : ℕ) (why : Why)
       (c c' : Connection S) → place < length old.places.items → old.out ≡ None
       → Some c ≡ get_or old.places.items place None → Puts old left place None false
       → places ≡ left.places.items → turns ≡ left.has_turn.items → out ≡ left.out
-      → traffic' ≡ option_map (one_over c'.stream) traffic → (IsServed s done c → IsServed s done c')
+      → traffic' ≡ option_map (one_over c'.stream why) traffic → (IsServed s done c → IsServed s done c' × IsEnd s why c'.stream c'.held.bytes.items c'.owed.items c'.is_closing)
       → IsRunning s done None old traffic → AreRunning s done None places turns out traffic'
-  ended done old left places turns out traffic traffic' place c c' low none was leaves_ same same_turns same_out ends step running =
+  ended done old left places turns out traffic traffic' place why c c' low none was leaves_ same same_turns same_out ends step running =
       leaves done None old left traffic traffic' place low leaves_ places turns out same same_turns
       (rw (same_out, leaves_.out, none) tt) (λ h. rw ends (kept traffic h)) running
     where
@@ -208,21 +210,22 @@ module _ {S : Type 0} (s : Ghosts S) where
       served = (rw (sym was) at (running.in_place place)).told
 
       kept : (traffic : Option (Traffic S)) → IfSome traffic (AreOver s done old.places.items old.out)
-          → IfSome (option_map (one_over c'.stream) traffic) (AreOver s done places out)
+          → IfSome (option_map (one_over c'.stream why) traffic) (AreOver s done places out)
       kept None h = tt
       kept (Some known) h = record {
-        told = all_push (WasTold s done) known.over c'.stream h.told (record {
+        told = all_push (WasTold s done) known.over (record { stream = c'.stream; why = why }) h.told (record {
           held = c'.held.bytes.items;
           owed = c'.owed.items;
           is_early = c'.is_awaited;
           is_closing = c'.is_closing;
-          told = step served;
+          told = (step served).0.told;
+          why = (step served).1;
         });
         none_lost =
             let count = at_most old left place None (Some c) false leaves_ (sym was) in
             let left_places = ap taken_places same in
             let none_out = ap out_count (same_out ∙ leaves_.out) in
-            let more = length-append known.over (c'.stream ∷ []) in
+            let more = length-append known.over (record { stream = c'.stream; why = why } ∷ []) in
             omega (arith, h.none_lost, count, none_out, left_places, more);
       }
 

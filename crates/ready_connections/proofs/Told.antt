@@ -1,14 +1,15 @@
 -- What one thing that a connection does changes of what it was told.
-use Rattle.std.proofs.Common.{◌≡◌, ◌⊎◌, inl, inr, ℕ, ◌+◌, ◌≤◌, Bool, true, false, List, [], ◌∷◌, ◌++◌, length, take, drop, Option, Some, None, refl, sym}
+use Rattle.std.proofs.Common.{◌≡◌, ◌||◌, ◌⊎◌, inl, inr, ℕ, ◌+◌, ◌≤◌, Bool, true, false, List, [], ◌∷◌, ◌++◌, length, take, drop, Option, Some, None, refl, sym}
 use Rattle.std.proofs.Common.{ap, ◌∙◌, append_assoc, IfSome, arith}
 use Rattle.std.specs.List.{flat_map}
 use Rattle.std.specs.Io.KnownBytes.{append_known}
 use Rattle.std.proofs.lemmas.List.Concat.{flat_map-append}
 use Rattle.std.proofs.lemmas.Grind.{common_steps}
 use Rattle.http_messages.specs.Message.{interim}
+use Rattle.request_pieces.specs.Pieces.{IsLast}
 use Rattle.ready_connections.specs.Pieces.{Piece, IsWhole, AreAmong, AreInTurn, IsTold, reads_of, texts_of, text_of, early_text, text_left}
 
-append_nil : {X : Type 0} (xs : List X) → xs ++ [] ≡ xs
+pub append_nil : {X : Type 0} (xs : List X) → xs ++ [] ≡ xs
 append_nil [] = refl
 append_nil (x ∷ xs) = ap (λ ys. x ∷ ys) (append_nil xs)
 
@@ -34,9 +35,9 @@ among_push done (piece ∷ pieces) last among = (
 )
 
 pub told_more : (done more : List Piece) (came went : Option (List ℕ)) (out held owed : List ℕ)
-    (is_early is_closing : Bool) → IsTold done came went out held owed is_early is_closing
-    → IsTold (done ++ more) came went out held owed is_early is_closing
-told_more done more came went out held owed is_early is_closing told = record {
+    (is_early is_closing is_ended : Bool) → IsTold done came went out held owed is_early is_closing is_ended
+    → IsTold (done ++ more) came went out held owed is_early is_closing is_ended
+told_more done more came went out held owed is_early is_closing is_ended told = record {
   pieces = told.pieces;
   among = among_more done more told.pieces told.among;
   in_turn = told.in_turn;
@@ -46,9 +47,10 @@ told_more done more came went out held owed is_early is_closing told = record {
 
 -- ---- the interim response went, or is owed
 
-pub told_interim : (done : List Piece) (came went : Option (List ℕ)) (held : List ℕ) (is_closing : Bool)
-    → IsTold done came went [] held [] false is_closing → IsTold done came went [] held interim true is_closing
-told_interim done came went held is_closing told = record {
+pub told_interim : (done : List Piece) (came went : Option (List ℕ)) (held : List ℕ) (is_closing is_ended : Bool)
+    → IsTold done came went [] held [] false is_closing is_ended
+    → IsTold done came went [] held interim true is_closing is_ended
+told_interim done came went held is_closing is_ended told = record {
   pieces = told.pieces;
   among = told.among;
   in_turn = told.in_turn;
@@ -62,31 +64,51 @@ told_interim done came went held is_closing told = record {
     more (Some bytes) h =
         ap (λ l. l ++ interim) (sym (append_nil bytes) ∙ h ∙ append_nil (texts_of told.pieces))
 
--- ---- nothing was there to be read
+-- ---- bytes came, or the end of the input
 
-pub told_idle : (done : List Piece) (came came' went went' : Option (List ℕ)) (held held' owed : List ℕ)
-    (is_early is_closing : Bool) (room : List ℕ) → came' ≡ append_known came (take 0 room) → went' ≡ went
-    → held' ≡ held → IsTold done came went [] held owed is_early is_closing
-    → IsTold done came' went' [] held' owed is_early is_closing
-told_idle done came came' went went' held held' owed is_early is_closing room came_is went_is held_is told = record {
-  pieces = told.pieces;
-  among = told.among;
-  in_turn = told.in_turn;
-  read = rw (came_is, held_is) (same came told.read);
-  wrote = rw went_is told.wrote;
-}
+-- of a connection that is open nothing depends on whether its input has ended
+in_turn_open : (before after : Bool) (pieces : List Piece) → AreInTurn false before pieces
+    → AreInTurn false after pieces
+in_turn_open before after [] in_turn = refl
+in_turn_open before after (piece ∷ pieces) in_turn = elim in_turn [
+  | inl at ↦ inl (at.0, at.1, in_turn_open before after pieces at.2)
+  | inr at ↦ absurd (let h = at.0 in cc)
+]
+
+pub told_read : (done : List Piece) (came came' went went' : Option (List ℕ)) (held held' owed bytes : List ℕ)
+    (is_early is_closing before after : Bool) → is_closing ≡ false → came' ≡ append_known came bytes → went' ≡ went
+    → held' ≡ held ++ bytes → IsTold done came went [] held owed is_early is_closing before
+    → IsTold done came' went' [] held' owed is_early is_closing after
+told_read done came came' went went' held held' owed bytes is_early is_closing before after goes_on came_is went_is
+    held_is told = record {
+      pieces = told.pieces;
+      among = told.among;
+      in_turn = rw goes_on (in_turn_open before after told.pieces (rw goes_on at told.in_turn));
+      read = rw (came_is, held_is) (more came told.read);
+      wrote = rw went_is told.wrote;
+    }
   where
-    same : (came : Option (List ℕ)) → IfSome came (λ bytes. bytes ≡ reads_of told.pieces ++ held)
-        → IfSome (append_known came (take 0 room)) (λ bytes. bytes ≡ reads_of told.pieces ++ held)
-    same None h = tt
-    same (Some bytes) h = append_nil bytes ∙ h
+    more : (came : Option (List ℕ)) → IfSome came (λ all. all ≡ reads_of told.pieces ++ held)
+        → IfSome (append_known came bytes) (λ all. all ≡ reads_of told.pieces ++ (held ++ bytes))
+    more None h = tt
+    more (Some all) h = ap (λ l. l ++ bytes) h ∙ append_assoc (reads_of told.pieces) held bytes
+
+pub told_idle : (done : List Piece) (came came' went went' : Option (List ℕ)) (held held' owed room : List ℕ)
+    (is_early is_closing before after : Bool) → is_closing ≡ false → came' ≡ append_known came (take 0 room)
+    → went' ≡ went → held' ≡ held → IsTold done came went [] held owed is_early is_closing before
+    → IsTold done came' went' [] held' owed is_early is_closing after
+told_idle done came came' went went' held held' owed room is_early is_closing before after goes_on came_is went_is
+    held_is told =
+    told_read done came came' went went' held held' owed [] is_early is_closing before after goes_on came_is went_is
+    (held_is ∙ sym (append_nil held)) told
 
 -- ---- a piece was handed out
 
-pub told_out : (done : List Piece) (came went : Option (List ℕ)) (held read rest : List ℕ) (is_early is_closing : Bool)
-    → is_closing ≡ false → held ≡ read ++ rest → IsTold done came went [] held [] is_early is_closing
-    → IsTold done came went read rest [] is_early false
-told_out done came went held read rest is_early is_closing goes_on splits told = record {
+pub told_out : (done : List Piece) (came went : Option (List ℕ)) (held read rest : List ℕ)
+    (is_early is_closing is_ended : Bool) → is_closing ≡ false → held ≡ read ++ rest
+    → IsTold done came went [] held [] is_early is_closing is_ended
+    → IsTold done came went read rest [] is_early false is_ended
+told_out done came went held read rest is_early is_closing is_ended goes_on splits told = record {
   pieces = told.pieces;
   among = told.among;
   in_turn = rw goes_on at told.in_turn;
@@ -101,26 +123,38 @@ told_out done came went held read rest is_early is_closing goes_on splits told =
 
 -- ---- a piece came back
 
-in_turn_push : (pieces : List Piece) (last : Piece) → (last.closes ≡ false → IsWhole last.read)
-    → AreInTurn false pieces → AreInTurn last.closes (pieces ++ last ∷ [])
-in_turn_push pieces last whole in_turn = push last.closes refl pieces in_turn
-  where
-    push : (closes : Bool) → last.closes ≡ closes → (pieces : List Piece) → AreInTurn false pieces
-        → AreInTurn closes (pieces ++ last ∷ [])
-    push false is [] in_turn = inl (whole is, is, tt)
-    push true is [] in_turn = inr (refl, is, refl)
-    push closes is (piece ∷ pieces) in_turn = elim in_turn [
-      | inl at ↦ inl (at.0, at.1, push closes is pieces at.2)
-      | inr at ↦ absurd (let h = at.0 in cc)
-    ]
+-- what a piece that came back does to its connection, which is closing after it or not
+abbrev pub ComesBack : Piece → Bool → Bool → Type 0
+ComesBack back is_closing is_ended =
+    ((is_closing ≡ false) × (back.closes ≡ false) × IsWhole back.read)
+    ⊎ ((is_closing ≡ true) × ((IsWhole back.read × (back.closes ≡ true)) ⊎ IsLast back.read is_ended))
+
+pub comes_back : (back : Piece) (was_closing is_ended closes : Bool) → back.closes ≡ closes
+    → (was_closing ≡ false → IsWhole back.read) → (was_closing ≡ true → IsLast back.read is_ended)
+    → ComesBack back (was_closing || closes) is_ended
+comes_back back false is_ended false is whole last = inl (refl, is, whole refl)
+comes_back back false is_ended true is whole last = inr (refl, inl (whole refl, is))
+comes_back back true is_ended closes is whole last = inr (refl, inr (last refl))
+
+in_turn_push : (pieces : List Piece) (back : Piece) (is_closing is_ended : Bool) → ComesBack back is_closing is_ended
+    → AreInTurn false is_ended pieces → AreInTurn is_closing is_ended (pieces ++ back ∷ [])
+in_turn_push [] back is_closing is_ended comes in_turn = elim comes [
+  | inl stays ↦ inl (stays.2, stays.1, stays.0)
+  | inr ends ↦ inr (ends.0, ends.1, refl)
+]
+in_turn_push (piece ∷ pieces) back is_closing is_ended comes in_turn = elim in_turn [
+  | inl at ↦ inl (at.0, at.1, in_turn_push pieces back is_closing is_ended comes at.2)
+  | inr at ↦ absurd (let h = at.0 in cc)
+]
 
 pub told_back : (done : List Piece) (came went : Option (List ℕ)) (held : List ℕ) (back : Piece)
-    → (back.closes ≡ false → IsWhole back.read) → IsTold done came went back.read held [] back.is_early false
-    → IsTold (done ++ back ∷ []) came went [] held (text_left back.is_early back.output) false back.closes
-told_back done came went held back whole told = record {
+    (is_closing is_ended : Bool) → ComesBack back is_closing is_ended
+    → IsTold done came went back.read held [] back.is_early false is_ended
+    → IsTold (done ++ back ∷ []) came went [] held (text_left back.is_early back.output) false is_closing is_ended
+told_back done came went held back is_closing is_ended comes told = record {
   pieces = told.pieces ++ back ∷ [];
   among = among_push done told.pieces back told.among;
-  in_turn = in_turn_push told.pieces back whole told.in_turn;
+  in_turn = in_turn_push told.pieces back is_closing is_ended comes told.in_turn;
   read = read came told.read;
   wrote = wrote went told.wrote;
 }

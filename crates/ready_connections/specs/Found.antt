@@ -4,7 +4,7 @@ use Rattle.http_messages.specs.Message.{IsRefused, IsRest, Asks}
 use Rattle.http_messages.specs.declared.refusal.Refusal.{Refusal}
 use Rattle.ready_connections.specs.declared.held.Found.{Found}
 use Rattle.ready_connections.specs.declared.held.Found.TheVariants.{Whole, Last, Asks as AsksFirst, More}
-use Rattle.request_pieces.specs.Pieces.{max_piece_len}
+use Rattle.request_pieces.specs.Pieces.{IsLast, max_piece_len}
 use Rattle.ready_connections.specs.Pieces.{IsWhole}
 
 -- the input goes on, and no piece is whole; `asks` is whether the bytes ask for an interim response
@@ -16,6 +16,6 @@ pub record GoesOn (bytes : List ℕ) (has_ended asks : Bool) : Type 0 where
 
 abbrev pub IsFound : List ℕ → Bool → Found → Type 0
 IsFound bytes has_ended (Whole n) = IsWhole (take n bytes) × (n ≤ length bytes)
-IsFound bytes has_ended Last = ((refusal : Refusal) × IsRefused bytes refusal) ⊎ ((has_ended ≡ true) × IsRest bytes)
+IsFound bytes has_ended Last = IsLast bytes has_ended
 IsFound bytes has_ended AsksFirst = GoesOn bytes has_ended true
 IsFound bytes has_ended More = GoesOn bytes has_ended false

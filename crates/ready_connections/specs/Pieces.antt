@@ -5,9 +5,10 @@ use Rattle.std.specs.Prelude.{if◌then◌else◌, nat_eq}
 use Rattle.std.specs.List.{flat_map, starts_with}
 use Rattle.http_messages.specs.Message.{SpellsRequest, interim}
 use Rattle.http_messages.specs.Request.{Request}
+use Rattle.request_pieces.specs.Pieces.{IsLast}
 
 -- A piece that was handed out, and what was given back for it: its bytes, its output, whether the interim response that
--- it asks for went before it was whole, and whether the connection closes with it.
+-- it asks for went before it was whole, and whether its connection is to close after it.
 pub record Piece : Type 0 where
   pub read : List ℕ
   pub output : List ℕ
@@ -44,20 +45,22 @@ AreAmong [] done = Unit {0}
 AreAmong (piece ∷ pieces) done =
     (before : List Piece) × (after : List Piece) × (done ≡ before ++ (piece ∷ after)) × AreAmong pieces after
 
--- each is a whole request that left its connection open, but for the last one, if the connection is closing
-abbrev pub AreInTurn : Bool → List Piece → Type 0
-AreInTurn is_closing [] = Unit {0}
-AreInTurn is_closing (piece ∷ pieces) =
-    (IsWhole piece.read × (piece.closes ≡ false) × AreInTurn is_closing pieces)
-    ⊎ ((is_closing ≡ true) × (piece.closes ≡ true) × (pieces ≡ []))
+-- Each is a whole request that left its connection open; but the last one, if the connection is closing, is one after
+-- which it is to close, or what no request can follow.
+abbrev pub AreInTurn : Bool → Bool → List Piece → Type 0
+AreInTurn is_closing is_ended [] = is_closing ≡ false
+AreInTurn is_closing is_ended (piece ∷ pieces) =
+    (IsWhole piece.read × (piece.closes ≡ false) × AreInTurn is_closing is_ended pieces)
+    ⊎ ((is_closing ≡ true) × ((IsWhole piece.read × (piece.closes ≡ true)) ⊎ IsLast piece.read is_ended)
+    × (pieces ≡ []))
 
 -- What came on a connection and what went, if these are known: its pieces, then the piece that is out, then what is
 -- held; and what its pieces got, then the interim response that the next one asks for, if it went already. The last of
 -- this is what is owed.
 pub record IsTold (done : List Piece) (came went : Option (List ℕ)) (out held owed : List ℕ)
-    (is_early is_closing : Bool) : Type 0 where
+    (is_early is_closing is_ended : Bool) : Type 0 where
   pub pieces : List Piece
   pub among : AreAmong pieces done
-  pub in_turn : AreInTurn is_closing pieces
+  pub in_turn : AreInTurn is_closing is_ended pieces
   pub read : IfSome came (λ bytes. bytes ≡ reads_of pieces ++ (out ++ held))
   pub wrote : IfSome went (λ bytes. bytes ++ owed ≡ texts_of pieces ++ early_text is_early)

@@ -8,9 +8,9 @@ use Rattle.ready_connections.specs.declared.connection.Connection.{Connection}
 use Rattle.ready_connections.specs.declared.hall.Hall.{Hall}
 use Rattle.ready_connections.specs.declared.hall.Out.{Out}
 use Rattle.ready_connections.specs.declared.stream.Stream.{Ghosts}
-use Rattle.ready_connections.specs.Streams.{Traffic}
+use Rattle.ready_connections.specs.Streams.{Traffic, Gone}
 use Rattle.ready_connections.specs.Pieces.{Piece, IsTold}
-use Rattle.ready_connections.specs.Connections.{IsServed, IsOut, IsWaiting, piece_back}
+use Rattle.ready_connections.specs.Connections.{IsServed, IsOut, IsWaiting, IsEnd, piece_back}
 
 -- how many connections are in a place, and in these
 abbrev pub taken : {S : Type 0} → Option (Connection S) → ℕ
@@ -43,13 +43,15 @@ IsOutOf s done (Some read) (Some out) places =
 IsOutOf s done None (Some out) places = ⊥
 IsOutOf s done (Some read) None places = ⊥
 
--- a connection that is over was told the first part of what its pieces got
-pub record WasTold {S : Type 0} (s : Ghosts S) (done : List Piece) (stream : S) : Type 0 where
+-- a connection that is over was told what its pieces got, or the first part of it, and is over for a reason
+pub record WasTold {S : Type 0} (s : Ghosts S) (done : List Piece) (gone : Gone S) : Type 0 where
   pub held : List ℕ
   pub owed : List ℕ
   pub is_early : Bool
   pub is_closing : Bool
-  pub told : IsTold done (s.came stream) (s.went stream) [] held owed is_early is_closing
+  pub told : IsTold done (s.came gone.stream) (s.went gone.stream) [] held owed is_early is_closing
+      (s.is_ended gone.stream)
+  pub why : IsEnd s gone.why gone.stream held owed is_closing
 
 -- each connection that came is in its place, has a piece out, or is over, and those that are over were told
 pub record AreOver {S : Type 0} (s : Ghosts S) (done : List Piece) (places : List (Option (Connection S)))

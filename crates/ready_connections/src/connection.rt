@@ -1,6 +1,7 @@
 //! One connection: what came and was not handed out yet, and what is owed to it.
 ghost use Rattle.std.specs.Prelude.{◌≡◌, ◌≤◌, ◌<◌, ◌+◌, ℕ, true, false, List, [], ◌++◌, length, take, drop, vec_len, ◌∷◌};
 ghost use Rattle.http_messages.specs.Message.{interim};
+ghost use Rattle.request_pieces.specs.Pieces.{IsLast};
 ghost use Rattle.ready_connections.specs.Arriving.{IsFresh};
 ghost use Rattle.ready_connections.specs.Pieces.{Piece, IsWhole, text_left};
 ghost use Rattle.ready_connections.specs.Connections.{IsServed, IsOut, HoldsNoPiece, piece_back};
@@ -8,6 +9,7 @@ ghost use Rattle.ready_connections.specs.Turns.{IsAfterTurn};
 
 use crate::held::{Found, Held};
 use crate::stream::{Got, Stream};
+use crate::why::Why;
 use std::alloc::Global;
 
 /// `100 Continue` and an empty line (RFC 9110, section 15.2.1).
@@ -27,7 +29,7 @@ pub(crate) enum Turn {
     /// It goes on when the system says so.
     Waits,
     /// It is over.
-    Over,
+    Over(Why),
     /// It hands this piece out, and goes on when the output comes back.
     HandsOut(Vec<u8>),
 }
@@ -112,8 +114,13 @@ impl<S: Stream> Connection<S> {
         if !self.owed.is_empty() {
             return self.write();
         }
-        if self.is_closing || self.has_ended && self.held.is_empty() {
-            return Turn::Over;
+        if self.is_closing {
+            return Turn::Over(Why::Done);
+        }
+        if self.has_ended {
+            if self.held.is_empty() {
+                return Turn::Over(Why::Done);
+            }
         }
         match self.held.find(alloc, self.has_ended) {
             Ok(Found::Whole(len)) => self.hand_out(alloc, len),
@@ -121,7 +128,7 @@ impl<S: Stream> Connection<S> {
             Ok(Found::Asks) if self.is_awaited => self.read(room),
             Ok(Found::Asks) => self.owe_interim(),
             Ok(Found::More) => self.read(room),
-            Err(_) => Turn::Over,
+            Err(_) => Turn::Over(Why::NoMemory),
         }
     }
 
@@ -139,7 +146,7 @@ impl<S: Stream> Connection<S> {
                 drop_front(&mut self.owed, count);
                 Turn::Again
             }
-            Err(_) => Turn::Over,
+            Err(_) => Turn::Over(Why::Broken),
         }
     }
 
@@ -156,7 +163,7 @@ impl<S: Stream> Connection<S> {
     {
         match self.held.take_front(alloc, len) {
             Some(piece) => Turn::HandsOut(piece),
-            None => Turn::Over,
+            None => Turn::Over(Why::NoMemory),
         }
     }
 
@@ -164,6 +171,7 @@ impl<S: Stream> Connection<S> {
     fn hand_out_all(&mut self, alloc: Global) -> Turn
         requires none_owed { self.old.owed.items ≡ [] }
         requires open { self.old.is_closing ≡ false }
+        requires last { IsLast self.old.held.bytes.items self.old.has_ended }
         ensures told { (done : List Piece) → IsServed S.Stream done self.old
             → IsAfterTurn S.Stream done result self.new }
         ensures held { vec_len self.new.held.bytes ≤ vec_len self.old.held.bytes }
@@ -183,7 +191,7 @@ impl<S: Stream> Connection<S> {
         ensures owed { vec_len self.new.owed ≤ length interim }
     {
         if self.owed.extend_from_slice(INTERIM).is_err() {
-            return Turn::Over;
+            return Turn::Over(Why::NoMemory);
         }
         self.is_awaited = true;
         Turn::Again
@@ -203,7 +211,7 @@ impl<S: Stream> Connection<S> {
         ensures owed { self.new.owed ≡ self.old.owed }
     {
         if self.held.reserve(room.len()).is_err() {
-            return Turn::Over;
+            return Turn::Over(Why::NoMemory);
         }
         match self.stream.read(room) {
             Got::Bytes(count) => {

@@ -146,8 +146,8 @@ impl<S: Stream + Drop> Hall<S> {
                 self.enter(place, connection, false);
                 None
             }
-            Turn::Over => {
-                sockets.end(connection.into_stream());
+            Turn::Over(why) => {
+                sockets.end(connection.into_stream(), why);
                 None
             }
             Turn::HandsOut(piece) => {

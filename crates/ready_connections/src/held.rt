@@ -1,5 +1,5 @@
 //! What came on a connection and was not handed out yet.
-ghost use Rattle.std.specs.Prelude.{◌≡◌, ◌≤◌, ◌+◌, List, ℕ, [], ◌++◌, length, take, drop, vec_len, vec_capacity, IsSome, IfSome, IfNone, IfOk, OnOk};
+ghost use Rattle.std.specs.Prelude.{◌≡◌, ◌≤◌, ◌+◌, List, ℕ, [], ◌++◌, length, take, drop, vec_len, vec_capacity, IsTrue, IsSome, IfSome, IfNone, IfOk, OnOk};
 ghost use Rattle.http_messages.specs.Block.{from_block, HasNoEndUpTo};
 
 use request_pieces::{Piece, Progress, next_piece};
@@ -41,7 +41,9 @@ impl Held {
     }
 
     /// Whether there is nothing.
-    pub(crate) fn is_empty(&self) -> bool {
+    pub(crate) fn is_empty(&self) -> bool
+        ensures { IsTrue result → self.now.bytes.items ≡ [] }
+    {
         self.bytes.is_empty()
     }
 

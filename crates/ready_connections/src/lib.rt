@@ -9,7 +9,9 @@ mod hall;
 mod held;
 mod sockets;
 mod stream;
+mod why;
 
 pub use hall::Hall;
 pub use sockets::Sockets;
 pub use stream::{Broken, Got, Stream};
+pub use why::Why;

@@ -4,6 +4,7 @@ ghost use Rattle.ready_connections.specs.Streams.{Traffic, one_over};
 ghost use Rattle.ready_connections.specs.Arriving.{Arrives};
 
 use crate::stream::Stream;
+use crate::why::Why;
 use std::io;
 use std::time::Duration;
 
@@ -27,6 +28,6 @@ pub trait Sockets {
             → slice_index_or has_turn.new i false ≡ true };
 
     /// Takes back a connection that is over.
-    fn end(&mut self, stream: Self::Stream)
-        ensures { traffic self.new ≡ option_map (one_over stream) (traffic self.old) };
+    fn end(&mut self, stream: Self::Stream, why: Why)
+        ensures { traffic self.new ≡ option_map (one_over stream why) (traffic self.old) };
 }

@@ -1,7 +1,7 @@
 //! A stream that never waits.
-ghost use Rattle.std.specs.Prelude.{◌≡◌, ◌≤◌, ℕ, Bool, List, Option, length, take, nat_lt};
+ghost use Rattle.std.specs.Prelude.{◌≡◌, ◌≤◌, ℕ, Bool, List, Option, length, take, nat_lt, is_err};
 ghost use Rattle.std.specs.Io.KnownBytes.{append_known};
-ghost use Rattle.ready_connections.specs.Streams.{got_len, gave_nothing, took_len};
+ghost use Rattle.ready_connections.specs.Streams.{got_len, gave_nothing, gave_end, took_len};
 
 /// What a read came to.
 #[derive(Clone, Copy, Debug, PartialEq, Eq)]
@@ -30,8 +30,14 @@ pub trait Stream {
     // Whether nothing was there at its last read.
     ghost is_idle: { Self → Bool };
 
+    // Whether its last read found that nothing comes any more.
+    ghost is_ended: { Self → Bool };
+
     // Whether its last write took less than it was given.
     ghost is_stuck: { Self → Bool };
+
+    // Whether its last write failed.
+    ghost is_broken: { Self → Bool };
 
     /// Reads what is there into the front of the room.
     fn read(&mut self, room: &mut [u8]) -> Got
@@ -39,7 +45,9 @@ pub trait Stream {
         ensures came { came self.new ≡ append_known (came self.old) (take (got_len result) room.new) }
         ensures went { went self.new ≡ went self.old }
         ensures idle { is_idle self.new ≡ gave_nothing result }
-        ensures stuck { is_stuck self.new ≡ is_stuck self.old };
+        ensures ended { is_ended self.new ≡ gave_end result }
+        ensures stuck { is_stuck self.new ≡ is_stuck self.old }
+        ensures broken { is_broken self.new ≡ is_broken self.old };
 
     /// Writes what goes of the text, from its front, and answers how many bytes: 0 if none goes now.
     fn write(&mut self, text: &[u8]) -> Result<usize, Broken>
@@ -47,5 +55,7 @@ pub trait Stream {
         ensures came { came self.new ≡ came self.old }
         ensures went { went self.new ≡ append_known (went self.old) (take (took_len result) text.now) }
         ensures idle { is_idle self.new ≡ is_idle self.old }
-        ensures stuck { is_stuck self.new ≡ nat_lt (took_len result) (length text.now) };
+        ensures ended { is_ended self.new ≡ is_ended self.old }
+        ensures stuck { is_stuck self.new ≡ nat_lt (took_len result) (length text.now) }
+        ensures broken { is_broken self.new ≡ is_err result };
 }

@@ -1,12 +1,14 @@
-use Rattle.std.proofs.Common.{◌≡◌, inr, ◌++◌, [], sym, subst, arith}
-use Rattle.std.proofs.lemmas.Grind.{common_steps}
-use Rattle.ready_connections.proofs.Told.{told_idle}
+use Rattle.std.proofs.Common.{◌≡◌, inr, ap, sym, ◌∙◌, ◌++◌, take}
+use Rattle.ready_connections.proofs.Told.{told_idle, told_read}
 use Rattle.ready_connections.proofs.connection.Connection.read.Goals as goal
 
 pub returns-in-Nothing-clause-told : goal.returns-in-Nothing-clause-told
-returns-in-Nothing-clause-told g c done told = (
-  told_idle done _ _ _ _ _ _ _ _ _ c.read.new.room c.in-Nothing.ensures.came c.in-Nothing.ensures.went
-      c.reserve.ensures.same told,
+returns-in-Nothing-clause-told g c done served = (
+  record {
+    told = told_idle done _ _ _ _ _ _ _ c.read.new.room _ _ _ _ c.requires.open c.in-Nothing.ensures.came
+        c.in-Nothing.ensures.went c.reserve.ensures.same served.told;
+    ended = c.requires.goes_on ∙ sym c.in-Nothing.ensures.ended;
+  },
   inr (
     c.requires.none_owed,
     c.requires.open,
@@ -18,3 +20,18 @@ returns-in-Nothing-clause-told g c done told = (
     c.in-Nothing.ensures.idle,
   ),
 )
+
+pub returns-in-End-clause-told : goal.returns-in-End-clause-told
+returns-in-End-clause-told g c done served = record {
+  told = told_idle done _ _ _ _ _ _ _ c.read.new.room _ _ _ _ c.requires.open c.in-End.ensures.came
+      c.in-End.ensures.went c.reserve.ensures.same served.told;
+  ended = sym c.in-End.ensures.ended;
+}
+
+pub returns-in-Bytes-clause-told : goal.returns-in-Bytes-clause-told
+returns-in-Bytes-clause-told g c done served = record {
+  told = told_read done _ _ _ _ _ _ _ _ _ _ _ _ c.requires.open c.in-Bytes.ensures.came c.in-Bytes.ensures.went
+      (c.append.ensures.items ∙ ap (λ l. l ++ take c.in-Bytes.count c.read.new.room) c.reserve.ensures.same)
+      served.told;
+  ended = c.requires.goes_on ∙ sym c.in-Bytes.ensures.ended;
+}

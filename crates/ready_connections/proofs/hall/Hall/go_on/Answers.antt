@@ -26,7 +26,7 @@ returns-in-Over-clause-running g c done running =
     let old = c.args.self.now in
     let low : c.args.place < length old.places.items = grind (arith, common_steps, c.requires.place) in
     ended g.S.Stream done old c.leave.new.self _ _ _ (g.P.Sockets.traffic c.args.sockets.now)
-    (g.P.Sockets.traffic c.end.new.self) c.args.place c.in_ok-connection.connection c.go_on.new.self low
+    (g.P.Sockets.traffic c.end.new.self) c.args.place c.in-Over.why c.in_ok-connection.connection c.go_on.new.self low
     c.requires.out c.in_ok-connection.ensures.was c.in_ok-connection.ensures.free refl refl refl
     (rw c.into_stream.ensures at c.end.ensures) (λ served. c.in-Over.ensures.told done served) running
 
