@@ -1,6 +1,6 @@
 -- What one thing that happens in a hall changes of what holds of all its connections.
 use Rattle.std.proofs.Common.{◌≡◌, ◌≢◌, ◌⊎◌, inl, inr, ℕ, zero, suc, ◌+◌, ◌<◌, ◌≤◌, Bool, true, false, List, [], ◌∷◌, ◌++◌, length, get_or, set}
-use Rattle.std.proofs.Common.{Option, Some, None, IfSome, refl, sym, ap, ◌∙◌, subst, arith, length-append}
+use Rattle.std.proofs.Common.{Option, Some, None, IfSome, refl, sym, ap, ◌∙◌, subst, arith, length-append, Vec, Global, vec_len}
 use Rattle.std.specs.Prelude.{option_map}
 use Rattle.std.specs.List.{AllByRecursion}
 use Rattle.std.proofs.lemmas.Bool.Decides.{eqb_tells}
@@ -12,8 +12,9 @@ use Rattle.ready_connections.specs.declared.hall.Hall.{Hall}
 use Rattle.ready_connections.specs.declared.hall.Out.{Out}
 use Rattle.ready_connections.specs.Streams.{Traffic, Gone, one_came, one_over}
 use Rattle.ready_connections.specs.declared.why.Why.{Why}
-use Rattle.ready_connections.specs.Pieces.{Piece, IsTold}
-use Rattle.ready_connections.specs.Connections.{IsServed, IsOut, IsWaiting, IsEnd}
+use Rattle.ready_connections.specs.Pieces.{Piece, IsTold, longest}
+use Rattle.http_messages.specs.Message.{interim}
+use Rattle.ready_connections.specs.Connections.{IsServed, IsOut, IsWaiting, IsBounded, IsEnd}
 use Rattle.ready_connections.specs.Running.{taken, taken_places, out_count, IsInPlace, IsOutOf, WasTold, AreOver, AreRunning, IsRunning, IsEmpty, Puts}
 use Rattle.ready_connections.proofs.Told.{told_more}
 
@@ -29,7 +30,57 @@ all_push : {X : Type 0} (P : X → Type 0) (xs : List X) (x : X) → AllByRecurs
 all_push P [] x all at = (at, tt)
 all_push P (y ∷ xs) x all at = (all.0, all_push P xs x all.1 at)
 
+-- ---- bounds
+
+longest_some : (done : List Piece) → length interim ≤ longest done
+longest_some [] = omega arith
+longest_some (piece ∷ done) = let h = longest_some done in omega (arith, h)
+
+longest_more : (done more : List Piece) → longest done ≤ longest (done ++ more)
+longest_more [] more = longest_some more
+longest_more (piece ∷ done) more = let h = longest_more done more in omega (arith, h)
+
+longest_last : (done : List Piece) (last : Piece) → length last.output ≤ longest (done ++ last ∷ [])
+longest_last [] last = omega arith
+longest_last (piece ∷ done) last = let h = longest_last done last in omega (arith, h)
+
 module _ {S : Type 0} where
+  bounded_more : (done more : List Piece) (c : Connection S) → IsBounded done c → IsBounded (done ++ more) c
+  bounded_more done more c bounded = record {
+    held = bounded.held;
+    owed = let h = longest_more done more in let b = bounded.owed in omega (arith, h, b);
+  }
+
+  -- a connection that holds nothing and owes nothing
+  pub bounded_new : (done : List Piece) (c : Connection S) → c.held.bytes.items ≡ [] → c.owed.items ≡ []
+      → IsBounded done c
+  bounded_new done c held owed = record {
+    held = let h : vec_len c.held.bytes ≡ 0 = c.held.bytes.ok.0 ∙ ap length held in omega (arith, h);
+    owed = let h : vec_len c.owed ≡ 0 = c.owed.ok.0 ∙ ap length owed in omega (arith, h);
+  }
+
+  -- it went on
+  pub bounded_on : (done : List Piece) (c c' : Connection S) (room : ℕ) → room ≤ 16384
+      → ((most : ℕ) → 1064962 + room ≤ most → vec_len c.held.bytes ≤ most → vec_len c'.held.bytes ≤ most)
+      → ((most : ℕ) → length interim ≤ most → vec_len c.owed ≤ most → vec_len c'.owed ≤ most) → IsBounded done c
+      → IsBounded done c'
+  bounded_on done c c' room small held owed bounded = record {
+    held = held (1064962 + 16384) (omega (arith, small)) bounded.held;
+    owed = owed (longest done) (longest_some done) bounded.owed;
+  }
+
+  -- the output of its piece came back
+  pub bounded_back : (done : List Piece) (back : Piece) (c c' : Connection S) (output : Vec ℕ Global)
+      → back.output ≡ output.items → c'.held.bytes ≡ c.held.bytes → vec_len c'.owed ≤ vec_len output
+      → IsBounded done c → IsBounded (done ++ back ∷ []) c'
+  bounded_back done back c c' output is held owed bounded = record {
+    held = rw held bounded.held;
+    owed =
+        let last = longest_last done back in
+        let len : vec_len output ≡ length back.output = output.ok.0 ∙ ap length (sym is) in
+        omega (arith, last, len, owed);
+  }
+
   pub count_set : (xs : List (Option (Connection S))) (i : ℕ) (x : Option (Connection S)) → i < length xs
       → taken_places (set xs i x) + taken (get_or xs i None) ≡ taken_places xs + taken x
   count_set [] i x low = absurd (omega (arith, low))
@@ -90,6 +141,7 @@ module _ {S : Type 0} (s : Ghosts S) where
       → IsInPlace s (done ++ more) has_turn c
   more_place done more has_turn c at = record {
     told = record { told = told_more done more _ _ _ _ _ _ _ _ at.told.told; ended = at.told.ended };
+    bounded = bounded_more done more c at.bounded;
     awake = at.awake;
   }
 
@@ -168,17 +220,18 @@ module _ {S : Type 0} (s : Ghosts S) where
       → entered.places.items ≡ left.places.items → entered.has_turn.items ≡ left.has_turn.items
       → entered.out ≡ left.out → Puts entered new place (Some c') has_turn
       → (IsServed s done c → IsServed s done c' × ((has_turn ≡ true) ⊎ IsWaiting s c'))
+      → (IsBounded done c → IsBounded done c')
       → IsRunning s done None old traffic → IsRunning s done None new traffic
   went_on done old left entered new traffic place c c' has_turn low none was leaves same same_turns same_out enters step
-      running =
+      bound running =
       stays done old new traffic traffic place c' has_turn low none puts
-      (record { told = (step served).0; awake = (step served).1 }) over running
+      (record { told = (step here.told).0; bounded = bound here.bounded; awake = (step here.told).1 }) over running
     where
       puts : Puts old new place (Some c') has_turn
       puts = puts_twice old left entered new place (Some c') has_turn leaves same same_turns same_out enters
 
-      served : IsServed s done c
-      served = (rw (sym was) at (running.in_place place)).told
+      here : IsInPlace s done (get_or old.has_turn.items place false) c
+      here = rw (sym was) at (running.in_place place)
 
       over : IfSome traffic (AreOver s done old.places.items old.out) → IfSome traffic (AreOver s done new.places.items new.out)
       over h = kept traffic h
@@ -236,14 +289,14 @@ module _ {S : Type 0} (s : Ghosts S) where
       → Some c ≡ get_or old.places.items place None → Puts old left place None false
       → places ≡ left.places.items → turns ≡ left.has_turn.items
       → out ≡ Some (record { place = place; connection = c' })
-      → (IsServed s done c → IsOut s done read c')
+      → (IsServed s done c → IsOut s done read c') → (IsBounded done c → IsBounded done c')
       → IsRunning s done None old traffic → AreRunning s done (Some read) places turns out traffic
-  handed_out done read old left places turns out traffic place c c' low none was leaves_ same same_turns is_out step running =
+  handed_out done read old left places turns out traffic place c c' low none was leaves_ same same_turns is_out step bound running =
       leaves done (Some read) old left traffic traffic place low leaves_ places turns out same same_turns
-      (rw (is_out, same) (step served, omega (arith, low, leaves_.len), leaves_.here)) (kept traffic) running
+      (rw (is_out, same) (step here.told, bound here.bounded, omega (arith, low, leaves_.len), leaves_.here)) (kept traffic) running
     where
-      served : IsServed s done c
-      served = (rw (sym was) at (running.in_place place)).told
+      here : IsInPlace s done (get_or old.has_turn.items place false) c
+      here = rw (sym was) at (running.in_place place)
 
       kept : (traffic : Option (Traffic S)) → IfSome traffic (AreOver s done old.places.items old.out)
           → IfSome traffic (AreOver s done places out)
@@ -262,10 +315,10 @@ module _ {S : Type 0} (s : Ghosts S) where
   pub came : (done : List Piece) (old new : Hall S) (traffic traffic' : Option (Traffic S)) (place : ℕ)
       (c : Connection S) → place < length old.places.items → old.out ≡ None
       → get_or old.places.items place None ≡ None → Puts old new place (Some c) true
-      → traffic' ≡ option_map one_came traffic → IsServed s done c
+      → traffic' ≡ option_map one_came traffic → IsServed s done c → IsBounded done c
       → IsRunning s done None old traffic → IsRunning s done None new traffic'
-  came done old new traffic traffic' place c low none free puts comes served running =
-      stays done old new traffic traffic' place c true low none puts (record { told = served; awake = inl refl })
+  came done old new traffic traffic' place c low none free puts comes served bounded running =
+      stays done old new traffic traffic' place c true low none puts (record { told = served; bounded = bounded; awake = inl refl })
       (λ h. rw comes (kept traffic h)) running
     where
       kept : (traffic : Option (Traffic S)) → IfSome traffic (AreOver s done old.places.items old.out)
@@ -297,6 +350,7 @@ module _ {S : Type 0} (s : Ghosts S) where
       keep i None at = tt
       keep i (Some c) at = record {
         told = at.told;
+        bounded = at.bounded;
         awake = elim at.awake [ inl turn ↦ inl (kept i turn) | inr waits ↦ inr waits ];
       }
 
@@ -313,17 +367,18 @@ module _ {S : Type 0} (s : Ghosts S) where
       → taken_.places.items ≡ old.places.items → taken_.has_turn.items ≡ old.has_turn.items → taken_.out ≡ None
       → Puts taken_ new out.place (Some c') true
       → (IsOut s done read out.connection → IsServed s (done ++ back ∷ []) c')
+      → (IsBounded done out.connection → IsBounded (done ++ back ∷ []) c')
       → IsRunning s done (Some read) old traffic → IsRunning s (done ++ back ∷ []) None new traffic
-  came_back done read back old taken_ new traffic out c' is_out same same_turns none puts step running = record {
+  came_back done read back old taken_ new traffic out c' is_out same same_turns none puts step bound running = record {
     turns = omega (arith, puts.turns_len, puts.len, ap length same, ap length same_turns, running.turns);
     in_place = put done (done ++ back ∷ []) taken_ new out.place (Some c') true
-        (rw same_turns (omega (arith, was.1, running.turns))) (more_place done (back ∷ [])) puts
-        (record { told = step was.0; awake = inl refl }) (rw (same, same_turns) running.in_place);
+        (rw same_turns (omega (arith, was.2, running.turns))) (more_place done (back ∷ [])) puts
+        (record { told = step was.0; bounded = bound was.1; awake = inl refl }) (rw (same, same_turns) running.in_place);
     is_out = rw (puts.out, none) tt;
     over = over traffic running.over;
   }
     where
-      was : IsOut s done read out.connection × (out.place < length old.places.items)
+      was : IsOut s done read out.connection × IsBounded done out.connection × (out.place < length old.places.items)
           × (get_or old.places.items out.place None ≡ None)
       was = rw is_out at running.is_out
 
@@ -333,7 +388,7 @@ module _ {S : Type 0} (s : Ghosts S) where
       over (Some known) h = record {
         told = all_weaker _ _ (more_stream done (back ∷ [])) known.over h.told;
         none_lost =
-            let free = ap (λ places. get_or places out.place None) same ∙ was.2 in
+            let free = ap (λ places. get_or places out.place None) same ∙ was.3 in
             let count = at_most taken_ new out.place (Some c') None true puts free in
             let places = ap taken_places same in
             let now = ap out_count (puts.out ∙ none) in

@@ -1,11 +1,11 @@
 -- What contracts see of one connection; own rules.
-use Rattle.std.specs.Prelude.{◌≡◌, ◌≢◌, ◌⊎◌, ℕ, ◌<◌, Bool, true, false, List, [], ◌∷◌, ◌++◌, length, take}
+use Rattle.std.specs.Prelude.{◌≡◌, ◌≢◌, ◌⊎◌, ℕ, ◌<◌, Bool, true, false, List, [], ◌∷◌, ◌++◌, ◌+◌, ◌≤◌, length, take, vec_len}
 use Rattle.http_messages.specs.Message.{IsRefused, IsRest, Asks}
 use Rattle.http_messages.specs.declared.refusal.Refusal.{Refusal}
 use Rattle.ready_connections.specs.declared.connection.Connection.{Connection}
 use Rattle.ready_connections.specs.declared.stream.Stream.{Ghosts}
-use Rattle.ready_connections.specs.Pieces.{Piece, IsWhole, IsTold}
-use Rattle.request_pieces.specs.Pieces.{IsLast}
+use Rattle.ready_connections.specs.Pieces.{Piece, IsWhole, IsTold, longest}
+use Rattle.request_pieces.specs.Pieces.{IsLast, max_piece_len}
 use Rattle.ready_connections.specs.declared.why.Why.{Why}
 use Rattle.ready_connections.specs.declared.why.Why.TheVariants.{Done, Broken, NoMemory}
 
@@ -24,6 +24,11 @@ pub record IsOut {S : Type 0} (s : Ghosts S) (done : List Piece) (read : List �
   pub owes_nothing : c.owed.items ≡ []
   pub whole : c.is_closing ≡ false → IsWhole read
   pub last : c.is_closing ≡ true → IsLast read (s.is_ended c.stream)
+
+-- no more is held than a piece and one read, and no more is owed than the longest output, or the interim response
+pub record IsBounded {S : Type 0} (done : List Piece) (c : Connection S) : Type 0 where
+  pub held : vec_len c.held.bytes ≤ max_piece_len + 16384
+  pub owed : vec_len c.owed ≤ longest done
 
 -- the piece that was out of this connection, with its bytes, and what came back for it
 abbrev pub piece_back : {S : Type 0} → Connection S → List ℕ → List ℕ → Bool → Piece

@@ -1,6 +1,6 @@
 -- The pieces of connections, in the order in which they were handed out, and what a connection got for its own; own
 -- rules.
-use Rattle.std.specs.Prelude.{◌≡◌, ◌⊎◌, ℕ, ◌≤◌, Bool, true, false, List, [], ◌∷◌, ◌++◌, length, take, drop, Option, IfSome}
+use Rattle.std.specs.Prelude.{◌≡◌, ◌⊎◌, ℕ, ◌≤◌, Bool, true, false, List, [], ◌∷◌, ◌++◌, length, take, drop, max, Option, IfSome}
 use Rattle.std.specs.Prelude.{if◌then◌else◌, nat_eq}
 use Rattle.std.specs.List.{flat_map, starts_with}
 use Rattle.http_messages.specs.Message.{SpellsRequest, interim}
@@ -38,6 +38,11 @@ reads_of pieces = flat_map (λ piece. piece.read) pieces
 
 abbrev pub texts_of : List Piece → List ℕ
 texts_of pieces = flat_map text_of pieces
+
+-- the length of the longest output of these pieces, or of the interim response
+abbrev pub longest : List Piece → ℕ
+longest [] = length interim
+longest (piece ∷ pieces) = max (length piece.output) (longest pieces)
 
 -- these are some of the pieces that were done, in their order
 abbrev pub AreAmong : List Piece → List Piece → Type 0

@@ -10,7 +10,7 @@ use Rattle.ready_connections.specs.declared.hall.Out.{Out}
 use Rattle.ready_connections.specs.declared.stream.Stream.{Ghosts}
 use Rattle.ready_connections.specs.Streams.{Traffic, Gone}
 use Rattle.ready_connections.specs.Pieces.{Piece, IsTold}
-use Rattle.ready_connections.specs.Connections.{IsServed, IsOut, IsWaiting, IsEnd, piece_back}
+use Rattle.ready_connections.specs.Connections.{IsServed, IsOut, IsWaiting, IsBounded, IsEnd, piece_back}
 
 -- how many connections are in a place, and in these
 abbrev pub taken : {S : Type 0} → Option (Connection S) → ℕ
@@ -31,6 +31,7 @@ out_count (Some out) = 1
 pub record IsInPlace {S : Type 0} (s : Ghosts S) (done : List Piece) (has_turn : Bool) (c : Connection S)
     : Type 0 where
   pub told : IsServed s done c
+  pub bounded : IsBounded done c
   pub awake : (has_turn ≡ true) ⊎ IsWaiting s c
 
 -- a piece is out exactly if it is known, and the place of its connection is kept free for it
@@ -38,7 +39,7 @@ abbrev pub IsOutOf : {S : Type 0} → Ghosts S → List Piece → Option (List �
     → List (Option (Connection S)) → Type 0
 IsOutOf s done None None places = Unit {0}
 IsOutOf s done (Some read) (Some out) places =
-    IsOut s done read out.connection × (out.place < length places)
+    IsOut s done read out.connection × IsBounded done out.connection × (out.place < length places)
     × (slice_index_or places out.place None ≡ None)
 IsOutOf s done None (Some out) places = ⊥
 IsOutOf s done (Some read) None places = ⊥

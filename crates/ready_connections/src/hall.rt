@@ -5,14 +5,12 @@ ghost use Rattle.ready_connections.specs.Pieces.{Piece};
 ghost use Rattle.ready_connections.specs.Running.{IsRunning, IsEmpty, Puts, items_of, items_out_of, piece_of};
 
 use crate::connection::{Connection, Turn};
+use crate::room::Room;
 use crate::sockets::Sockets;
 use crate::stream::Stream;
 use std::alloc::{AllocError, Global};
 use std::io;
 use std::time::Duration;
-
-/// The most bytes of one read.
-const ROOM: usize = 16_384;
 
 /// A connection whose piece is out, and its place, which is kept for it.
 #[derive(Drop)]
@@ -33,7 +31,7 @@ pub struct Hall<S> {
     pub(crate) turns_left: usize,
     pub(crate) out: Option<Out<S>>,
     /// What a read is made into.
-    pub(crate) room: Vec<u8>,
+    pub(crate) room: Room,
 }
 
 impl<S: Stream + Drop> Hall<S> {
@@ -55,7 +53,7 @@ impl<S: Stream + Drop> Hall<S> {
             next: 0,
             turns_left: 0,
             out: None,
-            room: zeros(alloc)?,
+            room: Room::new(alloc)?,
         })
     }
 
@@ -137,7 +135,7 @@ impl<S: Stream + Drop> Hall<S> {
         ensures out { IfNone result (self.new.out ≡ None) }
     {
         let mut connection = self.leave(place)?;
-        match connection.go_on(self.alloc, &mut self.room) {
+        match connection.go_on(self.alloc, &mut self.room.bytes) {
             Turn::Again => {
                 self.enter(place, connection, true);
                 None
@@ -257,15 +255,4 @@ fn first_true(has_turn: &[bool], from: usize) -> Option<usize>
         }
     }
     None
-}
-
-/// The room of a read.
-fn zeros(alloc: Global) -> Result<Vec<u8>, AllocError>
-    ensures { IfOk result (λ room. vec_len room ≡ ROOM) }
-{
-    let mut room = Vec::with_capacity(alloc, ROOM)?;
-    while room.len() < ROOM {
-        room.push_reserved(0);
-    }
-    Ok(room)
 }

@@ -7,6 +7,7 @@
 mod connection;
 mod hall;
 mod held;
+mod room;
 mod sockets;
 mod stream;
 mod why;
