@@ -2,3 +2,4 @@ pub mod Messages
 pub mod Sentences
 pub mod Objects
 pub mod Lines
+pub mod Passing

@@ -7,6 +7,7 @@
 mod form;
 mod message;
 mod object;
+mod passing;
 mod sentence;
 mod syntax_fault;
 mod telling;

@@ -2,6 +2,7 @@
 ghost use Rattle.std.specs.Prelude.{◌≡◌, IfOk};
 ghost use Rattle.finding_lines.specs.Lines.{IsFaultIn, fault_words};
 
+use crate::passing::is_surely_read;
 use report_places::{Position, position_of};
 use serde_json::Value;
 use std::alloc::{AllocError, Global};
@@ -36,6 +37,9 @@ impl SyntaxFault {
 pub(crate) fn fault_in(alloc: Global, body: &[u8]) -> Result<Option<SyntaxFault>, AllocError>
     ensures { IfOk result (IsFaultIn body.now) }
 {
+    if is_surely_read(alloc, body)? {
+        return Ok(None);
+    }
     match Value::from_slice(alloc, body) {
         Ok(_) => Ok(None),
         Err(error) if error.is_memory() => Err(AllocError),
