@@ -9,3 +9,4 @@ mod Strings
 mod Once
 mod Agree
 mod Below
+mod ByName

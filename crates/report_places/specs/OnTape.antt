@@ -1,9 +1,8 @@
 -- What a look-up on a tape answers. No public clause cites this file.
 use Rattle.std.specs.Prelude.{◌≡◌, ℕ, ◌+◌, List, ◌++◌, ◌∷◌, ◌<◌, ◌≤◌, length, map, drop, Option, Some, None}
-use Rattle.std.specs.Prelude.{MatchOption, IfSome, option_and_then, slice_get}
-use Rattle.std.specs.BTreeMap.{BTreeMap, get, get_by}
+use Rattle.std.specs.Prelude.{MatchOption, IfSome, option_and_then, slice_get, ⊤}
+use Rattle.std.specs.BTreeMap.{get}
 use Rattle.std.specs.Ordering.{nat_cmp}
-use Rattle.std.specs.Cmp.Lexicographic.{slice_cmp}
 use Rattle.std.specs.Borrow.{Bor}
 use Rattle.json.specs.Token.{Token, key}
 use Rattle.json.specs.Json.{Json, Members, no_members, after_end_array}
@@ -11,6 +10,7 @@ use Rattle.json.specs.Tree.{json_tokens, members_tokens}
 use Rattle.json.specs.Tape.{node_token, LinkAt}
 use Rattle.json.specs.declared.tape.Node.{Node}
 use Rattle.serde_json.specs.Find.{unescape, index_of}
+use Rattle.report_places.specs.Entries.{AreByName, value_at}
 use Rattle.report_places.specs.Lead.{Found, Reached, child}
 use Rattle.report_places.specs.declared.children.Children.{Children}
 use Rattle.report_places.specs.declared.children.Children.TheVariants.{Members as members, Elements, Nothing}
@@ -58,13 +58,9 @@ led r = record { token = r.token; is_there = r.is_there }
 abbrev pub Begins : List Token → ℕ → Json → Type 0
 Begins ts k v = (rest : List Token) × (drop k ts ≡ json_tokens v ++ rest)
 
--- what a map has under a name
-abbrev pub value_at : BTreeMap (Bor (List ℕ)) ℕ → List ℕ → Option ℕ
-value_at by_name name = get_by (λ k. slice_cmp nat_cmp name k.now) by_name
-
 -- what children have under a part of a pointer
 abbrev pub found_in : Children → List ℕ → Option ℕ
-found_in (members by_name) part = value_at by_name (unescape part)
+found_in (members entries) part = value_at entries.items (unescape part)
 found_in (Elements tokens) part = option_and_then (slice_get tokens.items) (index_of part)
 found_in Nothing part = None
 
@@ -73,6 +69,13 @@ abbrev pub AreChildren : List Token → ℕ → Children → Type 0
 AreChildren ts at children = (value : Json) (rest : List Token) → drop at ts ≡ json_tokens value ++ rest
     → (part : List ℕ) → IsFound ts at (child part value) (found_in children part)
 
+-- members are by name
+abbrev pub IsInOrder : Children → Type 0
+IsInOrder (members entries) = AreByName entries.items
+IsInOrder (Elements tokens) = ⊤
+IsInOrder Nothing = ⊤
+
 -- what is kept of a value is what stands there
 abbrev pub IsIndexOf : List Token → Index → Type 0
-IsIndexOf ts index = (at : ℕ) → IfSome (get nat_cmp index.asked at) (AreChildren ts at)
+IsIndexOf ts index =
+    (at : ℕ) → IfSome (get nat_cmp index.asked at) (λ children. IsInOrder children × AreChildren ts at children)

@@ -5,6 +5,7 @@
 #![tactic(auto)]
 
 mod children;
+mod entries;
 mod index;
 pub mod laws;
 mod lead;
