@@ -1,0 +1,4 @@
+pub mod Note
+pub mod Changes
+pub mod ReadOnly
+pub mod Files
