@@ -1,15 +1,16 @@
 //! How a text is written in HTML (HTML living standard, section 13.1.4).
 
-ghost use Rattle.std.specs.Prelude.{◌≡◌, ◌∷◌, [], false, IfOk, OnOk, MatchOption};
+ghost use Rattle.std.specs.Prelude.{◌≡◌, ◌∷◌, [], ◌++◌, false, true, IfOk, OnOk, MatchOption};
 ghost use Rattle.markup.specs.Reading.{AddsText, Reads, Refers, is_markup};
+ghost use Rattle.markup.specs.Visible.{is_control, symbol as symbol_lem, visible, visible_byte};
 
 use crate::piece::Markup;
 use std::alloc::{AllocError, Global};
 
 /// The text as HTML: `<`, `>`, `&` and the two quotes are written as character references, so that HTML reads this text
-/// alone, between tags and in a quoted value of an attribute alike.
+/// alone, between tags and in a quoted value of an attribute alike. Of a control character HTML reads its symbol.
 pub fn escape(alloc: Global, text: &str) -> Result<Markup, AllocError>
-    ensures { IfOk result (λ written. Reads written text.now) }
+    ensures { IfOk result (λ written. Reads written (visible text.now)) }
 {
     let mut written = Markup::new(alloc);
     written.text(text)?;
@@ -30,10 +31,33 @@ fn reference(byte: u8) -> Option<&'static str>
     }
 }
 
+/// The last byte of the symbol of a control character, if the byte is one.
+fn symbol(byte: u8) -> Option<u8>
+    ensures { MatchOption result (is_control byte ≡ false)
+        (λ last. (is_control byte ≡ true) × (symbol_lem byte ≡ 226 ∷ 144 ∷ last ∷ [])) }
+{
+    match byte {
+        b'\t' | b'\n' => None,
+        0..=31 => Some(byte + 128),
+        127 => Some(161),
+        _ => None,
+    }
+}
+
+/// Appends a character that markup is not made of, of these three bytes.
+fn append_symbol(written: &mut Vec<u8>, last: u8) -> Result<(), AllocError>
+    ensures { OnOk result (written.new.items ≡ written.old.items ++ 226 ∷ 144 ∷ last ∷ []) }
+{
+    written.extend_from_slice(&[226, 144, last])
+}
+
 /// Appends what is written of a byte.
 fn append_byte(written: &mut Vec<u8>, byte: u8) -> Result<(), AllocError>
-    ensures { OnOk result (AddsText (byte ∷ []) written.old.items written.new.items) }
+    ensures { OnOk result (AddsText (visible_byte byte) written.old.items written.new.items) }
 {
+    if let Some(last) = symbol(byte) {
+        return append_symbol(written, last);
+    }
     match reference(byte) {
         Some(name) => written.extend_from_slice(name.as_bytes())?,
         None => written.push(byte)?,
@@ -43,7 +67,7 @@ fn append_byte(written: &mut Vec<u8>, byte: u8) -> Result<(), AllocError>
 
 /// Appends what is written of the bytes of a text, or of a part of one.
 pub(crate) fn append_bytes(written: &mut Vec<u8>, bytes: &[u8]) -> Result<(), AllocError>
-    ensures { OnOk result (AddsText bytes.now written.old.items written.new.items) }
+    ensures { OnOk result (AddsText (visible bytes.now) written.old.items written.new.items) }
 {
     for byte in bytes {
         append_byte(written, *byte)?;

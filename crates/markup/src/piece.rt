@@ -4,6 +4,7 @@ ghost use Rattle.std.specs.Prelude.{◌≡◌, ◌++◌, [], OnOk};
 ghost use Rattle.std.specs.Fmt.{decimal};
 ghost use Rattle.markup.specs.Reading.{AddsText};
 ghost use Rattle.markup.specs.Short.{shortened};
+ghost use Rattle.markup.specs.Visible.{visible};
 
 use crate::escaping::append_bytes;
 use crate::short::append_shortened;
@@ -42,26 +43,26 @@ impl Markup {
         self.bytes.extend_from_slice(html.as_bytes())
     }
 
-    /// Appends a text, whatever it holds, as HTML that reads as that text.
+    /// Appends a text, whatever it holds, as HTML that reads as that text, with a symbol for each control character.
     pub fn text(&mut self, text: &str) -> Result<(), AllocError>
-        ensures { OnOk result (AddsText text.now self.old self.new) }
+        ensures { OnOk result (AddsText (visible text.now) self.old self.new) }
     {
         append_bytes(&mut self.bytes, text.as_bytes())
     }
 
     /// Appends a text like `text`, shortened in the middle if it has more than 120 characters.
     pub fn short_text(&mut self, text: &str) -> Result<(), AllocError>
-        ensures { OnOk result (AddsText (shortened text.now) self.old self.new) }
+        ensures { OnOk result (AddsText (visible (shortened text.now)) self.old self.new) }
     {
         append_shortened(&mut self.bytes, text)
     }
 
     /// Appends a number in decimal.
     pub fn number(&mut self, alloc: Global, number: u64) -> Result<(), AllocError>
-        ensures { OnOk result (AddsText (decimal number) self.old self.new) }
+        ensures { OnOk result (self.new ≡ self.old ++ decimal number) }
     {
         let text = format!(in alloc; "{number}")?;
-        self.text(text.as_str())
+        self.bytes.extend_from_slice(text.as_bytes())
     }
 
     /// Appends another piece.

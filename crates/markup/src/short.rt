@@ -4,6 +4,7 @@ ghost use Rattle.std.specs.Prelude.{◌≡◌, ◌≤◌, ◌++◌, drop, length
 ghost use Rattle.markup.specs.Reading.{AddsText};
 ghost use Rattle.markup.specs.Short.{begins_character as begins_character_lem, characters as characters_lem};
 ghost use Rattle.markup.specs.Short.{ellipsis, first_bytes as first_bytes_lem, shortened};
+ghost use Rattle.markup.specs.Visible.{visible};
 
 use crate::escaping::append_bytes;
 use std::alloc::AllocError;
@@ -18,7 +19,7 @@ const ENDING: usize = 60;
 
 /// Appends what is written of a text, shortened if it has more than 120 characters.
 pub(crate) fn append_shortened(written: &mut Vec<u8>, text: &str) -> Result<(), AllocError>
-    ensures { OnOk result (AddsText (shortened text.now) written.old.items written.new.items) }
+    ensures { OnOk result (AddsText (visible (shortened text.now)) written.old.items written.new.items) }
 {
     let bytes = text.as_bytes();
     let characters = characters(bytes);
@@ -41,7 +42,7 @@ fn append_ends(
     behind: usize,
 ) -> Result<(), AllocError>
     requires { (first ≤ length bytes.now) × (behind ≤ length bytes.now) }
-    ensures { OnOk result (AddsText (take first bytes.now ++ ellipsis ++ drop behind bytes.now)
+    ensures { OnOk result (AddsText (visible (take first bytes.now ++ ellipsis ++ drop behind bytes.now))
         written.old.items written.new.items) }
 {
     append_bytes(written, &bytes[..first])?;

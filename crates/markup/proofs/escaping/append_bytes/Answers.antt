@@ -1,7 +1,9 @@
-use Rattle.std.proofs.Common.{take, sym, subst}
+use Rattle.std.proofs.Common.{sym, subst, take}
 use Rattle.std.proofs.lemmas.List.{take_more}
 use Rattle.markup.specs.Reading.{AddsText}
+use Rattle.markup.specs.Visible.{visible}
 use Rattle.markup.proofs.ReadingLemmas.{adds_none, adds_more}
+use Rattle.markup.proofs.VisibleLemmas.{visible_more}
 use Rattle.markup.proofs.escaping.append_bytes.Goals as goal
 
 pub loop-byte-init : goal.loop-byte-init
@@ -10,6 +12,8 @@ loop-byte-init c = adds_none _
 pub loop-byte-preserved : goal.loop-byte-preserved
 loop-byte-preserved c =
     let i = c.loop-byte.byte-index in
-    subst (λ t. AddsText t c.args.written.now.items c.append_byte.new.written.items)
+    subst (λ t. AddsText (visible t) c.args.written.now.items c.append_byte.new.written.items)
     (sym (take_more c.args.bytes.now i 0 c.loop-byte-test.true))
-    (adds_more (take i c.args.bytes.now) _ _ _ _ c.loop-byte.invariant c.in_ok-append_byte.ensures)
+    (subst (λ t. AddsText t c.args.written.now.items c.append_byte.new.written.items)
+    (sym (visible_more (take i c.args.bytes.now) _))
+    (adds_more (visible (take i c.args.bytes.now)) _ _ _ _ c.loop-byte.invariant c.in_ok-append_byte.ensures))

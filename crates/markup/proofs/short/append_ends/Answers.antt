@@ -3,15 +3,17 @@ use Rattle.std.proofs.lemmas.List.{take_rest}
 use Rattle.std.proofs.lemmas.Result.{on_ok_weaker}
 use Rattle.markup.specs.Reading.{AddsText}
 use Rattle.markup.specs.Short.{ellipsis}
+use Rattle.markup.specs.Visible.{visible}
 use Rattle.markup.proofs.ReadingLemmas.{adds_more}
+use Rattle.markup.proofs.VisibleLemmas.{visible_parts}
 use Rattle.markup.proofs.short.append_ends.Goals as goal
 
 pub returns : goal.returns
 returns c =
     let first = take c.args.first c.args.bytes.now in
     let last = drop c.args.behind c.args.bytes.now in
-    on_ok_weaker c.append_bytes-3.result (λ then. adds_more (first ++ ellipsis) last _ _ _
-    (adds_more first ellipsis _ _ _ c.in_ok-append_bytes.ensures (rw c.as_bytes.ensures.value at
-    c.in_ok-append_bytes-2.ensures))
-    (subst (λ text. AddsText text c.append_bytes-2.new.written.items c.append_bytes-3.new.written.items)
-    (take_rest c.args.bytes.now c.args.behind) then)) c.append_bytes-3.ensures
+    rw (visible_parts first last) (on_ok_weaker c.append_bytes-3.result (λ then.
+    adds_more (visible first ++ ellipsis) (visible last) _ _ _ (adds_more (visible first) ellipsis _ _ _
+    c.in_ok-append_bytes.ensures (rw c.as_bytes.ensures.value at c.in_ok-append_bytes-2.ensures))
+    (subst (λ text. AddsText (visible text) c.append_bytes-2.new.written.items c.append_bytes-3.new.written.items)
+    (take_rest c.args.bytes.now c.args.behind) then)) c.append_bytes-3.ensures)
