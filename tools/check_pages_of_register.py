@@ -1,13 +1,17 @@
 #!/usr/bin/env python3
 """Tries `intake pages` of the built program: each text that was filed is read back from the pages, and no other tag is
-in them. What a hostile filer sends stays within bounds, on the disk and in memory. If there is a Chromium, it opens
-them, and looks for errors and for what the search box shows.
+in them. Pages have at most 1,000 rows, and each names the next one. What a hostile filer sends stays within bounds, on
+the disk and in memory. If there is a Chromium, it opens them, and looks for errors and for what the search box shows.
 
     tools/check_pages_of_register.py [SCREENSHOT]
+    tools/check_pages_of_register.py --planted        # damages the pages in each way of FAULTS: whether that is seen
 
 It takes the program that `rt run` builds in its folder, as crates/intake/out/intake. With a name it keeps a screenshot
-of a page there, outside of the repository. Status 1 if a trial fails.
+of a page there, outside of the repository. Status 1 if a trial fails, or if a fault is not seen.
 """
+import base64
+import contextlib
+import hashlib
 import html.parser
 import os
 import pathlib
@@ -15,10 +19,11 @@ import re
 import shutil
 import subprocess
 import sys
+import tempfile
 import time
 
-from odd_register import SENT, REFUSED, fact, make_odd_register, many, records, report
-from trials import INTAKE, ROOT, hold, run, tell, try_all
+from odd_register import REGION, SENT, REFUSED, fact, make_odd_register, many, records, report
+from trials import INTAKE, ROOT, failures, hold, run, tell, try_all
 
 TAGS = set(
     "html head meta link title style body a nav main h1 p label input span div table caption thead tbody tr th td "
@@ -27,15 +32,26 @@ TAGS = set(
 # How many findings of a report are shown at most, what a page has besides its rows, what a row takes at most, and what
 # `pages` may hold in memory beyond what `check` of the same register holds; in bytes.
 FINDINGS, FRAME, ROW, MEMORY = 20, 10_000, 10_000, 100_000_000
+# How many rows a page has at most, and how many refused reports.
+ROWS, REPORTS = 1_000, 50
+# What follows the last of the SENT in the register of the looks: filers whose codes differ in capital letters alone,
+# and a report that was sent to replace a filing that there isn't.
+MORE = [
+    ("acme", "s-1", None, {"f1": fact("acme", "1")}),
+    ("Acme", "s-2", None, {"f1": fact("Acme", "bell \u0007 and return \r", **{REGION: None})}),
+    ("Acme", "s-3", 99, {"f1": fact("Acme", "1")}),
+]
 VOID = {"meta", "link", "input", "br"}
 
 
 class Page(html.parser.HTMLParser):
-    """A page as Python reads it: its tags, its links, and the texts of the cells of each row."""
+    """A page as Python reads it: its tags, its links, the texts and classes of the cells of each row, its policy, and
+    the texts of its style and script."""
 
     def __init__(self, text):
         super().__init__(convert_charrefs=True)
-        self.tags, self.links, self.rows, self.open = set(), [], [], []
+        self.tags, self.links, self.rows, self.classes, self.open = set(), [], [], [], []
+        self.next, self.before, self.policy, self.texts, self.linked = None, None, "", {}, []
         self.faults = []
         self.feed(text)
         self.close()
@@ -43,15 +59,31 @@ class Page(html.parser.HTMLParser):
             self.faults.append(f"not closed: {self.open}")
 
     def handle_starttag(self, tag, attrs):
+        its = dict(attrs)
         self.tags.add(tag)
         self.links += [value for name, value in attrs if name in ("href", "src")]
-        self.faults += [f"{tag} has {name}" for name, _ in attrs if name.startswith("on")]
+        self.faults += [f"{tag} has {name}" for name, _ in attrs if name.startswith("on") or name == "style"]
         if tag == "tr":
             self.rows.append([])
+            self.classes.append([])
+            self.linked.append([])
         if tag in ("td", "th"):
             self.rows[-1].append("")
+            self.classes[-1].append(its.get("class"))
+            self.linked[-1].append(None)
+        if tag == "a" and self.inside("td", "th"):
+            self.linked[-1][-1] = its["href"]
+        if tag == "a" and its.get("rel") == "next":
+            self.next = its["href"]
+        if tag == "a" and its.get("rel") == "prev":
+            self.before = its["href"]
+        if tag == "meta" and its.get("http-equiv") == "Content-Security-Policy":
+            self.policy = its["content"]
         if tag not in VOID:
             self.open.append(tag)
+
+    def inside(self, *tags):
+        return any(tag in self.open for tag in tags)
 
     def handle_startendtag(self, tag, attrs):
         self.tags.add(tag)
@@ -61,13 +93,45 @@ class Page(html.parser.HTMLParser):
             self.faults.append(f"</{tag}>")
 
     def handle_data(self, data):
-        if "td" in self.open or "th" in self.open:
+        if self.inside("td", "th"):
             self.rows[-1][-1] += data
+        for tag in ("style", "script"):
+            if self.open and self.open[-1] == tag:
+                self.texts[tag] = self.texts.get(tag, "") + data
+
+
+def code_in_names(code):
+    """A filer's code in the names of files."""
+    return "".join(f"~{it}" if "a" <= it <= "z" else it for it in code)
+
+
+def seen(text):
+    """A text with the symbols of Unicode's block Control Pictures for its control characters."""
+    symbols = {at: 0x2400 + at for at in range(32) if at not in (9, 10)} | {127: 0x2421}
+    return text.translate(symbols)
+
+
+def hash_of(text):
+    return f"'sha256-{base64.b64encode(hashlib.sha256(text.encode()).digest()).decode()}'"
+
+
+# What damages a folder of pages, by the trial that has to see it: the file, what it has, and what it gets.
+planted = []
 
 
 def pages_of(database, folder):
     done = run(INTAKE, "pages", "--db", database, "--into", folder)
     hold("pages ends well", (done.returncode, done.stderr), (0, b""))
+    damage(folder)
+
+
+def damage(folder):
+    """Damages the pages in a folder as the fault that is planted says."""
+    for name, old, new in planted:
+        if (folder / name).exists():
+            text = (folder / name).read_bytes().decode()
+            assert old in text, (name, old)
+            (folder / name).write_bytes(text.replace(old, new, 1).encode())
 
 
 def page(folder, name):
@@ -80,31 +144,116 @@ def check_texts(folder):
     site = folder / "site"
     site.mkdir()
     pages_of(folder / "register.db", site)
-    valid = SENT[: len(SENT) - REFUSED]
-    wanted = {f"filing-{at}.html" for at in range(1, len(valid) + 1)} | {f"filer-{sent[0]}.html" for sent in SENT}
-    hold("the files", {it.name for it in site.iterdir()}, wanted | {"index.html", "refused.html", "findings.html"})
+    valid, refused = SENT[: len(SENT) - REFUSED], SENT[len(SENT) - REFUSED :]
+    wanted = {f"filing-{at}.html" for at in range(1, len(valid) + 1)}
+    wanted |= {f"filer-{code_in_names(sent[0])}.html" for sent in SENT}
+    wanted |= {f"refused-{code_in_names(sent[0])}.html" for sent in refused}
+    hold("the files", {it.name for it in site.iterdir()}, wanted | {"index.html", "findings.html"})
     read = {it.name: page(site, it.name) for it in site.iterdir()}
-    for name, its in sorted(read.items()):
-        hold(f"{name}: tags", its.tags - TAGS, set())
-        hold(f"{name}: faults", its.faults, [])
-        hold(f"{name}: links", [link for link in its.links if link not in read and link not in ("#main", "data:,")], [])
     for number, (_, _, _, facts) in enumerate(valid, 1):
         rows = read[f"filing-{number}.html"].rows[1:]
         names = sorted(facts, key=lambda it: it.encode())
-        hold(f"filing {number}: facts", [row[0] for row in rows], names)
+        hold(f"filing {number}: facts", [row[0] for row in rows], [seen(name) for name in names])
         texts = [row["value"] for row in records(SENT) if row["number"] == number]
-        hold(f"filing {number}: values", [row[5] for row in rows], ["nil" if text is None else text for text in texts])
+        wanted = ["nil" if text is None else seen(text) for text in texts]
+        hold(f"filing {number}: values", [row[5] for row in rows], wanted)
         hold(f"filing {number}: concepts", {row[1] for row in rows}, {"eg:A<b>&'"})
     hold("the keys of ACME", [row[1] for row in read["filer-ACME.html"].rows[1:]], ["k<1>'&", "k-2"])
     hold("what replaces what", [row[3:] for row in read["filer-ACME.html"].rows[1:]], [["", "3"], ["1", ""]])
     hold("the filers", [row for row in read["index.html"].rows[1:]],
          [["007", "1", "1", "0"], ["ACME", "2", "1", "0"], ["BETA", "1", "1", "2"], ["a.b_c-", "1", "1", "0"]])
-    hold("the refused", [row[:3] for row in read["refused.html"].rows[1:]], [["BETA", "b-2", ""], ["BETA", "b-3", "1"]])
+    rows = read["refused-BETA.html"].rows[1:]
+    hold("the refused", [row[:2] for row in rows], [["b-2", ""], ["b-3", "1"]])
     column = report(SENT[-1][3]).decode().index('"1,5"') + 1
-    hold("where a finding is", f'report:1:{column}: number: "1,5" is no number (/facts/f1/value)'
-         in read["refused.html"].rows[2][3], True)
+    hold("where a finding is, and what it means",
+         f'report:1:{column}: number: "1,5" is no number (/facts/f1/value)' in rows[1][2], True)
     found = {row[0]: int(row[1]) for row in read["findings.html"].rows[1:]}
     hold("the codes", found, {"value": 1, "name": 1, "not-the-filer": 1, "number": 1, "not-replaceable": 1})
+
+
+def check_looks(folder):
+    """Links, names, hashes, classes, symbols and columns."""
+    make_odd_register(folder / "register.db", MORE)
+    site = folder / "site"
+    site.mkdir()
+    pages_of(folder / "register.db", site)
+    read = {it.name: page(site, it.name) for it in site.iterdir()}
+    hold("names differ without capital letters", len({name.lower() for name in read}), len(read))
+    hold("a page of each filer", {"filer-ACME.html", "filer-~a~c~m~e.html", "filer-A~c~m~e.html"} - set(read), set())
+    for name, its in sorted(read.items()):
+        hold(f"{name}: tags", its.tags - TAGS, set())
+        hold(f"{name}: faults", its.faults, [])
+        hold(f"{name}: links", [link for link in its.links if link not in read and link not in ("#main", "data:,")], [])
+        words = re.split(r"[; ]+", its.policy)
+        hold(f"{name}: the hash of its style", words[words.index("style-src") + 1], hash_of(its.texts["style"]))
+        hold(f"{name}: the hash of its script", words[words.index("script-src") + 1], hash_of(its.texts["script"]))
+        hold(f"{name}: nothing unsafe", "unsafe" in its.policy, False)
+    # The registered ones of what was sent, in the order of their numbers.
+    valid = [*SENT[: len(SENT) - REFUSED], *MORE[:2]]
+    for number, (_, _, _, facts) in enumerate(valid, 1):
+        its = read[f"filing-{number}.html"]
+        wanted = [("amount" if "unit" in facts[at]["dimensions"] else None) for at in sorted(facts, key=str.encode)]
+        hold(f"filing {number}: amounts on the right", [row[5] for row in its.classes[1:]], wanted)
+        hold(f"filing {number}: periods on one line", {row[2] for row in its.classes[1:]}, {"period"})
+        hold(f"filing {number}: decimals on the right", {row[6] for row in its.classes[1:]}, {"number"})
+        hold(f"filing {number}: its last column has something",
+             any(row[len(its.rows[0]) - 1 :] not in ([], [""]) for row in its.rows[1:]) or len(its.rows[0]) == 7, True)
+        core = {"concept", "entity", "period", "unit"}
+        wide = any(set(it["dimensions"]) - core for it in facts.values())
+        hold(f"filing {number}: columns", len(its.rows[0]), 8 if wide else 7)
+    style = read["index.html"].texts["style"]
+    for rule in (".amount { text-align: right; }", ".period { white-space: nowrap; }"):
+        hold(f"the style has {rule}", rule in style, True)
+    hold("control characters are seen", read[f"filing-{len(valid)}.html"].rows[1][5], "bell \u2407 and return \u240d")
+    counts = dict(zip((row[0] for row in read["index.html"].rows), (row[3] for row in read["index.html"].linked)))
+    wanted = {"BETA": "refused-BETA.html", "Acme": "refused-A~c~m~e.html"}
+    hold("refused reports are linked from where they are counted",
+         {filer: link for filer, link in counts.items() if link}, wanted)
+    for filer, name in wanted.items():
+        its = f"filer-{code_in_names(filer)}.html"
+        hold(f"{filer}: its page names {name}, and is named there", (name in read[its].links, its in read[name].links),
+             (True, True))
+    hold("BETA: the filing that was to be replaced is linked",
+         [row[1] for row in read["refused-BETA.html"].linked[1:]], [None, "filing-1.html"])
+    hold("Acme: a filing that there is not is no link",
+         [(row[1], link[1]) for row, link in zip(read["refused-A~c~m~e.html"].rows[1:],
+                                                 read["refused-A~c~m~e.html"].linked[1:])], [("99", None)])
+
+
+def follow(site, name):
+    """The pages from this one on, each by the link to the next of the one before it, by their names."""
+    found = {}
+    while name is not None and name not in found:
+        found[name] = page(site, name)
+        name = found[name].next
+    return found
+
+
+def check_parts(folder):
+    """2,500 filings of a filer, 120 refused reports of another one, and a filing with 1,500 facts."""
+    facts = {f"f{at:04}": fact("WIDE", str(at), "iso4217:EUR", 0) for at in range(1_500)}
+    more = [("MANY", f"m-{at}", None, {"f1": fact("MANY", str(at))}) for at in range(2_500)]
+    more += [("MALLORY", f"r-{at}", None, {"f1": fact("OTHER", str(at))}) for at in range(120)]
+    make_odd_register(folder / "register.db", [*more, ("WIDE", "w-1", None, facts)])
+    site = folder / "site"
+    site.mkdir()
+    pages_of(folder / "register.db", site)
+    first = len(SENT) - REFUSED + 1
+    wide = first + 2_500
+    for begins, most, column, wanted in (
+        ("filer-MANY", ROWS, 0, [str(at) for at in range(first, wide)]),
+        ("refused-MALLORY", REPORTS, 0, [f"r-{at}" for at in range(120)]),
+        (f"filing-{wide}", ROWS, 0, sorted(facts)),
+    ):
+        pages = follow(site, f"{begins}.html")
+        parts = [wanted[at : at + most] for at in range(0, len(wanted), most)]
+        names = [f"{begins}{'' if at == 1 else f'~{at}'}.html" for at in range(1, len(parts) + 1)]
+        hold(f"{begins}: its pages", list(pages), names)
+        hold(f"{begins}: no more of them", len([*site.glob(f"{begins}~*")]), len(parts) - 1)
+        hold(f"{begins}: rows", [[row[column] for row in it.rows[1:]] for it in pages.values()], parts)
+        hold(f"{begins}: the ones before", [it.before for it in pages.values()], [None, *names[:-1]])
+    most = max(len(page(site, it.name).rows) - 1 for it in site.iterdir())
+    hold("rows of a page", most <= ROWS, True)
 
 
 def wrong(filer, name, findings):
@@ -133,15 +282,18 @@ def check_hostile(folder):
     more = spent("pages", "--db", folder / "register.db", "--into", site) - opening
     tell(f"{more / 1e6:.0f} MB of memory beyond the opening", None if more <= MEMORY else "too much")
     hold("the index", (site / "index.html").exists(), True)
-    size, bound = (site / "refused.html").stat().st_size, FRAME + ROW * len(sent)
-    tell(f"refused.html has {size} bytes", None if size <= bound else f"more than {bound}")
-    rows = page(site, "refused.html").rows[3:]
-    hold("each refused report", [row[1] for row in rows], [row[1] for row in sent])
-    hold("none of them has more findings", {row[3].count("report:") for row in rows[:-1]}, {FINDINGS})
-    hold("how many more", {row[3].rpartition("and ")[2].split()[0] for row in rows[:-1]}, {"980"})
-    hold("too many findings", (rows[-1][3].count("report:"), "too-many" in rows[-1][3]), (1, True))
+    damage(site)
+    pages = follow(site, "refused-MALLORY.html")
+    for name, its in pages.items():
+        size, bound = (site / name).stat().st_size, FRAME + ROW * REPORTS
+        tell(f"{name} has {size} bytes", None if size <= bound else f"more than {bound}")
+    rows = [row for its in pages.values() for row in its.rows[1:]]
+    hold("each refused report", [row[0] for row in rows], [row[1] for row in sent])
+    hold("none of them has more findings", {row[2].count("report:") for row in rows[:-1]}, {FINDINGS})
+    hold("how many more", {row[2].rpartition("and ")[2].split()[0] for row in rows[:-1]}, {"980"})
+    hold("too many findings", (rows[-1][2].count("report:"), "too-many" in rows[-1][2]), (1, True))
     place = f"(/facts/{'f' * 52}\u2026{'f' * 40}/dimensions/eg:x0000)"
-    hold("a place is shortened in its middle", place in rows[0][3], True)
+    hold("a place is shortened in its middle", place in rows[0][2], True)
 
 
 def check_folder(folder):
@@ -149,19 +301,25 @@ def check_folder(folder):
     done = run(INTAKE, "pages", "--db", folder / "register.db", "--into", folder / "none")
     hold("a folder that is not there", done.returncode, 3)
     site = folder / "site"
-    (site / "refused.html").mkdir(parents=True)
+    for name in ("filing-2.html", "refused-BETA.html"):
+        (site / name).mkdir(parents=True)
     done = run(INTAKE, "pages", "--db", folder / "register.db", "--into", site)
-    hold("a page that cannot be written", done.returncode, 3)
-    hold("no half file", [it.name for it in site.iterdir() if not it.name.endswith(".html")], [])
+    hold("pages that cannot be written", done.returncode, 3)
+    hold("the first of them is named", b"site/filing-2.html: " in done.stderr, True)
+    hold("the others are written", {it.name for it in site.iterdir() if it.is_file()},
+         {*(f"filing-{at}.html" for at in (1, 3, 4, 5)), "filer-007.html", "filer-ACME.html", "filer-BETA.html",
+          "filer-~a.~b_~c-.html", "findings.html", "index.html"})
 
 
 def check_time(folder):
     make_odd_register(folder / "register.db", many(10_000))
     site = folder / "site"
     site.mkdir()
+    opening = spent("check", "--db", folder / "register.db")
     begin = time.monotonic()
-    pages_of(folder / "register.db", site)
+    more = spent("pages", "--db", folder / "register.db", "--into", site) - opening
     took = time.monotonic() - begin
+    tell(f"10,000 filings: {more / 1e6:.0f} MB of memory beyond the opening", None if more <= MEMORY else "too much")
     size = sum(it.stat().st_size for it in site.iterdir()) / 1e6
     tell(f"10,000 filings in {took:.1f} s, {size:.1f} MB",
          None if took < 30 and size < 100 else "too slow, or too large")
@@ -183,7 +341,8 @@ def check_browser(folder):
                               capture_output=True, check=False, timeout=60)
         hold(f"{name}: nothing in the console", re.findall(r"CONSOLE.*", done.stderr.decode(errors="replace")), [])
     # The page is searched by a script that is put behind its own: the folder is this trial's.
-    searched = (site / "index.html").read_text().replace(
+    # Its policy is taken out, since that allows no other script.
+    searched = re.sub("<meta http-equiv=[^>]*>", "", (site / "index.html").read_text()).replace(
         "</body>",
         '<script>var b = document.getElementById("search"); b.value = "bet"; b.dispatchEvent(new Event("input"));'
         'document.title = [].filter.call(document.querySelectorAll("tbody tr"), function (r) { return !r.hidden; })'
@@ -201,5 +360,40 @@ def check_browser(folder):
                        capture_output=True, check=False, timeout=60)
 
 
+TRIALS = [check_texts, check_looks, check_parts, check_hostile, check_folder, check_browser, check_time]
+# Which trial sees what.
+FAULTS = [
+    (check_texts, "filing-1.html", "it&#39;s &amp; ", "it&#39;s "),
+    (check_looks, "index.html", "filer-ACME.html", "filer-NONE.html"),
+    (check_looks, "index.html", "text-align: right", "text-align:right"),
+    (check_looks, "filing-2.html", 'class="amount"', 'class="text"'),
+    (check_looks, "filing-2.html", 'class="period"', 'class="text"'),
+    (check_looks, "filing-7.html", "\u2407", "\u0007"),
+    (check_looks, "filing-4.html", "Decimals</th></tr>", "Decimals</th><th>Other dimensions</th></tr>"),
+    (check_looks, "index.html", 'href="refused-BETA.html"', 'href="findings.html"'),
+    (check_looks, "refused-A~c~m~e.html", ">99<", '><a href="filing-99.html">99</a><'),
+    (check_looks, "index.html", "<body>", "<body onload='x'>"),
+    (check_parts, "filer-MANY~2.html", 'rel="next"', 'rel="last"'),
+    (check_parts, "filer-MANY~2.html", "</tbody>", "<tr><td>1</td></tr></tbody>"),
+    (check_parts, "refused-MALLORY~3.html", 'rel="prev"', 'rel="first"'),
+    (check_hostile, "refused-MALLORY.html", "and 980 more", "and 981 more"),
+]
+
+
+def try_faults():
+    """Plants one fault after another. Each has to be seen."""
+    unseen = []
+    for trial, *fault in FAULTS:
+        planted[:] = [fault]
+        failures.clear()
+        with contextlib.redirect_stdout(None), tempfile.TemporaryDirectory() as folder:
+            trial(pathlib.Path(folder))
+        print(f"{'seen' if failures else 'NOT SEEN'}: {fault[0]}: {fault[2]!r}")
+        unseen += [] if failures else [fault]
+    sys.exit(bool(unseen))
+
+
 if __name__ == "__main__":
-    try_all([INTAKE], [check_texts, check_hostile, check_folder, check_browser, check_time])
+    if sys.argv[1:] == ["--planted"]:
+        try_faults()
+    try_all([INTAKE], TRIALS)

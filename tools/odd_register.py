@@ -78,15 +78,21 @@ SENT = [
 REFUSED = 2
 
 
+# How many requests a connection carries.
+EACH = 100
+
+
 def make_odd_register(database, more=()):
     """Makes a register of these reports, and of more after them."""
     sent = [*SENT, *more]
-    serving = Serving(database, 1, "--new")
-    given = b""
-    for at, (filer, key, target, facts) in enumerate(sent):
-        whose = filer if target is None else f"{filer}/{target}"
-        given += request(key, report(facts), whose, close=at + 1 == len(sent))
-    exchange(serving.port, given)
+    parts = [sent[at : at + EACH] for at in range(0, len(sent), EACH)]
+    serving = Serving(database, len(parts), "--new")
+    for part in parts:
+        given = b""
+        for at, (filer, key, target, facts) in enumerate(part):
+            whose = filer if target is None else f"{filer}/{target}"
+            given += request(key, report(facts), whose, close=at + 1 == len(part))
+        exchange(serving.port, given)
     serving.end()
 
 

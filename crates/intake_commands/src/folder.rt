@@ -26,9 +26,9 @@ impl From<AllocError> for PageFault {
     }
 }
 
-/// A folder that knows why a page was not written.
+/// A folder that knows why the first page was not written that was not.
 pub(crate) trait SiteFolder: Folder {
-    /// Hands out why the last page was not written, if it was not.
+    /// Hands out why the first page was not written of those that were not, if there is one.
     fn take_fault(&mut self) -> PageFault
         ensures { Self.Folder.pages self.new ≡ Self.Folder.pages self.old };
 }
@@ -70,7 +70,9 @@ impl Folder for SystemFolder<'_, '_> {
         match self.put(name, page.as_bytes()) {
             Ok(()) => Ok(()),
             Err(fault) => {
-                self.fault = Some(fault);
+                if self.fault.is_none() {
+                    self.fault = Some(fault);
+                }
                 Err(NotWritten)
             }
         }

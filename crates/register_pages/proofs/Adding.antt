@@ -1,58 +1,75 @@
 -- Pages that are written one after another.
-use Rattle.std.proofs.Common.{◌≡◌, ℕ, List, [], ◌∷◌, ◌++◌, append-nil, append_assoc, Option, Some, None, Result, Ok}
-use Rattle.std.proofs.Common.{Err, OnOk, sym, ap, subst, ◌∙◌}
-use Rattle.std.proofs.lemmas.List.{map-append}
-use Rattle.std.specs.Prelude.{◌↔◌, Contains, codes, map}
+use Rattle.std.proofs.Common.{◌≡◌, ℕ, ◌+◌, suc, List, [], ◌∷◌, ◌++◌, append-nil, append_assoc, Option, Some, None}
+use Rattle.std.proofs.Common.{Result, Ok, Err, OnOk, refl, sym, ap, subst, ◌∙◌, arith}
+use Rattle.std.proofs.lemmas.Grind.{flat_map-append}
+use Rattle.std.specs.Prelude.{◌↔◌, Contains, count_by, flat_map, map}
 use Rattle.std.specs.Ordering.{nat_cmp}
 use Rattle.std.specs.Cmp.Lexicographic.{slice_cmp}
 use Rattle.std.specs.List.Sorted.{IsStrictlySortedBy}
 use Rattle.filing_model.specs.Request.{Request}
-use Rattle.filing_model.specs.Register.{Filing, kept, register}
-use Rattle.register_pages.specs.Pages.{Adds, WritesSite, filer_page, filing_page, filing_pages, other_pages}
+use Rattle.filing_model.specs.Register.{Kept, kept, register}
+use Rattle.register_pages.specs.declared.fault.WritingFault.{WritingFault}
+use Rattle.register_pages.specs.Pages.{Adds, Writes, WritesSite, filer_page, filing_pages, is_filed, is_refused}
+use Rattle.register_pages.specs.Pages.{numbered, other_pages, pages_for, pages_of_filer, refused_pages, sent_by}
 
-pub adds_none : (old : Option (List (List ℕ))) → Adds old old []
+adds_none : (old : Option (List (List ℕ))) → Adds old old []
 adds_none None = tt
 adds_none (Some before) = sym (append-nil before)
 
-pub adds_then : (old mid new : Option (List (List ℕ))) (first then : List (List ℕ)) → Adds old mid first
+adds_then : (old mid new : Option (List (List ℕ))) (first then : List (List ℕ)) → Adds old mid first
     → Adds mid new then → Adds old new (first ++ then)
 adds_then None mid new first then p q = tt
 adds_then (Some a) None new first then p q = absurd p
 adds_then (Some a) (Some b) None first then p q = absurd q
 adds_then (Some a) (Some b) (Some c) first then p q = q ∙ ap (λ l. l ++ then) p ∙ append_assoc a first then
 
--- one page more
-pub filing_added : (old mid new : Option (List (List ℕ))) (fs gs : List Filing) (f : Filing) → gs ≡ fs ++ f ∷ []
-    → Adds old mid (filing_pages fs) → Adds mid new (filing_page f.number ∷ []) → Adds old new (filing_pages gs)
-filing_added old mid new fs gs f is p q =
-    let page : Filing → List ℕ = λ g. filing_page g.number in
-    subst (Adds old new) (sym (ap (map page) is ∙ map-append page fs (f ∷ [])))
-    (adds_then old mid new (filing_pages fs) (filing_page f.number ∷ []) p q)
+module _ (m m' m'' : Option WritingFault) (old mid new : Option (List (List ℕ))) where
+  pub writes_then : (first then : List (List ℕ)) → Writes m m' old mid first → Writes m' m'' mid new then
+      → Writes m m'' old new (first ++ then)
+  writes_then first then p q e =
+      let last = q e in
+      let before = p last.0 in (before.0, adds_then old mid new first then before.1 last.1)
 
-pub filer_added : (old mid new : Option (List (List ℕ))) (shown : List (List ℕ)) (code : List ℕ)
-    → Adds old mid (map filer_page shown) → Adds mid new (filer_page code ∷ [])
-    → Adds old new (map filer_page (shown ++ code ∷ []))
-filer_added old mid new shown code p q =
-    subst (Adds old new) (sym (map-append filer_page shown (code ∷ [])))
-    (adds_then old mid new (map filer_page shown) (filer_page code ∷ []) p q)
+  -- one page more
+  pub page_added : (page : ℕ → List ℕ) (n : ℕ) → Writes m m' old mid (numbered page n)
+      → Writes m' m'' mid new (page (n + 1) ∷ []) → Writes m m'' old new (numbered page (n + 1))
+  page_added page n p q =
+      let next : n + 1 ≡ suc n = omega arith in
+      let more : numbered page n ++ page (n + 1) ∷ [] ≡ numbered page (n + 1) =
+      subst (λ k. numbered page n ++ page k ∷ [] ≡ numbered page k) (sym next) refl in
+      subst (Writes m m'' old new) more (writes_then (numbered page n) (page (n + 1) ∷ []) p q)
 
--- the pages of the filings are written, and then the others
-pub site_written : {X E : Type 0} (requests : List Request) (old mid new : Option (List (List ℕ)))
+  -- the pages of one more
+  pub pages_added : {X : Type 0} (pages : X → List (List ℕ)) (xs more : List X) (x : X) → more ≡ xs ++ x ∷ []
+      → Writes m m' old mid (flat_map pages xs) → Writes m' m'' mid new (pages x)
+      → Writes m m'' old new (flat_map pages more)
+  pages_added pages xs more x is p q =
+      let all : flat_map pages more ≡ flat_map pages xs ++ pages x =
+      ap (flat_map pages) is ∙ flat_map-append pages xs (x ∷ [])
+      ∙ ap (λ l. flat_map pages xs ++ l) (append-nil (pages x)) in
+      subst (Writes m m'' old new) (sym all) (writes_then (flat_map pages xs) (pages x) p q)
+
+  -- the pages of a filer, who has so many filings and refused reports
+  pub filer_written : (ks : List Kept) (filer : List ℕ) (filed refused : ℕ)
+      → filed ≡ count_by is_filed (sent_by filer ks) → refused ≡ count_by is_refused (sent_by filer ks)
+      → Writes m m' old mid (numbered (filer_page filer) (pages_for 1000 filed))
+      → Writes m' m'' mid new (refused_pages filer refused) → Writes m m'' old new (pages_of_filer ks filer)
+  filer_written ks filer filed refused e f p q =
+      let first : ℕ → List (List ℕ) = λ n. numbered (filer_page filer) (pages_for 1000 n) in
+      subst (λ n. Writes m m'' old new (first n ++ refused_pages filer (count_by is_refused (sent_by filer ks)))) e
+      (subst (λ n. Writes m m'' old new (first filed ++ refused_pages filer n)) f
+      (writes_then (first filed) (refused_pages filer refused) p q))
+
+pub writes_none : (m : Option WritingFault) (old : Option (List (List ℕ))) → Writes m m old old []
+writes_none m old e = (e, adds_none old)
+
+-- the pages of the filings and of the filers are written, and then the others
+pub site_written : {X E : Type 0} (requests : List Request) (old new : Option (List (List ℕ)))
     (filers : List (List ℕ)) (r : Result X E)
     → ((filer : List ℕ) → Contains filers filer ↔ Contains (map (λ k. k.request.filer) (kept requests)) filer)
-    → Adds old mid (filing_pages (register requests)) → OnOk r (IsStrictlySortedBy (slice_cmp nat_cmp) filers)
-    → OnOk r (Adds mid new (other_pages filers)) → OnOk r (WritesSite requests old new)
-site_written requests old mid new filers (Ok x) each first ascend then = (
-  filers,
-  record { ascend = ascend; each = each },
-  adds_then old mid new (filing_pages (register requests)) (other_pages filers) first then,
-)
-site_written requests old mid new filers (Err e) each first ascend then = tt
-
--- the pages of the filers are written, and then three more
-pub others_written : (a b c d e : Option (List (List ℕ))) (shown : List (List ℕ)) → Adds a b (map filer_page shown)
-    → Adds b c (codes "refused.html" ∷ []) → Adds c d (codes "findings.html" ∷ []) → Adds d e (codes "index.html" ∷ [])
-    → Adds a e (other_pages shown)
-others_written a b c d e shown p q r s =
-    adds_then a b e (map filer_page shown) _ p (adds_then b c e (codes "refused.html" ∷ []) _ q
-    (adds_then c d e (codes "findings.html" ∷ []) (codes "index.html" ∷ []) r s))
+    → OnOk r (IsStrictlySortedBy (slice_cmp nat_cmp) filers)
+    → OnOk r (Adds old new (filing_pages (register requests) ++ other_pages (kept requests) filers))
+    → OnOk r (WritesSite requests old new)
+site_written requests old new filers (Ok x) each ascend written =
+    (filers, record { ascend = ascend; each = each }, written)
+site_written requests old new filers (Err e) each ascend written = tt

@@ -89,10 +89,3 @@ module _ {X : Type 0} where
         subst (HaveSame new) (sym all)
         (same_then then (same_then (same_behind (gives y) had)
         (same_back (same_last (gives y) (before ++ map gives ys)))))
-
-    -- what it gives was there before
-    pub gathered_before : (ys more : List Y) (y : Y) → more ≡ ys ++ y ∷ [] → Contains before (gives y)
-        → {mid : List X} → HaveSame mid (before ++ map gives ys) → HaveSame mid (before ++ map gives more)
-    gathered_before ys more y is known {mid} had =
-        gathered ys more y is had (same_back (same_with (gives y) mid
-        ((had.each (gives y)).1 (Contains-append_left before (map gives ys) (gives y) known))))

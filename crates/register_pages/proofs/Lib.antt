@@ -1,5 +1,8 @@
 pub mod Adding
 pub mod Codes
+pub mod Counting
 pub mod Done
 pub mod Elements
+pub mod OwnReads
 pub mod Senders
+pub mod Showing

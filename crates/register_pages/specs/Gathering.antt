@@ -2,7 +2,7 @@
 use Rattle.std.specs.Prelude.{◌≡◌, ◌↔◌, ℕ, List, length, map, Contains, string_bytes}
 use Rattle.std.specs.BTreeMap.{keys}
 use Rattle.filing_model.specs.Request.{Request}
-use Rattle.filing_model.specs.Register.{Filing, Kept, kept, register}
+use Rattle.filing_model.specs.Register.{Kept, kept, register}
 use Rattle.register_rows.specs.Catalogue.{catalogue_of, view_lines}
 use Rattle.register_tables.specs.declared.opening.Counts.{Counts}
 use Rattle.register_pages.specs.declared.filers.Filers.{Filers}
@@ -12,10 +12,6 @@ pub record AreCountsOf (requests : List Request) (counts : Counts) : Type 0 wher
   pub kept_is : counts.kept ≡ length (kept requests)
   pub filings_is : counts.filings ≡ length (register requests)
   pub catalogue_is : view_lines counts.catalogue ≡ catalogue_of requests
-
--- the filer of each filing
-abbrev pub filers_of : List Filing → List (List ℕ)
-filers_of filings = map (λ f. f.request.filer) filings
 
 -- the filer of each kept request
 abbrev pub senders_of : List Kept → List (List ℕ)

@@ -1,3 +1,5 @@
 pub mod Gathering
+pub mod Own
 pub mod Pages
+pub mod Shown
 pub mod Site

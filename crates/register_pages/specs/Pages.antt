@@ -1,11 +1,16 @@
 -- Which pages a register has, by the names of their files; own rules.
-use Rattle.std.specs.Prelude.{◌≡◌, ◌↔◌, ℕ, List, [], ◌∷◌, ◌++◌, map, codes, Contains, Option, Some, None}
+use Rattle.std.specs.Prelude.{◌≡◌, ◌↔◌, ◌&&◌, ◌==◌, ◌-◌, ◌/◌, ℕ, zero, suc, Bool, not, List, [], ◌∷◌, ◌++◌, map, filter}
+use Rattle.std.specs.Prelude.{flat_map, count_by, codes, length, bytes_eq, nat_le, if◌then◌else◌, Contains, Option}
+use Rattle.std.specs.Prelude.{Some, None, is_some}
 use Rattle.std.specs.Ordering.{nat_cmp}
 use Rattle.std.specs.Cmp.Lexicographic.{slice_cmp}
 use Rattle.std.specs.List.Sorted.{IsStrictlySortedBy}
 use Rattle.std.specs.Fmt.{decimal}
+use Rattle.xbrl_report.specs.ReportParts.{facts}
 use Rattle.filing_model.specs.Request.{Request}
-use Rattle.filing_model.specs.Register.{Filing, kept, register}
+use Rattle.filing_model.specs.Register.{Filing, Kept, kept, register}
+use Rattle.register_rows.specs.Register.{number_of}
+use Rattle.register_pages.specs.declared.fault.WritingFault.{WritingFault}
 
 -- these are written into a folder behind those that are known to be written
 abbrev pub Adds : Option (List (List ℕ)) → Option (List (List ℕ)) → List (List ℕ) → Type 0
@@ -13,21 +18,77 @@ Adds None after names = Unit {0}
 Adds (Some before) None names = ⊥
 Adds (Some before) (Some after) names = after ≡ before ++ names
 
--- the page of the filing of this number
-abbrev pub filing_page : ℕ → List ℕ
-filing_page number = codes "filing-" ++ decimal number ++ codes ".html"
+-- If no page was missed at the end, none was before, and these are written.
+abbrev pub Writes : Option WritingFault → Option WritingFault → Option (List (List ℕ)) → Option (List (List ℕ))
+    → List (List ℕ) → Type 0
+Writes missed missed' old new names = missed' ≡ None → (missed ≡ None) × Adds old new names
 
--- the page of the filer of this code
-abbrev pub filer_page : List ℕ → List ℕ
-filer_page filer = codes "filer-" ++ filer ++ codes ".html"
+-- ---- names
 
--- the page of each filing
+-- a letter of a filer's code in the name of a file: a tilde stands before each small one
+abbrev pub file_letter : ℕ → List ℕ
+file_letter b = if nat_le 97 b && nat_le b 122 then 126 ∷ b ∷ [] else b ∷ []
+
+-- A filer's code in the name of a file. The names of two filers differ on a disk too that does not tell small letters
+-- from capital ones.
+abbrev pub file_code : List ℕ → List ℕ
+file_code filer = flat_map file_letter filer
+
+-- which page of several it is: the first one has no number
+abbrev pub page_number : ℕ → List ℕ
+page_number number = if nat_le number 1 then [] else codes "~" ++ decimal number
+
+-- the page of this number of those of a filing, of a filer's filings, and of a filer's refused reports
+abbrev pub filing_page : ℕ → ℕ → List ℕ
+filing_page filing number = codes "filing-" ++ decimal filing ++ page_number number ++ codes ".html"
+
+abbrev pub filer_page : List ℕ → ℕ → List ℕ
+filer_page filer number = codes "filer-" ++ file_code filer ++ page_number number ++ codes ".html"
+
+abbrev pub refused_page : List ℕ → ℕ → List ℕ
+refused_page filer number = codes "refused-" ++ file_code filer ++ page_number number ++ codes ".html"
+
+-- ---- how many there are
+
+-- so many pages, from the first on
+abbrev pub numbered : (ℕ → List ℕ) → ℕ → List (List ℕ)
+numbered page zero = []
+numbered page (suc n) = numbered page n ++ page (suc n) ∷ []
+
+-- How many pages so many rows take, at most `most` on each. There is one if there are no rows.
+abbrev pub pages_for : ℕ → ℕ → ℕ
+pages_for most rows = suc ((rows - 1) / most)
+
+-- the kept requests of a filer
+abbrev pub sent_by : List ℕ → List Kept → List Kept
+sent_by filer ks = filter (λ k. bytes_eq k.request.filer filer) ks
+
+abbrev pub is_filed : Kept → Bool
+is_filed k = is_some (number_of k.outcome)
+
+abbrev pub is_refused : Kept → Bool
+is_refused k = not (is_filed k)
+
+-- the pages of a filing: at most 1,000 facts on each
+abbrev pub pages_of_filing : Filing → List (List ℕ)
+pages_of_filing f = numbered (filing_page f.number) (pages_for 1000 (length (facts f.request.body)))
+
 abbrev pub filing_pages : List Filing → List (List ℕ)
-filing_pages filings = map (λ f. filing_page f.number) filings
+filing_pages filings = flat_map pages_of_filing filings
 
--- the page of each filer, those of the refused reports and of the findings, and at last the one of all filers
-abbrev pub other_pages : List (List ℕ) → List (List ℕ)
-other_pages filers = map filer_page filers ++ codes "refused.html" ∷ codes "findings.html" ∷ codes "index.html" ∷ []
+-- the pages of a filer's refused reports, if there are some: at most 50 reports on each
+abbrev pub refused_pages : List ℕ → ℕ → List (List ℕ)
+refused_pages filer reports = if reports == 0 then [] else numbered (refused_page filer) (pages_for 50 reports)
+
+-- the pages of a filer: of its filings, at most 1,000 on each, and of its refused reports
+abbrev pub pages_of_filer : List Kept → List ℕ → List (List ℕ)
+pages_of_filer ks filer =
+    numbered (filer_page filer) (pages_for 1000 (count_by is_filed (sent_by filer ks)))
+    ++ refused_pages filer (count_by is_refused (sent_by filer ks))
+
+-- the pages of each filer, the one of the findings, and at last the one of all filers
+abbrev pub other_pages : List Kept → List (List ℕ) → List (List ℕ)
+other_pages ks filers = flat_map (pages_of_filer ks) filers ++ codes "findings.html" ∷ codes "index.html" ∷ []
 
 -- The codes of the filers of the kept requests, whether they were registered or refused: each once, in the order of
 -- their bytes.
@@ -35,8 +96,8 @@ pub record AreFilers (requests : List Request) (filers : List (List ℕ)) : Type
   pub ascend : IsStrictlySortedBy (slice_cmp nat_cmp) filers
   pub each : (filer : List ℕ) → Contains filers filer ↔ Contains (map (λ k. k.request.filer) (kept requests)) filer
 
--- the pages of a register of these requests are written, in this order: of each filing, of each filer, and three more
+-- the pages of a register of these requests are written, in this order: of each filing, of each filer, and two more
 abbrev pub WritesSite : List Request → Option (List (List ℕ)) → Option (List (List ℕ)) → Type 0
 WritesSite requests old new =
     (filers : List (List ℕ)) × AreFilers requests filers
-    × Adds old new (filing_pages (register requests) ++ other_pages filers)
+    × Adds old new (filing_pages (register requests) ++ other_pages (kept requests) filers)

@@ -1,96 +1,49 @@
-//! The filers of a register, and the page of each.
+//! The filers of a register, with how much each sent.
 
 ghost use Rattle.std.specs.Prelude.{◌≡◌, ◌∷◌, [], OnOk};
 ghost use Rattle.register_pages.specs.Gathering.{HaveSame, codes_of};
 
-use crate::frame::{
-    begin, begin_table, end, end_table, filer_link, filing_cell, number_cell, text_cell,
-};
-use markup::Markup;
-use register_walk::WholeFiling;
+use register_rows::Line;
 use std::alloc::{AllocError, Global};
 use std::collections::BTreeMap;
 
-/// The caption and the first row of the table of a filer's filings.
-const HEAD: &str = "<caption>Filings</caption>\n\
-    <thead><tr>\
-    <th scope=\"col\" class=\"number\">Number</th>\
-    <th scope=\"col\">Key</th>\
-    <th scope=\"col\" class=\"number\">Facts</th>\
-    <th scope=\"col\" class=\"number\">Replaces</th>\
-    <th scope=\"col\" class=\"number\">Replaced by</th>\
-    </tr></thead>\n";
-
-/// What is shown of a filer: the rows of its filings, and counts.
-#[derive(Drop)]
-pub(crate) struct Filer {
-    rows: Markup,
+/// How much a filer sent.
+#[derive(Clone, Copy, Drop)]
+pub(crate) struct Tally {
     pub(crate) filings: u64,
+    /// Those of them that no filing replaces.
     pub(crate) current: u64,
     pub(crate) refused: u64,
 }
 
-impl Filer {
-    /// A filer of whom nothing is known yet.
-    fn new(alloc: Global) -> Filer {
-        Filer {
-            rows: Markup::new(alloc),
+impl Tally {
+    /// Nothing is known yet.
+    fn new() -> Tally {
+        Tally {
             filings: 0,
             current: 0,
             refused: 0,
         }
     }
 
-    /// Adds this filing.
-    fn add(&mut self, alloc: Global, filing: &WholeFiling) -> Result<(), AllocError> {
-        self.rows.constant("<tr>")?;
-        filing_cell(&mut self.rows, alloc, Some(filing.number))?;
-        text_cell(&mut self.rows, filing.key.as_str())?;
-        number_cell(&mut self.rows, alloc, filing.facts().len() as u64)?;
-        filing_cell(&mut self.rows, alloc, filing.replaces)?;
-        filing_cell(&mut self.rows, alloc, filing.replaced_by)?;
-        self.rows.constant("</tr>\n")?;
-        self.filings = self.filings.saturating_add(1);
-        if filing.replaced_by.is_none() {
-            self.current = self.current.saturating_add(1);
+    /// Counts a request: the filing of this line, or a refused report.
+    fn add(&mut self, line: Option<Line>) {
+        match line {
+            Some(line) => {
+                self.filings = self.filings.saturating_add(1);
+                if line.replaced_by().is_none() {
+                    self.current = self.current.saturating_add(1);
+                }
+            }
+            None => self.refused = self.refused.saturating_add(1),
         }
-        Ok(())
-    }
-
-    /// The page of this filer.
-    pub(crate) fn page(&self, alloc: Global, filer: &str) -> Result<Markup, AllocError> {
-        let mut page = begin(alloc, filer)?;
-        page.constant("<p>Refused reports: ")?;
-        page.number(alloc, self.refused)?;
-        page.constant("</p>\n")?;
-        begin_table(&mut page, HEAD)?;
-        page.piece(&self.rows)?;
-        end_table(&mut page)?;
-        end(&mut page)?;
-        Ok(page)
-    }
-
-    /// The row of this filer in the table of all.
-    pub(crate) fn row(
-        &self,
-        page: &mut Markup,
-        alloc: Global,
-        filer: &str,
-    ) -> Result<(), AllocError> {
-        page.constant("<tr><th scope=\"row\">")?;
-        filer_link(page, filer)?;
-        page.constant("</th>")?;
-        number_cell(page, alloc, self.filings)?;
-        number_cell(page, alloc, self.current)?;
-        number_cell(page, alloc, self.refused)?;
-        page.constant("</tr>\n")
     }
 }
 
 /// The filers by their codes.
 #[derive(Drop)]
 pub(crate) struct Filers {
-    pub(crate) list: BTreeMap<String, Filer>,
+    pub(crate) list: BTreeMap<String, Tally>,
 }
 
 impl Filers {
@@ -104,17 +57,17 @@ impl Filers {
     }
 
     /// Takes out what is known of a filer.
-    fn take(&mut self, alloc: Global, filer: &str) -> Filer
+    fn take(&mut self, filer: &str) -> Tally
         ensures { HaveSame (filer.now ∷ codes_of self.new) (filer.now ∷ codes_of self.old) }
     {
         match self.list.remove(filer) {
             Some(known) => known,
-            None => Filer::new(alloc),
+            None => Tally::new(),
         }
     }
 
     /// Puts it back.
-    fn put(&mut self, alloc: Global, filer: &str, known: Filer) -> Result<(), AllocError>
+    fn put(&mut self, alloc: Global, filer: &str, known: Tally) -> Result<(), AllocError>
         ensures { OnOk result (HaveSame (codes_of self.new) (filer.now ∷ codes_of self.old)) }
     {
         let code = String::from_str(alloc, filer)?;
@@ -122,26 +75,17 @@ impl Filers {
         Ok(())
     }
 
-    /// A filer has this filing.
-    pub(crate) fn add_filing(
+    /// A filer sent a request: the filing of this line, or a report that was refused.
+    pub(crate) fn add(
         &mut self,
         alloc: Global,
-        filing: &WholeFiling,
+        filer: &str,
+        line: Option<Line>,
     ) -> Result<(), AllocError>
-        ensures { OnOk result (HaveSame (codes_of self.new) (filing.now.filer ∷ codes_of self.old)) }
-    {
-        let filer = filing.filer.as_str();
-        let mut known = self.take(alloc, filer);
-        known.add(alloc, filing)?;
-        self.put(alloc, filer, known)
-    }
-
-    /// A report of a filer was refused.
-    pub(crate) fn add_refused(&mut self, alloc: Global, filer: &str) -> Result<(), AllocError>
         ensures { OnOk result (HaveSame (codes_of self.new) (filer.now ∷ codes_of self.old)) }
     {
-        let mut known = self.take(alloc, filer);
-        known.refused = known.refused.saturating_add(1);
+        let mut known = self.take(filer);
+        known.add(line);
         self.put(alloc, filer, known)
     }
 }

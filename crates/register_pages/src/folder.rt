@@ -1,9 +1,11 @@
 //! A folder in which pages are written.
 
-ghost use Rattle.std.specs.Prelude.{◌≡◌, ◌∷◌, [], ℕ, List, Option, OnErr, OnOk};
-ghost use Rattle.register_pages.specs.Pages.{Adds};
+ghost use Rattle.std.specs.Prelude.{◌≡◌, ◌≢◌, ◌∷◌, [], ℕ, List, None, Option, string_bytes, IfOk, OnErr, OnOk};
+ghost use Rattle.register_pages.specs.Pages.{Adds, Writes};
 
+use crate::fault::WritingFault;
 use markup::Markup;
+use std::alloc::AllocError;
 
 /// A page was not written. The folder knows why.
 #[derive(Clone, Copy, Debug, PartialEq, Eq)]
@@ -18,4 +20,43 @@ pub trait Folder {
     fn write(&mut self, name: &str, page: &Markup) -> Result<(), NotWritten>
         ensures written { OnOk result (Adds (pages self.old) (pages self.new) (name.now ∷ [])) }
         ensures failed { OnErr result (pages self.new ≡ pages self.old) };
+}
+
+/// Writes a page that was made under a name that was made.
+fn write<F: Folder>(
+    folder: &mut F,
+    name: Result<String, AllocError>,
+    page: Result<Markup, AllocError>,
+) -> Result<(), WritingFault>
+    ensures { (wanted : List ℕ) → IfOk name (λ text. string_bytes text ≡ wanted)
+        → OnOk result (Adds (F.pages folder.old) (F.pages folder.new) (wanted ∷ [])) }
+{
+    let name = name?;
+    let page = page?;
+    folder.write(name.as_str(), &page)?;
+    Ok(())
+}
+
+/// Keeps the first of two faults.
+fn miss(missed: &mut Option<WritingFault>, fault: WritingFault)
+    ensures { missed.new ≢ None }
+{
+    if missed.is_none() {
+        *missed = Some(fault);
+    }
+}
+
+/// Writes a page, or keeps why it was missed, if it is the first that is.
+pub(crate) fn put<F: Folder>(
+    folder: &mut F,
+    missed: &mut Option<WritingFault>,
+    name: Result<String, AllocError>,
+    page: Result<Markup, AllocError>,
+)
+    ensures { (wanted : List ℕ) → IfOk name (λ text. string_bytes text ≡ wanted)
+        → Writes missed.old missed.new (F.pages folder.old) (F.pages folder.new) (wanted ∷ []) }
+{
+    if let Err(fault) = write(folder, name, page) {
+        miss(missed, fault);
+    }
 }

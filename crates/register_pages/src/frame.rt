@@ -1,16 +1,20 @@
 //! What every page has: its head, the links to the other pages, and its end.
 
+use crate::names;
 use markup::Markup;
 use std::alloc::{AllocError, Global};
 
-/// What a page has before its title. It loads nothing from elsewhere.
+/// What a page has before its title. It loads nothing from elsewhere, and a browser runs no script and takes no style
+/// but those whose SHA-256 stands here in base64 (Content Security Policy Level 3): of the text of `<style>` and of the
+/// one of `<script>` below.
 const BEFORE_TITLE: &str = "<!DOCTYPE html>\n\
     <html lang=\"en\">\n\
     <head>\n\
     <meta charset=\"utf-8\">\n\
     <meta name=\"viewport\" content=\"width=device-width, initial-scale=1\">\n\
-    <meta http-equiv=\"Content-Security-Policy\" content=\"default-src 'none'; style-src 'unsafe-inline'; \
-    script-src 'unsafe-inline'; img-src data:; base-uri 'none'; form-action 'none'\">\n\
+    <meta http-equiv=\"Content-Security-Policy\" content=\"default-src 'none'; style-src \
+    'sha256-YpOHrmUodfVvKHRBnGbYaMw7YLAYs8G2MgfUFk400ac='; script-src \
+    'sha256-OOScLr2hX3IXEz8Yz8BW/VjPWv2934WpYHw4bQYLns0='; img-src data:; base-uri 'none'; form-action 'none'\">\n\
     <link rel=\"icon\" href=\"data:,\">\n\
     <title>";
 
@@ -35,6 +39,8 @@ const AFTER_TITLE: &str = "</title>\n\
     white-space: pre-wrap; }\n\
     h1, dd { overflow-wrap: anywhere; unicode-bidi: isolate; white-space: pre-wrap; }\n\
     .number { text-align: right; white-space: nowrap; }\n\
+    .amount { text-align: right; }\n\
+    .period { white-space: nowrap; }\n\
     input { font: inherit; max-width: 100%; padding: .25rem; width: 24rem; }\n\
     svg { height: auto; max-width: 100%; }\n\
     svg text { fill: currentColor; font: 14px system-ui, sans-serif; }\n\
@@ -43,8 +49,7 @@ const AFTER_TITLE: &str = "</title>\n\
     </head>\n\
     <body>\n\
     <a class=\"skip\" href=\"#main\">Skip to the content</a>\n\
-    <nav aria-label=\"Pages\"><a href=\"index.html\">Filers</a> <a href=\"refused.html\">Refused reports</a> \
-    <a href=\"findings.html\">Findings</a></nav>\n\
+    <nav aria-label=\"Pages\"><a href=\"index.html\">Filers</a> <a href=\"findings.html\">Findings</a></nav>\n\
     <main id=\"main\">\n\
     <h1>";
 
@@ -79,10 +84,21 @@ const END: &str = "</main>\n\
 
 /// A page that is begun: its head, and its heading, which is its title too.
 pub(crate) fn begin(alloc: Global, title: &str) -> Result<Markup, AllocError> {
+    begin_by(alloc, "", title)
+}
+
+/// The same if the title begins with these words.
+pub(crate) fn begin_by(
+    alloc: Global,
+    words: &'static str,
+    title: &str,
+) -> Result<Markup, AllocError> {
     let mut page = Markup::new(alloc);
     page.constant(BEFORE_TITLE)?;
+    page.constant(words)?;
     page.text(title)?;
     page.constant(AFTER_TITLE)?;
+    page.constant(words)?;
     page.text(title)?;
     page.constant("</h1>\n")?;
     Ok(page)
@@ -142,11 +158,11 @@ pub(crate) fn filing_cell(
     page.constant("</td>")
 }
 
-/// A link to the page of a filer.
-pub(crate) fn filer_link(page: &mut Markup, filer: &str) -> Result<(), AllocError> {
-    page.constant("<a href=\"filer-")?;
-    page.text(filer)?;
-    page.constant(".html\">")?;
+/// A link to the first page of a filer.
+pub(crate) fn filer_link(page: &mut Markup, alloc: Global, filer: &str) -> Result<(), AllocError> {
+    page.constant("<a href=\"")?;
+    page.text(names::of_filer(alloc, "filer-", filer, 1)?.as_str())?;
+    page.constant("\">")?;
     page.text(filer)?;
     page.constant("</a>")
 }

@@ -4,11 +4,17 @@
 
 mod chart;
 mod fault;
+mod filer;
 mod filers;
 mod filing;
 mod folder;
+mod found;
 mod frame;
+mod gathering;
+mod names;
 mod others;
+mod own;
+mod parts;
 mod reads;
 mod refused;
 mod site;

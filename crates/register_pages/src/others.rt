@@ -1,18 +1,15 @@
-//! The pages that are written once all requests were read.
+//! The pages that are written behind those of filings and filers.
 
-ghost use Rattle.std.specs.Prelude.{map, OnOk};
-ghost use Rattle.std.specs.Ordering.{nat_cmp};
-ghost use Rattle.std.specs.Cmp.Lexicographic.{slice_cmp};
-ghost use Rattle.std.specs.List.Sorted.{IsStrictlySortedBy};
-ghost use Rattle.register_pages.specs.Gathering.{codes_of};
-ghost use Rattle.register_pages.specs.Pages.{Adds, filer_page, other_pages};
+ghost use Rattle.std.specs.Prelude.{◌∷◌, [], codes};
+ghost use Rattle.register_pages.specs.Pages.{Writes};
 
 use crate::chart::findings_page;
 use crate::fault::WritingFault;
-use crate::filers::Filers;
-use crate::folder::Folder;
-use crate::frame::{begin, begin_table, end, end_table};
-use crate::refused::Refused;
+use crate::filer::refused_count;
+use crate::filers::{Filers, Tally};
+use crate::folder::{Folder, put};
+use crate::found::Found;
+use crate::frame::{begin, begin_table, end, end_table, filer_link, number_cell};
 use markup::Markup;
 use std::alloc::{AllocError, Global};
 
@@ -25,61 +22,64 @@ const HEAD: &str = "<caption>Filers</caption>\n\
     <th scope=\"col\" class=\"number\">Refused reports</th>\
     </tr></thead>\n";
 
+/// Adds the row of a filer.
+fn filer_row(
+    page: &mut Markup,
+    alloc: Global,
+    filer: &str,
+    tally: Tally,
+) -> Result<(), AllocError> {
+    page.constant("<tr><th scope=\"row\">")?;
+    filer_link(page, alloc, filer)?;
+    page.constant("</th>")?;
+    number_cell(page, alloc, tally.filings)?;
+    number_cell(page, alloc, tally.current)?;
+    page.constant("<td class=\"number\">")?;
+    refused_count(page, alloc, filer, tally.refused)?;
+    page.constant("</td></tr>\n")
+}
+
 /// The page of all filers.
 fn index_page(
     alloc: Global,
     filings: u64,
     filers: &Filers,
-    refused: &Refused,
+    refused: u64,
 ) -> Result<Markup, AllocError> {
     let mut page = begin(alloc, "Register")?;
     page.constant("<p>Filings: ")?;
     page.number(alloc, filings)?;
-    page.constant("; refused reports: ")?;
-    page.number(alloc, refused.count)?;
-    page.constant("</p>\n")?;
+    page.constant("; <a href=\"findings.html\">refused reports: ")?;
+    page.number(alloc, refused)?;
+    page.constant("</a></p>\n")?;
     begin_table(&mut page, HEAD)?;
-    for (code, filer) in filers.list.iter() {
-        filer.row(&mut page, alloc, code.as_str())?;
+    for (code, tally) in filers.list.iter() {
+        filer_row(&mut page, alloc, code.as_str(), *tally)?;
     }
     end_table(&mut page)?;
     end(&mut page)?;
     Ok(page)
 }
 
-/// Writes the page of each filer.
-fn write_filers<F: Folder>(
-    alloc: Global,
-    filers: &Filers,
-    folder: &mut F,
-) -> Result<(), WritingFault>
-    ensures ascend { OnOk result (IsStrictlySortedBy (slice_cmp nat_cmp) (codes_of filers.now)) }
-    ensures written { OnOk result
-        (Adds (F.pages folder.old) (F.pages folder.new) (map filer_page (codes_of filers.now))) }
-{
-    for (code, filer) in filers.list.iter() {
-        let name = format!(in alloc; "filer-{code}.html")?;
-        let page = filer.page(alloc, code.as_str())?;
-        folder.write(name.as_str(), &page)?;
-    }
-    Ok(())
-}
-
-/// Writes the pages of the filers, of the refused reports and of the findings, and at last the one of all filers.
+/// Writes the page of the findings, and at last the one of all filers.
 pub(crate) fn write_others<F: Folder>(
     alloc: Global,
     filings: u64,
     filers: &Filers,
-    refused: &Refused,
+    found: &Found,
     folder: &mut F,
-) -> Result<(), WritingFault>
-    ensures ascend { OnOk result (IsStrictlySortedBy (slice_cmp nat_cmp) (codes_of filers.now)) }
-    ensures written { OnOk result
-        (Adds (F.pages folder.old) (F.pages folder.new) (other_pages (codes_of filers.now))) }
+    missed: &mut Option<WritingFault>,
+)
+    ensures { Writes missed.old missed.new (F.pages folder.old) (F.pages folder.new)
+        (codes "findings.html" ∷ codes "index.html" ∷ []) }
 {
-    write_filers(alloc, filers, folder)?;
-    folder.write("refused.html", &refused.page(alloc)?)?;
-    folder.write("findings.html", &findings_page(alloc, &refused.found)?)?;
-    folder.write("index.html", &index_page(alloc, filings, filers, refused)?)?;
-    Ok(())
+    let page = findings_page(alloc, &found.codes);
+    put(
+        folder,
+        missed,
+        String::from_str(alloc, "findings.html"),
+        page,
+    );
+    let page = index_page(alloc, filings, filers, found.reports);
+    put(folder, missed, String::from_str(alloc, "index.html"), page);
 }

@@ -1,8 +1,10 @@
-use Rattle.register_pages.proofs.Adding.{others_written}
-use Rattle.register_pages.specs.Gathering.{codes_of}
+use Rattle.std.proofs.Common.{◌∷◌, []}
+use Rattle.std.specs.Prelude.{codes}
+use Rattle.register_pages.proofs.Adding.{writes_then}
 use Rattle.register_pages.proofs.others.write_others.Goals as goal
 
-pub returns-clause-written : goal.returns-clause-written
-returns-clause-written g c =
-    others_written _ _ _ _ _ (codes_of c.args.filers.now) c.in_ok-write_filers.ensures.written
-    c.in_ok-write.ensures.written c.in_ok-write-2.ensures.written c.in_ok-write-3.ensures.written
+pub returns : goal.returns
+returns g c =
+    writes_then _ _ _ _ _ _ (codes "findings.html" ∷ []) (codes "index.html" ∷ [])
+    (c.put.ensures (codes "findings.html") c.from_str.ensures.ok)
+    (c.put-2.ensures (codes "index.html") c.from_str-2.ensures.ok)

@@ -5,12 +5,9 @@ use Rattle.register_pages.proofs.site.write_all.Goals as goal
 
 pub returns-clause-written : goal.returns-clause-written
 returns-clause-written g c clean old_style requests was are =
-    let then = c.in_ok-gather_refused.ensures in
+    let then = c.write_site.ensures in
+    let first = c.in_ok-gather.ensures in
     let between = clean_before then.leaves clean in
-    let first = c.in_ok-write_filings.ensures in
-    let filings = first.written between old_style requests was are in
-    let gathered =
-    then.gathered clean old_style requests (stands first.leaves between was) are (rw c.new-filers.ensures at filings.1)
-    in
-    site_written requests _ _ _ (codes_of c.gather_refused.new.filers) c.write_others.result gathered.each filings.0
-    c.write_others.ensures.ascend c.write_others.ensures.written
+    let gathered = first.gathered between old_style requests was are c.new-filers.ensures in
+    site_written requests _ _ (codes_of c.gather.new.filers) c.write_site.result gathered.each then.ascend
+    (then.written clean old_style requests (stands first.leaves between was) are)

@@ -1,4 +1,4 @@
-use Rattle.std.proofs.Common.{◌≡◌, ◌+◌, ◌<◌, List, ◌++◌, append-nil, length, sym, subst, arith}
+use Rattle.std.proofs.Common.{◌≡◌, ◌+◌, ◌<◌, List, length, subst, arith}
 use Rattle.std.proofs.lemmas.List.{take_all}
 use Rattle.sqlite.specs.Held.{state}
 use Rattle.sqlite.specs.State.{HasCleanDisk}
@@ -8,20 +8,15 @@ use Rattle.register_tables.proofs.Calls.{refuses}
 use Rattle.register_walk.proofs.Steps.{next_filing}
 use Rattle.table_rows.proofs.LeavingLemmas.{clean_before, none_yet, passed_then, stands}
 use Rattle.table_rows.specs.Leaving.Ending.{Passed}
-use Rattle.register_pages.specs.Gathering.{HaveSame, codes_of, filers_of}
-use Rattle.register_pages.specs.Pages.{Adds, filing_pages}
-use Rattle.register_pages.proofs.Adding.{adds_none, filing_added}
-use Rattle.register_pages.proofs.Elements.{gathered, same_itself}
+use Rattle.register_pages.specs.Pages.{Writes, filing_pages, pages_of_filing}
+use Rattle.register_pages.proofs.Adding.{pages_added, writes_none}
 use Rattle.register_pages.proofs.site.write_filings.Goals as goal
 
 pub loop-at-init : goal.loop-at-init
 loop-at-init g c =
     record {
       leaves = none_yet (state g.S.Store c.args.conn.now);
-      written = λ clean old_style requests was are. (
-        adds_none (g.F.Folder.pages c.args.folder.now),
-        subst (HaveSame (codes_of c.args.filers.now)) (sym (append-nil (codes_of c.args.filers.now))) same_itself,
-      );
+      written = λ clean old_style requests was are. writes_none _ _;
     }
 
 pub loop-at-preserved : goal.loop-at-preserved
@@ -34,22 +29,17 @@ loop-at-preserved g c =
           let low : c.loop-at.at < length (register requests) = omega (arith, c.loop-at-test.true, are.filings_is) in
           let next = next_filing 1 c.loop-at.at (register requests) (register_numbered requests) low in
           let number : 1 + c.loop-at.at ≡ c.loop-at.at + 1 = omega arith in
-          let first = had.written before old_style requests was are in
-          let then =
-          more.written clean old_style requests (stands had.leaves before was) next.0 are.catalogue_is
-          (rw number at next.1) in (
-            filing_added _ _ _ _ _ next.0 next.2 first.0 then.0,
-            gathered (λ (f : Filing). f.request.filer) (codes_of c.args.filers.now) _ _ next.0 next.2 first.1 then.1,
-          );
+          pages_added _ _ _ _ _ _ pages_of_filing _ _ next.0 next.2 (had.written before old_style requests was are)
+          (more.written clean old_style requests (stands had.leaves before was) next.0 are.catalogue_is
+          (rw number at next.1));
     }
 
 pub returns : goal.returns
 returns g c =
     let had = c.loop-at.invariant in record {
       written = λ clean old_style requests was are.
-          subst (λ (fs : List Filing).
-          Adds (g.F.Folder.pages c.args.folder.now) (g.F.Folder.pages c.loop-at.folder) (filing_pages fs)
-          × HaveSame (codes_of c.loop-at.filers) (codes_of c.args.filers.now ++ filers_of fs))
+          subst (λ (fs : List Filing). Writes c.args.missed.now c.loop-at.missed (g.F.Folder.pages c.args.folder.now)
+          (g.F.Folder.pages c.loop-at.folder) (filing_pages fs))
           (take_all c.loop-at.at (register requests) (omega (arith, c.loop-at-test.false, are.filings_is)))
           (had.written clean old_style requests was are);
       leaves = had.leaves;

@@ -1,4 +1,4 @@
-use Rattle.std.proofs.Common.{ℕ, List, ◌++◌, take}
+use Rattle.std.proofs.Common.{ℕ, List, take}
 use Rattle.sqlite.specs.Held.{state}
 use Rattle.sqlite.specs.State.{HasCleanDisk}
 use Rattle.table_rows.specs.Leaving.{Leaves}
@@ -7,8 +7,8 @@ use Rattle.table_rows.specs.Standing.{HasCommitted}
 use Rattle.filing_model.specs.Request.{Request}
 use Rattle.filing_model.specs.Register.{register}
 use Rattle.register_tables.specs.Registers.{IsRegisterOf}
-use Rattle.register_pages.specs.Gathering.{AreCountsOf, HaveSame, codes_of, filers_of}
-use Rattle.register_pages.specs.Pages.{Adds, filing_pages}
+use Rattle.register_pages.specs.Gathering.{AreCountsOf}
+use Rattle.register_pages.specs.Pages.{Writes, filing_pages}
 use Rattle.register_pages.proofs.site.write_filings.Given as goal
 
 abbrev pub invariant-loop-at : goal.invariant-loop-at
@@ -18,7 +18,6 @@ invariant-loop-at g l =
       leaves : Leaves Passed old now;
       written : HasCleanDisk now → (old_style : ℕ) (requests : List Request)
           → HasCommitted (IsRegisterOf old_style requests) old → AreCountsOf requests l.counts
-          → Adds (g.F.Folder.pages l.fn.folder) (g.F.Folder.pages l.folder)
-          (filing_pages (take l.at (register requests)))
-          × HaveSame (codes_of l.filers) (codes_of l.fn.filers ++ filers_of (take l.at (register requests)));
+          → Writes l.fn.missed l.missed (g.F.Folder.pages l.fn.folder) (g.F.Folder.pages l.folder)
+          (filing_pages (take l.at (register requests)));
     }

@@ -1,9 +1,8 @@
-use Rattle.std.proofs.Common.{◌≡◌, ◌∷◌, [], Some, OnOk, sym, ap, subst, ◌∙◌}
+use Rattle.std.proofs.Common.{◌≡◌, Some, length, sym, ap, subst, ◌∙◌}
 use Rattle.std.specs.Prelude.{option_map}
 use Rattle.filing_model.specs.Register.{register}
 use Rattle.register_walk.specs.Filings.{FilingParts, whole}
-use Rattle.register_pages.specs.Gathering.{HaveSame, codes_of}
-use Rattle.register_pages.specs.Pages.{Adds, filing_page}
+use Rattle.register_pages.specs.Pages.{Writes, filing_page, numbered, pages_for}
 use Rattle.register_pages.proofs.site.write_numbered.Goals as goal
 
 pub returns-in-Some-clause-written : goal.returns-in-Some-clause-written
@@ -12,10 +11,9 @@ returns-in-Some-clause-written g c clean old_style requests was f is there =
     let both : Some c.in-Some.filing ≡ Some (whole (register requests) f) =
     sym c.in-Some.is ∙ told ∙ ap (option_map (whole (register requests))) there in
     let same : c.in-Some.filing ≡ whole (register requests) f = cc both in
-    subst (λ (filing : FilingParts). OnOk c.write_filing.result (Adds (g.F.Folder.pages c.args.folder.now)
-    (g.F.Folder.pages c.write_filing.new.folder) (filing_page filing.number ∷ [])
-    × HaveSame (codes_of c.write_filing.new.filers) (filing.filer ∷ codes_of c.args.filers.now))) same
-    c.write_filing.ensures
+    subst (λ (filing : FilingParts). Writes c.args.missed.now c.write_filing.new.missed
+    (g.F.Folder.pages c.args.folder.now) (g.F.Folder.pages c.write_filing.new.folder)
+    (numbered (filing_page filing.number) (pages_for 1000 (length filing.facts)))) same c.write_filing.ensures
 
 pub returns-in-None-clause-written : goal.returns-in-None-clause-written
 returns-in-None-clause-written g c clean old_style requests was f is there =

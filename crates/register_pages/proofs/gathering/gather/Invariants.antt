@@ -1,14 +1,14 @@
-use Rattle.std.proofs.Common.{ℕ, List, ◌++◌, take}
+use Rattle.std.proofs.Common.{◌≡◌, ℕ, List, [], take}
 use Rattle.sqlite.specs.Held.{state}
 use Rattle.sqlite.specs.State.{HasCleanDisk}
 use Rattle.table_rows.specs.Leaving.{Leaves}
 use Rattle.table_rows.specs.Leaving.Ending.{Passed}
 use Rattle.table_rows.specs.Standing.{HasCommitted}
 use Rattle.filing_model.specs.Request.{Request}
-use Rattle.filing_model.specs.Register.{kept, register}
+use Rattle.filing_model.specs.Register.{kept}
 use Rattle.register_tables.specs.Registers.{IsRegisterOf}
-use Rattle.register_pages.specs.Gathering.{AreCountsOf, HaveSame, codes_of, filers_of, senders_of}
-use Rattle.register_pages.proofs.site.gather_refused.Given as goal
+use Rattle.register_pages.specs.Gathering.{AreCountsOf, HaveSame, codes_of, senders_of}
+use Rattle.register_pages.proofs.gathering.gather.Given as goal
 
 abbrev pub invariant-loop-at : goal.invariant-loop-at
 invariant-loop-at g l =
@@ -17,6 +17,5 @@ invariant-loop-at g l =
       leaves : Leaves Passed old now;
       gathered : HasCleanDisk now → (old_style : ℕ) (requests : List Request)
           → HasCommitted (IsRegisterOf old_style requests) old → AreCountsOf requests l.counts
-          → HaveSame (codes_of l.fn.filers) (filers_of (register requests))
-          → HaveSame (codes_of l.filers) (filers_of (register requests) ++ senders_of (take l.at (kept requests)));
+          → codes_of l.fn.filers ≡ [] → HaveSame (codes_of l.filers) (senders_of (take l.at (kept requests)));
     }

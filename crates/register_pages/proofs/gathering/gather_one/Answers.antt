@@ -2,13 +2,12 @@ use Rattle.std.proofs.Common.{◌≡◌, ◌∷◌, ap, subst, ◌∙◌}
 use Rattle.table_rows.proofs.LeavingLemmas.{clean_before}
 use Rattle.register_walk.specs.Sent.{SentParts}
 use Rattle.register_pages.specs.Gathering.{HaveSame, codes_of}
-use Rattle.register_pages.proofs.site.gather.Goals as goal
+use Rattle.register_pages.proofs.gathering.gather_one.Goals as goal
 
 pub returns-clause-gathered : goal.returns-clause-gathered
 returns-clause-gathered g c clean old_style requests was k placed =
     let sent =
-    c.in_ok-sent.ensures.found (clean_before c.in_ok-findings.ensures clean) old_style requests was k placed in
+    c.in_ok-sent.ensures.found (clean_before c.in_ok-gather_codes.ensures clean) old_style requests was k placed in
     let filer : c.as_str.result.now ≡ k.request.filer =
     c.as_str.ensures.value ∙ ap (λ (s : SentParts). s.filer) (c.sent.view_is ∙ sent) in
-    subst (λ code. HaveSame (codes_of c.add_refused.new.self) (code ∷ codes_of c.args.filers.now)) filer
-    c.in_ok-add_refused.ensures
+    subst (λ code. HaveSame (codes_of c.add.new.self) (code ∷ codes_of c.args.filers.now)) filer c.in_ok-add.ensures
