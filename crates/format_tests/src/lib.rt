@@ -15,6 +15,8 @@ mod inbox;
 #[cfg(test)]
 mod keys;
 #[cfg(test)]
+mod pieces;
+#[cfg(test)]
 mod places;
 #[cfg(test)]
 mod posting;
