@@ -8,11 +8,15 @@ mod connection;
 mod hall;
 mod held;
 mod room;
+mod script;
 mod sockets;
 mod stream;
+#[cfg(test)]
+mod tests;
 mod why;
 
 pub use hall::Hall;
+pub use script::{Event, Reads, ScriptedSockets, ScriptedStream, Writes};
 pub use sockets::Sockets;
 pub use stream::{Broken, Got, Stream};
 pub use why::Why;

@@ -1,0 +1,108 @@
+//! Connections that an adversary lets come and go on as it likes.
+
+use crate::hall::Hall;
+use crate::script::{Event, Reads, ScriptedSockets, Writes};
+use crate::why::Why;
+use std::alloc::{AllocError, Global};
+use std::str;
+use std::time::Duration;
+
+/// What the piece gets: its path, after the interim response if it asks for one.
+fn reply(alloc: Global, piece: &[u8]) -> Result<Vec<u8>, AllocError> {
+    let text = str::from_utf8(piece).unwrap_or("?");
+    let path = text.split(' ').nth(1).unwrap_or("-");
+    let interim = if text.contains("100-continue") {
+        "HTTP/1.1 100 Continue\r\n\r\n"
+    } else {
+        ""
+    };
+    let reply = format!(in alloc; "{interim}{path}")?;
+    Vec::from_slice(alloc, reply.as_bytes())
+}
+
+/// The paths of the pieces in the order in which they are handed out, and then what each connection that is over got,
+/// and why it is over.
+fn served(alloc: Global, events: &[Event]) -> Result<String, AllocError> {
+    let mut sockets = ScriptedSockets::new(alloc, events);
+    let mut hall = Hall::new(alloc, 2)?;
+    let mut told = String::new(alloc);
+    for _ in 0..40 {
+        if hall.is_out() {
+            break;
+        }
+        if let Ok(Some(piece)) = hall.next_piece(&mut sockets, Duration::ZERO, 8) {
+            let text = str::from_utf8(&piece).unwrap_or("?");
+            told.push_str(text.split(' ').nth(1).unwrap_or("-"))?;
+            told.push_str(" ")?;
+            hall.give_back(reply(alloc, &piece)?, text.contains("close"));
+        }
+    }
+    for (stream, why) in sockets.over() {
+        let went = str::from_utf8(stream.went()).unwrap_or("?");
+        told.push_str("| ")?;
+        told.push_str(went)?;
+        told.push_str(match why {
+            Why::Done => " done ",
+            Why::Broken => " broken ",
+            Why::NoMemory => " no memory ",
+        })?;
+    }
+    Ok(told)
+}
+
+const CUT: &[Reads] = &[
+    Reads::Gives(b"GET /a HTTP/1.1\r\nHo"),
+    Reads::Pauses,
+    Reads::Gives(b"st: h\r\n\r\n"),
+    Reads::Pauses,
+];
+
+const PIPELINED: &[Reads] = &[Reads::Gives(
+    b"GET /b HTTP/1.1\r\nHost: h\r\n\r\nGET /c HTTP/1.1\r\nHost: h\r\n\r\n",
+)];
+
+const AWAITED: &[Reads] = &[
+    Reads::Gives(
+        b"POST /d HTTP/1.1\r\nHost: h\r\nExpect: 100-continue\r\nContent-Length: 2\r\n\r\n",
+    ),
+    Reads::Pauses,
+    Reads::Gives(b"ab"),
+];
+
+const CLOSED: &[Reads] = &[Reads::Gives(
+    b"GET /e HTTP/1.1\r\nHost: h\r\nConnection: close\r\n\r\nGET /f HTTP/1.1\r\nHost: h\r\n\r\n",
+)];
+
+#[test]
+fn each_gets_its_own_in_whatever_order(rt: HostRuntime) {
+    let slow = [Writes::Takes(1), Writes::Takes(0)];
+    let events = [
+        Event::Comes(CUT, &[]),
+        Event::Comes(PIPELINED, &slow),
+        Event::Ready(0),
+        Event::Ready(1),
+        Event::Ready(0),
+        Event::Ready(7),
+    ];
+    let told = served(rt.alloc(), &events);
+    assert!(rt; told.is_ok_and(|told| told.as_str() == "/b /a /c | /a done | /b/c done "));
+}
+
+#[test]
+fn interim_goes_once(rt: HostRuntime) {
+    let events = [Event::Comes(AWAITED, &[]), Event::Ready(0)];
+    let told = served(rt.alloc(), &events);
+    assert!(rt;
+        told.is_ok_and(|told| told.as_str() == "/d | HTTP/1.1 100 Continue\r\n\r\n/d done ")
+    );
+}
+
+#[test]
+fn one_that_breaks_or_closes_is_over(rt: HostRuntime) {
+    let events = [
+        Event::Comes(PIPELINED, &[Writes::Breaks]),
+        Event::Comes(CLOSED, &[]),
+    ];
+    let told = served(rt.alloc(), &events);
+    assert!(rt; told.is_ok_and(|told| told.as_str() == "/b /e |  broken | /e done "));
+}
