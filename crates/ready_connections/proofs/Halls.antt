@@ -1,6 +1,8 @@
 -- What one thing that happens in a hall changes of what holds of all its connections.
-use Rattle.std.proofs.Common.{◌≡◌, ◌≢◌, ◌⊎◌, inl, inr, ℕ, zero, suc, ◌+◌, ◌<◌, ◌≤◌, Bool, true, false, List, [], ◌∷◌, ◌++◌, length, get_or, set}
-use Rattle.std.proofs.Common.{Option, Some, None, IfSome, refl, sym, ap, ◌∙◌, subst, arith, length-append, Vec, Global, vec_len}
+use Rattle.std.proofs.Common.{◌≡◌, ◌≢◌, ◌⊎◌, inl, inr, ℕ, zero, suc, ◌+◌, ◌<◌, ◌≤◌, Bool, true, false, List, [], ◌∷◌}
+use Rattle.std.proofs.Common.{◌++◌, length, get_or, set}
+use Rattle.std.proofs.Common.{Option, Some, None, IfSome, refl, sym, ap, ◌∙◌, subst, arith, length-append, Vec}
+use Rattle.std.proofs.Common.{Global, vec_len}
 use Rattle.std.specs.Prelude.{option_map}
 use Rattle.std.specs.List.{AllByRecursion}
 use Rattle.std.proofs.lemmas.Bool.Decides.{eqb_tells}
@@ -15,7 +17,8 @@ use Rattle.ready_connections.specs.declared.why.Why.{Why}
 use Rattle.ready_connections.specs.Pieces.{Piece, IsTold, longest}
 use Rattle.http_messages.specs.Message.{interim}
 use Rattle.ready_connections.specs.Connections.{IsServed, IsOut, IsWaiting, IsBounded, IsEnd}
-use Rattle.ready_connections.specs.Running.{taken, taken_places, out_count, IsInPlace, IsOutOf, WasTold, AreOver, AreRunning, IsRunning, IsEmpty, Puts}
+use Rattle.ready_connections.specs.Running.{taken, taken_places, out_count, IsInPlace, IsOutOf, WasTold, AreOver}
+use Rattle.ready_connections.specs.Running.{AreRunning, IsRunning, IsEmpty, Puts}
 use Rattle.ready_connections.proofs.Told.{told_more}
 
 -- ---- lists
@@ -162,7 +165,8 @@ module _ {S : Type 0} (s : Ghosts S) where
       (i : ℕ) → IfSome (get_or hall.places.items i None) (IsInPlace s done (get_or hall.has_turn.items i false))
 
   put : (done done' : List Piece) (old new : Hall S) (place : ℕ) (slot : Option (Connection S)) (has_turn : Bool)
-      → place < length old.has_turn.items → ((b : Bool) (c : Connection S) → IsInPlace s done b c → IsInPlace s done' b c)
+      → place < length old.has_turn.items → ((b : Bool) (c : Connection S) → IsInPlace s done b c
+      → IsInPlace s done' b c)
       → Puts old new place slot has_turn → IfSome slot (IsInPlace s done' has_turn) → AllInPlace done old
       → AllInPlace done' new
   put done done' old new place slot has_turn low weaker puts at all i = elim (eqb_tells i place) [
@@ -180,7 +184,8 @@ module _ {S : Type 0} (s : Ghosts S) where
   pub stays : (done : List Piece) (old new : Hall S) (traffic traffic' : Option (Traffic S)) (place : ℕ)
       (c' : Connection S) (has_turn : Bool) → place < length old.places.items → old.out ≡ None
       → Puts old new place (Some c') has_turn → IsInPlace s done has_turn c'
-      → (IfSome traffic (AreOver s done old.places.items old.out) → IfSome traffic' (AreOver s done new.places.items new.out))
+      → (IfSome traffic (AreOver s done old.places.items old.out)
+      → IfSome traffic' (AreOver s done new.places.items new.out))
       → IsRunning s done None old traffic → IsRunning s done None new traffic'
   stays done old new traffic traffic' place c' has_turn low none puts at over running = record {
     turns = omega (arith, puts.turns_len, puts.len, running.turns);
@@ -192,19 +197,22 @@ module _ {S : Type 0} (s : Ghosts S) where
 
   -- the place is free now
   pub leaves : (done : List Piece) (read : Option (List ℕ)) (old new : Hall S) (traffic traffic' : Option (Traffic S))
-      (place : ℕ) → place < length old.places.items → Puts old new place None false → (places : List (Option (Connection S))) (turns : List Bool)
+      (place : ℕ) → place < length old.places.items → Puts old new place None false
+      → (places : List (Option (Connection S))) (turns : List Bool)
       (out : Option (Out S))
       → places ≡ new.places.items → turns ≡ new.has_turn.items
       → IsOutOf s done read out places
       → (IfSome traffic (AreOver s done old.places.items old.out) → IfSome traffic' (AreOver s done places out))
       → IsRunning s done None old traffic → AreRunning s done read places turns out traffic'
-  leaves done read old new traffic traffic' place low puts places turns out same same_turns is_out over running = record {
-    turns = rw (same, same_turns) (omega (arith, puts.turns_len, puts.len, running.turns));
-    in_place = rw (same, same_turns)
-        (put done done old new place None false (omega (arith, low, running.turns)) (λ b c h. h) puts tt running.in_place);
-    is_out = is_out;
-    over = over running.over;
-  }
+  leaves done read old new traffic traffic' place low puts places turns out same same_turns is_out over running =
+      record {
+        turns = rw (same, same_turns) (omega (arith, puts.turns_len, puts.len, running.turns));
+        in_place = rw (same, same_turns)
+            (put done done old new place None false (omega (arith, low, running.turns)) (λ b c h. h) puts tt
+            running.in_place);
+        is_out = is_out;
+        over = over running.over;
+      }
 
   -- ---- what one call of a hall does
 
@@ -233,7 +241,8 @@ module _ {S : Type 0} (s : Ghosts S) where
       here : IsInPlace s done (get_or old.has_turn.items place false) c
       here = rw (sym was) at (running.in_place place)
 
-      over : IfSome traffic (AreOver s done old.places.items old.out) → IfSome traffic (AreOver s done new.places.items new.out)
+      over : IfSome traffic (AreOver s done old.places.items old.out)
+          → IfSome traffic (AreOver s done new.places.items new.out)
       over h = kept traffic h
         where
           kept : (traffic : Option (Traffic S)) → IfSome traffic (AreOver s done old.places.items old.out)
@@ -253,9 +262,11 @@ module _ {S : Type 0} (s : Ghosts S) where
       (c c' : Connection S) → place < length old.places.items → old.out ≡ None
       → Some c ≡ get_or old.places.items place None → Puts old left place None false
       → places ≡ left.places.items → turns ≡ left.has_turn.items → out ≡ left.out
-      → traffic' ≡ option_map (one_over c'.stream why) traffic → (IsServed s done c → IsServed s done c' × IsEnd s why c'.stream c'.held.bytes.items c'.owed.items c'.is_closing)
+      → traffic' ≡ option_map (one_over c'.stream why) traffic → (IsServed s done c
+      → IsServed s done c' × IsEnd s why c'.stream c'.held.bytes.items c'.owed.items c'.is_closing)
       → IsRunning s done None old traffic → AreRunning s done None places turns out traffic'
-  ended done old left places turns out traffic traffic' place why c c' low none was leaves_ same same_turns same_out ends step running =
+  ended done old left places turns out traffic traffic' place why c c' low none was leaves_ same same_turns same_out
+      ends step running =
       leaves done None old left traffic traffic' place low leaves_ places turns out same same_turns
       (rw (same_out, leaves_.out, none) tt) (λ h. rw ends (kept traffic h)) running
     where
@@ -283,7 +294,8 @@ module _ {S : Type 0} (s : Ghosts S) where
       }
 
   -- it hands a piece out
-  pub handed_out : (done : List Piece) (read : List ℕ) (old left : Hall S) (places : List (Option (Connection S))) (turns : List Bool)
+  pub handed_out : (done : List Piece) (read : List ℕ) (old left : Hall S) (places : List (Option (Connection S)))
+      (turns : List Bool)
       (out : Option (Out S)) (traffic : Option (Traffic S))
       (place : ℕ) (c c' : Connection S) → place < length old.places.items → old.out ≡ None
       → Some c ≡ get_or old.places.items place None → Puts old left place None false
@@ -291,9 +303,11 @@ module _ {S : Type 0} (s : Ghosts S) where
       → out ≡ Some (record { place = place; connection = c' })
       → (IsServed s done c → IsOut s done read c') → (IsBounded done c → IsBounded done c')
       → IsRunning s done None old traffic → AreRunning s done (Some read) places turns out traffic
-  handed_out done read old left places turns out traffic place c c' low none was leaves_ same same_turns is_out step bound running =
+  handed_out done read old left places turns out traffic place c c' low none was leaves_ same same_turns is_out step
+      bound running =
       leaves done (Some read) old left traffic traffic place low leaves_ places turns out same same_turns
-      (rw (is_out, same) (step here.told, bound here.bounded, omega (arith, low, leaves_.len), leaves_.here)) (kept traffic) running
+      (rw (is_out, same) (step here.told, bound here.bounded, omega (arith, low, leaves_.len), leaves_.here)) (kept
+      traffic) running
     where
       here : IsInPlace s done (get_or old.has_turn.items place false) c
       here = rw (sym was) at (running.in_place place)
@@ -318,7 +332,11 @@ module _ {S : Type 0} (s : Ghosts S) where
       → traffic' ≡ option_map one_came traffic → IsServed s done c → IsBounded done c
       → IsRunning s done None old traffic → IsRunning s done None new traffic'
   came done old new traffic traffic' place c low none free puts comes served bounded running =
-      stays done old new traffic traffic' place c true low none puts (record { told = served; bounded = bounded; awake = inl refl })
+      stays done old new traffic traffic' place c true low none puts (record {
+        told = served;
+        bounded = bounded;
+        awake = inl refl;
+      })
       (λ h. rw comes (kept traffic h)) running
     where
       kept : (traffic : Option (Traffic S)) → IfSome traffic (AreOver s done old.places.items old.out)
@@ -354,7 +372,8 @@ module _ {S : Type 0} (s : Ghosts S) where
         awake = elim at.awake [ inl turn ↦ inl (kept i turn) | inr waits ↦ inr waits ];
       }
 
-      over : (traffic : Option (Traffic S)) → IfSome traffic (AreOver s done old.places.items old.out) → IfSome traffic (AreOver s done places out)
+      over : (traffic : Option (Traffic S)) → IfSome traffic (AreOver s done old.places.items old.out)
+          → IfSome traffic (AreOver s done places out)
       over None h = tt
       over (Some known) h = record {
         told = h.told;
@@ -373,7 +392,8 @@ module _ {S : Type 0} (s : Ghosts S) where
     turns = omega (arith, puts.turns_len, puts.len, ap length same, ap length same_turns, running.turns);
     in_place = put done (done ++ back ∷ []) taken_ new out.place (Some c') true
         (rw same_turns (omega (arith, was.2, running.turns))) (more_place done (back ∷ [])) puts
-        (record { told = step was.0; bounded = bound was.1; awake = inl refl }) (rw (same, same_turns) running.in_place);
+        (record { told = step was.0; bounded = bound was.1; awake = inl refl }) (rw (same, same_turns)
+        running.in_place);
     is_out = rw (puts.out, none) tt;
     over = over traffic running.over;
   }

@@ -1,5 +1,6 @@
 -- What one thing that a connection does changes of what it was told.
-use Rattle.std.proofs.Common.{◌≡◌, ◌||◌, ◌⊎◌, inl, inr, ℕ, ◌+◌, ◌≤◌, Bool, true, false, List, [], ◌∷◌, ◌++◌, length, take, drop, Option, Some, None, refl, sym}
+use Rattle.std.proofs.Common.{◌≡◌, ◌||◌, ◌⊎◌, inl, inr, ℕ, ◌+◌, ◌≤◌, Bool, true, false, List, [], ◌∷◌, ◌++◌, length}
+use Rattle.std.proofs.Common.{take, drop, Option, Some, None, refl, sym}
 use Rattle.std.proofs.Common.{ap, ◌∙◌, append_assoc, IfSome, arith}
 use Rattle.std.specs.List.{flat_map}
 use Rattle.std.specs.Io.KnownBytes.{append_known}
@@ -7,7 +8,8 @@ use Rattle.std.proofs.lemmas.List.Concat.{flat_map-append}
 use Rattle.std.proofs.lemmas.Grind.{common_steps}
 use Rattle.http_messages.specs.Message.{interim}
 use Rattle.request_pieces.specs.Pieces.{IsLast}
-use Rattle.ready_connections.specs.Pieces.{Piece, IsWhole, AreAmong, AreInTurn, IsTold, reads_of, texts_of, text_of, early_text, text_left}
+use Rattle.ready_connections.specs.Pieces.{Piece, IsWhole, AreAmong, AreInTurn, IsTold, reads_of, texts_of, text_of}
+use Rattle.ready_connections.specs.Pieces.{early_text, text_left}
 
 pub append_nil : {X : Type 0} (xs : List X) → xs ++ [] ≡ xs
 append_nil [] = refl
@@ -177,7 +179,8 @@ told_back done came went held back is_closing is_ended comes told = record {
 
     wrote : (went : Option (List ℕ))
         → IfSome went (λ bytes. bytes ++ [] ≡ texts_of told.pieces ++ early_text back.is_early)
-        → IfSome went (λ bytes. bytes ++ text_left back.is_early back.output ≡ texts_of (told.pieces ++ back ∷ []) ++ [])
+        → IfSome went (λ bytes. bytes ++ text_left back.is_early back.output ≡ texts_of (told.pieces ++ back ∷ []) ++
+        [])
     wrote None h = tt
     wrote (Some bytes) h =
         ap (λ l. l ++ text_left back.is_early back.output) (sym (append_nil bytes) ∙ h)

@@ -1,5 +1,6 @@
 -- What contracts see of one connection; own rules.
-use Rattle.std.specs.Prelude.{◌≡◌, ◌≢◌, ◌⊎◌, ℕ, ◌<◌, Bool, true, false, List, [], ◌∷◌, ◌++◌, ◌+◌, ◌≤◌, length, take, vec_len}
+use Rattle.std.specs.Prelude.{◌≡◌, ◌≢◌, ◌⊎◌, ℕ, ◌<◌, Bool, true, false, List, [], ◌∷◌, ◌++◌, ◌+◌, ◌≤◌, length, take}
+use Rattle.std.specs.Prelude.{vec_len}
 use Rattle.http_messages.specs.Message.{IsRefused, IsRest, Asks}
 use Rattle.http_messages.specs.declared.refusal.Refusal.{Refusal}
 use Rattle.ready_connections.specs.declared.connection.Connection.{Connection}
@@ -9,8 +10,8 @@ use Rattle.request_pieces.specs.Pieces.{IsLast, max_piece_len}
 use Rattle.ready_connections.specs.declared.why.Why.{Why}
 use Rattle.ready_connections.specs.declared.why.Why.TheVariants.{Done, Broken, NoMemory}
 
--- A connection none of whose pieces is out: it was told what its pieces got, and it takes its input to have ended if its
--- stream has.
+-- A connection none of whose pieces is out: it was told what its pieces got, and it takes its input to have ended if
+-- its stream has.
 pub record IsServed {S : Type 0} (s : Ghosts S) (done : List Piece) (c : Connection S) : Type 0 where
   pub told : IsTold done (s.came c.stream) (s.went c.stream) [] c.held.bytes.items c.owed.items c.is_awaited
       c.is_closing (s.is_ended c.stream)

@@ -1,6 +1,7 @@
 -- The pieces of connections, in the order in which they were handed out, and what a connection got for its own; own
 -- rules.
-use Rattle.std.specs.Prelude.{◌≡◌, ◌⊎◌, ℕ, ◌≤◌, Bool, true, false, List, [], ◌∷◌, ◌++◌, length, take, drop, max, Option, IfSome}
+use Rattle.std.specs.Prelude.{◌≡◌, ◌⊎◌, ℕ, ◌≤◌, Bool, true, false, List, [], ◌∷◌, ◌++◌, length, take, drop, max}
+use Rattle.std.specs.Prelude.{Option, IfSome}
 use Rattle.std.specs.Prelude.{if◌then◌else◌, nat_eq}
 use Rattle.std.specs.List.{flat_map, starts_with}
 use Rattle.http_messages.specs.Message.{SpellsRequest, interim}

@@ -1,5 +1,6 @@
 //! One connection: what came and was not handed out yet, and what is owed to it.
-ghost use Rattle.std.specs.Prelude.{◌≡◌, ◌≤◌, ◌<◌, ◌+◌, ℕ, true, false, List, [], ◌++◌, length, take, drop, vec_len, ◌∷◌};
+ghost use Rattle.std.specs.Prelude.{◌≡◌, ◌≤◌, ◌<◌, ◌+◌, ℕ, true, false, List, [], ◌++◌, length, take, drop, vec_len};
+ghost use Rattle.std.specs.Prelude.{◌∷◌};
 ghost use Rattle.http_messages.specs.Message.{interim};
 ghost use Rattle.request_pieces.specs.Pieces.{IsLast};
 ghost use Rattle.ready_connections.specs.Arriving.{IsFresh};

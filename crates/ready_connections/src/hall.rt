@@ -1,5 +1,6 @@
 //! All connections that are served at once, each in its place, and whose turn is next.
-ghost use Rattle.std.specs.Prelude.{◌≡◌, ◌≢◌, ◌<◌, ℕ, List, [], ◌∷◌, ◌++◌, Option, Some, None, IfSome, IfOk, IfNone, is_some, length, true, false, slice_index_or, vec_len};
+ghost use Rattle.std.specs.Prelude.{◌≡◌, ◌≢◌, ◌<◌, ℕ, List, [], ◌∷◌, ◌++◌, Option, Some, None, IfSome, IfOk, IfNone};
+ghost use Rattle.std.specs.Prelude.{is_some, length, true, false, slice_index_or, vec_len};
 ghost use Rattle.ready_connections.specs.Streams.{Traffic};
 ghost use Rattle.ready_connections.specs.Pieces.{Piece};
 ghost use Rattle.ready_connections.specs.Running.{IsRunning, IsEmpty, Puts, items_of, items_out_of, piece_of};
@@ -178,7 +179,8 @@ impl<S: Stream + Drop> Hall<S> {
     fn set_turn(&mut self, place: usize, has_turn: bool)
         ensures rest { self.new ≡ record self.old { has_turn = self.new.has_turn } }
         ensures len { vec_len self.new.has_turn ≡ vec_len self.old.has_turn }
-        ensures turn { place < vec_len self.old.has_turn → slice_index_or self.new.has_turn.items place false ≡ has_turn }
+        ensures turn { place < vec_len self.old.has_turn
+            → slice_index_or self.new.has_turn.items place false ≡ has_turn }
         ensures others { (i : ℕ) → i ≢ place
             → slice_index_or self.new.has_turn.items i false ≡ slice_index_or self.old.has_turn.items i false }
     {

@@ -1,5 +1,6 @@
 //! What came on a connection and was not handed out yet.
-ghost use Rattle.std.specs.Prelude.{◌≡◌, ◌≤◌, ◌+◌, List, ℕ, [], ◌++◌, length, take, drop, vec_len, vec_capacity, IsTrue, IsSome, IfSome, IfNone, IfOk, OnOk};
+ghost use Rattle.std.specs.Prelude.{◌≡◌, ◌≤◌, ◌+◌, List, ℕ, [], ◌++◌, length, take, drop, vec_len, vec_capacity};
+ghost use Rattle.std.specs.Prelude.{IsTrue, IsSome, IfSome, IfNone, IfOk, OnOk};
 ghost use Rattle.http_messages.specs.Block.{from_block, HasNoEndUpTo};
 
 use request_pieces::{Piece, Progress, next_piece};

@@ -11,6 +11,7 @@ returns-in_default g c = record {
 pub loop-preserved : goal.loop-preserved
 loop-preserved g c = record {
   told = λ done told. c.in-Again.ensures.told done (c.loop.invariant.told done told);
-  held = λ most room held. c.in-Again.ensures.held most (rw c.loop.auto.room room) (c.loop.invariant.held most room held);
+  held = λ most room held. c.in-Again.ensures.held most (rw c.loop.auto.room room) (c.loop.invariant.held most room
+      held);
   owed = λ most some owed. c.in-Again.ensures.owed most some (c.loop.invariant.owed most some owed);
 }

@@ -1,4 +1,5 @@
-use Rattle.std.proofs.Common.{◌≡◌, ◌<◌, ◌∙◌, Bool, true, false, not, ℕ, List, Option, Some, None, get_or, sym, refl, length, arith}
+use Rattle.std.proofs.Common.{◌≡◌, ◌<◌, ◌∙◌, Bool, true, false, not, ℕ, List, Option, Some, None, get_or, sym, refl}
+use Rattle.std.proofs.Common.{length, arith}
 use Rattle.std.specs.Prelude.{is_some}
 use Rattle.std.proofs.lemmas.Grind.{common_steps}
 use Rattle.ready_connections.proofs.Halls.{bounded_new, came}
@@ -23,7 +24,8 @@ loop-place-preserved g c = elim c.if-is_none.branch [
         came g.S.Stream done old w.enter.new.self (g.P.Sockets.traffic c.loop-place.sockets)
         (g.P.Sockets.traffic w.accept.new.self) c.loop-place.place w.new.result low c.loop-place.invariant.out free
         w.enter.ensures comes.1 (w.new.ensures.told done)
-        (bounded_new done w.new.result w.new.ensures.held w.new.ensures.owed) (c.loop-place.invariant.running done running);
+        (bounded_new done w.new.result w.new.ensures.held w.new.ensures.owed) (c.loop-place.invariant.running done
+        running);
     out = w.enter.ensures.out ∙ c.loop-place.invariant.out;
   })
   | else-is_none w ↦ rw (w.self-is, w.sockets-is) c.loop-place.invariant

@@ -1,4 +1,4 @@
-use Rattle.std.proofs.Common.{◌≡◌, List, ℕ, Bool, false, subst}
+use Rattle.std.proofs.Common.{◌≡◌, List, ℕ, Bool, subst}
 use Rattle.request_pieces.specs.declared.progress.Progress.{Progress}
 use Rattle.request_pieces.specs.Pieces.{Waits}
 use Rattle.ready_connections.specs.Found.{GoesOn}
