@@ -1,5 +1,5 @@
 -- What contracts see of all connections; own rules.
-use Rattle.std.specs.Prelude.{◌≡◌, ◌≢◌, ◌⊎◌, ℕ, ◌+◌, ◌<◌, Bool, true, false, List, [], ◌∷◌, length, Option, Some}
+use Rattle.std.specs.Prelude.{◌≤◌, ◌≡◌, ◌≢◌, ◌⊎◌, ℕ, ◌+◌, ◌<◌, Bool, true, false, List, [], ◌∷◌, length, Option, Some}
 use Rattle.std.specs.Prelude.{None, IfSome, Result, Ok, Err}
 use Rattle.std.specs.Prelude.{slice_index_or}
 use Rattle.std.specs.List.{AllByRecursion}
@@ -107,3 +107,15 @@ pub record Puts {S : Type 0} (old new : Hall S) (place : ℕ) (slot : Option (Co
       → slice_index_or new.has_turn.items i false ≡ slice_index_or old.has_turn.items i false
   pub turns_len : length new.has_turn.items ≡ length old.has_turn.items
   pub out : new.out ≡ old.out
+
+-- no place from the first one on up to the second has its turn
+abbrev pub NoneHasTurn : List Bool → ℕ → ℕ → Type 0
+NoneHasTurn has_turn from place = (i : ℕ) → from ≤ i → i < place → slice_index_or has_turn i false ≡ false
+
+-- The place has the next turn, from this one on: it has its turn, and none between does; or none from there on does, and
+-- it is the first of all that does.
+abbrev pub IsNext : List Bool → ℕ → ℕ → Type 0
+IsNext has_turn next place =
+    (slice_index_or has_turn place false ≡ true)
+    × (NoneHasTurn has_turn next place
+    ⊎ (((i : ℕ) → next ≤ i → slice_index_or has_turn i false ≡ false) × NoneHasTurn has_turn 0 place))

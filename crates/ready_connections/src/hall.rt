@@ -1,9 +1,9 @@
 //! All connections that are served at once, each in its place, and whose turn is next.
-ghost use Rattle.std.specs.Prelude.{◌≡◌, ◌≢◌, ◌<◌, ℕ, List, [], ◌∷◌, ◌++◌, Option, Some, None, IfSome, IfOk, IfNone};
+ghost use Rattle.std.specs.Prelude.{◌+◌, ◌≤◌, IsSome, ◌≡◌, ◌≢◌, ◌<◌, ℕ, List, [], ◌∷◌, ◌++◌, Option, Some, None, IfSome, IfOk, IfNone};
 ghost use Rattle.std.specs.Prelude.{is_some, length, true, false, slice_index_or, vec_len};
 ghost use Rattle.ready_connections.specs.Streams.{Traffic};
 ghost use Rattle.ready_connections.specs.Pieces.{Piece};
-ghost use Rattle.ready_connections.specs.Running.{IsRunning, IsEmpty, Puts, items_of, items_out_of, piece_of};
+ghost use Rattle.ready_connections.specs.Running.{IsRunning, IsEmpty, IsNext, NoneHasTurn, Puts, items_of, items_out_of, piece_of};
 
 use crate::connection::{Connection, Turn};
 use crate::room::Room;
@@ -108,6 +108,9 @@ impl<S: Stream + Drop> Hall<S> {
     /// The place that has the next turn, unless the system is to be asked first.
     fn next_turn(&mut self) -> Option<usize>
         ensures place { IfSome result (λ place. place < vec_len self.old.places) }
+        ensures next { IfSome result (IsNext self.old.has_turn.items self.old.next) }
+        ensures after { IfSome result (λ place. self.new.next ≡ place + 1) }
+        ensures left { IsSome result → self.new.turns_left + 1 ≡ self.old.turns_left }
         ensures places { self.new.places ≡ self.old.places }
         ensures turns { self.new.has_turn ≡ self.old.has_turn }
         ensures out { self.new.out ≡ self.old.out }
@@ -248,8 +251,10 @@ impl<S: Stream + Drop> Hall<S> {
 
 /// The first place from this one on that has its turn.
 fn first_true(has_turn: &[bool], from: usize) -> Option<usize>
-    ensures { IfSome result (λ place. (place < length has_turn.now)
+    ensures found { IfSome result (λ place. (place < length has_turn.now)
         × (slice_index_or has_turn.now place false ≡ true)) }
+    ensures first { IfSome result (NoneHasTurn has_turn.now from) }
+    ensures none { IfNone result ((place : ℕ) → from ≤ place → slice_index_or has_turn.now place false ≡ false) }
 {
     for place in from..has_turn.len() {
         if has_turn[place] {
