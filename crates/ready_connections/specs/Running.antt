@@ -112,8 +112,8 @@ pub record Puts {S : Type 0} (old new : Hall S) (place : ℕ) (slot : Option (Co
 abbrev pub NoneHasTurn : List Bool → ℕ → ℕ → Type 0
 NoneHasTurn has_turn from place = (i : ℕ) → from ≤ i → i < place → slice_index_or has_turn i false ≡ false
 
--- The place has the next turn, from this one on: it has its turn, and none between does; or none from there on does, and
--- it is the first of all that does.
+-- The place has the next turn, from this one on: it has its turn, and none between does; or none from there on does,
+-- and it is the first of all that does.
 abbrev pub IsNext : List Bool → ℕ → ℕ → Type 0
 IsNext has_turn next place =
     (slice_index_or has_turn place false ≡ true)

@@ -1,9 +1,11 @@
 //! All connections that are served at once, each in its place, and whose turn is next.
-ghost use Rattle.std.specs.Prelude.{◌+◌, ◌≤◌, IsSome, ◌≡◌, ◌≢◌, ◌<◌, ℕ, List, [], ◌∷◌, ◌++◌, Option, Some, None, IfSome, IfOk, IfNone};
+ghost use Rattle.std.specs.Prelude.{◌+◌, ◌≤◌, IsSome, ◌≡◌, ◌≢◌, ◌<◌, ℕ, List, [], ◌∷◌, ◌++◌, Option, Some};
+ghost use Rattle.std.specs.Prelude.{None, IfSome, IfOk, IfNone};
 ghost use Rattle.std.specs.Prelude.{is_some, length, true, false, slice_index_or, vec_len};
 ghost use Rattle.ready_connections.specs.Streams.{Traffic};
 ghost use Rattle.ready_connections.specs.Pieces.{Piece};
-ghost use Rattle.ready_connections.specs.Running.{IsRunning, IsEmpty, IsNext, NoneHasTurn, Puts, items_of, items_out_of, piece_of};
+ghost use Rattle.ready_connections.specs.Running.{IsRunning, IsEmpty, IsNext, NoneHasTurn, Puts, items_of};
+ghost use Rattle.ready_connections.specs.Running.{items_out_of, piece_of};
 
 use crate::connection::{Connection, Turn};
 use crate::room::Room;
