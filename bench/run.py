@@ -69,7 +69,7 @@ IDLE = 42_000
 GROWTHS = {
     "10 times the facts, to judge a report": 12,
     "10 times the wrong facts, to judge a report": 12,
-    "1,000 findings among 175,000 members, for each byte of a plain report": 15,
+    "1,000 findings among 175,000 members, for each byte of a plain report": 8,
     "10 times the new keys (100 to 1,000)": 11,
     "10 times the repeats of one key (100 to 1,000)": 11,
     "in a file, 100 times the requests, to add one": 2,
