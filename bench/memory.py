@@ -68,8 +68,8 @@ def file_all(peer, numbers, body):
 
 
 def registers(small, large):
-    """What a server holds for one request, and `check` for the whole, of a register with so many small and so
-    many large reports."""
+    """What a server holds for one request, `check` for the whole, and `pages` beyond that, of a register with so many
+    small and so many large reports."""
     kept = small + large
     print(f"a register of {small} small and {large} large reports")
     with folder() as place:
@@ -88,7 +88,14 @@ def registers(small, large):
                 held.append(within(f"  {what}", peak.of(exchange, peer, given, 1, status), bound * MEGABYTE))
             peer.close()
         memory = most_of([built("intake"), "check", "--db", server.database])
-        return [*held, within("  check", memory, bound_of(server.database, kept))]
+        site = os.path.join(place, "site")
+        os.mkdir(site)
+        pages = most_of([built("intake"), "pages", "--db", server.database, "--into", site])
+        return [
+            *held,
+            within("  check", memory, bound_of(server.database, kept)),
+            within("  pages, beyond check", pages - memory, 100 * MEGABYTE),
+        ]
 
 
 # The tables of an outbox, as docs/PROTOCOL.md declares them.
