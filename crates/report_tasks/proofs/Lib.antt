@@ -1,1 +1,1 @@
-mod Linted
+mod Looks

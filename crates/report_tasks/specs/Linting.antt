@@ -1,16 +1,17 @@
 -- What is printed of reports; own rules. `out` and `out'` are what the output has before and after, if it is known.
-use Rattle.std.specs.Prelude.{◌≡◌, ◌⊎◌, ◌||◌, ℕ, Bool, true, false, List, [], ◌∷◌, ◌++◌, map, Option, Result, Ok, Err}
-use Rattle.std.specs.Prelude.{IfOk, IfErr, OnOk, if◌then◌else◌}
+use Rattle.std.specs.Prelude.{◌≡◌, ◌⊎◌, ◌||◌, ℕ, max, Bool, true, false, List, [], ◌∷◌, ◌++◌, map, Option, Result, Ok}
+use Rattle.std.specs.Prelude.{Err, IfOk, IfErr, OnOk, if◌then◌else◌}
 use Rattle.std.specs.Io.KnownBytes.{Appends}
 use Rattle.key_string.specs.Filer.{is_filer}
 use Rattle.command_line.specs.declared.fault.CommandFault.{CommandFault}
 use Rattle.command_line.specs.declared.fault.CommandFault.TheVariants.{Filer, Output}
+use Rattle.command_line.specs.declared.report_file.ReportFault.{ReportFault}
+use Rattle.command_line.specs.Reports.{report_status}
 use Rattle.finding_lines.specs.Lines.{TellsOf}
 use Rattle.finding_lines.specs.declared.form.Form.{Form}
 use Rattle.xbrl_report.specs.Findings.{findings}
 use Rattle.xbrl_report.specs.Pair.{Pair}
-use Rattle.report_tasks.specs.declared.fault.LintFault.{LintFault}
-use Rattle.report_tasks.specs.declared.fault.LintFault.TheVariants.{Command}
+use Rattle.report_tasks.specs.declared.linting.Linted.{Linted}
 
 -- ---- one report
 
@@ -34,53 +35,80 @@ pub record FindsIn (form : Form) (filer file body : List ℕ) (out out' : Option
 
 -- ---- the reports in files
 
--- the name of a file, and the body that was read there: no clause says which
-abbrev pub Read : Type 0
-Read = List ℕ × List ℕ
+-- A file that was looked at: its name, and the body that was read there, or why none was. No clause says which.
+abbrev pub Look : Type 0
+Look = List ℕ × Result (List ℕ) ReportFault
 
-abbrev pub names_of : List Read → List (List ℕ)
-names_of reports = map (λ report. report.0) reports
+abbrev pub names_of : List Look → List (List ℕ)
+names_of looks = map (λ look. look.0) looks
+
+-- the lines of the findings of a body that was read in a file are printed; if none was read, nothing is
+abbrev pub PrintsRead : Form → List ℕ → List ℕ → Result (List ℕ) ReportFault → Option (List ℕ) → Option (List ℕ)
+    → Type 0
+PrintsRead form filer name (Ok body) out out' = PrintsFindings form name body (findings filer body) out out'
+PrintsRead form filer name (Err why) out out' = out' ≡ out
+
+abbrev pub is_found : List ℕ → Result (List ℕ) ReportFault → Bool
+is_found filer (Ok body) = has_any (findings filer body)
+is_found filer (Err why) = false
+
+abbrev pub fault_of : Result (List ℕ) ReportFault → List ReportFault
+fault_of (Ok body) = []
+fault_of (Err why) = why ∷ []
 
 -- the lines of the findings of each of these were printed, in order
-abbrev pub PrintsEach : Form → List ℕ → List Read → Option (List ℕ) → Option (List ℕ) → Type 0
+abbrev pub PrintsEach : Form → List ℕ → List Look → Option (List ℕ) → Option (List ℕ) → Type 0
 PrintsEach form filer [] out out' = out' ≡ out
-PrintsEach form filer (report ∷ reports) out out' =
-    (so_far : Option (List ℕ)) × PrintsFindings form report.0 report.1 (findings filer report.1) out so_far
-    × PrintsEach form filer reports so_far out'
+PrintsEach form filer (look ∷ looks) out out' =
+    (so_far : Option (List ℕ)) × PrintsRead form filer look.0 look.1 out so_far
+    × PrintsEach form filer looks so_far out'
 
--- whether one of them has a finding
-abbrev pub have_any : List ℕ → List Read → Bool
+-- whether a body that was read has a finding
+abbrev pub have_any : List ℕ → List Look → Bool
 have_any filer [] = false
-have_any filer (report ∷ reports) = has_any (findings filer report.1) || have_any filer reports
+have_any filer (look ∷ looks) = is_found filer look.1 || have_any filer looks
 
--- a body was read, and this holds of it; or nothing was printed, unless the output failed
-abbrev pub LintsFile : Form → List ℕ → List ℕ → Option (List ℕ) → Option (List ℕ) → Result Bool LintFault → Type 0
-LintsFile form filer name out out' (Ok found) =
-    (body : List ℕ) × PrintsFindings form name body (findings filer body) out out'
-    × (found ≡ has_any (findings filer body))
-LintsFile form filer name out out' (Err fault) = (fault ≡ Command Output) ⊎ (out' ≡ out)
+-- why the others were not read, in order
+abbrev pub unread_of : List Look → List ReportFault
+unread_of [] = []
+unread_of (look ∷ looks) = fault_of look.1 ++ unread_of looks
 
--- The findings of each file were printed, and the answer says whether there is one; or those of the first files were,
--- and of the next one nothing, unless the output failed.
-abbrev pub LintsFiles : Form → List ℕ → List (List ℕ) → Option (List ℕ) → Option (List ℕ) → Result Bool LintFault
-    → Type 0
-LintsFiles form filer names out out' (Ok found) =
-    (reports : List Read) × (names_of reports ≡ names) × PrintsEach form filer reports out out'
-    × (found ≡ have_any filer reports)
+-- A body was read, or none was; its findings are printed, and that is noted. Or the output or memory failed, and in the
+-- latter case nothing was printed.
+abbrev pub LintsFile : Form → List ℕ → List ℕ → Option (List ℕ) → Option (List ℕ) → Linted → Linted
+    → Result (Unit {0}) CommandFault → Type 0
+LintsFile form filer name out out' old new (Ok done) =
+    (read : Result (List ℕ) ReportFault) × PrintsRead form filer name read out out'
+    × (new.is_found ≡ (old.is_found || is_found filer read))
+    × (new.unread.items ≡ old.unread.items ++ fault_of read)
+LintsFile form filer name out out' old new (Err fault) = (fault ≡ Output) ⊎ (out' ≡ out)
+
+-- The findings of each file that could be read were printed, and the answer says whether there is one, and why the
+-- others were not read; or those of the first files were, and of the next one nothing, unless the output failed.
+abbrev pub LintsFiles : Form → List ℕ → List (List ℕ) → Option (List ℕ) → Option (List ℕ)
+    → Result Linted CommandFault → Type 0
+LintsFiles form filer names out out' (Ok linted) =
+    (looks : List Look) × (names_of looks ≡ names) × PrintsEach form filer looks out out'
+    × (linted.is_found ≡ have_any filer looks) × (linted.unread.items ≡ unread_of looks)
 LintsFiles form filer names out out' (Err fault) =
-    (fault ≡ Command Output)
-    ⊎ ((reports : List Read) × (next : List ℕ) × (rest : List (List ℕ)) × (names ≡ names_of reports ++ next ∷ rest)
-    × PrintsEach form filer reports out out')
+    (fault ≡ Output)
+    ⊎ ((looks : List Look) × (next : List ℕ) × (rest : List (List ℕ)) × (names ≡ names_of looks ++ next ∷ rest)
+    × PrintsEach form filer looks out out')
+
+-- The code is no filer's, and nothing is done; or the files are looked at.
+abbrev pub LintsReports : Form → List ℕ → List (List ℕ) → Option (List ℕ) → Option (List ℕ)
+    → Result Linted CommandFault → Type 0
+LintsReports form filer names out out' result =
+    ((is_filer filer ≡ false) × (result ≡ Err Filer) × (out' ≡ out))
+    ⊎ ((is_filer filer ≡ true) × LintsFiles form filer names out out' result)
 
 -- ---- the status
 
--- The code is no filer's, and nothing is done; or the files are looked at, and the status is 1 exactly if one has a
--- finding.
-abbrev pub LintsReports : Form → List ℕ → List (List ℕ) → Option (List ℕ) → Option (List ℕ) → Result ℕ LintFault
-    → Type 0
-LintsReports form filer names out out' (Ok status) =
-    (is_filer filer ≡ true) × (found : Bool) × LintsFiles form filer names out out' (Ok found)
-    × (status ≡ (if found then 1 else 0))
-LintsReports form filer names out out' (Err fault) =
-    ((is_filer filer ≡ false) × (fault ≡ Command Filer) × (out' ≡ out))
-    ⊎ ((is_filer filer ≡ true) × LintsFiles form filer names out out' (Err fault))
+-- the greatest of some statuses
+abbrev pub greatest : List ℕ → ℕ
+greatest [] = 0
+greatest (status ∷ statuses) = max status (greatest statuses)
+
+-- 1 if there is a finding; but the status of a report that was not read, if that is greater
+abbrev pub lint_status : Bool → List ReportFault → ℕ
+lint_status found unread = max (if found then 1 else 0) (greatest (map report_status unread))

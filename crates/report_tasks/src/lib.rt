@@ -2,9 +2,7 @@
 //! reports that need neither a register nor an outbox. No words of a command line are known here.
 #![tactic(auto)]
 
-mod fault;
 mod linting;
 
-pub use fault::LintFault;
 pub use finding_lines::Form;
-pub use linting::lint_reports;
+pub use linting::{Linted, lint_reports};
