@@ -1,12 +1,16 @@
 -- Why there is no key is why a report was not read.
-use Rattle.std.proofs.Common.{List, ℕ, Option, Bor}
+use Rattle.std.proofs.Common.{List, ℕ, Option, Some, None, Bor}
 use Rattle.outbox_commands.specs.declared.fault.Fault.{Fault}
 use Rattle.outbox_commands.specs.declared.fault.Fault.TheVariants as fault
-use Rattle.outbox_commands.specs.Tasks.{IsNoKeyFor, IsNotRead}
+use Rattle.outbox_commands.specs.Puts.{IsNoKeyFor, IsNotRead}
 
 pub not_read : (text : Option (Bor (List ℕ))) (why : Fault) → IsNoKeyFor text why → IsNotRead text why
-not_read text (fault.Command why) is = is
+not_read (Some text) (fault.Command why) is = absurd is
+not_read None (fault.Command why) is = is
 not_read text (fault.Key why) is = is
+not_read text fault.ForOne is = is
+not_read text (fault.NotPut name why) is = is
+not_read text (fault.LastPut name id why) is = is
 not_read text (fault.Report why) is = tt
 not_read text (fault.Outbox name why) is = is
 not_read text (fault.Connect port error) is = is

@@ -1,4 +1,6 @@
+mod Current
 mod Keyless
 mod Looks
 mod Opened
 mod Telling
+mod Turns

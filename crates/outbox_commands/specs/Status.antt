@@ -128,8 +128,11 @@ key_status _ = 2
 abbrev pub status_of : Fault → ℕ
 status_of (fault.Command why) = command.status_of why
 status_of (fault.Key why) = key_status why
+status_of fault.ForOne = 2
 status_of (fault.Report why) = report_status why
 status_of (fault.Outbox name why) = visit_status why
+status_of (fault.NotPut name why) = visit_status why
+status_of (fault.LastPut name id why) = command.status_of why
 status_of (fault.Connect port error) = 3
 status_of (fault.Exchange port why) = 3
 status_of (fault.Patience port seconds) = 3

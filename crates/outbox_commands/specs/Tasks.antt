@@ -1,26 +1,27 @@
 -- What each task of `outbox` does: what becomes of the process of its outbox, what is sent and printed, and the status.
 -- `net` and `net'` are the traffic of the network before and after, and `out` and `out'` what the output has.
-use Rattle.std.specs.Prelude.{◌≡◌, ◌⊎◌, ℕ, false, List, codes, Option, Some, None, Result, Ok, Err}
+use Rattle.std.specs.Prelude.{◌≡◌, ◌⊎◌, ℕ, Bool, true, false, List, codes, Option, Some, None, Result, Ok, Err}
+use Rattle.std.specs.Prelude.{MatchBool}
 use Rattle.std.specs.Borrow.{Bor}
 use Rattle.std.specs.Io.KnownBytes.{Appends}
 use Rattle.sqlite_disk.specs.declared.Disk.{Ghosts}
 use Rattle.sqlite.specs.declared.error.Error.{Error}
 use Rattle.key_string.specs.Filer.{is_filer}
-use Rattle.key_string.specs.Key.{IsTextFault}
+use Rattle.outbox_tables.specs.Entries.{Contents}
+use Rattle.outbox_tables.specs.Faults.{IsFailure}
+use Rattle.database_places.specs.Places.{IsHonest}
 use Rattle.database_places.specs.declared.verdict.Verdict.{Verdict}
 use Rattle.database_places.specs.Verdicts.{verdict_text}
-use Rattle.command_line.specs.declared.fault.CommandFault.TheVariants as command
 use Rattle.outbox_tasks.specs.Dials.{Traffic}
 use Rattle.outbox_process.specs.declared.begun.Beginning.TheVariants as beginning
-use Rattle.outbox_process.specs.declared.errand.Errand.{Errand}
 use Rattle.outbox_process.specs.declared.errand.Errand.TheVariants as errand
-use Rattle.outbox_process.specs.declared.target.Target.{Target}
 use Rattle.outbox_process.specs.declared.fault.OpeningFault.{OpeningFault}
-use Rattle.outbox_process.specs.Process.{Parts, OpensProcess, ClosesProcess}
+use Rattle.outbox_process.specs.declared.fault.OpeningFault.TheVariants as opening
+use Rattle.outbox_process.specs.Process.{Parts, Keeps, OpensProcess, ClosesProcess}
 use Rattle.outbox_commands.specs.declared.fault.Fault.{Fault}
-use Rattle.outbox_commands.specs.declared.fault.Fault.TheVariants as fault
 use Rattle.outbox_commands.specs.declared.options.Task.{Task}
 use Rattle.outbox_commands.specs.declared.options.Task.TheVariants.{Init, Put, Migrate, Send, Ask, Status, Show}
+use Rattle.outbox_commands.specs.Puts.{PutsReports}
 use Rattle.outbox_commands.specs.Status.{opening_status, status_by}
 use Rattle.outbox_commands.specs.Visits.{IsToldAs, IsRefused, VisitsOutbox, opening_verdict}
 
@@ -34,40 +35,18 @@ MakesOutbox g filer old new status =
     × ClosesProcess g made new closed × (status ≡ 0))
     ⊎ IsRefused g (beginning.Made filer) old new status)
 
--- ---- put
-
--- the key that was given, or one at random
-abbrev pub IsKeyFor : Option (Bor (List ℕ)) → List ℕ → Type 0
-IsKeyFor (Some text) key = key ≡ text.now
-IsKeyFor None key = Unit {0}
-
--- why there is no key: the text that was given is no key; or no text was given, and the system or memory failed
-abbrev pub IsNoKeyFor : Option (Bor (List ℕ)) → Fault → Type 0
-IsNoKeyFor (Some text) (fault.Key why) = IsTextFault text.now why
-IsNoKeyFor None (fault.Random error) = Unit {0}
-IsNoKeyFor None (fault.Command why) = why ≡ command.Memory
-IsNoKeyFor _ _ = ⊥
-
--- the errand puts a report in under such a key, to replace the filing that was named
-abbrev pub PutsUnder : Option (Bor (List ℕ)) → Target → Errand → Type 0
-PutsUnder text target (errand.Put key own body) = IsKeyFor text key × (own ≡ target)
-PutsUnder text target _ = ⊥
-
--- there is no such key, or the report could not be read
-abbrev pub IsNotRead : Option (Bor (List ℕ)) → Fault → Type 0
-IsNotRead text (fault.Report why) = Unit {0}
-IsNotRead text why = IsNoKeyFor text why
-
-abbrev pub PutsReport : {D X : Type 0} (g : Ghosts D) → Option (Bor (List ℕ)) → Target → Traffic → Traffic
-    → Option (List ℕ) → Option (List ℕ) → Parts g → Parts g → Result X Fault → Type 0
-PutsReport g text target net net' out out' old new result =
-    ((put : Errand) × PutsUnder text target put × VisitsOutbox g false put net net' out out' old new (status_by result))
-    ⊎ ((why : Fault) × (result ≡ Err why) × IsNotRead text why × (new ≡ old) × (net' ≡ net) × (out' ≡ out))
-
 -- ---- migrate
 
 abbrev pub migrated_line : List ℕ
 migrated_line = codes "migrated\n"
+
+abbrev pub current_line : List ℕ
+current_line = codes "has this version already\n"
+
+-- the outbox was refused since it has this version already
+abbrev pub is_current : OpeningFault → Bool
+is_current opening.IsCurrent = true
+is_current other = false
 
 -- a text was printed, and the status is `done`; or the output or memory failed
 abbrev pub IsPrinted : Option (List ℕ) → Option (List ℕ) → List ℕ → ℕ → ℕ → Type 0
@@ -78,8 +57,21 @@ abbrev pub IsJudged : Option Verdict → Option (List ℕ) → Option (List ℕ)
 IsJudged (Some verdict) out out' done status = IsPrinted out out' (verdict_text verdict (codes "an outbox")) done status
 IsJudged None out out' done status = (status ≡ done) × (out' ≡ out)
 
+-- why an outbox of this version is not migrated: it has this version, or the files gave no database, or memory or the
+-- disk failed
+abbrev pub IsOfCurrent : OpeningFault → Type 0
+IsOfCurrent (opening.Files why) = Unit {0}
+IsOfCurrent opening.IsCurrent = Unit {0}
+IsOfCurrent (opening.Migrate why holding) = IsFailure why
+IsOfCurrent other = ⊥
+
+-- this is why, if an outbox is kept there; nothing is committed to it then
+abbrev pub IfCurrent : {D : Type 0} {g : Ghosts D} → Parts g → OpeningFault → Type 0
+IfCurrent {D} {g} old told =
+    IsHonest g → old.is_certain ≡ true → (it : Contents) → Keeps old it → IsOfCurrent told
+
 -- An outbox of the version before was upgraded to this one, that was printed, and the outbox was closed; or it was
--- refused, and the verdict on it was printed.
+-- refused: it has this version already, and that was printed, or the verdict on it was.
 abbrev pub MigratesOutbox : {D : Type 0} (g : Ghosts D) → Option (List ℕ) → Option (List ℕ) → Parts g → Parts g → ℕ
     → Type 0
 MigratesOutbox g out out' old new status =
@@ -87,8 +79,9 @@ MigratesOutbox g out out' old new status =
     × ClosesProcess g migrated new closed
     × IsPrinted out out' migrated_line 0 status)
     ⊎ ((why : OpeningFault) × (told : OpeningFault) × OpensProcess g beginning.Migrated old new (Err why)
-    × IsToldAs why told
-    × IsJudged (opening_verdict told) out out' (opening_status told) status)
+    × IsToldAs why told × IfCurrent old told
+    × MatchBool (is_current told) (IsPrinted out out' current_line 0 status)
+    (IsJudged (opening_verdict told) out out' (opening_status told) status))
 
 -- ---- all tasks
 
@@ -96,8 +89,8 @@ abbrev pub Does : {D X : Type 0} (g : Ghosts D) → Task → Traffic → Traffic
     → Parts g → Result X Fault → Type 0
 Does g (Init database filer) net net' out out' old new result =
     MakesOutbox g filer old new (status_by result) × (net' ≡ net) × (out' ≡ out)
-Does g (Put database body key target) net net' out out' old new result =
-    PutsReport g key target net net' out out' old new result
+Does g (Put database files key target) net net' out out' old new result =
+    PutsReports g files.items key target net net' out out' old new result
 Does g (Migrate database) net net' out out' old new result =
     MigratesOutbox g out out' old new (status_by result) × (net' ≡ net)
 Does g (Send database peer which strict) net net' out out' old new result =

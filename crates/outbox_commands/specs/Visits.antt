@@ -9,14 +9,13 @@ use Rattle.outbox_tables.specs.declared.fault.OutboxFault.{OutboxFault}
 use Rattle.outbox_tables.specs.declared.fault.OutboxFault.TheVariants as made
 use Rattle.outbox_tasks.specs.Dials.{Traffic}
 use Rattle.outbox_tasks.specs.declared.fault.TaskFault.{TaskFault}
-use Rattle.database_places.specs.Places.{IsHonest}
 use Rattle.outbox_process.specs.declared.begun.Beginning.{Beginning}
 use Rattle.outbox_process.specs.declared.begun.Beginning.TheVariants.{Found}
 use Rattle.outbox_process.specs.declared.errand.Done.{Done}
 use Rattle.outbox_process.specs.declared.errand.Errand.{Errand}
 use Rattle.outbox_process.specs.declared.fault.OpeningFault.{OpeningFault}
 use Rattle.outbox_process.specs.declared.fault.OpeningFault.TheVariants as fault
-use Rattle.outbox_process.specs.Process.{Parts, Leaves, OpensProcess, PerformsErrand, ClosesProcess}
+use Rattle.outbox_process.specs.Process.{Parts, OpensProcess, PerformsErrand, ClosesProcess}
 use Rattle.outbox_commands.specs.Status.{opening_status, done_status}
 
 -- ---- it is opened
@@ -39,8 +38,8 @@ OpensTold g beginning old new result =
 
 -- ---- an errand
 
--- The outbox that lay there was opened, the errand was done on it, its entries may have been read again, and it was
--- closed. The status says whether all was done; if it is strict, also whether each entry that was sent is filed.
+-- The outbox that lay there was opened, the errand was done on it, and it was closed. The status says whether all was
+-- done; if it is strict, also whether each entry that was sent is filed.
 pub record DoesOn {D : Type 0} (g : Ghosts D) (strict : Bool) (errand : Errand) (net net' : Traffic)
     (out out' : Option (List ℕ)) (old new : Parts g) (status : ℕ) : Type 0 where
   pub opened : Parts g
@@ -48,10 +47,8 @@ pub record DoesOn {D : Type 0} (g : Ghosts D) (strict : Bool) (errand : Errand) 
   pub done : Parts g
   pub came : Result Done TaskFault
   pub performs : PerformsErrand errand net net' out out' opened done came
-  pub looked : Parts g
-  pub looks : IsHonest g → Leaves done looked
   pub closed : Result (Unit {0}) Error
-  pub closes : ClosesProcess g looked new closed
+  pub closes : ClosesProcess g done new closed
   pub says : status ≡ done_status strict came
 
 -- The outbox was not opened, the status says why, and nothing was done.

@@ -1,6 +1,6 @@
 //! Opens the outbox of a task, does an errand on it, and closes it.
 
-ghost use Rattle.std.specs.Prelude.{◌≡◌, None};
+ghost use Rattle.std.specs.Prelude.{◌≡◌, None, IsSome};
 ghost use Rattle.database_places.specs.Places.{IsHonest};
 ghost use Rattle.outbox_process.specs.Process.{parts, Leaves, ClosesProcess};
 ghost use Rattle.outbox_commands.specs.Looking.{KeepsEntries};
@@ -17,6 +17,7 @@ use sqlite::Alter;
 use sqlite_disk::Disk;
 use std::alloc::Global;
 use std::io::Write;
+use terminal_text::OneLine;
 
 /// How many entries before a new one are compared with it.
 const MOST_COMPARED: u64 = 16;
@@ -53,15 +54,13 @@ pub(crate) fn close<D: Disk + Drop, P: Place<D> + Drop, E: Write>(
 }
 
 /// Opens the outbox of the file with this name, does this errand on it, and closes it. What was reported stays whether
-/// or not the files are then closed. If the key of a report was drawn at random, it is reported on the standard error
-/// if one of the last entries has the same report. A strict one files each entry that it sends, or it is a fault.
+/// or not the files are then closed. A strict one files each entry that it sends, or it is a fault.
 pub(crate) fn run_errand<'a, D: Disk + Drop, P: Place<D> + Drop, N: Network, O: Write, E: Write>(
     alloc: Global,
     process: &mut OutboxProcess<D, P>,
     network: &mut N,
     name: &'a str,
     errand: Errand,
-    is_random: bool,
     is_strict: bool,
     output: &mut O,
     errors: &mut E,
@@ -75,9 +74,6 @@ pub(crate) fn run_errand<'a, D: Disk + Drop, P: Place<D> + Drop, N: Network, O: 
         return Err(Fault::of_opening(fault, name));
     }
     let came = process.perform(alloc, network, errand, output);
-    if is_random {
-        tell_same(process, &came, errors);
-    }
     let done = answer(network, came, is_strict, name);
     close(process, name, errors);
     done
@@ -189,13 +185,16 @@ fn same_as<S: Alter>(outbox: &mut Outbox<S>, id: u64) -> Option<u64>
     }
 }
 
-/// Reports on the standard error if one of the last few entries has the report that was put in too.
-fn tell_same<D: Disk + Drop, P: Place<D> + Drop, E: Write>(
+/// Reports on the standard error if one of the last few entries has the report that was put in too, with this name of
+/// its file, if there is one.
+pub(crate) fn tell_same<D: Disk + Drop, P: Place<D> + Drop, E: Write>(
     process: &mut OutboxProcess<D, P>,
     came: &Result<Done, TaskFault>,
+    named: Option<&str>,
     errors: &mut E,
 )
-    ensures { IsHonest D.Disk → Leaves (parts P.lying process.old) (parts P.lying process.new) }
+    ensures kept { IsHonest D.Disk → Leaves (parts P.lying process.old) (parts P.lying process.new) }
+    ensures stays_open { IsSome process.old.outbox → IsSome process.new.outbox }
 {
     let Ok(Done::Put { id }) = came else {
         return;
@@ -204,7 +203,20 @@ fn tell_same<D: Disk + Drop, P: Place<D> + Drop, E: Write>(
         return;
     };
     if let Some(same) = same_as(outbox, *id) {
-        // Nothing is left to be done if this text can't be written either.
-        let _ = writeln!(errors, "outbox: the same report is entry {same}");
+        tell_entry(same, named, errors);
     }
+}
+
+/// Reports on the standard error that the entry of this id has the report too, with this name of its file, if there is
+/// one.
+fn tell_entry<E: Write>(id: u64, named: Option<&str>, errors: &mut E) {
+    // Nothing is left to be done if this text can't be written either.
+    let _ = match named {
+        Some(file) => writeln!(
+            errors,
+            "outbox: {}: the same report is entry {id}",
+            OneLine(file)
+        ),
+        None => writeln!(errors, "outbox: the same report is entry {id}"),
+    };
 }

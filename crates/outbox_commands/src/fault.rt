@@ -1,6 +1,7 @@
 //! Why a task is not done, in words and as a status.
 
 ghost use Rattle.std.specs.Prelude.{◌≡◌};
+ghost use Rattle.command_line.specs.Status as command;
 ghost use Rattle.outbox_commands.specs.Status.{outbox_status, opening_status, exchange_status, send_status};
 ghost use Rattle.outbox_commands.specs.Status.{task_status, visit_status, status_of};
 ghost use Rattle.outbox_commands.specs.Visits.{outbox_verdict, opening_verdict};
@@ -196,12 +197,28 @@ pub(crate) enum Fault<'a> {
     Command(#[from] CommandFault<'a>),
     #[error("--key: {0}")]
     Key(KeyFault),
+    /// A key or a filing to be replaced was given for several reports.
+    #[error("--key and --amend are for one report, and not for several: put in each by itself")]
+    ForOne,
     #[error("{0}")]
     Report(#[from] ReportFault<'a>),
     #[error("{file}: {fault}", file = OneLine(*.name))]
     Outbox {
         name: &'a str,
         fault: VisitFault,
+    },
+    /// One of several reports was not put in.
+    #[error("{file}: not put in, nor any after it: {fault}", file = OneLine(*.name))]
+    NotPut {
+        name: &'a str,
+        fault: VisitFault,
+    },
+    /// One of several reports was put in, but its id was not printed.
+    #[error("{file}: put in as entry {id}, but none after it: {fault}", file = OneLine(*.name))]
+    LastPut {
+        name: &'a str,
+        id: u64,
+        fault: CommandFault<'a>,
     },
     #[error("127.0.0.1:{port}: {error}")]
     Connect {
@@ -262,6 +279,16 @@ impl From<AllocError> for Fault<'_> {
     }
 }
 
+/// Why a line was not printed.
+fn unprinted<'a>(fault: LineFault) -> CommandFault<'a>
+    ensures { command.status_of result ≡ 3 }
+{
+    match fault {
+        LineFault::Output => CommandFault::Output,
+        LineFault::Memory => CommandFault::Memory,
+    }
+}
+
 impl From<LineFault> for Fault<'_> {
     ghost use Rattle.std.specs.Prelude.{◌≡◌};
     ghost use Rattle.outbox_commands.specs.Status.{status_of};
@@ -269,10 +296,7 @@ impl From<LineFault> for Fault<'_> {
     ghost from_gives = { λ _ fault. status_of fault ≡ 3 };
 
     fn from(fault: LineFault) -> Self {
-        Fault::Command(match fault {
-            LineFault::Output => CommandFault::Output,
-            LineFault::Memory => CommandFault::Memory,
-        })
+        Fault::Command(unprinted(fault))
     }
 }
 
@@ -350,6 +374,25 @@ impl<'a> Fault<'a> {
         }
     }
 
+    /// Why, of several reports, that of this file was the last that was put into the outbox of the file with this name,
+    /// or was not put in.
+    pub(crate) fn of_stop(fault: TaskFault, name: &'a str, file: &'a str) -> Fault<'a>
+        ensures { status_of result ≡ task_status fault }
+    {
+        match fault {
+            TaskFault::Put(fault) => Fault::NotPut {
+                name: file,
+                fault: fault.into(),
+            },
+            TaskFault::NotTold { id, fault } => Fault::LastPut {
+                name: file,
+                id,
+                fault: unprinted(fault),
+            },
+            other => Fault::of_task(other, name, 0, None),
+        }
+    }
+
     /// Why the entry of this id was not sent.
     fn of_sending(
         fault: SendFault,
@@ -382,8 +425,10 @@ impl Fault<'_> {
             Fault::Command(fault) => fault.status(),
             Fault::Report(fault) => fault.status(),
             Fault::Outbox { fault, .. } => fault.status(),
+            Fault::NotPut { fault, .. } => fault.status(),
+            Fault::LastPut { fault, .. } => fault.status(),
             Fault::Key(KeyFault::Memory) => 3,
-            Fault::Key(_) => 2,
+            Fault::Key(_) | Fault::ForOne => 2,
             Fault::Connect { .. } => 3,
             Fault::Exchange { .. } => 3,
             Fault::Patience { .. } => 3,

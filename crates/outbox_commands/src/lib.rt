@@ -10,6 +10,7 @@ mod held;
 mod linting;
 mod network;
 mod options;
+mod putting;
 mod tasks;
 
 pub use tasks::{main, perform};

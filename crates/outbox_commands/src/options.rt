@@ -28,17 +28,18 @@ pub(crate) enum Asked<'a> {
 }
 
 /// What is done with an outbox.
-#[derive(Clone, Copy)]
+#[derive(Drop)]
 pub(crate) enum Task<'a> {
     /// Make an outbox of this filer.
     Init {
         database: &'a str,
         filer: &'a str,
     },
-    /// Put a report in, under this key or a random one, to replace this filing or none.
+    /// Put the reports of these files in, one after another, under this key or random ones, to replace this filing or
+    /// none. A key or a filing is for one report alone.
     Put {
         database: &'a str,
-        body: &'a str,
+        bodies: Vec<&'a str>,
         key: Option<&'a str>,
         target: Target,
     },
@@ -75,7 +76,7 @@ pub(crate) enum Task<'a> {
 impl<'a> Task<'a> {
     /// The name of the file that the outbox lies in.
     pub(crate) fn database(&self) -> &'a str {
-        match *self {
+        match self {
             Task::Init { database, .. }
             | Task::Put { database, .. }
             | Task::Migrate { database }
@@ -88,8 +89,8 @@ impl<'a> Task<'a> {
 
     /// The intake to which the task sends; one that is never called if it sends nothing.
     pub(crate) fn peer(&self) -> Peer<'a> {
-        match *self {
-            Task::Send { peer, .. } | Task::Ask { peer, .. } => peer,
+        match self {
+            Task::Send { peer, .. } | Task::Ask { peer, .. } => *peer,
             _ => Peer {
                 port: 0,
                 patience: None,
@@ -123,13 +124,17 @@ fn number_option<'a>(
         .value_parser(numbers)
 }
 
-fn body<'a>(alloc: Global) -> Arg<'a> {
+/// The files of reports: one or more after each `--body`. None begins with a hyphen, as the option after them does.
+fn bodies<'a>(alloc: Global) -> Arg<'a> {
     path_option(
         alloc,
         "body",
         "FILE",
-        "The file of the report, of at most 1048576 bytes",
+        "The file of the report, of at most 1048576 bytes; several reports are put in in this order",
     )
+    .num_args(1..)
+    .action(ArgAction::Append)
+    .allow_hyphen_values(false)
 }
 
 fn key<'a>(alloc: Global) -> Arg<'a> {
@@ -137,7 +142,7 @@ fn key<'a>(alloc: Global) -> Arg<'a> {
         alloc,
         "key",
         "TEXT",
-        "The key: 1 to 1024 printable ASCII characters [default: a random UUID]",
+        "The key, of one report: 1 to 1024 printable ASCII characters [default: a random UUID]",
     )
     .required(false)
 }
@@ -228,7 +233,7 @@ fn strict<'a>(alloc: Global) -> Arg<'a> {
 enum Argument {
     Database,
     Filer,
-    Body,
+    Bodies,
     Key,
     Amend,
     Port,
@@ -251,7 +256,7 @@ impl ToArg for Argument {
         Ok(match self {
             Argument::Database => database_option(alloc, "The database file of the outbox"),
             Argument::Filer => filer_option(alloc),
-            Argument::Body => body(alloc),
+            Argument::Bodies => bodies(alloc),
             Argument::Key => key(alloc),
             Argument::Amend => amend(alloc),
             Argument::Port => port(alloc),
@@ -278,11 +283,16 @@ static WORDS: [Word<Argument>; 8] = [
     },
     Word {
         name: "put",
-        about: "Puts a report into the outbox as an open entry, and prints the entry's id",
-        example: "Example: outbox put --db outbox.db --body report.json --key 2024-annual-1",
+        about: "Puts reports into the outbox, each as an open entry, and prints the entries' ids",
+        example: concat!(
+            "Example: outbox put --db outbox.db --body report.json --key 2024-annual-1\n\n",
+            "Several reports, as --body q1.json q2.json, get random keys and replace no filing. ",
+            "All are read first: if one can't be, none is put in.\n",
+            "If one is then refused, those before it stay in the outbox, and none after it is put in.",
+        ),
         arguments: &[
             Argument::Database,
-            Argument::Body,
+            Argument::Bodies,
             Argument::Key,
             Argument::Amend,
             Argument::Wait,
@@ -418,7 +428,20 @@ fn target_of(values: &ArgMatches<'_>) -> Target {
     }
 }
 
-fn task_of<'a>(name: &str, values: &ArgMatches<'a>) -> Option<Task<'a>> {
+/// The names of files that this argument has.
+fn files_of<'a>(
+    alloc: Global,
+    values: &ArgMatches<'a>,
+    argument: &str,
+) -> Result<Vec<&'a str>, AllocError> {
+    let mut files = Vec::new(alloc);
+    if let Some(names) = values.get_strs(argument) {
+        files.extend_from_slice(names)?;
+    }
+    Ok(files)
+}
+
+fn task_of<'a>(name: &str, bodies: Vec<&'a str>, values: &ArgMatches<'a>) -> Option<Task<'a>> {
     let database = values.get_str("db")?;
     match name {
         "init" => Some(Task::Init {
@@ -427,7 +450,7 @@ fn task_of<'a>(name: &str, values: &ArgMatches<'a>) -> Option<Task<'a>> {
         }),
         "put" => Some(Task::Put {
             database,
-            body: values.get_str("body")?,
+            bodies,
             key: values.get_str("key"),
             target: target_of(values),
         }),
@@ -463,27 +486,35 @@ fn form_of(values: &ArgMatches<'_>) -> Form {
 }
 
 fn lint_of<'a>(alloc: Global, values: &ArgMatches<'a>) -> Result<Option<Asked<'a>>, AllocError> {
-    let (Some(filer), Some(names)) = (values.get_str("filer"), values.get_strs("FILE")) else {
+    let Some(filer) = values.get_str("filer") else {
         return Ok(None);
     };
-    let mut files = Vec::new(alloc);
-    files.extend_from_slice(names)?;
+    let files = files_of(alloc, values, "FILE")?;
     let form = form_of(values);
     Ok(Some(Asked::Lint { filer, form, files }))
 }
 
 /// A task on an outbox, and for how many seconds it waits for the file, which is 0 if nothing says so.
-fn outbox_of<'a>(name: &str, values: &ArgMatches<'a>) -> Option<Asked<'a>> {
-    Some(Asked::Outbox {
-        task: task_of(name, values)?,
-        wait: values.get_one("wait").unwrap_or(0),
-    })
+fn outbox_of<'a>(
+    alloc: Global,
+    name: &str,
+    values: &ArgMatches<'a>,
+) -> Result<Option<Asked<'a>>, AllocError> {
+    let bodies = match name {
+        "put" => files_of(alloc, values, "body")?,
+        _ => Vec::new(alloc),
+    };
+    let wait = values.get_one("wait").unwrap_or(0);
+    match task_of(name, bodies, values) {
+        Some(task) => Ok(Some(Asked::Outbox { task, wait })),
+        None => Ok(None),
+    }
 }
 
 fn asked_by<'a>(alloc: Global, matches: &ArgMatches<'a>) -> Result<Option<Asked<'a>>, AllocError> {
     match matches.subcommand() {
         Some(("lint", values)) => lint_of(alloc, values),
-        Some((name, values)) => Ok(outbox_of(name, values)),
+        Some((name, values)) => outbox_of(alloc, name, values),
         None => Ok(None),
     }
 }

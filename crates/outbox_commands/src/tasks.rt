@@ -1,10 +1,9 @@
 //! Performs a task, and says how the program ends.
 
-ghost use Rattle.std.specs.Prelude.{◌≡◌, None, IfOk, IfErr};
+ghost use Rattle.std.specs.Prelude.{◌≡◌, None};
 ghost use Rattle.outbox_process.specs.Process.{parts};
 ghost use Rattle.outbox_commands.specs.Status.{opening_status, status_of, status_by, receipt_status};
-ghost use Rattle.outbox_commands.specs.Tasks.{IsKeyFor, IsNoKeyFor, MakesOutbox, PutsReport, IsJudged, IsPrinted};
-ghost use Rattle.outbox_commands.specs.Tasks.{MigratesOutbox, Does, migrated_line};
+ghost use Rattle.outbox_commands.specs.Tasks.{MakesOutbox, IsJudged, IsPrinted, MigratesOutbox, Does, is_current};
 ghost use Rattle.outbox_commands.specs.Visits.{opening_verdict};
 
 use crate::errand::{close, open, run_errand};
@@ -13,46 +12,15 @@ use crate::linting::lint;
 use crate::network::{Network, PeerDial};
 use crate::options;
 use crate::options::{Asked, Task};
-use command_line::{CommandFault, DONE, report, show, show_refusal, words};
+use crate::putting::put;
+use command_line::{CommandFault, DONE, show, show_refusal, words};
 use database_places::{Place, SystemPlace, WaitingPlace, show_verdict};
-use key_string::{KeyText, is_filer};
-use outbox_core::key_of;
-use outbox_process::{Beginning, Errand, OpeningFault, OutboxProcess, Target};
-use rand::make_rng;
-use rand::rngs::StdRng;
+use key_string::is_filer;
+use outbox_process::{Beginning, Errand, OpeningFault, OutboxProcess};
 use receipts::Folder;
 use sqlite_disk::Disk;
 use std::alloc::Global;
 use std::io::Write;
-use uuid::Uuid;
-
-/// A version 4 UUID from the system's random bytes.
-fn random_key<'a>(rt: &HostRuntime) -> Result<KeyText, Fault<'a>>
-    ensures { IfErr result (IsNoKeyFor None) }
-{
-    let mut generator: StdRng = match make_rng(rt) {
-        Ok(generator) => generator,
-        Err(error) => return Err(Fault::Random(error)),
-    };
-    match key_of(rt.alloc(), Uuid::new_v4(&mut generator)) {
-        Ok(key) => Ok(key),
-        Err(_) => Err(Fault::Command(CommandFault::Memory)),
-    }
-}
-
-/// The key that was given, or one at random.
-fn key<'a>(rt: &HostRuntime, text: Option<&str>) -> Result<KeyText, Fault<'a>>
-    ensures given { IfOk result (IsKeyFor text.entry) }
-    ensures refused { IfErr result (IsNoKeyFor text.entry) }
-{
-    let Some(text) = text else {
-        return random_key(rt);
-    };
-    match KeyText::new(rt.alloc(), text) {
-        Ok(key) => Ok(key),
-        Err(fault) => Err(Fault::Key(fault)),
-    }
-}
 
 /// Makes an outbox of this filer.
 fn init<'a, D: Disk + Drop, P: Place<D> + Drop, E: Write>(
@@ -76,42 +44,6 @@ fn init<'a, D: Disk + Drop, P: Place<D> + Drop, E: Write>(
     Ok(())
 }
 
-/// Puts a report in. The key and the report are read before the outbox is opened.
-fn put<'a, D: Disk + Drop, P: Place<D> + Drop, N: Network, O: Write, E: Write>(
-    rt: &HostRuntime,
-    process: &mut OutboxProcess<D, P>,
-    network: &mut N,
-    name: &'a str,
-    body_name: &'a str,
-    key_text: Option<&str>,
-    target: Target,
-    output: &mut O,
-    errors: &mut E,
-) -> Result<(), Fault<'a>>
-    requires { process.old.outbox ≡ None }
-    ensures { PutsReport D.Disk key_text.entry target (N.traffic network.old) (N.traffic network.new)
-        (O.contents output.old) (O.contents output.new) (parts P.lying process.old) (parts P.lying process.new) result }
-{
-    let key = key(rt, key_text)?;
-    let body = match report(rt, body_name) {
-        Ok(body) => body,
-        Err(fault) => return Err(Fault::Report(fault)),
-    };
-    let errand = Errand::Put { key, target, body };
-    let is_random = key_text.is_none();
-    run_errand(
-        rt.alloc(),
-        process,
-        network,
-        name,
-        errand,
-        is_random,
-        false,
-        output,
-        errors,
-    )
-}
-
 /// Prints what a refusal says of the outbox, if it says something, and answers why the task was not done.
 fn show_refused<'a, O: Write>(
     alloc: Global,
@@ -131,8 +63,22 @@ fn show_refused<'a, O: Write>(
     }
 }
 
-/// Upgrades an outbox of an earlier version, and prints that; or prints the verdict on a database that is no such
-/// outbox.
+/// Whether an outbox that should be migrated was refused since it has this version already.
+fn is_current(fault: OpeningFault) -> bool
+    ensures { result ≡ is_current fault }
+{
+    match fault {
+        OpeningFault::IsCurrent => true,
+        OpeningFault::Files(_) => false,
+        OpeningFault::Taken(_) => false,
+        OpeningFault::Create(_) => false,
+        OpeningFault::Open(_, _) => false,
+        OpeningFault::Migrate(_, _) => false,
+    }
+}
+
+/// Upgrades an outbox of an earlier version, and prints that; or prints that it has this version already, or the
+/// verdict on a database that is no outbox that can be migrated.
 fn migrate<'a, D: Disk + Drop, P: Place<D> + Drop, O: Write, E: Write>(
     alloc: Global,
     process: &mut OutboxProcess<D, P>,
@@ -145,18 +91,21 @@ fn migrate<'a, D: Disk + Drop, P: Place<D> + Drop, O: Write, E: Write>(
         (parts P.lying process.new) (status_by result) }
 {
     if let Err(fault) = open(alloc, process, Beginning::Migrated) {
+        if is_current(fault) {
+            return show_line(output, b"has this version already\n");
+        }
         return Err(show_refused(alloc, fault, name, output));
     }
-    let shown = show_migrated(output);
+    let shown = show_line(output, b"migrated\n");
     close(process, name, errors);
     shown
 }
 
-/// Prints that an outbox is migrated.
-fn show_migrated<'a, O: Write>(output: &mut O) -> Result<(), Fault<'a>>
-    ensures { IsPrinted (O.contents output.old) (O.contents output.new) migrated_line 0 (status_by result) }
+/// Prints what became of an outbox that should be migrated.
+fn show_line<'a, O: Write>(output: &mut O, line: &[u8]) -> Result<(), Fault<'a>>
+    ensures { IsPrinted (O.contents output.old) (O.contents output.new) line.now 0 (status_by result) }
 {
-    match show(output, b"migrated\n") {
+    match show(output, line) {
         Ok(()) => Ok(()),
         Err(fault) => Err(Fault::Command(fault)),
     }
@@ -180,12 +129,12 @@ pub(crate) fn perform_task<'a, D: Disk + Drop, P: Place<D> + Drop, N: Network, O
     match task {
         Task::Init { filer, .. } => init(alloc, process, name, filer, errors),
         Task::Put {
-            body,
+            bodies,
             key,
             target,
             ..
         } => put(
-            rt, process, network, name, body, key, target, output, errors,
+            rt, process, network, name, &bodies, key, target, output, errors,
         ),
         Task::Migrate { .. } => migrate(alloc, process, name, output, errors),
         Task::Send {
@@ -195,35 +144,27 @@ pub(crate) fn perform_task<'a, D: Disk + Drop, P: Place<D> + Drop, N: Network, O
         } => {
             let errand = Errand::Send(which);
             run_errand(
-                alloc, process, network, name, errand, false, is_strict, output, errors,
+                alloc, process, network, name, errand, is_strict, output, errors,
             )
         }
         Task::Ask { id, form, .. } => {
             let errand = Errand::Ask { id, form };
-            run_errand(
-                alloc, process, network, name, errand, false, false, output, errors,
-            )
+            run_errand(alloc, process, network, name, errand, false, output, errors)
         }
         Task::Status { .. } => {
             let errand = Errand::ShowStates;
-            run_errand(
-                alloc, process, network, name, errand, false, false, output, errors,
-            )
+            run_errand(alloc, process, network, name, errand, false, output, errors)
         }
         Task::Show {
             entry: Some(id),
             ..
         } => {
             let errand = Errand::ShowEntry(id);
-            run_errand(
-                alloc, process, network, name, errand, false, false, output, errors,
-            )
+            run_errand(alloc, process, network, name, errand, false, output, errors)
         }
         Task::Show { entry: None, .. } => {
             let errand = Errand::ShowEach;
-            run_errand(
-                alloc, process, network, name, errand, false, false, output, errors,
-            )
+            run_errand(alloc, process, network, name, errand, false, output, errors)
         }
     }
 }
@@ -261,7 +202,7 @@ fn perform_words<'a, O: Write, E: Write>(
 ) -> Result<u8, Fault<'a>> {
     match options::read(rt.alloc(), words) {
         Ok(Some(Asked::Lint { filer, form, files })) => {
-            lint(rt, form, filer, files.as_slice(), output)
+            lint(rt, form, filer, files.as_slice(), output, errors)
         }
         Ok(Some(Asked::Outbox { task, wait })) => {
             let place = WaitingPlace::new(rt, SystemPlace::new(rt, task.database()), wait);

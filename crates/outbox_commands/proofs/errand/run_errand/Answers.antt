@@ -1,10 +1,8 @@
 use Rattle.std.proofs.Common.{refl, sym, ◌∙◌, subst, inl, inr}
-use Rattle.database_places.specs.Places.{IsHonest}
 use Rattle.outbox_process.specs.declared.begun.Beginning.TheVariants.{Found}
-use Rattle.outbox_process.specs.Process.{parts, Leaves, PerformsErrand}
+use Rattle.outbox_process.specs.Process.{parts, PerformsErrand}
 use Rattle.outbox_commands.proofs.Opened.{refused, opened}
 use Rattle.outbox_commands.proofs.errand.run_errand.Goals as goal
-use Rattle.outbox_commands.proofs.errand.run_errand.Goals.{then-is_random, else-is_random}
 
 pub returns-in-Err : goal.returns-in-Err
 returns-in-Err g c =
@@ -29,14 +27,6 @@ returns g c =
       performs =
           subst (λ n. PerformsErrand c.args.errand net n out out' before after c.perform-came.result)
           (sym c.answer-done.ensures.traffic) c.perform-came.ensures;
-      looked = parts g.P.Place.lying c.if-is_random.process;
-      looks = elim c.if-is_random.branch [
-        | then-is_random w ↦ subst (λ p. IsHonest g.D.Disk
-            → Leaves after (parts g.P.Place.lying p)) (sym w.process-is) w.tell_same.ensures
-        | else-is_random w ↦ subst (λ p. IsHonest g.D.Disk
-            → Leaves after (parts g.P.Place.lying p)) (sym w.process-is)
-            (λ honest. record { kept = λ it keeps. keeps; certain = λ sure. sure })
-      ];
       closed = c.close.ensures.0;
       closes = c.close.ensures.1;
       says = c.answer-done.ensures.status;

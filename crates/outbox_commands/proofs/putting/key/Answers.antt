@@ -1,7 +1,7 @@
 use Rattle.std.proofs.Common.{IfErr, sym, subst}
-use Rattle.outbox_commands.specs.Tasks.{IsNoKeyFor}
+use Rattle.outbox_commands.specs.Puts.{IsNoKeyFor}
 use Rattle.outbox_commands.proofs.Opened.{is_none}
-use Rattle.outbox_commands.proofs.tasks.key.Goals as goal
+use Rattle.outbox_commands.proofs.putting.key.Goals as goal
 
 pub returns-in_default-clause-refused : goal.returns-in_default-clause-refused
 returns-in_default-clause-refused c =

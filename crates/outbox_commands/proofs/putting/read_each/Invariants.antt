@@ -1,0 +1,6 @@
+use Rattle.std.proofs.Common.{take}
+use Rattle.outbox_commands.specs.Puts.{AreReadFor}
+use Rattle.outbox_commands.proofs.putting.read_each.Given as goal
+
+abbrev pub invariant-loop-file : goal.invariant-loop-file
+invariant-loop-file l = AreReadFor l.key_text (take l.file-index l.files) l.reports.items

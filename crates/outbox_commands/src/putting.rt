@@ -1,0 +1,213 @@
+//! Puts the reports of some files into an outbox, one after another.
+
+ghost use Rattle.std.specs.Prelude.{◌≡◌, None, map, IfOk, IfErr, IsSome};
+ghost use Rattle.outbox_process.specs.Process.{parts};
+ghost use Rattle.outbox_commands.specs.Puts.{IsKeyFor, IsNoKeyFor, IsNotRead, IsReadFor, AreReadFor, put_of};
+ghost use Rattle.outbox_commands.specs.Puts.{PutsOne, PutsInTurn, EndsTurns, PutsReports, is_for_one};
+ghost use Rattle.outbox_commands.specs.Status.{status_of, status_by, task_status};
+
+use crate::errand::{close, open, tell_same};
+use crate::fault::Fault;
+use crate::network::Network;
+use command_line::{CommandFault, report};
+use database_places::Place;
+use key_string::KeyText;
+use outbox_core::key_of;
+use outbox_process::{Beginning, Errand, OutboxProcess, Target};
+use outbox_tasks::TaskFault;
+use rand::make_rng;
+use rand::rngs::StdRng;
+use sqlite_disk::Disk;
+use std::alloc::Global;
+use std::io::Write;
+use uuid::Uuid;
+
+/// A report that was read in the file of this name, and its key.
+#[derive(Drop)]
+pub(crate) struct Report<'a> {
+    file: &'a str,
+    key: KeyText,
+    body: Vec<u8>,
+}
+
+/// A version 4 UUID from the system's random bytes.
+fn random_key<'a>(rt: &HostRuntime) -> Result<KeyText, Fault<'a>>
+    ensures { IfErr result (IsNoKeyFor None) }
+{
+    let mut generator: StdRng = match make_rng(rt) {
+        Ok(generator) => generator,
+        Err(error) => return Err(Fault::Random(error)),
+    };
+    match key_of(rt.alloc(), Uuid::new_v4(&mut generator)) {
+        Ok(key) => Ok(key),
+        Err(_) => Err(Fault::Command(CommandFault::Memory)),
+    }
+}
+
+/// The key that was given, or one at random.
+fn key<'a>(rt: &HostRuntime, text: Option<&str>) -> Result<KeyText, Fault<'a>>
+    ensures given { IfOk result (IsKeyFor text.entry) }
+    ensures refused { IfErr result (IsNoKeyFor text.entry) }
+{
+    let Some(text) = text else {
+        return random_key(rt);
+    };
+    match KeyText::new(rt.alloc(), text) {
+        Ok(key) => Ok(key),
+        Err(fault) => Err(Fault::Key(fault)),
+    }
+}
+
+/// The report in the file of this name, with the key that was given or one at random.
+fn read_report<'a>(
+    rt: &HostRuntime,
+    file: &'a str,
+    key_text: Option<&str>,
+) -> Result<Report<'a>, Fault<'a>>
+    ensures read { IfOk result (IsReadFor key_text.entry file.entry) }
+    ensures refused { IfErr result (IsNotRead key_text.entry) }
+{
+    let key = key(rt, key_text)?;
+    match report(rt, file) {
+        Ok(body) => Ok(Report { file, key, body }),
+        Err(fault) => Err(Fault::Report(fault)),
+    }
+}
+
+/// The reports in the files of these names, in order, each with the key that was given or one at random. It ends at the
+/// first that cannot be read.
+fn read_each<'a>(
+    rt: &HostRuntime,
+    files: &[&'a str],
+    key_text: Option<&str>,
+) -> Result<Vec<Report<'a>>, Fault<'a>>
+    ensures read { IfOk result (λ reports. AreReadFor key_text.entry files.now reports.items) }
+    ensures refused { IfErr result (IsNotRead key_text.entry) }
+{
+    let mut reports = Vec::new(rt.alloc());
+    for &file in files {
+        let report = read_report(rt, file, key_text)?;
+        if reports.push(report).is_err() {
+            return Err(Fault::Command(CommandFault::Memory));
+        }
+    }
+    Ok(reports)
+}
+
+/// Puts a report into the outbox of this process, which is open. If its key was drawn at random, it is reported on the
+/// standard error if one of the last entries has the same report, with this name of its file, if there is one.
+fn put_one<'a, D: Disk + Drop, P: Place<D> + Drop, N: Network, O: Write, E: Write>(
+    alloc: Global,
+    process: &mut OutboxProcess<D, P>,
+    network: &mut N,
+    report: Report<'a>,
+    target: Target,
+    is_random: bool,
+    named: Option<&str>,
+    output: &mut O,
+    errors: &mut E,
+) -> Result<(), TaskFault>
+    requires { IsSome process.old.outbox }
+    ensures puts { PutsOne (put_of target report.entry) (N.traffic network.old) (O.contents output.old)
+        (O.contents output.new) (parts P.lying process.old) (parts P.lying process.new) result }
+    ensures traffic { N.traffic network.new ≡ N.traffic network.old }
+    ensures stays_open { IsSome process.new.outbox }
+{
+    let Report { key, body, .. } = report;
+    let came = process.perform(alloc, network, Errand::Put { key, target, body }, output);
+    if is_random {
+        tell_same(process, &came, named, errors);
+    }
+    match came {
+        Ok(_) => Ok(()),
+        Err(fault) => Err(fault),
+    }
+}
+
+/// Why the report of a file was the last that was put into the outbox of the file with this name, or was not put in. If
+/// it is one of several, its file is named too.
+fn fault_of_put<'a>(fault: TaskFault, name: &'a str, named: Option<&'a str>) -> Fault<'a>
+    ensures { status_of result ≡ task_status fault }
+{
+    match named {
+        Some(file) => Fault::of_stop(fault, name, file),
+        None => Fault::of_task(fault, name, 0, None),
+    }
+}
+
+/// Puts reports into the outbox of this process, which is open, one after another. It ends at the first that is not put
+/// in or whose id cannot be printed.
+fn put_each<'a, D: Disk + Drop, P: Place<D> + Drop, N: Network, O: Write, E: Write>(
+    alloc: Global,
+    process: &mut OutboxProcess<D, P>,
+    network: &mut N,
+    name: &'a str,
+    reports: Vec<Report<'a>>,
+    target: Target,
+    is_random: bool,
+    output: &mut O,
+    errors: &mut E,
+) -> Result<(), Fault<'a>>
+    requires { IsSome process.old.outbox }
+    ensures puts { EndsTurns (map (put_of target) reports.entry.items) (N.traffic network.old)
+        (O.contents output.old) (O.contents output.new) (parts P.lying process.old) (parts P.lying process.new)
+        (status_by result) }
+    ensures traffic { N.traffic network.new ≡ N.traffic network.old }
+{
+    let are_several = reports.len() > 1;
+    for report in reports {
+        let named = if are_several { Some(report.file) } else { None };
+        if let Err(fault) = put_one(
+            alloc, process, network, report, target, is_random, named, output, errors,
+        ) {
+            return Err(fault_of_put(fault, name, named));
+        }
+    }
+    Ok(())
+}
+
+/// Whether a key or a filing to be replaced, if one is given, is for this many reports.
+fn is_for_one(count: usize, key_text: Option<&str>, target: Target) -> bool
+    ensures { result ≡ is_for_one count key_text.entry target }
+{
+    count <= 1 || (key_text.is_none() && target.number.is_none())
+}
+
+/// Puts the reports of these files in, one after another. All are read, with their keys, before the outbox is opened.
+pub(crate) fn put<'a, D: Disk + Drop, P: Place<D> + Drop, N: Network, O: Write, E: Write>(
+    rt: &HostRuntime,
+    process: &mut OutboxProcess<D, P>,
+    network: &mut N,
+    name: &'a str,
+    files: &[&'a str],
+    key_text: Option<&str>,
+    target: Target,
+    output: &mut O,
+    errors: &mut E,
+) -> Result<(), Fault<'a>>
+    requires { process.old.outbox ≡ None }
+    ensures { PutsReports D.Disk files.now key_text.entry target (N.traffic network.old) (N.traffic network.new)
+        (O.contents output.old) (O.contents output.new) (parts P.lying process.old) (parts P.lying process.new) result }
+{
+    if !is_for_one(files.len(), key_text, target) {
+        return Err(Fault::ForOne);
+    }
+    let reports = read_each(rt, files, key_text)?;
+    let alloc = rt.alloc();
+    if let Err(fault) = open(alloc, process, Beginning::Found) {
+        return Err(Fault::of_opening(fault, name));
+    }
+    let done = put_each(
+        alloc,
+        process,
+        network,
+        name,
+        reports,
+        target,
+        key_text.is_none(),
+        output,
+        errors,
+    );
+    close(process, name, errors);
+    done
+}
