@@ -73,12 +73,13 @@ OTHERS = [
     ("check --db @bare.db", 1, "not a register\n", f"bare.db: {NO_TABLES}"),
     ("check --db @auto.db", 1, "not a register\n", f"auto.db: {AUTO_VACUUM}"),
 ]
+NO_FILE = "No such file or directory (os error 2)"
 NOT_JSON = (
     '{"code":"not-json","column":3,"file":"words","line":2,'
     '"message":"the body is no JSON text","place":"","value":null}\n'
 )
 AFTER = [
-    ("migrate --db @r.db", 1, "not a register\n", "r.db: it has this version already"),
+    ("migrate --db @r.db", 0, "has this version already\n", ""),
     ("check --db @r.db", 0, "sound: 1 kept, 1 filings\n", ""),
     ("list --db @r.db --filer ACME", 0, '{"filings":[{"facts":1,"number":1}]}\n', ""),
     ("list --db @r.db --filer BETA", 0, '{"filings":[]}\n', ""),
@@ -92,9 +93,12 @@ AFTER = [
     ("serve --db @r.db --port 1 --connections 1 --new", 1, "", "r.db: it is a register already: leave out --new"),
     ("lint --filer ACME @words", 1, "words:2:3: not-json: the body is no JSON text ()\n", ""),
     ("lint --filer ACME --json @words", 1, NOT_JSON, ""),
+    ("lint --filer ACME @none @words", 3, "words:2:3: not-json: the body is no JSON text ()\n", f"none: {NO_FILE}"),
+    ("lint --filer ACME @none", 3, "", f"none: {NO_FILE}"),
 ]
 DAMAGED = [
     ("check --db @r.db", 1, "damaged at row 1\n", "r.db: damaged at row 1"),
+    ("migrate --db @r.db", 1, "damaged at row 1\n", "r.db: damaged at row 1"),
     ("list --db @r.db --filer ACME", 1, "", "r.db: damaged at row 1"),
     ("export --db @r.db --format csv", 1, "", "r.db: damaged at row 1"),
 ]
@@ -104,8 +108,12 @@ MIGRATED = [
     ("list --db @old.db --filer ACME", 1, "", f"old.db: {NOT_A_REGISTER}"),
     ("migrate --db @old.db", 0, "migrated\n", ""),
     ("check --db @old.db", 0, "sound: 1 kept, 0 filings\n", ""),
-    ("migrate --db @old.db", 1, "not a register\n", "old.db: it has this version already"),
+    ("migrate --db @old.db", 0, "has this version already\n", ""),
+    ("check --db @old.db", 0, "sound: 1 kept, 0 filings\n", ""),
 ]
+SMALL = "small:1:1: document-info: the member is missing (/documentInfo)\n"
+TOO_LARGE = "the report has more than 1048576 bytes"
+FOR_ONE = "--key and --amend are for one report, and not for several: put in each by itself"
 NO_INFO = (
     '{"code":"document-info","column":1,"file":"small","line":1,'
     '"message":"the member is missing","place":"/documentInfo","value":null}\n'
@@ -116,11 +124,20 @@ ENTRIES = [
     ("init --db @box.db --filer -x", 0, "", ""),
     ("init --db @box.db --filer -x", 1, "", "box.db: it is an outbox already"),
     ("lint --filer a/b @small", 2, "", f"--filer: {FILER_CODE}"),
-    ("lint --filer ACME @large", 2, "", "large: the report has more than 1048576 bytes"),
-    ("lint --filer ACME @small", 1, "small:1:1: document-info: the member is missing (/documentInfo)\n", ""),
+    ("lint --filer ACME @large", 2, "", f"large: {TOO_LARGE}"),
+    ("lint --filer ACME @small", 1, SMALL, ""),
     ("lint --filer ACME --json @small", 1, NO_INFO, ""),
+    ("lint --filer ACME @large @small", 2, SMALL, f"large: {TOO_LARGE}"),
+    (
+        "lint --filer ACME @small @none @large @small", 3, SMALL + SMALL,
+        f"none: {NO_FILE}\noutbox: large: {TOO_LARGE}",
+    ),
     ("put --db @none.db --body @none --key ", 2, "", "--key: the key is empty"),
-    ("put --db @box.db --body @large --key k-1", 2, "", "large: the report has more than 1048576 bytes"),
+    ("put --db @none.db --body @small --body @none", 3, "", f"none: {NO_FILE}"),
+    ("put --db @none.db --body @small @large @none", 2, "", f"large: {TOO_LARGE}"),
+    ("put --db @none.db --body @small @none --key k-1", 2, "", FOR_ONE),
+    ("put --db @none.db --body @small --amend 1 --body @small", 2, "", FOR_ONE),
+    ("put --db @box.db --body @large --key k-1", 2, "", f"large: {TOO_LARGE}"),
     ("put --db @box.db --body @small --key k-1", 0, "entry 1\n", ""),
     ("put --db @box.db --body @small --key k-1", 2, "", "box.db: this key is in use, by entry 1"),
     ("put --db @box.db --body @small", 0, "entry 2\n", "the same report is entry 1"),
@@ -132,11 +149,17 @@ ENTRIES = [
     ("show --db @box.db --entry 1", 0, "entry 1 open, 2 bytes, key k-1\n", ""),
     ("show --db @box.db --entry 3", 4, "", "box.db: there is no entry 3"),
     ("status --db @small", 1, "", "small: not a database"),
-    ("migrate --db @box.db", 1, "not an outbox\n", "box.db: this outbox has this version already"),
+    ("migrate --db @box.db", 0, "has this version already\n", ""),
     ("put --db @box.db --body @small --key k-3 --amend 1", 0, "entry 3\n", ""),
     ("put --db @box.db --body @small --key k-4 --amend 9223372036854775807", 0, "entry 4\n", ""),
     ("put --db @box.db --body @small --key k-1 --amend 1", 2, "", "box.db: this key is in use, by entry 1"),
     ("show --db @box.db --entry 3", 0, "entry 3 open, 2 bytes, replaces 1, key k-3\n", ""),
+    ("put --db @box.db --body @small @none @small", 3, "", f"none: {NO_FILE}"),
+    (
+        "put --db @box.db --body @small @other --body @small", 0, "entry 5\nentry 6\nentry 7\n",
+        "small: the same report is entry 2\noutbox: small: the same report is entry 5",
+    ),
+    ("status --db @box.db", 0, "".join(f"entry {entry} open\n" for entry in range(1, 8)), ""),
 ]
 MIGRATED_OUTBOXES = [
     ("migrate --db @none.db", 1, "not an outbox\n", "none.db: there is no such file"),
@@ -149,7 +172,8 @@ MIGRATED_OUTBOXES = [
     ("migrate --db @old.db", 0, "migrated\n", ""),
     ("status --db @old.db", 0, "entry 1 confirmed 1\nentry 2 open\n", ""),
     ("show --db @old.db", 0, "entry 1 confirmed 1, 2 bytes, key k-1\nentry 2 open, 2 bytes, key k-2\n", ""),
-    ("migrate --db @old.db", 1, "not an outbox\n", "old.db: this outbox has this version already"),
+    ("migrate --db @old.db", 0, "has this version already\n", ""),
+    ("show --db @old.db", 0, "entry 1 confirmed 1, 2 bytes, key k-1\nentry 2 open, 2 bytes, key k-2\n", ""),
     ("put --db @old.db --body @small --key k-3 --amend 1", 0, "entry 3\n", ""),
 ]
 
@@ -222,6 +246,9 @@ OUT_OF_RANGE = [
     (OUTBOX, "ask --db @box.db --entry 1"),
     (OUTBOX, "ask --db @box.db --port 65536 --entry 1"),
     (OUTBOX, "ask --db @box.db --port 1 --entry 1 --all"),
+    (OUTBOX, "put --db @box.db --body"),
+    (OUTBOX, "put --db @box.db --body @small "),
+    (OUTBOX, "put --db @box.db --body @small -x"),
     (OUTBOX, "put --db @box.db --body @small --amend 0"),
     (OUTBOX, "put --db @box.db --body @small --amend -1"),
     (OUTBOX, "put --db @box.db --body @small --amend 9223372036854775808"),
@@ -301,6 +328,7 @@ def check_migration(folder):
 
 def check_outbox(folder):
     (folder / "small").write_bytes(b"{}")
+    (folder / "other").write_bytes(b"[]")
     (folder / "large").write_bytes(b" " * 1_048_577)
     hold_each(OUTBOX, ENTRIES, folder)
 

@@ -295,6 +295,37 @@ def check_limited_outbox(folder):
     tell("put tells what it committed, at each size of files")
 
 
+def check_puts_of_several(folder):
+    """Of four reports those are in the outbox whose entries were told, whatever the size at which no file may grow."""
+    database, several = folder / "several.db", [folder / f"several-{it}.json" for it in range(4)]
+    for it, report in enumerate(several):
+        report.write_bytes(SMALLEST.ljust(100_000 + it))
+    counts = set()
+    for size in range(64 << 10, 1024 << 10, 32 << 10):
+        for it in (database, pathlib.Path(f"{database}-wal")):
+            it.unlink(missing_ok=True)
+        run(OUTBOX, "init", "--db", database, "--filer", "ACME")
+
+        def limited():
+            signal.signal(signal.SIGXFSZ, signal.SIG_IGN)
+            resource.setrlimit(resource.RLIMIT_FSIZE, (size, size))
+
+        status, output, errors = said(run(OUTBOX, "put", "--db", database, "--body", *several, preexec_fn=limited),
+                                      folder)
+        told = output.count("\n")
+        counts.add(told)
+        refused = f"outbox: several-{told}.json: not put in, nor any after it: the disk failed, or is full\n"
+        stands = run(OUTBOX, "show", "--db", database).stdout.decode()
+        lengths = [int(line.split(", ")[1].split()[0]) for line in stands.splitlines()]
+        wanted = (0 if told == 4 else 3, "".join(f"entry {it + 1}\n" for it in range(told)), told == 4,
+                  [100_000 + it for it in range(told)])
+        found = (status, output, refused not in errors, lengths)
+        if found != wanted:
+            tell(f"a put of four with files of at most {size} bytes", f"{found}, {errors!r}, where {wanted} is right")
+    tell("a put of four tells what it committed, and which it did not, at each size of files",
+         None if {0, 4} < counts else f"only {sorted(counts)} were put in")
+
+
 # ---- files that are none, and damaged ones
 
 
@@ -899,14 +930,22 @@ def check_closed_output(folder):
     told = done.stderr.decode().replace(f"{folder}/", "")
     hold("an output that takes nothing", (done.returncode, told),
          (3, "outbox: outbox.db: entry 1 was put in, but the output cannot be written\n"))
+    with open("/dev/full", "wb") as full:
+        done = subprocess.run([OUTBOX, "put", "--db", database, "--body", report, report], stdout=full,
+                              stderr=subprocess.PIPE, check=False)
+    told = done.stderr.decode().replace(f"{folder}/", "")
+    hold("of two reports only one is put in then", (done.returncode, told),
+         (3, "outbox: report.json: put in as entry 2, but none after it: the output cannot be written\n"))
+    hold("and it stands", said(run(OUTBOX, "status", "--db", database), folder),
+         (0, "entry 1 open\nentry 2 open\n", ""))
 
 
 if __name__ == "__main__":
     try_all(
         (INTAKE, OUTBOX),
         (check_serving, check_patience, check_limit, check_amendments, check_sent_amendments, check_full_register,
-         check_full_outbox, check_files, check_used_port, check_descriptors, check_rights, check_damage, check_copies,
-         check_copy_of_an_outbox, check_lint, check_names_of_files, check_texts_of_reports, check_texts_of_peers,
-         check_line_of_a_long_connection, check_entries, check_round, check_answers, check_strict, check_questions,
-         check_receipts, check_patience_of_a_round, check_same_report, check_closed_output),
+         check_full_outbox, check_puts_of_several, check_files, check_used_port, check_descriptors, check_rights,
+         check_damage, check_copies, check_copy_of_an_outbox, check_lint, check_names_of_files, check_texts_of_reports,
+         check_texts_of_peers, check_line_of_a_long_connection, check_entries, check_round, check_answers, check_strict,
+         check_questions, check_receipts, check_patience_of_a_round, check_same_report, check_closed_output),
     )

@@ -2,19 +2,18 @@
 use Rattle.std.specs.Prelude.{◌≡◌, ℕ, List, map, Option, Result, Ok, Err}
 use Rattle.std.specs.Borrow.{Bor}
 use Rattle.finding_lines.specs.declared.form.Form.{Form}
-use Rattle.report_tasks.specs.Linting.{LintsReports}
-use Rattle.report_tasks.specs.declared.fault.LintFault.{LintFault}
-use Rattle.report_tasks.specs.declared.fault.LintFault.TheVariants as lint
+use Rattle.command_line.specs.declared.fault.CommandFault.{CommandFault}
+use Rattle.report_tasks.specs.Linting.{LintsReports, lint_status}
+use Rattle.report_tasks.specs.declared.linting.Linted.{Linted}
 use Rattle.intake_commands.specs.declared.fault.Fault.{Fault}
 use Rattle.intake_commands.specs.declared.fault.Fault.TheVariants as fault
 
--- the status is answered, or the fault is reported as it is
-abbrev pub IsLintTold : Result ℕ LintFault → Result ℕ Fault → Type 0
-IsLintTold (Ok status) result = result ≡ Ok status
-IsLintTold (Err (lint.Report why)) result = result ≡ Err (fault.Report why)
-IsLintTold (Err (lint.Command why)) result = result ≡ Err (fault.Command why)
+-- the status that is answered, by the findings and by why reports were not read; or the fault is reported as it is
+abbrev pub lint_told : Result Linted CommandFault → Result ℕ Fault
+lint_told (Ok linted) = Ok (lint_status linted.is_found linted.unread.items)
+lint_told (Err why) = Err (fault.Command why)
 
 abbrev pub Lints : Form → List ℕ → List (Bor (List ℕ)) → Option (List ℕ) → Option (List ℕ) → Result ℕ Fault → Type 0
 Lints form filer names out out' result =
-    (linted : Result ℕ LintFault) × LintsReports form filer (map (λ name. name.now) names) out out' linted
-    × IsLintTold linted result
+    (linted : Result Linted CommandFault) × LintsReports form filer (map (λ name. name.now) names) out out' linted
+    × (result ≡ lint_told linted)

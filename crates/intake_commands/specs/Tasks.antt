@@ -1,7 +1,7 @@
 -- What `intake` does with a task. This says of each word of the command line what is printed, what is kept, and the
 -- status.
-use Rattle.std.specs.Prelude.{◌≡◌, ◌⊎◌, ◌≤◌, ◌<◌, ◌^◌, ℕ, Bool, true, not, List, codes, Option, Some, None, Result, Ok}
-use Rattle.std.specs.Prelude.{Err, MatchBool}
+use Rattle.std.specs.Prelude.{◌≡◌, ◌⊎◌, ◌≤◌, ◌<◌, ◌^◌, ℕ, Bool, true, false, not, List, codes, Option, Some, None, Ok}
+use Rattle.std.specs.Prelude.{Result, Err, MatchBool}
 use Rattle.std.specs.Borrow.{Bor}
 use Rattle.std.specs.Io.KnownBytes.{Appends}
 use Rattle.sqlite_disk.specs.declared.Disk.{Ghosts}
@@ -14,6 +14,7 @@ use Rattle.gateway_ports.specs.declared.serving.PortFault.TheVariants as network
 use Rattle.command_line.specs.declared.fault.CommandFault.TheVariants as command
 use Rattle.database_places.specs.Verdicts.{verdict_text}
 use Rattle.database_places.specs.declared.verdict.Verdict.{Verdict}
+use Rattle.register_tables.specs.declared.fault.OpenFault.TheVariants as register
 use Rattle.intake_tasks.specs.Tasks.{ServesAlone}
 use Rattle.intake_tasks.specs.declared.errand.Errand.{Errand}
 use Rattle.intake_tasks.specs.declared.errand.Errand.TheVariants as asked
@@ -24,6 +25,7 @@ use Rattle.intake_process.specs.Process.{Parts}
 use Rattle.intake_process.specs.Turns.{ServesRegister}
 use Rattle.intake_process.specs.Visits.{Outputs, VisitsRegister, outputs}
 use Rattle.intake_process.specs.declared.errand.ErrandFault.{ErrandFault}
+use Rattle.intake_process.specs.declared.errand.ErrandFault.TheVariants as unmet
 use Rattle.intake_process.specs.declared.serving.ServingFault.{ServingFault}
 use Rattle.intake_process.specs.declared.serving.ServingFault.TheVariants as refused
 use Rattle.intake_process.specs.declared.visiting.Visited.{Visited}
@@ -117,19 +119,63 @@ EndsWith (Some verdict) told out out' result =
     ((result ≡ Err told) × Appends out out' (verdict_text verdict (codes "a register")))
     ⊎ ((result ≡ Err (fault.Command command.Output)) ⊎ ((result ≡ Err (fault.Command command.Memory)) × (out' ≡ out)))
 
--- the status is 0 if the errand is done; otherwise a fault is reported, by why it is not
-abbrev pub IsVisitTold : Bor (List ℕ) → Errand → Result (Unit {0}) ErrandFault → Option (List ℕ) → Option (List ℕ)
-    → Result ℕ Fault → Type 0
-IsVisitTold name errand (Ok done) out out' result = (result ≡ Ok 0) × (out' ≡ out)
-IsVisitTold name errand (Err why) out out' result =
+-- a fault is reported, by why the errand is not done
+abbrev pub IsFaultTold : Bor (List ℕ) → Errand → ErrandFault → Option (List ℕ) → Option (List ℕ) → Result ℕ Fault
+    → Type 0
+IsFaultTold name errand why out out' result =
     (told : Fault) × IsErrandTold name why told × EndsWith (shown_verdict errand told) told out out' result
+
+-- ---- migrate: a register that has this version already
+
+-- the database was not migrated, since it is no register of an earlier version
+abbrev pub is_not_earlier : ErrandFault → Bool
+is_not_earlier (unmet.Migrate register.NotOurs holding) = true
+is_not_earlier other = false
+
+-- why it is no register of this version either, as its check found it
+abbrev pub refusal_of : ErrandFault → ErrandFault → ErrandFault
+refusal_of not_earlier (unmet.Open register.NotOurs holding) = not_earlier
+refusal_of not_earlier other = other
+
+abbrev pub current_line : List ℕ
+current_line = codes "has this version already\n"
+
+-- that is printed, and the status is 0, unless the output failed
+abbrev pub IsCurrentShown : Option (List ℕ) → Option (List ℕ) → Result ℕ Fault → Type 0
+IsCurrentShown out out' result =
+    ((result ≡ Ok 0) × Appends out out' current_line) ⊎ (result ≡ Err (fault.Command command.Output))
+
+-- if the check found a sound register, that is printed; otherwise a fault is reported
+abbrev pub IsCurrentTold : Bor (List ℕ) → ErrandFault → Result (Unit {0}) ErrandFault → Option (List ℕ)
+    → Option (List ℕ) → Result ℕ Fault → Type 0
+IsCurrentTold name not_earlier (Ok done) out out' result = IsCurrentShown out out' result
+IsCurrentTold name not_earlier (Err why) out out' result =
+    IsFaultTold name asked.Migrate (refusal_of not_earlier why) out out' result
+
+-- The register is checked, which writes nothing to it, and what the check prints is not shown.
+abbrev pub VisitsCurrent : {D : Type 0} {g : Ghosts D} → Bor (List ℕ) → ErrandFault → Outputs → Outputs → Parts g
+    → Parts g → Result ℕ Fault → Type 0
+VisitsCurrent name not_earlier out out' old new result =
+    (unshown : Option (List ℕ)) × (unshown' : Option (List ℕ)) × (visited : Visited)
+    × VisitsRegister asked.Check (outputs unshown out.pages) (outputs unshown' out'.pages) old new visited
+    × IsCurrentTold name not_earlier visited.done out.text out'.text result
+
+-- ---- what a visit says
+
+-- The status is 0 if the errand is done. A register that was to be migrated and is none of an earlier version is
+-- checked; otherwise a fault is reported, by why the errand is not done.
+abbrev pub IsVisitTold : {D : Type 0} {g : Ghosts D} → Bor (List ℕ) → Errand → Result (Unit {0}) ErrandFault → Outputs
+    → Outputs → Parts g → Parts g → Result ℕ Fault → Type 0
+IsVisitTold name errand (Ok done) out out' old new result = (result ≡ Ok 0) × (out' ≡ out) × (new ≡ old)
+IsVisitTold name errand (Err why) out out' old new result =
+    MatchBool (is_not_earlier why) (VisitsCurrent name why out out' old new result)
+    (IsFaultTold name errand why out.text out'.text result × (out'.pages ≡ out.pages) × (new ≡ old))
 
 abbrev pub Visits : {D : Type 0} {g : Ghosts D} → Bor (List ℕ) → Errand → Outputs → Outputs → Parts g → Parts g
     → Result ℕ Fault → Type 0
-Visits name errand out out' old new result =
-    (between : Option (List ℕ)) × (visited : Visited)
-    × VisitsRegister errand out (outputs between out'.pages) old new visited
-    × IsVisitTold name errand visited.done between out'.text result
+Visits {D} {g} name errand out out' old new result =
+    (between : Outputs) × (mid : Parts g) × (visited : Visited) × VisitsRegister errand out between old mid visited
+    × IsVisitTold name errand visited.done between out' mid new result
 
 -- ---- a task
 

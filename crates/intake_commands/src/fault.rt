@@ -77,8 +77,7 @@ fn not_a_register(holding: Holding) -> &'static str {
 /// The text for a database that cannot become a register of this version.
 fn not_migrated(holding: Holding) -> &'static str {
     match holding {
-        Holding::Register => "it has this version already",
-        Holding::EarlierRegister => "not a register of an earlier version",
+        Holding::Register | Holding::EarlierRegister => "not a register of an earlier version",
         other => not_a_register(other),
     }
 }

@@ -100,7 +100,7 @@ fn do_task<
             }
             visit(rt, database, *errand, process, folder, output, errors)
         }
-        Task::Lint { filer, form, files } => lint(rt, *form, filer, files, output),
+        Task::Lint { filer, form, files } => lint(rt, *form, filer, files, output, errors),
     }
 }
 
