@@ -9,6 +9,7 @@ system in memory, which it mounts if it may; otherwise it says so, and a limit o
 Status 1 if a trial fails.
 """
 import datetime
+import fcntl
 import hashlib
 import json
 import os
@@ -457,6 +458,155 @@ def check_rights(folder):
     done = run("setpriv", "--reuid=65534", "--regid=65534", "--clear-groups", INTAKE, "check", "--db", database)
     wanted = "permission denied: the file and its folder have to be readable and writable"
     hold("check of a file without rights", said(done, folder), (3, "", f"intake: register.db: {wanted}\n"))
+
+
+# ---- files that may only be read
+
+READER = ("setpriv", "--reuid=65534", "--regid=65534", "--clear-groups")
+BUSY = "another program has it open"
+LISTED = '{"filings":[{"facts":1,"number":1},{"facts":1,"number":2}]}\n'
+
+
+def lying_in(folder):
+    """What lies in a folder: each name with its bytes, its rights and the moment of its last change."""
+    return {it.name: (it.read_bytes(), it.stat().st_mode, it.stat().st_mtime_ns) for it in folder.iterdir()}
+
+
+def make_both(folder):
+    """A register whose intake was killed, so that its filings are in the log alone, and an outbox."""
+    folder.mkdir()
+    serving = Serving(folder / "register.db", 9, "--new")
+    sent = [request(f"k-{at}", body) for at, body in enumerate((REPORT, REPORT.replace(b"100", b"200"), b"{}"))]
+    hold("three reports", [statuses(exchange(serving.port, it)) for it in sent], [[201], [201], [422]])
+    serving.process.kill()
+    serving.process.communicate(timeout=60)
+    report = folder / "report.json"
+    report.write_bytes(REPORT)
+    run(OUTBOX, "init", "--db", folder / "outbox.db", "--filer", "ACME")
+    run(OUTBOX, "put", "--db", folder / "outbox.db", "--body", report, "--key", "k-1")
+    report.unlink()
+
+
+def copy_both(folder, copy):
+    copy.mkdir()
+    for it in folder.iterdir():
+        shutil.copy(it, copy)
+
+
+def read_both(folder, site, under=()):
+    """What each command prints that changes nothing, and the pages. The commands that may copy the log come last."""
+    register, outbox = folder / "register.db", folder / "outbox.db"
+    site.mkdir()
+    site.chmod(0o777)
+    found = [
+        said(run(*under, program, *words), folder)
+        for program, *words in (
+            (INTAKE, "list", "--db", register, "--filer", "ACME"),
+            (INTAKE, "show", "--db", register, "--number", 2),
+            (INTAKE, "export", "--db", register, "--format", "jsonl"),
+            (INTAKE, "pages", "--db", register, "--into", site),
+            (OUTBOX, "show", "--db", outbox),
+            (INTAKE, "check", "--db", register),
+            (OUTBOX, "status", "--db", outbox),
+        )
+    ]
+    return found, {it.relative_to(site): it.read_bytes() for it in site.rglob("*") if it.is_file()}
+
+
+def hold_read(what, found, pages):
+    """Holds what was printed against what was filed."""
+    hold(f"{what}: the status of each", [status for status, _, _ in found], [0] * 7)
+    hold(f"{what}: no errors", [errors for _, _, errors in found], [""] * 7)
+    hold(f"{what}: list", found[0][1], LISTED)
+    hold(f"{what}: records", [json.loads(line)["number"] for line in found[2][1].splitlines()], [1, 2])
+    hold(f"{what}: check", found[5][1], "sound: 3 kept, 2 filings\n")
+    hold(f"{what}: status", found[6][1], "entry 1 open\n")
+    tell(f"{what}: pages", None if pathlib.Path("index.html") in pages else "none")
+
+
+def check_reading(folder):
+    """Commands that change nothing read a register with its log, and leave both as they are."""
+    given, copy, alone = folder / "given", folder / "copy", folder / "alone"
+    make_both(given)
+    copy_both(given, copy)
+    alone.mkdir()
+    shutil.copy(given / "register.db", alone)
+    listed = run(INTAKE, "list", "--db", alone / "register.db", "--filer", "ACME")
+    hold("the filings are in the log alone", LISTED in listed.stdout.decode(), False)
+
+    register = copy / "register.db"
+    for words in (("list", "--filer", "ACME"), ("show", "--number", 1), ("export", "--format", "csv")):
+        before = lying_in(copy)
+        hold(f"{words[0]} of both", run(INTAKE, words[0], "--db", register, *words[1:]).returncode, 0)
+        hold("leaves them as they are", lying_in(copy) == before, True)
+    hold("check of both", said(run(INTAKE, "check", "--db", register), copy), (0, "sound: 3 kept, 2 filings\n", ""))
+    shutil.copy(register, alone)
+    listed = run(INTAKE, "list", "--db", alone / "register.db", "--filer", "ACME")
+    hold("copies the log into the file", listed.stdout.decode(), LISTED)
+
+
+def check_reading_alone(folder):
+    """They read what they may not write, and make nothing beside it."""
+    given, copy, shelf = folder / "given", folder / "copy", folder / "shelf"
+    make_both(given)
+    copy_both(given, copy)
+    wanted = read_both(copy, folder / "site")
+    hold_read("files that may be written", *wanted)
+    if os.geteuid() != 0 or shutil.which("setpriv") is None:
+        print("not tried: files that may only be read, for which root and setpriv are needed")
+        return
+    folder.chmod(0o755)
+    copy_both(given, shelf)
+    for it in shelf.iterdir():
+        it.chmod(0o444)
+    shelf.chmod(0o555)
+    before = lying_in(shelf)
+    found = read_both(shelf, folder / "shelf-site", READER)
+    hold_read("files that may only be read", *found)
+    hold("they give what writable ones give", found == wanted, True)
+    hold("nothing is made or changed", lying_in(shelf) == before, True)
+    for words in (("migrate",), ("serve", "--port", free_port(), "--connections", 1)):
+        done = run(*READER, INTAKE, words[0], "--db", shelf / "register.db", *words[1:])
+        hold(f"{words[0]} of them", (done.returncode, b"permission denied" in done.stderr), (3, True))
+    check_reading_disk(folder, given, wanted)
+
+
+def check_reading_disk(folder, given, wanted):
+    """The same for root, who may write anything, on a file system that may not be written."""
+    disk = folder / "disk"
+    disk.mkdir()
+    if run("mount", "-t", "tmpfs", "none", disk).returncode != 0:
+        print("not tried: a file system that may only be read, since none may be mounted")
+        return
+    try:
+        copy_both(given, disk / "both")
+        run("mount", "-o", "remount,ro", disk)
+        before = lying_in(disk / "both")
+        found = read_both(disk / "both", folder / "disk-site")
+        hold_read("a disk that may only be read", *found)
+        hold("it gives what a writable one gives", found == wanted, True)
+        hold("it has what it had", lying_in(disk / "both") == before, True)
+    finally:
+        run("umount", disk)
+
+
+def check_readers(folder):
+    """Readers have a register together, and not while another program may write to it."""
+    register = folder / "register.db"
+    make_small_register(register)
+    listed = INTAKE, "list", "--db", register, "--filer", "ACME"
+    serving = Serving(register, 1)
+    hold("list while it is served", said(run(*listed), folder), (3, "", f"intake: register.db: {BUSY}\n"))
+    exchange(serving.port, b"GET / HTTP/1.1\r\nHost: h\r\n\r\n")
+    serving.end()
+    # The locks of SQLite: its pending, reserved and shared bytes (file format, os.h).
+    with open(register, "r+b") as other:
+        fcntl.lockf(other, fcntl.LOCK_SH | fcntl.LOCK_NB, 512, 1 << 30)
+        hold("list beside another reader", run(*listed).returncode, 0)
+        served = run(INTAKE, "serve", "--db", register, "--port", free_port(), "--connections", 1)
+        hold("serve beside a reader", said(served, folder), (3, "", f"intake: register.db: {BUSY}\n"))
+        fcntl.lockf(other, fcntl.LOCK_EX | fcntl.LOCK_NB, 512, 1 << 30)
+        hold("list beside a writer", run(*listed).returncode, 3)
 
 
 # ---- reports and entries
@@ -947,5 +1097,6 @@ if __name__ == "__main__":
          check_full_outbox, check_puts_of_several, check_files, check_used_port, check_descriptors, check_rights,
          check_damage, check_copies, check_copy_of_an_outbox, check_lint, check_names_of_files, check_texts_of_reports,
          check_texts_of_peers, check_line_of_a_long_connection, check_entries, check_round, check_answers, check_strict,
-         check_questions, check_receipts, check_patience_of_a_round, check_same_report, check_closed_output),
+         check_questions, check_receipts, check_patience_of_a_round, check_same_report, check_closed_output,
+         check_reading, check_reading_alone, check_readers),
     )

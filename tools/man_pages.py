@@ -20,15 +20,15 @@ DESCRIPTIONS = {
         "report by a POST to /filings/CODE, under a key of their choice. A valid report is registered under a number,"
         " and any other is refused with what is wrong with it. The same request again gets the same answer, and "
         "changes nothing.",
-        "The register is a SQLite database in one file. One program at a time has it open; once that has ended, the "
-        "sqlite3 shell may read it. Who may file for a filer is decided by a server in front.",
+        "The register is a SQLite database in one file. A program that may write has it alone; once that has ended, "
+        "the sqlite3 shell may read it. Who may file for a filer is decided by a server in front.",
     ],
     "outbox": [
         "outbox is a filer's end of a filing gateway for financial reports (xBRL-JSON 1.0). A report is put in as an "
         "entry, under a key. The entry is open until a reply settles it as confirmed, refused or clashed, and may be "
         "sent until then: however often it comes, the supervisor registers it once. The program may be stopped at any"
         " moment.",
-        "The outbox is a SQLite database in one file. One program at a time has it open.",
+        "The outbox is a SQLite database in one file. A program that may write has it alone.",
     ],
     "drill": [
         "drill plays both ends of a filing gateway, an intake and outboxes, in memory: reports that are sent, cut and"

@@ -1,4 +1,5 @@
 pub mod Lints
+pub mod Reading
 pub mod Status
 pub mod Tasks
 pub mod Told

@@ -1,5 +1,8 @@
 //! The program: it makes what a task works with, and performs the task.
 
+ghost use Rattle.std.specs.Prelude.{◌≡◌, true};
+ghost use Rattle.intake_commands.specs.Reading.{only_reads, copies_log};
+
 use crate::fault::Fault;
 use crate::folder::SystemFolder;
 use crate::log::Logged;
@@ -7,10 +10,12 @@ use crate::options::{Asked, Serving, Task, read};
 use crate::port::{StreamPort, TimedPort};
 use crate::tasks::perform_task;
 use command_line::{CommandFault, show_refusal, words};
-use database_places::{SystemPlace, WaitingPlace};
+use database_places::{Place, SystemPlace, WaitingPlace};
 use http_wire::Device;
 use intake_process::IntakeProcess;
 use intake_tasks::Errand;
+use reading_places::{ReadingPlace, has_writable_log};
+use sqlite_disk::Disk;
 use std::io::{IsTerminal, Write};
 
 /// The text if requests are read from a terminal.
@@ -44,24 +49,50 @@ fn port_of<'r>(rt: &'r HostRuntime, serving: &Serving<'_>) -> TimedPort<'r> {
     TimedPort::new(rt, serving.port, serving.patience)
 }
 
-/// The file of the register that a task is for, and the time for which it is waited for.
-fn place_of<'a, 'r>(
-    rt: &'r HostRuntime,
-    asked: &Asked<'a>,
-) -> WaitingPlace<'r, SystemPlace<'a, 'r>, HostRuntime> {
-    let place = SystemPlace::new(rt, database_of(&asked.task));
-    WaitingPlace::new(rt, place, asked.wait)
+/// Whether a task changes nothing of its register.
+fn only_reads(task: &Task<'_>) -> bool
+    ensures { result ≡ only_reads task.now }
+{
+    match task {
+        Task::Visit { errand, .. } => match errand {
+            Errand::List { filer: _ } => true,
+            Errand::Show { number: _ } => true,
+            Errand::Check => true,
+            Errand::Migrate => false,
+            Errand::Export { form: _, filer: _ } => true,
+            Errand::Pages { folder: _ } => true,
+        },
+        Task::Run { .. } | Task::Serve(_) | Task::Lint { .. } => false,
+    }
 }
 
-/// Performs a task over this port, the file of its register, its folder and the standard streams, and answers the
+/// Whether a task that changes nothing is also to copy the log into the file, if both may be written.
+fn copies_log(task: &Task<'_>) -> bool
+    ensures { result ≡ copies_log task.now }
+{
+    match task {
+        Task::Visit { errand, .. } => match errand {
+            Errand::Check => true,
+            _ => false,
+        },
+        _ => false,
+    }
+}
+
+/// Performs a task over the register of this place, this port, its folder and the standard streams, and answers the
 /// status.
-fn perform_over<L: StreamPort>(rt: &HostRuntime, asked: &Asked<'_>, port: &mut L) -> u8 {
+fn perform_over<D: Disk + Drop, P: Place<D> + Drop, L: StreamPort>(
+    rt: &HostRuntime,
+    task: &Task<'_>,
+    place: P,
+    port: &mut L,
+) -> u8 {
     perform_task(
         rt,
-        &asked.task,
-        &mut IntakeProcess::new(place_of(rt, asked)),
+        task,
+        &mut IntakeProcess::new(place),
         port,
-        &mut SystemFolder::new(rt, folder_of(&asked.task)),
+        &mut SystemFolder::new(rt, folder_of(task)),
         &mut Device::new(rt.reader()),
         &mut Device::new(rt.stdout()),
         &mut rt.stdout(),
@@ -69,15 +100,43 @@ fn perform_over<L: StreamPort>(rt: &HostRuntime, asked: &Asked<'_>, port: &mut L
     )
 }
 
+/// Performs a task that changes nothing, and opens the file of its register for reading alone. So the file may lie
+/// where it may not be written.
+fn perform_reading(rt: &HostRuntime, asked: &Asked<'_>) -> u8
+    requires { only_reads asked.now.task ≡ true }
+{
+    let place = ReadingPlace::new(rt, database_of(&asked.task));
+    let waiting = WaitingPlace::new(rt, place, asked.wait);
+    perform_over(rt, &asked.task, waiting, &mut TimedPort::new(rt, 0, None))
+}
+
+/// Performs a task over this port, and opens the file of its register for writing.
+fn perform_writing<L: StreamPort>(rt: &HostRuntime, asked: &Asked<'_>, port: &mut L) -> u8 {
+    let place = SystemPlace::new(rt, database_of(&asked.task));
+    let waiting = WaitingPlace::new(rt, place, asked.wait);
+    perform_over(rt, &asked.task, waiting, port)
+}
+
+/// Performs a task on the file of a register, and answers the status. The file is opened for writing only if the task
+/// changes the register, or is to copy the log into it and may.
+fn perform_once(rt: &HostRuntime, asked: &Asked<'_>) -> u8 {
+    if only_reads(&asked.task) {
+        if !copies_log(&asked.task) || !has_writable_log(rt, database_of(&asked.task)) {
+            return perform_reading(rt, asked);
+        }
+    }
+    perform_writing(rt, asked, &mut TimedPort::new(rt, 0, None))
+}
+
 /// Performs a task, and answers the status.
 fn perform(rt: &HostRuntime, asked: &Asked<'_>) -> u8 {
     match &asked.task {
         Task::Serve(serving) if serving.log => {
             let mut logged = Logged::new(rt.alloc(), port_of(rt, serving), rt.stdout());
-            perform_over(rt, asked, &mut logged)
+            perform_writing(rt, asked, &mut logged)
         }
-        Task::Serve(serving) => perform_over(rt, asked, &mut port_of(rt, serving)),
-        _ => perform_over(rt, asked, &mut TimedPort::new(rt, 0, None)),
+        Task::Serve(serving) => perform_writing(rt, asked, &mut port_of(rt, serving)),
+        _ => perform_once(rt, asked),
     }
 }
 

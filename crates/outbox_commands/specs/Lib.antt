@@ -2,6 +2,7 @@ pub mod Lints
 pub mod Looking
 pub mod Networks
 pub mod Puts
+pub mod Reading
 pub mod Status
 pub mod Tasks
 pub mod Visits

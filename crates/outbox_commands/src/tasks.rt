@@ -1,7 +1,8 @@
 //! Performs a task, and says how the program ends.
 
-ghost use Rattle.std.specs.Prelude.{◌≡◌, None};
+ghost use Rattle.std.specs.Prelude.{◌≡◌, true, None};
 ghost use Rattle.outbox_process.specs.Process.{parts};
+ghost use Rattle.outbox_commands.specs.Reading.{only_reads, copies_log};
 ghost use Rattle.outbox_commands.specs.Status.{opening_status, status_of, status_by, receipt_status};
 ghost use Rattle.outbox_commands.specs.Tasks.{MakesOutbox, IsJudged, IsPrinted, MigratesOutbox, Does, is_current};
 ghost use Rattle.outbox_commands.specs.Visits.{opening_verdict};
@@ -17,6 +18,7 @@ use command_line::{CommandFault, DONE, show, show_refusal, words};
 use database_places::{Place, SystemPlace, WaitingPlace, show_verdict};
 use key_string::is_filer;
 use outbox_process::{Beginning, Errand, OpeningFault, OutboxProcess};
+use reading_places::{ReadingPlace, has_writable_log};
 use receipts::Folder;
 use sqlite_disk::Disk;
 use std::alloc::Global;
@@ -193,6 +195,77 @@ fn done_but_for<'a>(lost: u64) -> Result<u8, Fault<'a>>
     Ok(DONE)
 }
 
+/// Whether a task changes nothing of its outbox.
+fn only_reads(task: &Task<'_>) -> bool
+    ensures { result ≡ only_reads task.now }
+{
+    match task {
+        Task::Status { .. } | Task::Show { .. } | Task::Ask { .. } => true,
+        Task::Init { .. } | Task::Put { .. } | Task::Migrate { .. } | Task::Send { .. } => false,
+    }
+}
+
+/// Whether a task that changes nothing is also to copy the log into the file, if both may be written.
+fn copies_log(task: &Task<'_>) -> bool
+    ensures { result ≡ copies_log task.now }
+{
+    match task {
+        Task::Status { .. } => true,
+        _ => false,
+    }
+}
+
+/// Performs a task on the outbox that lies in this place, and answers the status.
+fn perform_over<'a, D: Disk + Drop, P: Place<D> + Drop, O: Write, E: Write>(
+    rt: &HostRuntime,
+    task: Task<'a>,
+    place: P,
+    output: &mut O,
+    errors: &mut E,
+) -> Result<u8, Fault<'a>> {
+    let mut process = OutboxProcess::new(place);
+    let peer = task.peer();
+    let folder = receipt_folder(rt, peer.receipts)?;
+    let mut network = PeerDial::new(rt, peer, folder, rt.stderr());
+    perform_task(rt, &mut process, &mut network, task, output, errors)?;
+    done_but_for(network.lost_receipts())
+}
+
+/// Performs a task that changes nothing, and opens the file of its outbox for reading alone. So the file may lie where
+/// it may not be written.
+fn perform_reading<'a, O: Write, E: Write>(
+    rt: &HostRuntime,
+    task: Task<'a>,
+    wait: u32,
+    output: &mut O,
+    errors: &mut E,
+) -> Result<u8, Fault<'a>>
+    requires { only_reads task ≡ true }
+{
+    let place = ReadingPlace::new(rt, task.database());
+    let waiting = WaitingPlace::new(rt, place, wait);
+    perform_over(rt, task, waiting, output, errors)
+}
+
+/// Performs a task on the file of an outbox, and answers the status. The file is opened for writing only if the task
+/// changes the outbox, or is to copy the log into it and may.
+fn perform_once<'a, O: Write, E: Write>(
+    rt: &HostRuntime,
+    task: Task<'a>,
+    wait: u32,
+    output: &mut O,
+    errors: &mut E,
+) -> Result<u8, Fault<'a>> {
+    if only_reads(&task) {
+        if !copies_log(&task) || !has_writable_log(rt, task.database()) {
+            return perform_reading(rt, task, wait, output, errors);
+        }
+    }
+    let place = SystemPlace::new(rt, task.database());
+    let waiting = WaitingPlace::new(rt, place, wait);
+    perform_over(rt, task, waiting, output, errors)
+}
+
 /// Performs what these words ask for, and answers the status.
 fn perform_words<'a, O: Write, E: Write>(
     rt: &HostRuntime,
@@ -204,15 +277,7 @@ fn perform_words<'a, O: Write, E: Write>(
         Ok(Some(Asked::Lint { filer, form, files })) => {
             lint(rt, form, filer, files.as_slice(), output, errors)
         }
-        Ok(Some(Asked::Outbox { task, wait })) => {
-            let place = WaitingPlace::new(rt, SystemPlace::new(rt, task.database()), wait);
-            let mut process = OutboxProcess::new(place);
-            let peer = task.peer();
-            let folder = receipt_folder(rt, peer.receipts)?;
-            let mut network = PeerDial::new(rt, peer, folder, rt.stderr());
-            perform_task(rt, &mut process, &mut network, task, output, errors)?;
-            done_but_for(network.lost_receipts())
-        }
+        Ok(Some(Asked::Outbox { task, wait })) => perform_once(rt, task, wait, output, errors),
         Ok(None) => Err(Fault::Command(CommandFault::NoTask)),
         Err(error) => Ok(show_refusal(rt.alloc(), &error, output, errors)?),
     }

@@ -1,0 +1,25 @@
+-- Which tasks of `intake` only read.
+use Rattle.std.specs.Prelude.{Bool, true, false}
+use Rattle.intake_tasks.specs.declared.errand.Errand.{Errand}
+use Rattle.intake_tasks.specs.declared.errand.Errand.TheVariants as errand
+use Rattle.intake_commands.specs.declared.options.Task.{Task}
+use Rattle.intake_commands.specs.declared.options.Task.TheVariants as task
+
+-- an errand that changes nothing of the register that it is for
+abbrev pub changes_nothing : Errand → Bool
+changes_nothing (errand.List filer) = true
+changes_nothing (errand.Show number) = true
+changes_nothing errand.Check = true
+changes_nothing (errand.Export form filer) = true
+changes_nothing (errand.Pages folder) = true
+changes_nothing errand.Migrate = false
+
+-- such an errand is all that is asked for
+abbrev pub only_reads : Task → Bool
+only_reads (task.Visit database errand) = changes_nothing errand
+only_reads other = false
+
+-- a check is asked for, which copies the log into the file if both may be written
+abbrev pub copies_log : Task → Bool
+copies_log (task.Visit database errand.Check) = true
+copies_log other = false
