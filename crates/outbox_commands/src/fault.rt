@@ -269,10 +269,10 @@ pub(crate) enum Fault<'a> {
 
 impl From<AllocError> for Fault<'_> {
     ghost use Rattle.std.specs.Prelude.{◌≡◌};
-    ghost use Rattle.command_line.specs.declared.fault.CommandFault.TheVariants as command;
+    ghost use Rattle.command_line.specs.declared.fault.CommandFault.TheVariants as common;
     ghost use Rattle.outbox_commands.specs.declared.fault.Fault.TheVariants.{Command};
 
-    ghost from_gives = { λ _ fault. fault ≡ Command command.Memory };
+    ghost from_gives = { λ _ fault. fault ≡ Command common.Memory };
 
     fn from(_error: AllocError) -> Self {
         Fault::Command(CommandFault::Memory)

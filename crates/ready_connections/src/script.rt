@@ -185,6 +185,10 @@ impl<'a> Sockets for ScriptedSockets<'a> {
 
     ghost traffic = { λ _. None };
 
+    fn listen(&mut self) -> io::Result<()> {
+        Ok(())
+    }
+
     fn accept(&mut self, _place: usize) -> io::Result<Option<ScriptedStream<'a>>> {
         if let Some(Event::Comes(reads, writes)) = self.events.first() {
             let stream = ScriptedStream::new(self.alloc, reads, writes);

@@ -16,6 +16,10 @@ pub trait Sockets {
     // How many connections came, and which are over, if that is known.
     ghost traffic: { Self → Option (Traffic Self.Stream) };
 
+    /// Begins to listen. No connection comes before that.
+    fn listen(&mut self) -> io::Result<()>
+        ensures { traffic self.new ≡ traffic self.old };
+
     /// A connection for this place, if one came. It is watched under the number of the place from then on.
     fn accept(&mut self, place: usize) -> io::Result<Option<Self::Stream>>
         ensures { Arrives Self.Stream.Stream (traffic self.old) (traffic self.new) result };

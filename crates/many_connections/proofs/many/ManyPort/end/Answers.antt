@@ -1,0 +1,49 @@
+use Rattle.std.proofs.Common.{◌≡◌, true, false, Some, refl, sym, ap, subst, ◌∙◌, true≢false}
+use Rattle.std.specs.Prelude.{not}
+use Rattle.std.proofs.Math.Logic.{∥∥₁_map}
+use Rattle.gateway_ports.specs.Ports.{Adds}
+use Rattle.many_connections.specs.PieceReader.{bytes_left}
+use Rattle.many_connections.specs.declared.event.Event.TheVariants.{Over}
+use Rattle.many_connections.specs.Events.{Runs, Seen, after_event, seen_after}
+use Rattle.many_connections.proofs.Seeing.{seen_more, not_false, all_left, adds, piece_back}
+use Rattle.filing_model.specs.declared.served.Ended.TheVariants.{InputEnded}
+use Rattle.many_connections.proofs.many.ManyPort.end.Goals as goal
+use Rattle.many_connections.proofs.many.ManyPort.end.Goals.{then-left-eq0+in-InputEnded, then-left-eq0+in_default, else-left-eq0}
+
+pub invariant_of-self : goal.invariant_of-self
+invariant_of-self g c =
+    let old = c.args.self.now in
+    let seen = seen_after old.events.items in
+    let is =
+    seen_more old.events.items c.and-self.result.items
+    (Over c.left-left.result c.into_text-text.result c.args.served, true) c.and-self.ensures in
+    let stays_open : not c.if-left-eq0.is_open ≡ false
+    → (c.left-left.result ≡ 0) × (c.args.served.ended ≡ InputEnded) = λ shut.
+    elim c.if-left-eq0.branch [
+      then-left-eq0+in-InputEnded w ↦ (w.if-left-eq0.true, w.in-InputEnded.is)
+    | then-left-eq0+in_default w ↦ absurd (true≢false (sym (ap not w.is_open-is) ∙ shut))
+    | else-left-eq0 w ↦ absurd (w.if-left-eq0.false (all_left c.left-left.result (sym w.is_open-is
+      ∙ not_false c.if-left-eq0.is_open shut)))
+    ] in
+    record {
+      runs = ∥∥₁_map old.runs (λ runs. subst (λ (after : Seen). Runs g.K.Stream.Stream after c.give_back.new.self
+          (g.K.Sockets.traffic old.sockets)) (sym is)
+          (piece_back g.K.Stream.Stream seen old.hall c.give_back.new.self (g.K.Sockets.traffic old.sockets)
+          c.left-left.result c.into_text-text.result c.into_bytes.result c.args.served (not c.if-left-eq0.is_open)
+          (sym c.is_out.ensures ∙ c.if-not-is_out.false) c.into_bytes.ensures stays_open
+          c.give_back.ensures.running runs));
+    }
+
+pub returns-clause-over : goal.returns-clause-over
+returns-clause-over g c =
+    let old = c.args.self.now in
+    let seen = seen_after old.events.items in
+    let is =
+    seen_more old.events.items c.and-self.result.items
+    (Over c.left-left.result c.into_text-text.result c.args.served, true) c.and-self.ensures in
+    let after = after_event seen (Over c.left-left.result c.into_text-text.result c.args.served) in
+    subst (λ (it : Seen). Adds (Some seen.over) (Some it.over) c.args.served seen.given
+    (Some (bytes_left c.args.reader)) (Some c.args.writer.text.items)) (sym is)
+    (subst (λ t. Adds (Some seen.over) (Some after.over) c.args.served seen.given
+    (Some (bytes_left c.args.reader)) (Some t)) c.into_text-text.ensures
+    (adds seen (bytes_left c.args.reader) c.left-left.result c.into_text-text.result c.args.served c.left-left.ensures))

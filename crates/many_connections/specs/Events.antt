@@ -1,0 +1,61 @@
+-- The pieces that came on a port and what became of them, as its connections; own rules.
+use Rattle.std.specs.Prelude.{◌≡◌, ◌-◌, ℕ, Bool, false, List, [], ◌∷◌, ◌++◌, length, take, Option, Some, None}
+use Rattle.filing_model.specs.declared.served.Ended.TheVariants.{InputEnded}
+use Rattle.gateway_server.specs.declared.serving.Served.{Served}
+use Rattle.gateway_ports.specs.Ports.{Connection, connection_with}
+use Rattle.ready_connections.specs.declared.hall.Hall.{Hall}
+use Rattle.ready_connections.specs.declared.stream.Stream.{Ghosts}
+use Rattle.ready_connections.specs.Pieces.{Piece}
+use Rattle.ready_connections.specs.Running.{IsRunning}
+use Rattle.ready_connections.specs.Streams.{Traffic}
+use Rattle.many_connections.specs.declared.event.Event.{Event}
+use Rattle.many_connections.specs.declared.event.Event.TheVariants.{Came, Over}
+
+-- the bytes of the piece that came last, until it is over, and those that are over, as connections
+pub record Seen : Type 0 where
+  pub given : Option (List ℕ)
+  pub over : List Connection
+
+-- what is not left of a piece was read
+abbrev pub read_but : ℕ → List ℕ → List ℕ
+read_but left bytes = take (length bytes - left) bytes
+
+-- those that are over, and behind them the one that came last
+abbrev pub and_given : Option (List ℕ) → List Connection → ℕ → List ℕ → Served → List Connection
+and_given None over left text served = over
+and_given (Some bytes) over left text served = over ++ connection_with served (read_but left bytes) text ∷ []
+
+abbrev pub after_event : Seen → Event → Seen
+after_event seen (Came piece) = record { given = Some piece.items; over = seen.over }
+after_event seen (Over left text served) =
+    record { given = None; over = and_given seen.given seen.over left text.items served }
+
+abbrev pub seen_from : Seen → List (Event × Bool) → Seen
+seen_from seen [] = seen
+seen_from seen (event ∷ events) = seen_from (after_event seen event.0) events
+
+-- what was seen after these events
+abbrev pub seen_after : List (Event × Bool) → Seen
+seen_after events = seen_from (record { given = None; over = [] }) events
+
+-- This piece was served as that connection: its first bytes were read, and all of them if its own connection stays open
+-- after it.
+pub record IsServedAs (piece : Piece) (connection : Connection) : Type 0 where
+  pub rest : List ℕ
+  pub splits : piece.read ≡ connection.read ++ rest
+  pub all : piece.closes ≡ false → (rest ≡ []) × (connection.output.ended ≡ InputEnded)
+  pub output : piece.output ≡ connection.output.bytes
+
+-- these pieces were served as those connections
+abbrev pub AreServedAs : List Piece → List Connection → Type 0
+AreServedAs [] [] = Unit {0}
+AreServedAs [] (connection ∷ connections) = ⊥
+AreServedAs (piece ∷ pieces) [] = ⊥
+AreServedAs (piece ∷ pieces) (connection ∷ connections) =
+    IsServedAs piece connection × AreServedAs pieces connections
+
+-- The connections of a hall after the pieces of them that were seen, while the one that was given, if one was, is out.
+pub record Runs {S : Type 0} (s : Ghosts S) (seen : Seen) (hall : Hall S) (traffic : Option (Traffic S)) : Type 0 where
+  pub pieces : List Piece
+  pub are : AreServedAs pieces seen.over
+  pub running : IsRunning s pieces seen.given hall traffic

@@ -1,0 +1,3 @@
+pub mod PieceReader
+pub mod Bytes
+pub mod Events

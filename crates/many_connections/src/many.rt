@@ -1,0 +1,96 @@
+//! A port on which the pieces of many connections come, one after another.
+
+ghost use Rattle.std.specs.Prelude.{◌≡◌, [], Some, None, IfOk};
+ghost use Rattle.ready_connections.specs.Running.{IsEmpty};
+ghost use Rattle.many_connections.specs.Events.{Runs, seen_after};
+
+use crate::event::Event;
+use crate::piece_reader::PieceReader;
+use gateway_ports::Port;
+use gateway_server::{Ended, Served};
+use http_server::Log;
+use http_wire::MemoryWriter;
+use ready_connections::{Hall, Sockets};
+use std::alloc::{AllocError, Global};
+use std::io;
+use std::time::Duration;
+
+/// For how many milliseconds the system is asked for connections that may go on, if none may.
+const WAIT: u64 = 100;
+
+/// How many turns the connections have at most until a piece comes.
+const TURNS: u32 = 4_096;
+
+/// A port on which each piece of the connections of some sockets comes as a connection: a whole request, or what no
+/// request can follow. What is written on it goes out on the connection that the piece is of.
+#[derive(Drop)]
+pub struct Many<K: Sockets + Drop> {
+    alloc: Global,
+    sockets: K,
+    hall: Hall<K::Stream>,
+    /// What happened, which only clauses read.
+    events: Log<Event, bool>,
+    ghost runs: { ∥ Runs K.Stream.Stream (seen_after events.items) hall (K.traffic sockets) ∥₁ },
+}
+
+impl<K: Sockets + Drop> Many<K> {
+    /// The port of these sockets, on which no connection came yet. It serves so many of them at once.
+    pub fn new(alloc: Global, sockets: K, places: usize) -> Result<Many<K>, AllocError>
+        requires { IsEmpty (K.traffic sockets) }
+        ensures { IfOk result (λ many. many.events.items ≡ []) }
+    {
+        Ok(Many {
+            alloc,
+            sockets,
+            hall: Hall::new(alloc, places)?,
+            events: Log::new(),
+        })
+    }
+}
+
+impl<K: Sockets + Drop> Port for Many<K> {
+    type Reader = PieceReader;
+
+    type Writer = MemoryWriter;
+
+    ghost traffic = { λ many. let seen = seen_after many.events.items in
+        record { coming = None; given = seen.given; over = Some seen.over } };
+
+    fn listen(&mut self) -> io::Result<()> {
+        self.sockets.listen()
+    }
+
+    fn accept(&mut self) -> io::Result<Option<(PieceReader, MemoryWriter)>> {
+        if self.hall.is_out() {
+            return Err(io::ErrorKind::Other.into());
+        }
+        let wait = Duration::from_millis(WAIT);
+        match self.hall.next_piece(&mut self.sockets, wait, TURNS)? {
+            Some(piece) => {
+                let event = Event::Came(piece);
+                self.events = self.events.and(&event, &true);
+                let writer = MemoryWriter::new(self.alloc);
+                Ok(Some((PieceReader::new(event.into_bytes()), writer)))
+            }
+            None => Ok(None),
+        }
+    }
+
+    fn end(
+        &mut self,
+        reader: PieceReader,
+        writer: MemoryWriter,
+        served: Served,
+    ) -> Result<(), AllocError> {
+        if !self.hall.is_out() {
+            return Ok(());
+        }
+        let left = reader.left();
+        let is_open = left == 0 && matches!(served.ended, Ended::InputEnded);
+        let text = writer.into_text();
+        let event = Event::Over { left, text, served };
+        self.events = self.events.and(&event, &true);
+        self.hall.give_back(event.into_bytes(), !is_open);
+        Ok(())
+    }
+}

@@ -1,0 +1,45 @@
+//! A piece of a connection as a reader.
+
+ghost use Rattle.std.specs.Prelude.{◌≡◌, Some, length};
+ghost use Rattle.many_connections.specs.PieceReader.{bytes_left};
+
+use http_wire::{DeviceFailed, Source};
+use std::io::{Cursor, Read};
+
+/// The bytes of a piece, which are read from their front.
+#[derive(Drop)]
+pub struct PieceReader {
+    cursor: Cursor<Vec<u8>>,
+}
+
+impl PieceReader {
+    /// A reader of these bytes.
+    pub(crate) fn new(bytes: Vec<u8>) -> PieceReader
+        ensures { bytes_left result ≡ bytes.items }
+    {
+        PieceReader {
+            cursor: Cursor::new(bytes),
+        }
+    }
+
+    /// How many bytes were not read.
+    pub(crate) fn left(&self) -> usize
+        ensures { result ≡ length (bytes_left self.now) }
+    {
+        let read = self.cursor.position() as usize;
+        self.cursor.get_ref().len().saturating_sub(read)
+    }
+}
+
+impl Source for PieceReader {
+    ghost left = { λ reader. Some (bytes_left reader) };
+
+    ghost read_failures = { λ _. 0 };
+
+    fn read(&mut self, room: &mut [u8]) -> Result<usize, DeviceFailed> {
+        match self.cursor.read(room) {
+            Ok(count) => Ok(count),
+            Err(_) => Err(DeviceFailed),
+        }
+    }
+}
