@@ -244,7 +244,15 @@ module _ {S : Type 0} (g : Ghosts S) where
       before,
       holds,
       refl,
-      ([], record { in_turn = refl; came = came_none port.coming; counted = counted; told = told_none port.over taken }),
+      (
+        [],
+        record {
+          in_turn = refl;
+          came = came_none port.coming;
+          counted = counted;
+          told = told_none port.over taken;
+        },
+      ),
     );
     setting = record { clean = λ clean. clean; limit = refl; old_style = refl };
   })

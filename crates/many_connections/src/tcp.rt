@@ -167,7 +167,11 @@ impl Listening {
                 // Replies are written whole, and without this each may wait until the peer acknowledges the one before.
                 let _ = stream.set_nodelay(true);
                 let interest = Interest::READABLE | Interest::WRITABLE;
-                match self.poll.registry().register(&mut stream, Token(place), interest) {
+                match self
+                    .poll
+                    .registry()
+                    .register(&mut stream, Token(place), interest)
+                {
                     Ok(()) => Ok(Some(TcpLine::new(stream))),
                     // It is turned away, and the others go on.
                     Err(_) => Ok(None),

@@ -1,7 +1,8 @@
 //! The names of the files.
 
 ghost use Rattle.std.specs.Prelude.{◌≡◌, ◌++◌, codes, string_bytes, IfOk, OnOk};
-ghost use Rattle.register_pages.specs.Pages.{file_code as file_code_lem, file_letter, filing_page, page_number as page_number_lem};
+ghost use Rattle.register_pages.specs.Pages.{file_code as file_code_lem, file_letter, filing_page};
+ghost use Rattle.register_pages.specs.Pages.{page_number as page_number_lem};
 
 use std::alloc::{AllocError, Global};
 

@@ -14,4 +14,5 @@ returns g c =
     let many : length c.as_slice-rest.result.now ≡ length c.args.own.now.filings.items = search rules in
     let all : c.loop-at.at ≡ c.pages_for-pages.result = omega arith in
     subst (λ n. Writes c.args.missed.now c.loop-at.missed (g.F.Folder.pages c.args.folder.now)
-    (g.F.Folder.pages c.loop-at.folder) (numbered (filer_page c.args.filer.now) n)) (all ∙ c.pages_for-pages.ensures ∙ ap (pages_for 1000) many) c.loop-at.invariant
+    (g.F.Folder.pages c.loop-at.folder) (numbered (filer_page c.args.filer.now) n))
+    (all ∙ c.pages_for-pages.ensures ∙ ap (pages_for 1000) many) c.loop-at.invariant

@@ -22,7 +22,8 @@ returns-in_ok-short_text-in-None c =
       c.args.line.now,
       [],
       _,
-      subst (λ text. AddsText text c.args.rows.now c.short_text-in-None.new.self) (sym (append-nil (visible (shortened c.args.line.now))))
+      subst (λ text. AddsText text c.args.rows.now c.short_text-in-None.new.self)
+          (sym (append-nil (visible (shortened c.args.line.now))))
           c.in_ok-short_text-in-None.ensures,
       inr is,
     )) c.constant-in-None.ensures

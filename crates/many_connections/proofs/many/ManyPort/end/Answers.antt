@@ -8,7 +8,8 @@ use Rattle.many_connections.specs.Events.{Runs, Seen, after_event, seen_after}
 use Rattle.many_connections.proofs.Seeing.{seen_more, not_false, all_left, adds, piece_back}
 use Rattle.filing_model.specs.declared.served.Ended.TheVariants.{InputEnded}
 use Rattle.many_connections.proofs.many.ManyPort.end.Goals as goal
-use Rattle.many_connections.proofs.many.ManyPort.end.Goals.{then-left-eq0+in-InputEnded, then-left-eq0+in_default, else-left-eq0}
+use Rattle.many_connections.proofs.many.ManyPort.end.Goals.{then-left-eq0+in-InputEnded, then-left-eq0+in_default}
+use Rattle.many_connections.proofs.many.ManyPort.end.Goals.{else-left-eq0}
 
 pub invariant_of-self : goal.invariant_of-self
 invariant_of-self g c =
@@ -20,10 +21,10 @@ invariant_of-self g c =
     let stays_open : not c.if-left-eq0.is_open ≡ false
     → (c.left-left.result ≡ 0) × (c.args.served.ended ≡ InputEnded) = λ shut.
     elim c.if-left-eq0.branch [
-      then-left-eq0+in-InputEnded w ↦ (w.if-left-eq0.true, w.in-InputEnded.is)
-    | then-left-eq0+in_default w ↦ absurd (true≢false (sym (ap not w.is_open-is) ∙ shut))
-    | else-left-eq0 w ↦ absurd (w.if-left-eq0.false (all_left c.left-left.result (sym w.is_open-is
-      ∙ not_false c.if-left-eq0.is_open shut)))
+      | then-left-eq0+in-InputEnded w ↦ (w.if-left-eq0.true, w.in-InputEnded.is)
+      | then-left-eq0+in_default w ↦ absurd (true≢false (sym (ap not w.is_open-is) ∙ shut))
+      | else-left-eq0 w ↦ absurd (w.if-left-eq0.false (all_left c.left-left.result (sym w.is_open-is
+          ∙ not_false c.if-left-eq0.is_open shut)))
     ] in
     record {
       runs = ∥∥₁_map old.runs (λ runs. subst (λ (after : Seen). Runs g.K.Stream.Stream after c.give_back.new.self
