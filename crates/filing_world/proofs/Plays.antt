@@ -25,8 +25,7 @@ use Rattle.filing_world.specs.World.{Output, World, Put, Send, Deliver, Hand, Re
 use Rattle.filing_world.specs.World.{new_outbox}
 use Rattle.filing_world.proofs.Single.{entry_with, outbox_with, sent_by, item_of}
 use Rattle.filing_world.specs.Step.{Step}
-use Rattle.filing_world.proofs.Posting.{posted, head_is, never_refused, never_whole}
-use Rattle.filing_world.proofs.Posting.{IsPosted}
+use Rattle.filing_world.proofs.Posting.{posted, head_is, never_refused, never_whole, IsPosted}
 
 -- ---- the ends
 
@@ -70,11 +69,6 @@ after_restart old = record old { up = true }
 
 abbrev pub after_outbox : World → ℕ → Request → State → World
 after_outbox old outbox r state = record old { outboxes = renewed old.outboxes outbox (outbox_with r state) }
-
-pub plays_outbox : (old : World) (outbox : ℕ) (r : Request) (state : State)
-    → numbered old.outboxes outbox ≡ Some (outbox_with r state)
-    → Step old (RestartOutbox outbox) (after_outbox old outbox r state)
-plays_outbox old outbox r state here = record { box = outbox_with r state; here = here; becomes = refl }
 
 -- the same where the outbox is down
 abbrev pub after_fall : World → ℕ → Request → State → World

@@ -1,11 +1,12 @@
 //! Laws over every step. What may live here: functions that do nothing, each with a law as its
 //! contract that holds of a step of any world, reached or not.
 
-ghost use Rattle.std.specs.Prelude.{◌≡◌, ◌≢◌, ◌<◌, ◌≤◌, ℕ, List, Option, [], ◌∷◌, ◌++◌, length, take, Some};
+ghost use Rattle.std.specs.Prelude.{◌≡◌, ◌≢◌, ◌<◌, ◌≤◌, ℕ, Bool, List, Option, [], ◌∷◌, ◌++◌, length, take, Some};
 ghost use Rattle.http_messages.specs.Head.{max_body_len};
 ghost use Rattle.http_messages.specs.Reads.{max_reads};
-ghost use Rattle.http_messages.specs.Reply.{ReplyParts};
-ghost use Rattle.http_messages.specs.Response.{GivesReply};
+ghost use Rattle.http_messages.specs.Reply.{ReplyParts, render};
+ghost use Rattle.http_messages.specs.Response.{GivesReply, IsReadable};
+ghost use Rattle.filing_model.specs.Prefix.{IsPrefixOf};
 ghost use Rattle.filing_model.specs.Outbox.{State, Open, Entry, moved};
 ghost use Rattle.filing_model.specs.Stopping.{Crash, Before};
 ghost use Rattle.filing_world.specs.World.{World, Outbox, Output, Sent, Put, Deliver, Hand, numbered};
@@ -67,4 +68,14 @@ pub fn moves_by_a_whole_reply()
 /// delivery, and nothing is put into an outbox, sent from it or handed to it.
 pub fn is_down_after_a_stop()
     ensures { (old new : World) (given : ℕ) (crash : Crash) → IsUpUnlessStopped old new given crash }
+{}
+
+/// What is handed over of a reply, unless it is the whole, moves no entry: none is confirmed by a reply
+/// that was cut.
+pub fn moves_nothing_by_a_cut_reply()
+    ensures { (old new : World) (output given : ℕ) (crash : Crash) (from : Output) (reply : ReplyParts) (close : Bool)
+        → numbered old.outputs output ≡ Some from → IsReadable reply
+        → IsPrefixOf (take given from.bytes) (render reply close)
+        → length (take given from.bytes) < length (render reply close) → Step old (Hand output given crash) new
+        → states new ≡ states old }
 {}
