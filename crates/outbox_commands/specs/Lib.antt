@@ -6,3 +6,4 @@ pub mod Reading
 pub mod Status
 pub mod Tasks
 pub mod Visits
+pub mod Words

@@ -4,6 +4,7 @@
 #![tactic(auto)]
 
 mod answer;
+mod asked;
 mod errand;
 mod fault;
 mod held;

@@ -1,12 +1,11 @@
 //! The tasks of `outbox` and their values, as `clap` reads them.
 
 use clap::builder::ValueParser;
-use clap::{Arg, ArgAction, ArgMatches, Command, Error, value_parser};
+use clap::{Arg, ArgAction, Command, value_parser};
 use command_line::{
     ToArg, VERSION, Word, database_option, filer_option, option, path_option, port_option,
     report_files, tasks,
 };
-use filing_model::MAX_FILING_NUMBER;
 use outbox_process::{Target, Which};
 use report_tasks::Form;
 use std::alloc::{AllocError, Global};
@@ -74,8 +73,13 @@ pub(crate) enum Task<'a> {
 }
 
 impl<'a> Task<'a> {
+    ghost use Rattle.std.specs.Prelude.{◌≡◌};
+    ghost use Rattle.outbox_commands.specs.Words.{database_of, Calls};
+
     /// The name of the file that the outbox lies in.
-    pub(crate) fn database(&self) -> &'a str {
+    pub(crate) fn database(&self) -> &'a str
+        ensures { result ≡ database_of self.now }
+    {
         match self {
             Task::Init { database, .. }
             | Task::Put { database, .. }
@@ -88,7 +92,9 @@ impl<'a> Task<'a> {
     }
 
     /// The intake to which the task sends; one that is never called if it sends nothing.
-    pub(crate) fn peer(&self) -> Peer<'a> {
+    pub(crate) fn peer(&self) -> Peer<'a>
+        ensures { Calls self.now result }
+    {
         match self {
             Task::Send { peer, .. } | Task::Ask { peer, .. } => *peer,
             _ => Peer {
@@ -385,7 +391,8 @@ static WORDS: [Word<Argument>; 8] = [
     },
 ];
 
-fn command<'a>(alloc: Global) -> Result<Command<'a>, AllocError> {
+/// The command line of `outbox`, with a subcommand for each of these words.
+pub(crate) fn command<'a>(alloc: Global) -> Result<Command<'a>, AllocError> {
     let tasks = tasks(alloc, &WORDS)?;
     Command::new(alloc, "outbox")
         .version(VERSION)
@@ -399,128 +406,4 @@ fn command<'a>(alloc: Global) -> Result<Command<'a>, AllocError> {
         ))
         .subcommand_required(true)
         .subcommands(tasks)
-}
-
-fn which_of(values: &ArgMatches<'_>) -> Which {
-    match values.get_one("entry") {
-        Some(id) => Which::Entry(id),
-        None if values.get_flag("all") => Which::All,
-        None => Which::Next,
-    }
-}
-
-/// The intake that is called.
-fn peer_of<'a>(values: &ArgMatches<'a>) -> Option<Peer<'a>> {
-    Some(Peer {
-        port: values.get_one("port")?,
-        patience: values.get_one("patience"),
-        receipts: values.get_str("receipts"),
-    })
-}
-
-/// What `--amend` says. Other numbers are refused as the words are read.
-fn target_of(values: &ArgMatches<'_>) -> Target {
-    match values.get_one("amend") {
-        Some(number) if 1 <= number && number <= MAX_FILING_NUMBER => Target {
-            number: Some(number),
-        },
-        _ => Target { number: None },
-    }
-}
-
-/// The names of files that this argument has.
-fn files_of<'a>(
-    alloc: Global,
-    values: &ArgMatches<'a>,
-    argument: &str,
-) -> Result<Vec<&'a str>, AllocError> {
-    let mut files = Vec::new(alloc);
-    if let Some(names) = values.get_strs(argument) {
-        files.extend_from_slice(names)?;
-    }
-    Ok(files)
-}
-
-fn task_of<'a>(name: &str, bodies: Vec<&'a str>, values: &ArgMatches<'a>) -> Option<Task<'a>> {
-    let database = values.get_str("db")?;
-    match name {
-        "init" => Some(Task::Init {
-            database,
-            filer: values.get_str("filer")?,
-        }),
-        "put" => Some(Task::Put {
-            database,
-            bodies,
-            key: values.get_str("key"),
-            target: target_of(values),
-        }),
-        "migrate" => Some(Task::Migrate { database }),
-        "send" => Some(Task::Send {
-            database,
-            peer: peer_of(values)?,
-            which: which_of(values),
-            is_strict: values.get_flag("strict"),
-        }),
-        "ask" => Some(Task::Ask {
-            database,
-            peer: peer_of(values)?,
-            id: values.get_one("entry")?,
-            form: form_of(values),
-        }),
-        "status" => Some(Task::Status { database }),
-        "show" => Some(Task::Show {
-            database,
-            entry: values.get_one("entry"),
-        }),
-        _ => None,
-    }
-}
-
-/// How findings are written.
-fn form_of(values: &ArgMatches<'_>) -> Form {
-    if values.get_flag("json") {
-        Form::Objects
-    } else {
-        Form::Sentences
-    }
-}
-
-fn lint_of<'a>(alloc: Global, values: &ArgMatches<'a>) -> Result<Option<Asked<'a>>, AllocError> {
-    let Some(filer) = values.get_str("filer") else {
-        return Ok(None);
-    };
-    let files = files_of(alloc, values, "FILE")?;
-    let form = form_of(values);
-    Ok(Some(Asked::Lint { filer, form, files }))
-}
-
-/// A task on an outbox, and for how many seconds it waits for the file, which is 0 if nothing says so.
-fn outbox_of<'a>(
-    alloc: Global,
-    name: &str,
-    values: &ArgMatches<'a>,
-) -> Result<Option<Asked<'a>>, AllocError> {
-    let bodies = match name {
-        "put" => files_of(alloc, values, "body")?,
-        _ => Vec::new(alloc),
-    };
-    let wait = values.get_one("wait").unwrap_or(0);
-    match task_of(name, bodies, values) {
-        Some(task) => Ok(Some(Asked::Outbox { task, wait })),
-        None => Ok(None),
-    }
-}
-
-fn asked_by<'a>(alloc: Global, matches: &ArgMatches<'a>) -> Result<Option<Asked<'a>>, AllocError> {
-    match matches.subcommand() {
-        Some(("lint", values)) => lint_of(alloc, values),
-        Some((name, values)) => outbox_of(alloc, name, values),
-        None => Ok(None),
-    }
-}
-
-/// What these words ask for. The first word is the program's name. `None` if they ask for nothing.
-pub(crate) fn read<'a>(alloc: Global, words: &'a [String]) -> Result<Option<Asked<'a>>, Error> {
-    let matches = command(alloc)?.try_get_matches_from(words)?;
-    Ok(asked_by(alloc, &matches)?)
 }

@@ -7,11 +7,11 @@ ghost use Rattle.outbox_commands.specs.Status.{opening_status, status_of, status
 ghost use Rattle.outbox_commands.specs.Tasks.{MakesOutbox, IsJudged, IsPrinted, MigratesOutbox, Does, is_current};
 ghost use Rattle.outbox_commands.specs.Visits.{opening_verdict};
 
+use crate::asked::read;
 use crate::errand::{close, open, run_errand};
 use crate::fault::{Fault, verdict_on};
 use crate::linting::lint;
 use crate::network::{Network, PeerDial};
-use crate::options;
 use crate::options::{Asked, Task};
 use crate::putting::put;
 use command_line::{CommandFault, DONE, show, show_refusal, words};
@@ -273,7 +273,7 @@ fn perform_words<'a, O: Write, E: Write>(
     output: &mut O,
     errors: &mut E,
 ) -> Result<u8, Fault<'a>> {
-    match options::read(rt.alloc(), words) {
+    match read(rt.alloc(), words) {
         Ok(Some(Asked::Lint { filer, form, files })) => {
             lint(rt, form, filer, files.as_slice(), output, errors)
         }
