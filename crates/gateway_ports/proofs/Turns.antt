@@ -11,16 +11,15 @@ use Rattle.filing_model.specs.declared.served.Ended.TheVariants.{InputEnded, Fau
 use Rattle.filing_model.specs.Request.{Request}
 use Rattle.filing_model.specs.Serving.{keeping}
 use Rattle.filing_model.proofs.Lists.{append_nil}
-use Rattle.sqlite.specs.Store.{Ghosts}
-use Rattle.intake_core.specs.declared.intake.Intake.{Intake}
-use Rattle.intake_core.specs.Held.{limit_of, old_style_in}
 use Rattle.gateway_server.specs.declared.serving.Served.{Served}
 use Rattle.http_wire.specs.Wire.{Wire}
-use Rattle.gateway_server.specs.Progress.{ServesToEnd}
-use Rattle.gateway_ports.specs.Ports.{Connection, Traffic, Takes, IsNew, Grows, Adds, connection_with}
-use Rattle.gateway_ports.specs.InTurn.{Came, ServeInTurn, AreCounted, AreTold, AreServed, ServesSome}
+use Rattle.gateway_ports.specs.Ports.{Connection, Traffic, MayShut, Takes, IsNew, Grows, Adds, connection_with}
+use Rattle.gateway_ports.specs.InTurn.{Came, ServeInTurn, AreCounted, AreTold}
 
 -- ---- no connection
+
+pub unchanged : (port : Traffic) → MayShut port port
+unchanged port = (refl, λ shut. shut)
 
 pub came_none : (old : Option (List (List ℕ))) → Came old old []
 came_none None = tt
@@ -167,122 +166,6 @@ told_join old mid new cs ds m None first (inr (told, last, is, second)) =
       ap (λ es. cs ++ es) is ∙ sym (append_assoc cs told (last ∷ [])),
       grows_join old mid new cs told first second,
     )
-
-served_join : (limit : ℕ) (old_style before between after : List Request) (first mid last : Traffic)
-    (cs ds : List Connection) (m : ℕ) (taken : Option ℕ)
-    → AreServed (keeping limit old_style before between) first mid cs (Some m)
-    → AreServed (keeping limit old_style between after) mid last ds taken
-    → AreServed (keeping limit old_style before after) first last (cs ++ ds) (option_map (λ n. m + n) taken)
-served_join limit old_style before between after first mid last cs ds m None a b = record {
-  in_turn = turns_join limit old_style before between after cs ds a.in_turn b.in_turn;
-  came = came_join first.coming mid.coming last.coming cs ds a.came b.came;
-  counted = tt;
-  told = told_join first.over mid.over last.over cs ds m None a.told b.told;
-}
-served_join limit old_style before between after first mid last cs ds m (Some n) a b = record {
-  in_turn = turns_join limit old_style before between after cs ds a.in_turn b.in_turn;
-  came = came_join first.coming mid.coming last.coming cs ds a.came b.came;
-  counted = counted_join first.coming mid.coming cs ds m n a.came a.counted b.counted;
-  told = told_join first.over mid.over last.over cs ds m (Some n) a.told b.told;
-}
-
--- ---- what an intake does
-
-module _ {S : Type 0} (g : Ghosts S) where
-  -- some, and then more
-  pub join : (first mid last : Traffic) (old between new : Intake S) (m : ℕ) (taken : Option ℕ)
-      → ServesSome g first mid old between (Some m) → ServesSome g mid last between new taken
-      → ServesSome g first last old new (option_map (λ n. m + n) taken)
-  join first mid last old between new m taken a b = record {
-    serves = λ clean before holds.
-        let one = a.serves (b.setting.clean clean) before holds in
-        let two = rw (a.setting.limit, one.2) at (b.serves clean one.0 one.1) in (
-          two.0,
-          two.1,
-          two.2,
-          (
-            one.3.0 ++ two.3.0,
-            served_join (limit_of old) (old_style_in old before) before one.0 two.0 first mid last one.3.0 two.3.0 m
-                taken one.3.1 two.3.1,
-          ),
-        );
-    setting = record {
-      clean = λ clean. a.setting.clean (b.setting.clean clean);
-      limit = b.setting.limit ∙ a.setting.limit;
-      old_style = b.setting.old_style ∙ a.setting.old_style;
-    };
-  }
-
-  -- where it is not answered how many came
-  pub untold : (port port' : Traffic) (old new : Intake S) (taken : Option ℕ) → ServesSome g port port' old new taken
-      → ServesSome g port port' old new None
-  untold port port' old new taken a = record {
-    serves = λ clean before holds.
-        let t = a.serves clean before holds in
-        let s = t.3.1 in (
-          t.0,
-          t.1,
-          t.2,
-          (
-            t.3.0,
-            record {
-              in_turn = s.in_turn;
-              came = s.came;
-              counted = tt;
-              told = told_untold port.over port'.over t.3.0 taken s.told;
-            },
-          ),
-        );
-    setting = a.setting;
-  }
-
-  -- no connection was served
-  pub none : (port port' : Traffic) (intake : Intake S) (taken : Option ℕ) → port' ≡ port
-      → IfSome taken (AreCounted port.coming []) → ServesSome g port port' intake intake taken
-  none port port' intake taken same counted = subst (λ p. ServesSome g port p intake intake taken) (sym same) (record {
-    serves = λ clean before holds. (
-      before,
-      holds,
-      refl,
-      (
-        [],
-        record {
-          in_turn = refl;
-          came = came_none port.coming;
-          counted = counted;
-          told = told_none port.over taken;
-        },
-      ),
-    );
-    setting = record { clean = λ clean. clean; limit = refl; old_style = refl };
-  })
-
-  -- one connection was served, and, where that is told, it was told to the port
-  pub one : (port mid port' : Traffic) (from to : Wire) (old new : Intake S) (served : Served) (taken : Option ℕ)
-      → (mid.over ≡ port.over) × Takes port.coming mid.coming from.left × IsNew port.over mid.given from
-      → ServesToEnd g from to old new served → port'.coming ≡ mid.coming
-      → IsEndTold mid port' to served taken → ServesSome g port port' old new taken
-  one port mid port' from to old new served taken fresh serves same told = record {
-    serves = λ clean before holds.
-        let t = serves.serves clean before holds in
-        let s = t.3 in
-        let c = connection_with served s.got s.sent in (
-          t.0,
-          t.1,
-          t.2,
-          (
-            c ∷ [],
-            record {
-              in_turn = (t.0, s.serves, refl);
-              came = subst (λ after. Came port.coming after (c ∷ [])) (sym same)
-                  (came_one port.coming mid.coming from.left to.left c fresh.1 s.read s.at_end s.limited);
-              counted = counted_told port.coming mid port' to served c taken told;
-              told = told_one port mid port' from to served s.got s.sent taken fresh.0 fresh.2 s.read s.wrote told;
-            },
-          ),
-        );
-    setting = serves.setting;
-  }
 
 -- a refusal doesn't tell how many came
 pub none_told : {A E : Type 0} (r : Result A E) → IsErr r → result_ok r ≡ None

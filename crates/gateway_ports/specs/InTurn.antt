@@ -1,14 +1,11 @@
--- Connections that an intake serves one after another; own rules.
-use Rattle.std.specs.Prelude.{◌≡◌, ◌⊎◌, ℕ, ◌≤◌, List, [], ◌∷◌, ◌++◌, length, Option, Some, None, IfSome}
-use Rattle.sqlite.specs.Store.{Ghosts}
+-- Connections that are served one after another; own rules.
+use Rattle.std.specs.Prelude.{◌≡◌, ◌⊎◌, ℕ, ◌≤◌, List, [], ◌∷◌, ◌++◌, length, Option, Some, None}
 use Rattle.http_messages.specs.declared.refusal.ConnFault.TheVariants as fault
 use Rattle.http_messages.specs.Reads.{max_reads}
 use Rattle.filing_model.specs.declared.served.Ended.TheVariants.{InputEnded, Fault}
 use Rattle.filing_model.specs.Request.{Request}
-use Rattle.filing_model.specs.Serving.{Keeping, keeping, Serves}
-use Rattle.intake_core.specs.declared.intake.Intake.{Intake}
-use Rattle.intake_core.specs.Held.{limit_of, KeepsSetting, IsTransition}
-use Rattle.gateway_ports.specs.Ports.{Connection, Traffic, Grows}
+use Rattle.filing_model.specs.Serving.{Keeping, Serves}
+use Rattle.gateway_ports.specs.Ports.{Connection, Grows}
 
 -- each is served after the requests that the one before it left
 abbrev pub ServeInTurn : Keeping → List Connection → Type 0
@@ -41,27 +38,7 @@ AreTold before after connections (Some taken) = Grows before after connections
 AreTold before after connections None = Grows before after connections
     ⊎ ((told : List Connection) × (last : Connection) × (connections ≡ told ++ last ∷ []) × Grows before after told)
 
--- How many connections came: these, and, if the coming ones are not known, perhaps some that their peers gave up first.
+-- How often the port was asked: for these, and, if the coming ones are not known, perhaps without any that came.
 abbrev pub AreCounted : Option (List (List ℕ)) → List Connection → ℕ → Type 0
 AreCounted None connections count = length connections ≤ count
 AreCounted (Some coming) connections count = length connections ≡ count
-
--- These connections of a port were served: the first that came, none left out, each after the one before it.
-pub record AreServed (requests : Keeping) (old new : Traffic) (connections : List Connection) (taken : Option ℕ)
-    : Type 0 where
-  pub in_turn : ServeInTurn requests connections
-  pub came : Came old.coming new.coming connections
-  -- if the answer says how many were taken, these are as many
-  pub counted : IfSome taken (AreCounted old.coming connections)
-  pub told : AreTold old.over new.over connections taken
-
--- What serving some connections of a port does with it and with an intake. `taken` says how many came, if the answer
--- has it.
-pub record ServesSome {S : Type 0} (g : Ghosts S) (port port' : Traffic) (old new : Intake S) (taken : Option ℕ)
-    : Type 0 where
-  -- if the disk is clean at the end, some connections were served, the first after the requests that were kept
-  -- before
-  pub serves : IsTransition g old new (λ old_style before after. (connections : List Connection)
-      × AreServed (keeping (limit_of old) old_style before after) port port' connections taken)
-  -- as many keys may be kept as before, and a disk that is clean at the end was clean before
-  pub setting : KeepsSetting g old new

@@ -1,3 +1,2 @@
 pub mod InTurn
-pub mod Memory
 pub mod Ports

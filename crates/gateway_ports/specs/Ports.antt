@@ -1,5 +1,6 @@
 -- What comes on a port and what becomes of its connections, as far as that is known; own rules.
-use Rattle.std.specs.Prelude.{◌≡◌, ℕ, List, [], ◌∷◌, ◌++◌, Option, Some, None, Result, Ok, Err}
+use Rattle.std.specs.Prelude.{◌≡◌, ℕ, Bool, true, false, List, [], ◌∷◌, ◌++◌, Option, Some, None}
+use Rattle.std.specs.Prelude.{Result, Ok, Err}
 use Rattle.std.specs.Io.KnownBytes.{Consumes}
 use Rattle.http_wire.specs.Wire.{Wire}
 use Rattle.filing_model.specs.declared.served.Mark.{Mark}
@@ -18,11 +19,22 @@ pub record Connection : Type 0 where
   pub output : Output
 
 -- What contracts see of a port, if it is known: the bytes of each connection that comes from here on, the bytes of the
--- one that came last, and each that is over.
+-- one that came last, and each that is over; and whether no connection comes any more.
 pub record Traffic : Type 0 where
   pub coming : Option (List (List ℕ))
   pub given : Option (List ℕ)
   pub over : Option (List Connection)
+  pub is_shut : Bool
+
+-- a port whose connections are known is shut exactly if none of them is left
+abbrev pub IsShutBy : Option (List (List ℕ)) → Bool → Type 0
+IsShutBy None is_shut = Unit {0}
+IsShutBy (Some []) is_shut = is_shut ≡ true
+IsShutBy (Some (first ∷ more)) is_shut = is_shut ≡ false
+
+-- nothing of a port changed, except that no connection may come any more
+abbrev pub MayShut : Traffic → Traffic → Type 0
+MayShut old new = (new ≡ record old { is_shut = new.is_shut }) × (old.is_shut ≡ true → new.is_shut ≡ true)
 
 -- the first of the known connections is taken, and has these bytes
 abbrev pub Takes : Option (List (List ℕ)) → Option (List (List ℕ)) → Option (List ℕ) → Type 0
@@ -41,15 +53,16 @@ abbrev pub NoneIsLeft : Option (List (List ℕ)) → Type 0
 NoneIsLeft None = Unit {0}
 NoneIsLeft (Some coming) = coming ≡ []
 
--- A connection came, of which nothing is read or written; or one that its peer gave up first, which happens to no known
--- one; or the port failed, which happens if no known one is left, and changed nothing. The first argument is what
--- contracts see of the two halves of a connection.
+-- A connection came, of which nothing is read or written, on a port that was not shut; or none came, as when a peer
+-- gave it up first, which happens to no known one; or the port failed, which happens if no known one is left. If none
+-- came, the port may be shut now, and nothing else changed. The first argument is what contracts see of the two halves
+-- of a connection.
 abbrev pub Comes : {R W E : Type 0} → (R → W → Wire) → Traffic → Traffic → Result (Option (R × W)) E → Type 0
 Comes shows old new (Ok (Some (reader, writer))) =
-    (new.over ≡ old.over) × Takes old.coming new.coming (shows reader writer).left
+    (old.is_shut ≡ false) × (new.over ≡ old.over) × Takes old.coming new.coming (shows reader writer).left
     × IsNew old.over new.given (shows reader writer)
-Comes shows old new (Ok None) = (new ≡ old) × (old.coming ≡ None)
-Comes shows old new (Err error) = (new ≡ old) × NoneIsLeft old.coming
+Comes shows old new (Ok None) = MayShut old new × (old.coming ≡ None)
+Comes shows old new (Err error) = MayShut old new × NoneIsLeft old.coming
 
 -- the known connections, and behind them these
 abbrev pub Grows : Option (List Connection) → Option (List Connection) → List Connection → Type 0

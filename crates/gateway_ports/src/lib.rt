@@ -1,14 +1,9 @@
-//! The ports that connections come on, and the loop that serves them on an intake, one after another. What may live
-//! here: the connections of a port as a list, and the order in which they are served. What is read and written on one
-//! of them is not known here.
+//! The ports that connections come on. What may live here: what is known of the connections of a port, and what it
+//! means that they are served in turn. What is read and written on one of them is not known here.
 #![tactic(auto)]
 
-mod memory;
+mod fault;
 mod port;
-mod serving;
-mod tcp;
 
-pub use memory::{Finished, Queue};
+pub use fault::PortFault;
 pub use port::Port;
-pub use serving::{PortFault, serve_each};
-pub use tcp::TcpPort;

@@ -1,5 +1,5 @@
 -- What a task does follows from what its call did.
-use Rattle.std.proofs.Common.{◌≡◌, ◌≤◌, ◌^◌, ℕ, Bool, true, false, true≢false, Result, subst, sym, inr, MatchBool}
+use Rattle.std.proofs.Common.{◌≡◌, ◌≤◌, ◌^◌, ℕ, Bool, true, false, true≢false, Result, None, subst, sym, inr, MatchBool}
 use Rattle.std.specs.Prelude.{not}
 use Rattle.sqlite_disk.specs.declared.Disk.{Ghosts}
 use Rattle.gateway_ports.specs.Ports.{Traffic}
@@ -8,7 +8,7 @@ use Rattle.intake_process.specs.Process.{Parts}
 use Rattle.intake_process.specs.Turns.{ServesRegister}
 use Rattle.intake_process.specs.declared.serving.ServingFault.{ServingFault}
 use Rattle.intake_commands.specs.declared.fault.Fault.{Fault}
-use Rattle.intake_commands.specs.Tasks.{IsServingTold, Serves}
+use Rattle.intake_commands.specs.Tasks.{IsServingTold, Serves, most_asked}
 
 -- ---- what is wanted, and what is not
 
@@ -23,15 +23,15 @@ unwanted false P Q is q = q
 -- ---- a port is served
 
 pub served_as : {D : Type 0} {g : Ghosts D} (task : Serving) (found : Bool) (keys : ℕ) (port port' : Traffic)
-    (old new : Parts g) (served : Result (Unit {0}) ServingFault) (result : Result ℕ Fault) → found ≡ not task.new
+    (old new : Parts g) (served : Result ℕ ServingFault) (result : Result ℕ Fault) → found ≡ not task.new
     → keys ≡ task.limit → keys ≤ 2 ^ 62
-    → ServesRegister found keys task.connections port port' old new served → IsServingTold task served result
+    → ServesRegister found keys most_asked port port' None None old new served → IsServingTold task served result
     → Serves task port port' old new result
 served_as task found keys port port' old new served result found_is keys_is few serves told =
-    let limited = subst (λ k. ServesRegister found k task.connections port port' old new served) keys_is serves in
+    let limited = subst (λ k. ServesRegister found k most_asked port port' None None old new served) keys_is serves in
     inr (inr (
       subst (λ k. k ≤ 2 ^ 62) keys_is few,
       served,
-      subst (λ f. ServesRegister f task.limit task.connections port port' old new served) found_is limited,
+      subst (λ f. ServesRegister f task.limit most_asked port port' None None old new served) found_is limited,
       told,
     ))

@@ -1,6 +1,7 @@
 -- What `intake` does with a task. This says of each word of the command line what is printed, what is kept, and the
 -- status.
-use Rattle.std.specs.Prelude.{◌≡◌, ◌⊎◌, ◌≤◌, ◌<◌, ◌^◌, ℕ, Bool, true, false, not, List, codes, Option, Some, None, Ok}
+use Rattle.std.specs.Prelude.{◌≡◌, ◌⊎◌, ◌≤◌, ◌<◌, ◌^◌, ◌-◌, ℕ, Bool, true, false, not, List, codes, Option, Some}
+use Rattle.std.specs.Prelude.{None, Ok}
 use Rattle.std.specs.Prelude.{Result, Err, MatchBool}
 use Rattle.std.specs.Borrow.{Bor}
 use Rattle.std.specs.Io.KnownBytes.{Appends}
@@ -10,7 +11,7 @@ use Rattle.http_wire.specs.Wire.{Wire}
 use Rattle.filing_model.specs.declared.served.Ended.{Ended}
 use Rattle.filing_model.specs.declared.served.Ended.TheVariants as ended
 use Rattle.gateway_ports.specs.Ports.{Traffic}
-use Rattle.gateway_ports.specs.declared.serving.PortFault.TheVariants as network
+use Rattle.gateway_ports.specs.declared.fault.PortFault.TheVariants as network
 use Rattle.command_line.specs.declared.fault.CommandFault.TheVariants as command
 use Rattle.database_places.specs.Verdicts.{verdict_text}
 use Rattle.database_places.specs.declared.verdict.Verdict.{Verdict}
@@ -67,8 +68,8 @@ Runs limit from to (Err other) = ⊥
 -- ---- serve: connections of a port are served on the register of a file
 
 -- the status is 0 if the port was served; otherwise a fault is reported, by why it was not
-abbrev pub IsServingTold : Serving → Result (Unit {0}) ServingFault → Result ℕ Fault → Type 0
-IsServingTold task (Ok done) result = result ≡ Ok 0
+abbrev pub IsServingTold : Serving → Result ℕ ServingFault → Result ℕ Fault → Type 0
+IsServingTold task (Ok taken) result = result ≡ Ok 0
 IsServingTold task (Err (refused.Register why)) result =
     (told : Fault) × IsOpeningTold task.database why told × (result ≡ Err told)
 IsServingTold task (Err (refused.Port (network.Network error))) result = result ≡ Err (fault.Network task.port error)
@@ -88,14 +89,18 @@ pub record IsWithoutPort {D : Type 0} {g : Ghosts D} (task : Serving) (port port
   pub kept : new ≡ old
   pub told : IsPortRefused task.port result
 
--- the port is served with the task's limit and number of connections, on a register that is new or not
+-- how often the port is asked at most, unless it is shut before: the largest number of 64 bits
+abbrev pub most_asked : ℕ
+most_asked = 2 ^ 64 - 1
+
+-- the port is served with the task's limit until it is shut, on a register that is new or not
 abbrev pub Serves : {D : Type 0} {g : Ghosts D} → Serving → Traffic → Traffic → Parts g → Parts g → Result ℕ Fault
     → Type 0
 Serves task port port' old new result =
     ((2 ^ 62 < task.limit) × (port' ≡ port) × (new ≡ old) × (result ≡ Err fault.Limit))
     ⊎ (IsWithoutPort task port port' old new result
-    ⊎ ((task.limit ≤ 2 ^ 62) × (served : Result (Unit {0}) ServingFault)
-    × ServesRegister (not task.new) task.limit task.connections port port' old new served
+    ⊎ ((task.limit ≤ 2 ^ 62) × (served : Result ℕ ServingFault)
+    × ServesRegister (not task.new) task.limit most_asked port port' None None old new served
     × IsServingTold task served result))
 
 -- ---- list, show, check, migrate, export and pages: the register of a file is visited

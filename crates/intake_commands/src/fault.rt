@@ -280,9 +280,6 @@ pub(crate) enum ConnectionFault {
     Served { connection: u32, fault: ConnFault },
     #[error("connection {connection}: cut off after {seconds} seconds")]
     Late { connection: u32, seconds: u32 },
-    /// The system refused what it takes to serve it.
-    #[error("127.0.0.1:{port}: {error}")]
-    Network { port: u16, error: io::Error },
     /// No memory was left for its line.
     #[error("{text}", text = CommandFault::Memory)]
     Memory,

@@ -4,22 +4,24 @@
 //! the bytes and the rows mean is not known here.
 #![tactic(auto)]
 
+mod asked;
 mod fault;
 mod folder;
 mod limit;
 mod line;
 mod linting;
-mod log;
 mod note;
 mod options;
 mod pause;
 mod port;
 mod program;
 mod progress;
+mod record;
 mod reporter;
 mod room;
 mod running;
 mod serving;
+mod sockets;
 mod tasks;
 mod told;
 mod visiting;

@@ -1,12 +1,11 @@
 //! The tasks of `intake` and their values, as `clap` reads them.
 
 use clap::builder::ValueParser;
-use clap::{Arg, ArgAction, ArgMatches, Command, Error, value_parser};
+use clap::{Arg, ArgAction, Command, value_parser};
 use command_line::{
     ToArg, VERSION, Word, database_option, filer_option, option, path_option, port_option,
     report_files, tasks,
 };
-use fact_records::Form as Format;
 use intake_tasks::Errand;
 use report_tasks::Form;
 use std::alloc::{AllocError, Global};
@@ -19,6 +18,16 @@ const MOST_CONNECTIONS: i64 = (1 << 32) - 1;
 /// The seconds of a day.
 const MOST_SECONDS: i64 = 86_400;
 
+/// How many connections are served at once, and how many megabytes they may take in all, if the command line does not
+/// say so.
+pub(crate) const DEFAULT_AT_ONCE: u16 = 256;
+
+pub(crate) const DEFAULT_MEMORY: u32 = 256;
+
+const MOST_AT_ONCE: i64 = 65_535;
+
+const MOST_MEMORY: i64 = 65_536;
+
 /// What is served, and how.
 #[derive(Clone, Copy)]
 pub(crate) struct Serving<'a> {
@@ -26,9 +35,13 @@ pub(crate) struct Serving<'a> {
     pub(crate) port: u16,
     /// How many connections are served.
     pub(crate) connections: u32,
+    /// How many of them are served at once.
+    pub(crate) at_once: u16,
+    /// How many megabytes, of 1,000,000 bytes, all of them may hold and owe, beside a small room of each.
+    pub(crate) memory: u32,
     /// How many keys are kept at most.
     pub(crate) limit: u64,
-    /// How many seconds each connection may take; no limit if none is given.
+    /// For how many seconds the peer of a connection is waited for; no limit if none is given.
     pub(crate) patience: Option<u32>,
     /// Whether the register is made, and not opened.
     pub(crate) new: bool,
@@ -101,9 +114,31 @@ fn connections<'a>(alloc: Global) -> Arg<'a> {
         alloc,
         "connections",
         "COUNT",
-        "How many connections to serve, one after the other, before it ends, 1 to 4294967295",
+        "How many connections to serve before it ends, 1 to 4294967295",
         value_parser!(u32).range(1..=MOST_CONNECTIONS),
     )
+}
+
+fn at_once<'a>(alloc: Global) -> Arg<'a> {
+    number_option(
+        alloc,
+        "at-once",
+        "N",
+        "How many connections to serve at once, 1 to 65535; further ones wait [default: 256]",
+        value_parser!(u16).range(1..=MOST_AT_ONCE),
+    )
+    .required(false)
+}
+
+fn memory<'a>(alloc: Global) -> Arg<'a> {
+    number_option(
+        alloc,
+        "memory",
+        "MB",
+        "The most megabytes that requests and replies may take in all, 1 to 65536; beyond that they wait [default: 256]",
+        value_parser!(u32).range(1..=MOST_MEMORY),
+    )
+    .required(false)
 }
 
 fn patience<'a>(alloc: Global) -> Arg<'a> {
@@ -111,7 +146,7 @@ fn patience<'a>(alloc: Global) -> Arg<'a> {
         alloc,
         "patience",
         "SECONDS",
-        "The most seconds that a connection may take, 1 to 86400 [default: no limit]",
+        "The most seconds to wait for the rest of a request, for the next one, or until a reply is taken, 1 to 86400 [default: no limit]",
         value_parser!(u32).range(1..=MOST_SECONDS),
     )
     .required(false)
@@ -183,6 +218,8 @@ enum Argument {
     Database,
     Port,
     Connections,
+    AtOnce,
+    Memory,
     Limit,
     Patience,
     Wait,
@@ -203,6 +240,8 @@ impl ToArg for Argument {
             Argument::Database => database_option(alloc, "The database file of the register"),
             Argument::Port => port_option(alloc, "The port of 127.0.0.1 to listen on, 1 to 65535"),
             Argument::Connections => connections(alloc),
+            Argument::AtOnce => at_once(alloc),
+            Argument::Memory => memory(alloc),
             Argument::Limit => limit(alloc),
             Argument::Patience => patience(alloc),
             Argument::Wait => wait(alloc),
@@ -247,6 +286,8 @@ static WORDS: [Word<Argument>; 9] = [
             Argument::Database,
             Argument::Port,
             Argument::Connections,
+            Argument::AtOnce,
+            Argument::Memory,
             Argument::Limit,
             Argument::Patience,
             Argument::Wait,
@@ -303,7 +344,8 @@ static WORDS: [Word<Argument>; 9] = [
     },
 ];
 
-fn command<'a>(alloc: Global) -> Result<Command<'a>, AllocError> {
+/// The command line of `intake`, with a subcommand for each of these words.
+pub(crate) fn command<'a>(alloc: Global) -> Result<Command<'a>, AllocError> {
     let tasks = tasks(alloc, &WORDS)?;
     Command::new(alloc, "intake")
         .version(VERSION)
@@ -315,123 +357,4 @@ fn command<'a>(alloc: Global) -> Result<Command<'a>, AllocError> {
             "3 memory, a file, the disk or the network failed; 4 no such filing",
         ))
         .subcommands(tasks)
-}
-
-fn limit_of(values: &ArgMatches<'_>) -> u64 {
-    values.get_one("limit").unwrap_or(DEFAULT_LIMIT)
-}
-
-/// How findings are written.
-fn form_of(values: &ArgMatches<'_>) -> Form {
-    if values.get_flag("json") {
-        Form::Objects
-    } else {
-        Form::Sentences
-    }
-}
-
-fn lint_of<'a>(alloc: Global, values: &ArgMatches<'a>) -> Result<Option<Task<'a>>, AllocError> {
-    let (Some(filer), Some(names)) = (values.get_str("filer"), values.get_strs("FILE")) else {
-        return Ok(None);
-    };
-    let mut files = Vec::new(alloc);
-    files.extend_from_slice(names)?;
-    let form = form_of(values);
-    Ok(Some(Task::Lint { filer, form, files }))
-}
-
-/// How facts are written, as the command line names it.
-fn format_of(values: &ArgMatches<'_>) -> Option<Format> {
-    match values.get_str("format")? {
-        "csv" => Some(Format::Csv),
-        "jsonl" => Some(Format::JsonLines),
-        _ => None,
-    }
-}
-
-fn errand_of<'a>(name: &str, values: &ArgMatches<'a>) -> Option<Errand<'a>> {
-    match name {
-        "list" => Some(Errand::List {
-            filer: values.get_str("filer")?,
-        }),
-        "show" => Some(Errand::Show {
-            number: values.get_one("number")?,
-        }),
-        "check" => Some(Errand::Check),
-        "migrate" => Some(Errand::Migrate),
-        "export" => Some(Errand::Export {
-            form: format_of(values)?,
-            filer: values.get_str("filer"),
-        }),
-        "pages" => Some(Errand::Pages {
-            folder: values.get_str("into")?,
-        }),
-        _ => None,
-    }
-}
-
-fn serving_of<'a>(values: &ArgMatches<'a>) -> Option<Serving<'a>> {
-    Some(Serving {
-        database: values.get_str("db")?,
-        port: values.get_one("port")?,
-        connections: values.get_one("connections")?,
-        limit: limit_of(values),
-        patience: values.get_one("patience"),
-        new: values.get_flag("new"),
-        log: values.get_flag("log"),
-    })
-}
-
-fn visit_of<'a>(name: &str, values: &ArgMatches<'a>) -> Option<Task<'a>> {
-    Some(Task::Visit {
-        database: values.get_str("db")?,
-        errand: errand_of(name, values)?,
-    })
-}
-
-fn task_of<'a>(
-    alloc: Global,
-    name: &str,
-    values: &ArgMatches<'a>,
-) -> Result<Option<Task<'a>>, AllocError> {
-    match name {
-        "run" => Ok(Some(Task::Run {
-            limit: limit_of(values),
-        })),
-        "serve" => Ok(serving_of(values).map(Task::Serve)),
-        "lint" => lint_of(alloc, values),
-        _ => Ok(visit_of(name, values)),
-    }
-}
-
-/// For how many seconds a database is waited for, which is 0 if nothing says so.
-fn wait_of(values: &ArgMatches<'_>) -> u32 {
-    values.get_one("wait").unwrap_or(0)
-}
-
-/// What is asked for if no word says so.
-fn default_asked<'a>() -> Asked<'a> {
-    Asked {
-        task: Task::Run {
-            limit: DEFAULT_LIMIT,
-        },
-        wait: 0,
-    }
-}
-
-fn asked_by<'a>(alloc: Global, matches: &ArgMatches<'a>) -> Result<Option<Asked<'a>>, AllocError> {
-    match matches.subcommand() {
-        Some((name, values)) => Ok(task_of(alloc, name, values)?.map(|task| Asked {
-            task,
-            wait: wait_of(values),
-        })),
-        None => Ok(Some(default_asked())),
-    }
-}
-
-/// What these words ask for. The first word is the program's name; if it is the only one, the task is `run`. `None` if
-/// the words ask for nothing.
-pub(crate) fn read<'a>(alloc: Global, words: &'a [String]) -> Result<Option<Asked<'a>>, Error> {
-    let matches = command(alloc)?.try_get_matches_from(words)?;
-    Ok(asked_by(alloc, &matches)?)
 }

@@ -1,22 +1,30 @@
 //! The program: it makes what a task works with, and performs the task.
 
-ghost use Rattle.std.specs.Prelude.{◌≡◌, true};
+ghost use Rattle.std.specs.Prelude.{◌≡◌, true, IfOk};
+ghost use Rattle.intake_commands.specs.Bounds.{bounds_of};
 ghost use Rattle.intake_commands.specs.Reading.{only_reads, copies_log};
+ghost use Rattle.intake_commands.specs.Words.{database_of, folder_of};
 
+use crate::asked::read;
 use crate::fault::Fault;
 use crate::folder::SystemFolder;
-use crate::log::Logged;
-use crate::options::{Asked, Serving, Task, read};
-use crate::port::{StreamPort, TimedPort};
+use crate::options::{Asked, Serving, Task};
+use crate::port::NoPort;
+use crate::record::Recorded;
+use crate::sockets::ReportedSockets;
 use crate::tasks::perform_task;
 use command_line::{CommandFault, show_refusal, words};
 use database_places::{Place, SystemPlace, WaitingPlace};
+use gateway_ports::Port;
 use http_wire::Device;
 use intake_process::IntakeProcess;
 use intake_tasks::Errand;
+use many_connections::{Many, TcpLine, TcpSockets};
 use reading_places::{ReadingPlace, has_writable_log};
+use ready_connections::Bounds;
 use sqlite_disk::Disk;
-use std::io::{IsTerminal, Write};
+use std::alloc::AllocError;
+use std::io::{IsTerminal, Stderr, Stdout, Write};
 
 /// The text if requests are read from a terminal.
 const READING: &str = concat!(
@@ -25,7 +33,9 @@ const READING: &str = concat!(
 );
 
 /// The name of the file of the register that a task is for, or none.
-fn database_of<'a>(task: &Task<'a>) -> &'a str {
+fn database_of<'a>(task: &Task<'a>) -> &'a str
+    ensures { result.now ≡ database_of task.now }
+{
     match task {
         Task::Serve(serving) => serving.database,
         Task::Visit { database, .. } => database,
@@ -34,7 +44,9 @@ fn database_of<'a>(task: &Task<'a>) -> &'a str {
 }
 
 /// The path of the folder that a task writes pages into, or none.
-fn folder_of<'a>(task: &Task<'a>) -> &'a str {
+fn folder_of<'a>(task: &Task<'a>) -> &'a str
+    ensures { result.now ≡ folder_of task.now }
+{
     match task {
         Task::Visit {
             errand: Errand::Pages { folder },
@@ -44,9 +56,30 @@ fn folder_of<'a>(task: &Task<'a>) -> &'a str {
     }
 }
 
-/// The port that is served.
-fn port_of<'r>(rt: &'r HostRuntime, serving: &Serving<'_>) -> TimedPort<'r> {
-    TimedPort::new(rt, serving.port, serving.patience)
+/// A port of this machine, whose connections are reported on the standard streams.
+type SystemPort<'r> = Many<Recorded<TcpLine>, ReportedSockets<TcpSockets<'r>, Stdout, Stderr>>;
+
+/// How much of a port is served at once, and how many connections in all.
+fn bounds_of(serving: &Serving<'_>) -> Bounds
+    ensures { result ≡ bounds_of serving.now }
+{
+    Bounds {
+        places: usize::from(serving.at_once),
+        connections: serving.connections,
+        patience: serving.patience.map(|seconds| u64::from(seconds) * 1_000),
+        memory: serving.memory as usize * 1_000_000,
+    }
+}
+
+/// The port that is served, which does not listen yet.
+fn port_of<'r>(rt: &'r HostRuntime, serving: &Serving<'_>) -> Result<SystemPort<'r>, AllocError>
+    ensures { IfOk result (λ port. port.hall.bounds ≡ bounds_of serving.now) }
+{
+    let bounds = bounds_of(serving);
+    let log = if serving.log { Some(rt.stdout()) } else { None };
+    let sockets = TcpSockets::new(rt, serving.port, bounds.places);
+    let reported = ReportedSockets::new(rt.alloc(), sockets, log, rt.stderr(), serving.patience);
+    Many::new(rt.alloc(), reported, bounds)
 }
 
 /// Whether a task changes nothing of its register.
@@ -81,7 +114,7 @@ fn copies_log(task: &Task<'_>) -> bool
 
 /// Performs a task over the register of this place, this port, its folder and the standard streams, and answers the
 /// status.
-fn perform_over<D: Disk + Drop, P: Place<D> + Drop, L: StreamPort>(
+fn perform_over<D: Disk + Drop, P: Place<D> + Drop, L: Port>(
     rt: &HostRuntime,
     task: &Task<'_>,
     place: P,
@@ -107,11 +140,11 @@ fn perform_reading(rt: &HostRuntime, asked: &Asked<'_>) -> u8
 {
     let place = ReadingPlace::new(rt, database_of(&asked.task));
     let waiting = WaitingPlace::new(rt, place, asked.wait);
-    perform_over(rt, &asked.task, waiting, &mut TimedPort::new(rt, 0, None))
+    perform_over(rt, &asked.task, waiting, &mut NoPort)
 }
 
 /// Performs a task over this port, and opens the file of its register for writing.
-fn perform_writing<L: StreamPort>(rt: &HostRuntime, asked: &Asked<'_>, port: &mut L) -> u8 {
+fn perform_writing<L: Port>(rt: &HostRuntime, asked: &Asked<'_>, port: &mut L) -> u8 {
     let place = SystemPlace::new(rt, database_of(&asked.task));
     let waiting = WaitingPlace::new(rt, place, asked.wait);
     perform_over(rt, &asked.task, waiting, port)
@@ -125,17 +158,16 @@ fn perform_once(rt: &HostRuntime, asked: &Asked<'_>) -> u8 {
             return perform_reading(rt, asked);
         }
     }
-    perform_writing(rt, asked, &mut TimedPort::new(rt, 0, None))
+    perform_writing(rt, asked, &mut NoPort)
 }
 
 /// Performs a task, and answers the status.
 fn perform(rt: &HostRuntime, asked: &Asked<'_>) -> u8 {
     match &asked.task {
-        Task::Serve(serving) if serving.log => {
-            let mut logged = Logged::new(rt.alloc(), port_of(rt, serving), rt.stdout());
-            perform_writing(rt, asked, &mut logged)
-        }
-        Task::Serve(serving) => perform_writing(rt, asked, &mut port_of(rt, serving)),
+        Task::Serve(serving) => match port_of(rt, serving) {
+            Ok(mut port) => perform_writing(rt, asked, &mut port),
+            Err(_) => Fault::Command(CommandFault::Memory).tell(&mut rt.stderr()),
+        },
         _ => perform_once(rt, asked),
     }
 }

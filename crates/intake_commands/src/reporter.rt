@@ -1,12 +1,13 @@
 //! What standard error has of a register that serves a port.
 
+ghost use Rattle.std.specs.Prelude.{None};
+
 use crate::fault::VisitFault;
 use crate::note::Note;
 use crate::options::Serving;
 use crate::pause::Pause;
-use crate::port::StreamPort;
 use crate::room::Room;
-use gateway_server::{Ended, Served};
+use gateway_server::Served;
 use intake_process::{Closed, Observer, Totals, Went};
 use std::io::Write;
 use std::time::Instant;
@@ -22,8 +23,6 @@ pub(crate) struct Reporter<'r, 'a, 'o, E> {
     start: Option<Instant>,
     /// The room of the register; `None` while it is closed.
     room: Option<Room>,
-    /// How the connection that was served last ended, and the room after it.
-    last: Option<(Ended, Option<Room>)>,
     /// How many requests the register kept when it was opened again; `None` before that.
     kept: Option<u64>,
     /// How long the register is left alone once it is closed.
@@ -43,7 +42,6 @@ impl<'r, 'a, 'o, E: Write> Reporter<'r, 'a, 'o, E> {
             errors,
             start: Instant::now(rt).ok(),
             room: None,
-            last: None,
             kept: None,
             pause: Pause::none(),
         }
@@ -66,33 +64,6 @@ impl<'r, 'a, 'o, E: Write> Reporter<'r, 'a, 'o, E> {
         }
     }
 
-    /// Reports what failed of the connection that was taken last, beside the fault in which it ended, and answers
-    /// whether something did.
-    fn tell_failure<P: StreamPort>(&mut self, port: &P) -> bool {
-        match port.failure() {
-            Some(fault) => {
-                fault.tell(self.errors);
-                true
-            }
-            None => false,
-        }
-    }
-
-    /// Reports in which fault the connection that was taken last ended, if it did. If its line was not printed, that is
-    /// reported and nothing else of it.
-    fn tell_end<P: StreamPort>(&mut self, port: &P) {
-        if self.tell_failure(port) {
-            return;
-        }
-        let Some((ended, room)) = self.last else {
-            return;
-        };
-        if let Some(fault) = port.fault_of(ended) {
-            fault.tell(self.errors);
-        }
-        self.room = room;
-    }
-
     /// Reports that the register is full, if that is not reported yet.
     fn tell_full(&mut self) {
         if let Some(room) = &mut self.room {
@@ -104,26 +75,26 @@ impl<'r, 'a, 'o, E: Write> Reporter<'r, 'a, 'o, E> {
 
     /// The database refused a call, and the register, which keeps so many requests, is closed. One that kept a request
     /// since it was opened failed for the first time.
-    fn tell_down(&mut self, kept: u64, left: u32) {
+    fn tell_down(&mut self, kept: u64) {
         Note::Down.tell(self.errors);
         self.room = None;
         match self.kept {
-            Some(before) if kept <= before => self.leave_alone(left),
+            Some(before) if kept <= before => self.leave_alone(),
             _ => self.pause = Pause::none(),
         }
     }
 
-    /// Leaves a register alone that failed again, for longer than before, which is reported if connections are left.
-    fn leave_alone(&mut self, left: u32) {
+    /// Leaves a register alone that failed again, for longer than before.
+    fn leave_alone(&mut self) {
         self.pause = self.pause.longer(self.rt);
-        if left > 0 {
-            let seconds = self.pause.seconds();
-            Note::Paused { seconds }.tell(self.errors);
-        }
+        let seconds = self.pause.seconds();
+        Note::Paused { seconds }.tell(self.errors);
     }
 }
 
-impl<P: StreamPort, E: Write> Observer<P> for Reporter<'_, '_, '_, E> {
+impl<E: Write> Observer for Reporter<'_, '_, '_, E> {
+    ghost answers = { λ _. None };
+
     fn ready(&mut self, totals: Totals) {
         self.room = Some(Room::new(self.serving.limit, totals.kept));
         Note::Ready {
@@ -133,10 +104,6 @@ impl<P: StreamPort, E: Write> Observer<P> for Reporter<'_, '_, '_, E> {
             milliseconds: self.milliseconds(),
         }
         .tell(self.errors);
-    }
-
-    fn accepted(&mut self, port: &P) {
-        self.tell_failure(port);
     }
 
     fn may_open(&mut self) -> bool {
@@ -150,17 +117,15 @@ impl<P: StreamPort, E: Write> Observer<P> for Reporter<'_, '_, '_, E> {
     }
 
     fn served(&mut self, served: &Served) {
-        let room = self.room.map(|room| room.after(served.marks.as_slice()));
-        self.last = Some((served.ended, room));
+        self.room = self.room.map(|room| room.after(served.marks.as_slice()));
     }
 
-    fn ended(&mut self, port: &P, went: Went, left: u32) {
-        self.tell_end(port);
+    fn ended(&mut self, went: Went) {
         match went {
             Went::Served => self.tell_full(),
-            Went::Failed(closed) => self.tell_down(closed.kept, left),
+            Went::Failed(closed) => self.tell_down(closed.kept),
             Went::TurnedAway => {}
-            Went::NotOpened(_) => self.leave_alone(left),
+            Went::NotOpened(_) => self.leave_alone(),
         }
     }
 

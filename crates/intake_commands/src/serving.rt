@@ -8,12 +8,11 @@ ghost use Rattle.intake_commands.specs.Tasks.{Serves, IsServingTold};
 use crate::fault::Fault;
 use crate::limit::Limit;
 use crate::options::Serving;
-use crate::port::StreamPort;
 use crate::reporter::Reporter;
 use crate::told::opening_fault;
 use command_line::{CommandFault, DONE};
 use database_places::{Cache, Opening, Place};
-use gateway_ports::PortFault;
+use gateway_ports::{Port, PortFault};
 use intake_process::{IntakeProcess, ServingFault, serve_register};
 use sqlite_disk::Disk;
 use std::alloc::Global;
@@ -21,14 +20,14 @@ use std::io::{self, Write};
 
 /// Serves connections of this port by the register of this process. Standard error says when it is ready and when it
 /// ends. If the port is not to be had, no new register is made.
-pub(crate) fn serve<'a, D: Disk + Drop, P: Place<D> + Drop, L: StreamPort, E: Write>(
+pub(crate) fn serve<'a, D: Disk + Drop, P: Place<D> + Drop, L: Port, E: Write>(
     rt: &HostRuntime,
     serving: Serving<'a>,
     process: &mut IntakeProcess<D, P>,
     port: &mut L,
     errors: &mut E,
 ) -> Result<u8, Fault<'a>>
-    ensures { Serves serving.entry (L.Port.traffic port.old) (L.Port.traffic port.new)
+    ensures { Serves serving.entry (L.traffic port.old) (L.traffic port.new)
         (parts P.lying process.old) (parts P.lying process.new) result }
 {
     let Some(limit) = Limit::new(serving.limit) else {
@@ -48,10 +47,10 @@ pub(crate) fn serve<'a, D: Disk + Drop, P: Place<D> + Drop, L: StreamPort, E: Wr
         &mut reporter,
         opening(serving.new),
         limit.keys,
-        serving.connections,
+        u64::MAX,
     );
     match served {
-        Ok(()) => {
+        Ok(_) => {
             reporter.tell_served();
             Ok(DONE)
         }
@@ -61,9 +60,9 @@ pub(crate) fn serve<'a, D: Disk + Drop, P: Place<D> + Drop, L: StreamPort, E: Wr
 
 /// Listens on a port before a new register is made. One that is there is opened first, since that takes its time, and
 /// connections would wait for it.
-fn listen_before<L: StreamPort>(port: &mut L, is_made: bool) -> io::Result<()>
-    ensures same { L.Port.traffic port.new ≡ L.Port.traffic port.old }
-    ensures refused { IfErr result (λ _. (is_made ≡ true) × ((L.Port.traffic port.old).coming ≡ None)) }
+fn listen_before<L: Port>(port: &mut L, is_made: bool) -> io::Result<()>
+    ensures same { L.traffic port.new ≡ L.traffic port.old }
+    ensures refused { IfErr result (λ _. (is_made ≡ true) × ((L.traffic port.old).coming ≡ None)) }
 {
     if is_made { port.listen() } else { Ok(()) }
 }

@@ -9,12 +9,12 @@ use crate::fault::Fault;
 use crate::folder::SiteFolder;
 use crate::linting::lint;
 use crate::options::Task;
-use crate::port::StreamPort;
 use crate::running::run_once;
 use crate::serving::serve;
 use crate::visiting::visit;
 use command_line::CommandFault;
 use database_places::Place;
+use gateway_ports::Port;
 use http_wire::{Sink, Source};
 use intake_process::IntakeProcess;
 use intake_tasks::Errand;
@@ -28,7 +28,7 @@ use std::io::Write;
 pub(crate) fn perform_task<
     D: Disk + Drop,
     P: Place<D> + Drop,
-    L: StreamPort,
+    L: Port,
     F: SiteFolder,
     R: Source,
     W: Sink,
@@ -48,9 +48,9 @@ pub(crate) fn perform_task<
     requires { (parts P.lying process.old).intake ≡ None }
     ensures { Performs {g = D.Disk} task.now
         (means (wire R.Source W.Sink reader.old writer.old) (O.contents output.old) (F.Folder.pages folder.old)
-        (L.Port.traffic port.old) (parts P.lying process.old))
+        (L.traffic port.old) (parts P.lying process.old))
         (means (wire R.Source W.Sink reader.new writer.new) (O.contents output.new) (F.Folder.pages folder.new)
-        (L.Port.traffic port.new) (parts P.lying process.new))
+        (L.traffic port.new) (parts P.lying process.new))
         result }
 {
     match do_task(
@@ -66,7 +66,7 @@ fn do_task<
     'a,
     D: Disk + Drop,
     P: Place<D> + Drop,
-    L: StreamPort,
+    L: Port,
     F: SiteFolder,
     R: Source,
     W: Sink,
@@ -86,9 +86,9 @@ fn do_task<
     requires { (parts P.lying process.old).intake ≡ None }
     ensures { Does {g = D.Disk} task.now
         (means (wire R.Source W.Sink reader.old writer.old) (O.contents output.old) (F.Folder.pages folder.old)
-        (L.Port.traffic port.old) (parts P.lying process.old))
+        (L.traffic port.old) (parts P.lying process.old))
         (means (wire R.Source W.Sink reader.new writer.new) (O.contents output.new) (F.Folder.pages folder.new)
-        (L.Port.traffic port.new) (parts P.lying process.new))
+        (L.traffic port.new) (parts P.lying process.new))
         result }
 {
     match task {

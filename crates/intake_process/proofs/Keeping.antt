@@ -11,7 +11,7 @@ use Rattle.sqlite.specs.Files.{file_state, over_files}
 use Rattle.filing_model.specs.Request.{Request}
 use Rattle.register_tables.specs.Registers.{IsRegisterOf}
 use Rattle.intake_core.specs.declared.intake.Intake.{Intake}
-use Rattle.intake_core.specs.Held.{has_stopped}
+use Rattle.intake_core.specs.Held.{limit_of, has_stopped}
 use Rattle.http_wire.specs.Wire.{Wire}
 use Rattle.table_rows.proofs.CleanLemmas.{always_clean, are_clean}
 use Rattle.table_rows.proofs.FileLemmas.{finds}
@@ -98,6 +98,7 @@ module _ {D : Type 0} {g : Ghosts D} where
     made = λ honest is none known. tt;
     certain = tt;
     is_open = tt;
+    limited = λ _. tt;
     up = λ _. tt;
     already = λ some. absurd (not_some old.intake none some);
     calls = calls;
@@ -115,6 +116,7 @@ module _ {D : Type 0} {g : Ghosts D} where
     made = λ honest is none known. absurd (not_some process.intake none some);
     certain = refl;
     is_open = some;
+    limited = λ none. absurd (not_some process.intake none some);
     up = λ none. absurd (not_some process.intake none some);
     already = λ _. (refl, refl);
     calls = refl;
@@ -197,9 +199,9 @@ module _ {D : Type 0} {g : Ghosts D} where
       → new.is_certain ≡ old.is_certain → new.refused_calls ≡ old.refused_calls → has_stopped intake ≡ false
       → ComesFrom old.lying new.lying conn
       → (has ≡ true → FindsIntake over_files conn limit intake totals)
-      → (has ≡ false → MakesIntake over_files limit intake totals)
+      → (has ≡ false → MakesIntake over_files limit intake totals) → limit_of intake ≡ limit
       → OpensProcess g has limit old new (Ok (Some totals))
-  opens has limit old new conn intake totals none up same calls awake comes found made = record {
+  opens has limit old new conn intake totals none up same calls awake comes found made limited = record {
     leaves = λ honest is. record {
       kept = λ old_style F keeps certain.
           let held =
@@ -215,6 +217,7 @@ module _ {D : Type 0} {g : Ghosts D} where
         ((made is (always_clean honest intake.store.conn)).0, came_empty old.lying new.lying conn known comes);
     certain = same;
     is_open = subst (λ i. IsSome i) (sym up) refl;
+    limited = λ _. subst (λ i. IfSome i (λ intake. limit_of intake ≡ limit)) (sym up) limited;
     up = λ _. subst (λ i. IsUp i) (sym up) awake;
     already = λ some. absurd (not_some old.intake none some);
     calls = calls;

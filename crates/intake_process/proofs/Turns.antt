@@ -1,5 +1,5 @@
 -- Connections that are answered, one behind another.
-use Rattle.std.proofs.Common.{◌≡◌, ℕ, ◌+◌, Bool, List, [], ◌∷◌, ◌++◌, map, take, Option, Some, None, Ok, arith, refl}
+use Rattle.std.proofs.Common.{◌≡◌, ℕ, ◌+◌, Bool, List, [], ◌∷◌, ◌++◌, take, false, Option, Some, None, Ok, arith, refl}
 use Rattle.std.proofs.Common.{sym, ◌∙◌, ap, ap₂, subst}
 use Rattle.std.specs.Prelude.{IfSome, option_map}
 use Rattle.sqlite_disk.specs.declared.Disk.{Ghosts}
@@ -8,13 +8,12 @@ use Rattle.sqlite_store.specs.declared.store.FileStore.{FileStore}
 use Rattle.sqlite.specs.Files.{over_files}
 use Rattle.http_wire.specs.Wire.{Wire}
 use Rattle.filing_model.specs.Request.{Request}
-use Rattle.filing_model.specs.Serving.{Keeping, keeping}
+use Rattle.filing_model.specs.Serving.{keeping, Serves}
 use Rattle.intake_core.specs.declared.intake.Intake.{Intake}
-use Rattle.gateway_ports.specs.InTurn.{ServeInTurn, Came, AreCounted, AreTold, AreServed}
-use Rattle.gateway_ports.specs.Ports.{Connection, Traffic, Takes, IsNew, connection_with}
+use Rattle.gateway_ports.specs.InTurn.{ServeInTurn, Came, AreCounted, AreTold}
+use Rattle.gateway_ports.specs.Ports.{Connection, Traffic, MayShut, Takes, IsNew, connection_with}
 use Rattle.gateway_ports.proofs.Turns.{IsEndTold, came_none, told_none, came_one, counted_told, told_one, told_untold}
-use Rattle.gateway_ports.proofs.Turns.{turns_join, came_join, counted_join, told_join}
-use Rattle.gateway_ports.proofs.Turns as ports
+use Rattle.gateway_ports.proofs.Turns.{turns_join, came_join, counted_join, told_join, unchanged}
 use Rattle.table_rows.proofs.CleanLemmas.{always_clean}
 use Rattle.database_places.specs.Places.{IsHonest}
 use Rattle.intake_process.specs.declared.begun.Totals.{Totals}
@@ -83,30 +82,6 @@ answered_join limit was_clean before between after first mid last ts us m (Some 
   told = told_turns first.over mid.over last.over ts us m (Some n) a.told b.told;
 }
 
--- ---- all were served
-
-served_all : (cs : List Connection) → served_in (map Served cs) ≡ cs
-served_all [] = refl
-served_all (c ∷ cs) = ap (λ ds. c ∷ ds) (served_all cs)
-
-connections_all : (cs : List Connection) → connections_of (map Served cs) ≡ cs
-connections_all [] = refl
-connections_all (c ∷ cs) = ap (λ ds. c ∷ ds) (connections_all cs)
-
-none_away : (cs : List Connection) → AreTurnedAway (map Served cs)
-none_away [] = tt
-none_away (c ∷ cs) = none_away cs
-
-all_served : (requests : Keeping) (port port' : Traffic) (cs : List Connection) (taken : Option ℕ)
-    → AreServed requests port port' cs taken → AreAnswered requests port port' (map Served cs) taken
-all_served requests port port' cs taken a = record {
-  in_turn = subst (ServeInTurn requests) (sym (served_all cs)) a.in_turn;
-  away = none_away cs;
-  came = subst (Came port.coming port'.coming) (sym (connections_all cs)) a.came;
-  counted = subst (λ ds. IfSome taken (AreCounted port.coming ds)) (sym (connections_all cs)) a.counted;
-  told = subst (λ ds. AreTold port.over port'.over ds taken) (sym (connections_all cs)) a.told;
-}
-
 -- ---- what a process does
 
 module _ {D : Type 0} {g : Ghosts D} (limit : ℕ) where
@@ -155,27 +130,28 @@ module _ {D : Type 0} {g : Ghosts D} (limit : ℕ) where
   }
 
   -- no connection was answered
-  pub none : (port port' : Traffic) (process : Parts g) (taken : Option ℕ) → port' ≡ port
+  pub none : (port port' : Traffic) (process : Parts g) (taken : Option ℕ) → MayShut port port'
       → IfSome taken (AreCounted port.coming []) → AnswersSome limit port port' process process taken
-  none port port' process taken same counted =
-      subst (λ p. AnswersSome limit port p process process taken) (sym same) (record {
-        answers =
-            λ was_clean before keeps certain. (
-              before,
-              keeps certain,
-              refl,
-              [],
-              record {
-                in_turn = refl;
-                away = tt;
-                came = came_none port.coming;
-                counted = counted;
-                told = told_none port.over taken;
-              },
-              λ u. refl,
-            );
-        certain = λ certain. certain;
-      })
+  none port port' process taken same counted = record {
+    answers =
+        λ was_clean before keeps certain. (
+          before,
+          keeps certain,
+          refl,
+          [],
+          record {
+            in_turn = refl;
+            away = tt;
+            came = subst (λ coming. Came port.coming coming []) (sym (ap (λ (p : Traffic). p.coming) same.0))
+                (came_none port.coming);
+            counted = counted;
+            told = subst (λ over. AreTold port.over over [] taken) (sym (ap (λ (p : Traffic). p.over) same.0))
+                (told_none port.over taken);
+          },
+          λ u. refl,
+        );
+    certain = λ certain. certain;
+  }
 
   -- some were answered after a call that answered none, and before one
   pub between : (port port' : Traffic) (old first last new : Parts g) (taken : Option ℕ)
@@ -195,8 +171,8 @@ module _ {D : Type 0} {g : Ghosts D} (limit : ℕ) where
   one_by : IsHonest g → (port mid port' : Traffic) (from to : Wire) (old new : Option (Intake (FileStore D g)))
       (lying lying' : Option (Option (Files D))) (is was : Bool) (calls calls' : ℕ) (answered : Answered)
       (taken : Option ℕ)
-      → (mid.over ≡ port.over) × Takes port.coming mid.coming from.left × IsNew port.over mid.given from
-      → AnswersBy from to old new answered → lying' ≡ lying → is ≡ was
+      → (port.is_shut ≡ false) × (mid.over ≡ port.over) × Takes port.coming mid.coming from.left
+      × IsNew port.over mid.given from → AnswersBy from to old new answered → lying' ≡ lying → is ≡ was
       → port'.coming ≡ mid.coming → IsEndTold mid port' to answered.served taken
       → AnswersSome limit port port' (record { intake = old; lying = lying; is_certain = was; refused_calls = calls })
       (record { intake = new; lying = lying'; is_certain = is; refused_calls = calls' }) taken
@@ -204,10 +180,10 @@ module _ {D : Type 0} {g : Ghosts D} (limit : ℕ) where
       sure coming told = record {
         answers = λ was_clean before keeps certain.
             let kept = keeps (sym sure ∙ certain) in
-            let some =
-            ports.one over_files port mid port' from to intake by.0 answered.served taken fresh by.2.serves coming
-            told in
+            let some = by.2.serves in
             let t = some.serves (always_clean honest by.0.store.conn) before kept.0.holds in
+            let s = t.3 in
+            let c = connection_with answered.served s.got s.sent in
             let holds : HoldsAs over_files limit was_clean t.0 by.0 =
             record {
               holds = t.1;
@@ -215,16 +191,25 @@ module _ {D : Type 0} {g : Ghosts D} (limit : ℕ) where
               old_style_is =
                   some.setting.old_style ∙ kept.0.old_style_is;
             } in
-            let old_style_is = ap (λ n. take n before) kept.0.old_style_is in (
+            let old_style_is = ap (λ n. take n before) kept.0.old_style_is in
+            let serves =
+            subst (λ es. Serves (keeping limit es before t.0) c.read c.output.marks c.output.ended c.output.bytes)
+            old_style_is (subst (λ n. Serves (keeping n (take intake.store.old_style before) before t.0) c.read
+            c.output.marks c.output.ended c.output.bytes) kept.0.limit_is s.serves) in (
               t.0,
               subst (λ i. KeepsBy i lying' limit was_clean t.0) (sym by.1) (holds, there ∙ kept.1),
               sym (ap (λ n. take n t.0) holds.old_style_is) ∙ t.2 ∙ old_style_is,
-              map Served t.3.0,
-              all_served (keeping limit (take was_clean before) before t.0) port port' t.3.0 taken
-                  (subst (λ es. AreServed (keeping limit es before t.0) port port' t.3.0 taken) old_style_is
-                  (subst (λ n. AreServed (keeping n (take intake.store.old_style before) before t.0) port port' t.3.0
-                  taken) kept.0.limit_is t.3.1)),
-              λ u. served_all t.3.0 ∙ sym (connections_all t.3.0),
+              Served c ∷ [],
+              record {
+                in_turn = (t.0, serves, refl);
+                away = tt;
+                came = subst (λ after. Came port.coming after (c ∷ [])) (sym coming)
+                    (came_one port.coming mid.coming from.left to.left c fresh.2 s.read s.at_end s.limited);
+                counted = counted_told port.coming mid port' to answered.served c taken told;
+                told = told_one port mid port' from to answered.served s.got s.sent taken fresh.1 fresh.3 s.read s.wrote
+                    told;
+              },
+              λ u. refl,
             );
         certain = λ certain. sym sure ∙ certain;
       }
@@ -244,9 +229,9 @@ module _ {D : Type 0} {g : Ghosts D} (limit : ℕ) where
                 in_turn = refl;
                 away = (away.turned, tt);
                 came = subst (λ after. Came port.coming after (c ∷ [])) (sym coming)
-                    (came_one port.coming mid.coming from.left to.left c fresh.1 away.read away.at_end away.limited);
+                    (came_one port.coming mid.coming from.left to.left c fresh.2 away.read away.at_end away.limited);
                 counted = counted_told port.coming mid port' to served c taken told;
-                told = told_one port mid port' from to served away.got away.sent taken fresh.0 fresh.2 away.read
+                told = told_one port mid port' from to served away.got away.sent taken fresh.1 fresh.3 away.read
                     away.wrote told;
               },
               λ u. absurd u.up,
@@ -256,7 +241,7 @@ module _ {D : Type 0} {g : Ghosts D} (limit : ℕ) where
 
   -- one connection was answered, and, where that is told, it was told to the port
   pub one : IsHonest g → (port mid port' : Traffic) (from to : Wire) (old new : Parts g) (answered : Answered)
-      (taken : Option ℕ) → (mid.over ≡ port.over) × Takes port.coming mid.coming from.left
+      (taken : Option ℕ) → (port.is_shut ≡ false) × (mid.over ≡ port.over) × Takes port.coming mid.coming from.left
       × IsNew port.over mid.given from → AnswersWire from to old new answered
       → port'.coming ≡ mid.coming → IsEndTold mid port' to answered.served taken
       → AnswersSome limit port port' old new taken
@@ -271,7 +256,7 @@ module _ {D : Type 0} {g : Ghosts D} (limit : ℕ) where
       → AnswersSome limit port port old new None
   not_opened port old new calls leaves =
       between port port old old old new None (λ u. up.until old old new calls u) (same old)
-      (none port port old None refl tt) leaves
+      (none port port old None (unchanged port) tt) leaves
 
   -- if its database refused no call, it refused none while it was open
   pub while_open : (has : Bool) (old opened last new : Parts g) (totals : Option Totals) (closed : Closed)

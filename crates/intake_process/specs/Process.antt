@@ -12,7 +12,7 @@ use Rattle.http_wire.specs.Wire.{Wire}
 use Rattle.filing_model.specs.Request.{Request, firsts}
 use Rattle.register_store.specs.Files.{HoldRegister}
 use Rattle.intake_core.specs.declared.intake.Intake.{Intake}
-use Rattle.intake_core.specs.Held.{store_of, has_stopped}
+use Rattle.intake_core.specs.Held.{store_of, limit_of, has_stopped}
 use Rattle.gateway_server.specs.Progress.{ServesToEnd}
 use Rattle.database_places.specs.Closing.{IsClosedIn, IsNotClosed, LieGivenUp}
 use Rattle.database_places.specs.Opening.{ComesFrom, OpensPlace}
@@ -115,6 +115,8 @@ pub record OpensProcess {D : Type 0} (g : Ghosts D) (has_to_be_there : Bool) (li
       → OnOk result (Keeps new limit 0 [])
   pub certain : OnOk result (new.is_certain ≡ old.is_certain)
   pub is_open : OnOk result (IsSome new.intake)
+  -- whatever lay there, it keeps at most `limit` keys from now on
+  pub limited : old.intake ≡ None → OnOk result (IfSome new.intake (λ intake. limit_of intake ≡ limit))
   pub up : old.intake ≡ None → OnOk result (IsUp new.intake)
   pub already : IsSome old.intake → (new ≡ old) × (result ≡ Ok None)
   pub calls : new.refused_calls ≡ old.refused_calls

@@ -1,6 +1,6 @@
 -- Connections of a port that are served in turn, or turned away while the register is closed; own rules.
-use Rattle.std.specs.Prelude.{◌≡◌, ℕ, Bool, true, false, List, [], ◌∷◌, map, take, Option, Some, None, IfSome, IsSome}
-use Rattle.std.specs.Prelude.{option_map, Result, Ok, Err, OnOk}
+use Rattle.std.specs.Prelude.{◌≡◌, ◌⊎◌, ◌<◌, ℕ, Bool, true, false, List, [], ◌∷◌, map, take, Option, Some, None, IfSome}
+use Rattle.std.specs.Prelude.{IsSome, Result, Ok, Err, IfOk}
 use Rattle.std.specs.Result.{result_ok}
 use Rattle.sqlite_disk.specs.declared.Disk.{Ghosts}
 use Rattle.filing_model.specs.Request.{Request}
@@ -14,6 +14,7 @@ use Rattle.intake_process.specs.declared.serving.ServingFault.{ServingFault}
 use Rattle.intake_process.specs.declared.serving.ServingFault.TheVariants.{Register, Port}
 use Rattle.intake_process.specs.Process.{Parts, Keeps, KeepsBy, IsUnrefused, StaysUp, OpensProcess}
 use Rattle.intake_process.specs.Process.{ClosesProcess}
+use Rattle.intake_process.specs.History.{Passes}
 use Rattle.intake_process.specs.Turning.{IsTurnedAway}
 
 -- a connection that came: it was served, or turned away
@@ -48,12 +49,12 @@ pub record AreAnswered (requests : Keeping) (old new : Traffic) (turns : List Tu
   pub in_turn : ServeInTurn requests (served_in turns)
   pub away : AreTurnedAway turns
   pub came : Came old.coming new.coming (connections_of turns)
-  -- if the answer says how many were taken, these are as many
+  -- if the answer says how often the port was asked, these are as many, or fewer if those that come are not known
   pub counted : IfSome taken (AreCounted old.coming (connections_of turns))
   pub told : AreTold old.over new.over (connections_of turns) taken
 
--- What answering some connections of a port does with it and with the process of an intake. `taken` says how many came,
--- if the answer has it.
+-- What answering some connections of a port does with it and with the process of an intake. `taken` says how often the
+-- port was asked, if the answer has it.
 pub record AnswersSome {D : Type 0} {g : Ghosts D} (limit : ℕ) (port port' : Traffic) (old new : Parts g)
     (taken : Option ℕ) : Type 0 where
   -- As long as no close and no opening failed, some connections were answered, the first after the requests that were
@@ -66,38 +67,49 @@ pub record AnswersSome {D : Type 0} {g : Ghosts D} (limit : ℕ) (port port' : T
       × (IsUnrefused old new → served_in turns ≡ connections_of turns)
   pub certain : new.is_certain ≡ true → old.is_certain ≡ true
 
+-- the port was asked as often as it may be, or fewer times, since it is shut
+abbrev pub EndsBy : ℕ → Traffic → ℕ → Type 0
+EndsBy most port taken = (taken ≡ most) ⊎ ((taken < most) × (port.is_shut ≡ true))
+
 -- It was opened, or made; it answered connections of the port, and was up as long as its database refused no call; and
 -- it was closed.
-pub record IsServed {D : Type 0} {g : Ghosts D} (has_to_be_there : Bool) (limit : ℕ) (port port' : Traffic)
-    (old new : Parts g) (taken : Option ℕ) : Type 0 where
+pub record IsServed {D : Type 0} {g : Ghosts D} (has_to_be_there : Bool) (limit most : ℕ) (port port' : Traffic)
+    (noted noted' : Option (List Bool)) (old new : Parts g) (taken : Option ℕ) : Type 0 where
   pub totals : Option Totals
   pub opened : Parts g
   pub last : Parts g
   pub closed : Closed
   pub opens : OpensProcess g has_to_be_there limit old opened (Ok totals)
   pub answers : IsHonest g → AnswersSome limit port port' opened last taken
+  pub ends : IfSome taken (EndsBy most port')
+  -- a port that was shut was not asked
+  pub shut : port.is_shut ≡ true → IfSome taken (λ taken. taken ≡ 0)
   pub stays : StaysUp opened last
+  -- what became of it, connection by connection, and what the observer answered meanwhile
+  pub passes : Passes limit opened last noted noted' taken
   pub closes : ClosesProcess g last new closed
 
 -- the process served the port, as long as the port did not fail; or it was not opened, and no connection was accepted
-abbrev pub IsServedOrRefused : {D : Type 0} {g : Ghosts D} → Bool → ℕ → ℕ → Traffic → Traffic → Parts g → Parts g
-    → Result (Unit {0}) ServingFault → Type 0
-IsServedOrRefused has_to_be_there limit most port port' old new (Ok done) =
-    IsServed has_to_be_there limit port port' old new (Some most)
-IsServedOrRefused has_to_be_there limit most port port' old new (Err (Port fault)) =
-    IsServed has_to_be_there limit port port' old new None
-IsServedOrRefused {D} {g} has_to_be_there limit most port port' old new (Err (Register fault)) =
-    OpensProcess g has_to_be_there limit old new (Err fault) × (port' ≡ port)
+abbrev pub IsServedOrRefused : {D : Type 0} {g : Ghosts D} → Bool → ℕ → ℕ → Traffic → Traffic → Option (List Bool)
+    → Option (List Bool) → Parts g → Parts g → Result ℕ ServingFault → Type 0
+IsServedOrRefused has_to_be_there limit most port port' noted noted' old new (Ok taken) =
+    IsServed has_to_be_there limit most port port' noted noted' old new (Some taken)
+IsServedOrRefused has_to_be_there limit most port port' noted noted' old new (Err (Port fault)) =
+    IsServed has_to_be_there limit most port port' noted noted' old new None
+IsServedOrRefused {D} {g} has_to_be_there limit most port port' noted noted' old new (Err (Register fault)) =
+    OpensProcess g has_to_be_there limit old new (Err fault) × (port' ≡ port) × (noted' ≡ noted)
 
 -- What serving a port by a register that lies in a place does, as a whole: it is opened, if it has to be there, or
--- made, serves the port, and is closed.
+-- made, serves the port until that was asked so often or is shut, and is closed. The answer says how often it was
+-- asked. `noted` are the answers of the observer before, and `noted'` those after it.
 pub record ServesRegister {D : Type 0} {g : Ghosts D} (has_to_be_there : Bool) (limit most : ℕ) (port port' : Traffic)
-    (old new : Parts g) (result : Result (Unit {0}) ServingFault) : Type 0 where
+    (noted noted' : Option (List Bool)) (old new : Parts g) (result : Result ℕ ServingFault) : Type 0 where
   -- the requests that lay there are those at the beginning
   pub found : IsHonest g → has_to_be_there ≡ true
-      → AnswersSome limit port port' old new (option_map (λ _. most) (result_ok result))
+      → AnswersSome limit port port' old new (result_ok result)
   -- a register that is made begins without requests
   pub made : IsHonest g → has_to_be_there ≡ false → old.intake ≡ None → IsSome old.lying
-      → OnOk result ((opened : Parts g) × Keeps opened limit 0 [] × AnswersSome limit port port' opened new (Some most))
+      → IfOk result (λ taken. (opened : Parts g) × Keeps opened limit 0 []
+      × AnswersSome limit port port' opened new (Some taken))
   pub closed : new.intake ≡ None
-  pub steps : IsServedOrRefused has_to_be_there limit most port port' old new result
+  pub steps : IsServedOrRefused has_to_be_there limit most port port' noted noted' old new result

@@ -5,7 +5,7 @@ ghost use Rattle.std.specs.Prelude.{◌≡◌, ◌≤◌, ◌^◌, ◌↔◌, tr
 ghost use Rattle.table_rows.specs.Standing.{IsAtRest};
 ghost use Rattle.table_rows.specs.Tables.{no_schema};
 ghost use Rattle.database_places.specs.Opening.{is_found};
-ghost use Rattle.intake_core.specs.Held.{store_of, has_stopped};
+ghost use Rattle.intake_core.specs.Held.{store_of, limit_of, has_stopped};
 ghost use Rattle.intake_process.specs.Begun.{FindsIntake, MakesIntake, IsNotBegun};
 
 use crate::fault::OpeningFault;
@@ -50,6 +50,7 @@ fn find_intake<S: Alter + Drop>(
     requires limit { limit ≤ 2 ^ 62 }
     requires rest { IsAtRest conn }
     ensures found { IfOk result (λ begun. FindsIntake S.Store conn limit begun.0 begun.1) }
+    ensures limited { IfOk result (λ begun. limit_of begun.0 ≡ limit) }
     ensures up { IfOk result (λ begun. has_stopped begun.0 ≡ false) }
     ensures refused { IfErr result (λ refusal. IsNotBegun S.Store true conn refusal.0 refusal.1) }
 {
@@ -74,6 +75,7 @@ fn make_intake<S: Alter + Drop>(
     requires limit { limit ≤ 2 ^ 62 }
     requires rest { IsAtRest conn }
     ensures made { IfOk result (λ begun. MakesIntake S.Store limit begun.0 begun.1) }
+    ensures limited { IfOk result (λ begun. limit_of begun.0 ≡ limit) }
     ensures up { IfOk result (λ begun. has_stopped begun.0 ≡ false) }
     ensures refused { IfErr result (λ refusal. IsNotBegun S.Store false conn refusal.0 refusal.1) }
 {
@@ -103,6 +105,7 @@ pub(crate) fn begin<S: Alter + Drop>(
     ensures found { is_found opening ≡ true
         → IfOk result (λ begun. FindsIntake S.Store conn limit begun.0 begun.1) }
     ensures made { is_found opening ≡ false → IfOk result (λ begun. MakesIntake S.Store limit begun.0 begun.1) }
+    ensures limited { IfOk result (λ begun. limit_of begun.0 ≡ limit) }
     ensures up { IfOk result (λ begun. has_stopped begun.0 ≡ false) }
     ensures refused { IfErr result (λ refusal. IsNotBegun S.Store (is_found opening) conn refusal.0 refusal.1) }
 {

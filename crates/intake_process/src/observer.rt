@@ -1,5 +1,8 @@
 //! What the caller sees and decides while a port is served.
 
+ghost use Rattle.std.specs.Prelude.{◌≡◌, ◌∷◌, [], Bool, List, Option};
+ghost use Rattle.intake_process.specs.Observing.{Notes};
+
 use crate::begun::Totals;
 use crate::fault::OpeningFault;
 use crate::process::Closed;
@@ -18,27 +21,32 @@ pub enum Went {
     NotOpened(OpeningFault),
 }
 
-/// An observer sees what happens while a port of this kind is served, and says when a register that is closed may be
-/// opened again.
-pub trait Observer<L> {
-    /// The port is open, and the register that serves it holds this much.
-    fn ready(&mut self, totals: Totals);
+/// An observer sees what happens while a port is served, and says when a register that is closed may be opened again.
+pub trait Observer {
+    // What it answered so far when it was asked whether a register may be opened, if that is known.
+    ghost answers: { Self → Option (List Bool) };
 
-    /// A connection came on the port: one that is answered next, or one that its peer gave up or the system refused.
-    fn accepted(&mut self, port: &L);
+    /// The port is open, and the register that serves it holds this much.
+    fn ready(&mut self, totals: Totals)
+        ensures { answers self.new ≡ answers self.old };
 
     /// Whether the register, which is closed, may be opened for a connection that came.
-    fn may_open(&mut self) -> bool;
+    fn may_open(&mut self) -> bool
+        ensures { Notes (answers self.old) (answers self.new) (result ∷ []) };
 
     /// The register is open again, and holds this much.
-    fn opened(&mut self, totals: Totals);
+    fn opened(&mut self, totals: Totals)
+        ensures { answers self.new ≡ answers self.old };
 
     /// A connection was served like this. The port learns it next.
-    fn served(&mut self, served: &Served);
+    fn served(&mut self, served: &Served)
+        ensures { answers self.new ≡ answers self.old };
 
-    /// A connection of the port is over, and this many more may come.
-    fn ended(&mut self, port: &L, went: Went, left: u32);
+    /// A connection of the port is over, and this came of it.
+    fn ended(&mut self, went: Went)
+        ensures { answers self.new ≡ answers self.old };
 
     /// No more connections are answered, and the register was closed like this.
-    fn closed(&mut self, closed: Closed);
+    fn closed(&mut self, closed: Closed)
+        ensures { answers self.new ≡ answers self.old };
 }

@@ -1,10 +1,13 @@
 //! Answers the connections of a port, one after another, by an intake that is opened again after a refusal.
 
-ghost use Rattle.std.specs.Prelude.{◌≡◌, ◌≢◌, ◌≤◌, ◌^◌, ℕ, None, OnOk, option_map};
+ghost use Rattle.std.specs.Prelude.{◌≡◌, ◌≢◌, ◌≤◌, ◌^◌, ℕ, Bool, Option, None, Ok, true, IfOk, OnOk};
+ghost use Rattle.std.specs.Prelude.{option_map};
 ghost use Rattle.std.specs.Result.{result_ok};
 ghost use Rattle.database_places.specs.Places.{IsHonest};
 ghost use Rattle.intake_process.specs.Process.{parts, IsAwake, Leaves, StaysUp};
-ghost use Rattle.intake_process.specs.Turns.{AnswersSome, ServesRegister};
+ghost use Rattle.intake_process.specs.History.{IsReady, IsOver, Passes, said_of};
+ghost use Rattle.intake_process.specs.Observing.{Notes};
+ghost use Rattle.intake_process.specs.Turns.{AnswersSome, EndsBy, ServesRegister};
 ghost use Rattle.database_places.specs.Opening.{is_found};
 
 use crate::begun::Totals;
@@ -25,19 +28,21 @@ pub enum ServingFault {
 }
 
 /// Serves a port by the register in the place of a process, from beginning to end: opens or makes the register, listens
-/// on the port, answers its next `most` connections, and closes the register.
-pub fn serve_register<D: Disk + Drop, P: Place<D> + Drop, L: Port, O: Observer<L>>(
+/// on the port, answers the connections that come on it until it was asked `most` times or is shut, and closes the
+/// register. It answers how many times the port was asked.
+pub fn serve_register<D: Disk + Drop, P: Place<D> + Drop, L: Port, O: Observer>(
     alloc: Global,
     port: &mut L,
     process: &mut IntakeProcess<D, P>,
     observer: &mut O,
     opening: Opening,
     limit: u64,
-    most: u32,
-) -> Result<(), ServingFault>
+    most: u64,
+) -> Result<u64, ServingFault>
     requires { limit ≤ 2 ^ 62 }
     ensures { ServesRegister (is_found opening) limit most (L.traffic port.old) (L.traffic port.new)
-        (parts P.lying process.old) (parts P.lying process.new) result }
+        (O.answers observer.old) (O.answers observer.new) (parts P.lying process.old) (parts P.lying process.new)
+        result }
 {
     let totals = match process.open(alloc, opening, limit) {
         Ok(totals) => totals,
@@ -46,25 +51,29 @@ pub fn serve_register<D: Disk + Drop, P: Place<D> + Drop, L: Port, O: Observer<L
     let served = listen_and_serve(alloc, port, process, observer, totals, limit, most);
     observer.closed(process.close());
     match served {
-        Ok(()) => Ok(()),
+        Ok(taken) => Ok(taken),
         Err(fault) => Err(ServingFault::Port(fault)),
     }
 }
 
 /// Listens on a port, and answers its connections by a register that holds this much.
-fn listen_and_serve<D: Disk + Drop, P: Place<D> + Drop, L: Port, O: Observer<L>>(
+fn listen_and_serve<D: Disk + Drop, P: Place<D> + Drop, L: Port, O: Observer>(
     alloc: Global,
     port: &mut L,
     process: &mut IntakeProcess<D, P>,
     observer: &mut O,
     totals: Option<Totals>,
     limit: u64,
-    most: u32,
-) -> Result<(), PortFault>
+    most: u64,
+) -> Result<u64, PortFault>
     requires { limit ≤ 2 ^ 62 }
     ensures answers { IsHonest D.Disk → AnswersSome limit (L.traffic port.old) (L.traffic port.new)
-        (parts P.lying process.old) (parts P.lying process.new) (option_map (λ _. most) (result_ok result)) }
+        (parts P.lying process.old) (parts P.lying process.new) (result_ok result) }
+    ensures ends { IfOk result (EndsBy most (L.traffic port.new)) }
+    ensures shut { (L.traffic port.old).is_shut ≡ true → IfOk result (λ taken. taken ≡ 0) }
     ensures stays { StaysUp (parts P.lying process.old) (parts P.lying process.new) }
+    ensures passes { Passes limit (parts P.lying process.old) (parts P.lying process.new) (O.answers observer.old)
+        (O.answers observer.new) (result_ok result) }
 {
     if let Err(error) = port.listen() {
         return Err(PortFault::Network(error));
@@ -75,59 +84,66 @@ fn listen_and_serve<D: Disk + Drop, P: Place<D> + Drop, L: Port, O: Observer<L>>
     serve_port(alloc, port, process, observer, limit, most)
 }
 
-/// Answers the next `most` connections that come on a port, each by the register as the one before it left it. If the
-/// database refuses a call the register is closed. It is opened again for a connection that comes later, if the
-/// observer lets it, and until it is open connections are turned away. One that its peer gave up first counts as well.
-pub fn serve_port<D: Disk + Drop, P: Place<D> + Drop, L: Port, O: Observer<L>>(
+/// Answers the connections that come on a port, each by the register as the one before it left it, until the port was
+/// asked `most` times or is shut. If the database refuses a call the register is closed. It is opened again for a
+/// connection that comes later, if the observer lets it, and until it is open connections are turned away. It answers
+/// how many times the port was asked: once for each connection, and each time that none came.
+pub fn serve_port<D: Disk + Drop, P: Place<D> + Drop, L: Port, O: Observer>(
     alloc: Global,
     port: &mut L,
     process: &mut IntakeProcess<D, P>,
     observer: &mut O,
     limit: u64,
-    most: u32,
-) -> Result<(), PortFault>
+    most: u64,
+) -> Result<u64, PortFault>
     requires { limit ≤ 2 ^ 62 }
     ensures answers { IsHonest D.Disk → AnswersSome limit (L.traffic port.old) (L.traffic port.new)
-        (parts P.lying process.old) (parts P.lying process.new) (option_map (λ _. most) (result_ok result)) }
+        (parts P.lying process.old) (parts P.lying process.new) (result_ok result) }
+    ensures ends { IfOk result (EndsBy most (L.traffic port.new)) }
+    ensures shut { (L.traffic port.old).is_shut ≡ true → result ≡ Ok 0 }
     ensures closed { IsAwake process.old.intake → OnOk result (IsAwake process.new.intake) }
     ensures stays { StaysUp (parts P.lying process.old) (parts P.lying process.new) }
+    ensures passes { Passes limit (parts P.lying process.old) (parts P.lying process.new) (O.answers observer.old)
+        (O.answers observer.new) (result_ok result) }
 {
     for taken in 0..most {
-        serve_next(alloc, port, process, observer, limit, most - taken - 1)?;
+        if port.is_shut() {
+            return Ok(taken);
+        }
+        serve_next(alloc, port, process, observer, limit)?;
     }
-    Ok(())
+    Ok(most)
 }
 
-/// Answers the next connection, unless its peer gave it up. This many more may come.
-fn serve_next<D: Disk + Drop, P: Place<D> + Drop, L: Port, O: Observer<L>>(
+/// Answers the next connection, if one comes.
+fn serve_next<D: Disk + Drop, P: Place<D> + Drop, L: Port, O: Observer>(
     alloc: Global,
     port: &mut L,
     process: &mut IntakeProcess<D, P>,
     observer: &mut O,
     limit: u64,
-    left: u32,
 ) -> Result<(), PortFault>
     requires { limit ≤ 2 ^ 62 }
     ensures answers { IsHonest D.Disk → AnswersSome limit (L.traffic port.old) (L.traffic port.new)
         (parts P.lying process.old) (parts P.lying process.new) (option_map (λ _. 1) (result_ok result)) }
     ensures closed { IsAwake process.old.intake → OnOk result (IsAwake process.new.intake) }
     ensures stays { StaysUp (parts P.lying process.old) (parts P.lying process.new) }
+    ensures passes { Passes limit (parts P.lying process.old) (parts P.lying process.new) (O.answers observer.old)
+        (O.answers observer.new) (option_map (λ _. 1) (result_ok result)) }
 {
-    let came = port.accept()?;
-    observer.accepted(port);
-    if let Some((mut reader, mut writer)) = came {
+    if let Some((mut reader, mut writer)) = port.accept()? {
         let refusal = open_again(alloc, process, observer, limit);
         let answered = process.answer(alloc, &mut reader, &mut writer);
         observer.served(&answered.served);
         port.end(reader, writer, answered.served)?;
-        observer.ended(port, went(process, answered.outcome, refusal), left);
+        observer.ended(went(process, answered.outcome, refusal));
     }
     Ok(())
 }
 
 /// Opens the register again, if it is closed and the observer lets it. It answers why it was not opened, if that was
 /// tried.
-fn open_again<D: Disk + Drop, P: Place<D> + Drop, L, O: Observer<L>>(
+fn open_again<D: Disk + Drop, P: Place<D> + Drop, O: Observer>(
     alloc: Global,
     process: &mut IntakeProcess<D, P>,
     observer: &mut O,
@@ -136,8 +152,14 @@ fn open_again<D: Disk + Drop, P: Place<D> + Drop, L, O: Observer<L>>(
     requires { limit ≤ 2 ^ 62 }
     ensures leaves { IsHonest D.Disk → Leaves limit (parts P.lying process.old) (parts P.lying process.new) }
     ensures stays { StaysUp (parts P.lying process.old) (parts P.lying process.new) }
+    ensures ready { (asked : Option Bool)
+        × IsReady limit asked (parts P.lying process.old) (parts P.lying process.new)
+        × Notes (O.answers observer.old) (O.answers observer.new) (said_of asked) }
 {
-    if process.is_open() || !observer.may_open() {
+    if process.is_open() {
+        return None;
+    }
+    if !observer.may_open() {
         return None;
     }
     match process.open(alloc, Opening::Found(Cache::Largest), limit) {
@@ -160,6 +182,7 @@ fn went<D: Disk + Drop, P: Place<D> + Drop>(
         → Leaves limit (parts P.lying process.old) (parts P.lying process.new) }
     ensures failed { outcome ≡ Outcome.Failed → process.new.intake ≡ None }
     ensures others { outcome ≢ Outcome.Failed → process.new ≡ process.old }
+    ensures over { IsOver outcome (parts P.lying process.old) (parts P.lying process.new) }
     ensures calls { process.new.refused_calls ≡ process.old.refused_calls }
 {
     match (outcome, refusal) {

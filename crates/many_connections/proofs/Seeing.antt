@@ -1,9 +1,9 @@
 -- What was seen on a port after one more event.
 use Rattle.std.proofs.Common.{◌≡◌, ◌-◌, ℕ, Bool, true, false, List, [], ◌∷◌, ◌++◌, length, take, drop, Some, None, refl}
 use Rattle.std.proofs.Common.{sym, ◌∙◌, ap, subst, arith, true≢false}
-use Rattle.std.specs.Prelude.{Option, Result, Vec, is_some, nat_eq, not}
+use Rattle.std.specs.Prelude.{◌≢◌, Option, Result, Vec, is_some, nat_eq, not}
 use Rattle.std.specs.declared.alloc.Global.{Global}
-use Rattle.std.proofs.lemmas.List.{take-append-drop, length-append}
+use Rattle.std.proofs.lemmas.List.{take-append-drop, length-append, length-drop}
 use Rattle.std.proofs.Math.Seq.{take-append_seam, drop-length}
 use Rattle.filing_model.specs.declared.served.Ended.TheVariants.{InputEnded}
 use Rattle.gateway_server.specs.declared.serving.Served.{Served}
@@ -37,6 +37,14 @@ not_false false is = absurd (true≢false is)
 pub all_left : (n : ℕ) → nat_eq n 0 ≡ true → n ≡ 0
 all_left n is = grind (arith, is)
 
+-- nothing is behind those that were read only if there are none, or all were
+pub no_bytes : (bytes : List ℕ) (left : ℕ) → left ≢ 0 → drop (length bytes - left) bytes ≡ [] → bytes ≡ []
+no_bytes [] left some none = refl
+no_bytes (b ∷ bytes) left some none =
+    let count : length (b ∷ bytes) - (length (b ∷ bytes) - left) ≡ 0 =
+    sym (length-drop (length (b ∷ bytes) - left) (b ∷ bytes)) ∙ ap (λ (l : List ℕ). length l) none in
+    absurd (some (omega (arith, count)))
+
 one_more : (pieces : List Piece) (over : List Connection) (piece : Piece) (connection : Connection)
     → AreServedAs pieces over → IsServedAs piece connection
     → AreServedAs (pieces ++ piece ∷ []) (over ++ connection ∷ [])
@@ -65,7 +73,7 @@ pub adds : (seen : Seen) (rest : List ℕ) (left : ℕ) (text : Vec ℕ Global) 
     (Some text.items)
 adds seen rest left text served count = adds_to seen.given seen.over rest left text.items served count
 
-module _ {S : Type 0} (s : Ghosts S) where
+module _ {S N : Type 0} (s : Ghosts S N) where
   none_given : (done : List Piece) (given : Option (List ℕ)) (out : Option (Out S))
       (places : List (Option (Talk S))) → IsOutOf s done given out places → is_some out ≡ false → given ≡ None
   none_given done None None places is none = refl
@@ -106,17 +114,18 @@ module _ {S : Type 0} (s : Ghosts S) where
   given_back : (given : Option (List ℕ)) (over : List Connection) (old new : Hall S) (traffic : Option (Traffic S))
       (left : ℕ) (text output : Vec ℕ Global) (served : Served) (closes : Bool) → is_some old.out ≡ true
       → output ≡ text → (closes ≡ false → (left ≡ 0) × (served.ended ≡ InputEnded))
+      → (closes ≡ true → served.ended ≡ InputEnded → left ≢ 0)
       → ((done : List Piece) (read : List ℕ) (known : Option (Traffic S)) → IsRunning s done (Some read) old known
       → IsRunning s (done ++ piece_of old.out read output.items closes ∷ []) None new known)
       → Runs s (record { given = given; over = over }) old traffic
       → Runs s (record { given = None; over = and_given given over left text.items served }) new traffic
-  given_back None over old new traffic left text output served closes is same opened back runs =
+  given_back None over old new traffic left text output served closes is same opened shut back runs =
       absurd (nothing old.out runs.running.is_out is)
     where
       nothing : (out : Option (Out S)) → IsOutOf s runs.pieces None out old.places.items → is_some out ≡ true → ⊥
       nothing None of is = true≢false (sym is)
       nothing (Some out) of is = of
-  given_back (Some bytes) over old new traffic left text output served closes is same opened back runs =
+  given_back (Some bytes) over old new traffic left text output served closes is same opened shut back runs =
       record {
         pieces = runs.pieces ++ piece_of old.out bytes output.items closes ∷ [];
         are = one_more runs.pieces over _ _ runs.are (served_as old.out);
@@ -128,18 +137,23 @@ module _ {S : Type 0} (s : Ghosts S) where
           let n : length bytes - left ≡ length bytes = omega (arith, (opened stays).0) in
           (ap (λ k. drop k bytes) n ∙ drop-length bytes, (opened stays).1)
 
+      none_read : closes ≡ true → served.ended ≡ InputEnded → drop (length bytes - left) bytes ≡ [] → bytes ≡ []
+      none_read closing ended none = no_bytes bytes left (shut closing ended) none
+
       served_as : (out : Option (Out S)) → IsServedAs (piece_of out bytes output.items closes)
           (connection_with served (read_but left bytes) text.items)
       served_as None = record {
         rest = drop (length bytes - left) bytes;
         splits = sym (take-append-drop (length bytes - left) bytes);
         all = none_left;
+        closed = none_read;
         output = ap (λ (o : Vec ℕ Global). o.items) same;
       }
       served_as (Some out) = record {
         rest = drop (length bytes - left) bytes;
         splits = sym (take-append-drop (length bytes - left) bytes);
         all = none_left;
+        closed = none_read;
         output = ap (λ (o : Vec ℕ Global). o.items) same;
       }
 
@@ -147,8 +161,9 @@ module _ {S : Type 0} (s : Ghosts S) where
   pub piece_back : (seen : Seen) (old new : Hall S) (traffic : Option (Traffic S)) (left : ℕ)
       (text output : Vec ℕ Global) (served : Served) (closes : Bool) → is_some old.out ≡ true → output ≡ text
       → (closes ≡ false → (left ≡ 0) × (served.ended ≡ InputEnded))
+      → (closes ≡ true → served.ended ≡ InputEnded → left ≢ 0)
       → ((done : List Piece) (read : List ℕ) (known : Option (Traffic S)) → IsRunning s done (Some read) old known
       → IsRunning s (done ++ piece_of old.out read output.items closes ∷ []) None new known)
       → Runs s seen old traffic → Runs s (after_event seen (Over left text served)) new traffic
-  piece_back seen old new traffic left text output served closes is same opened back runs =
-      given_back seen.given seen.over old new traffic left text output served closes is same opened back runs
+  piece_back seen old new traffic left text output served closes is same opened shut back runs =
+      given_back seen.given seen.over old new traffic left text output served closes is same opened shut back runs

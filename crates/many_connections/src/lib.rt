@@ -5,10 +5,12 @@
 
 mod event;
 mod many;
+mod note;
 mod piece_reader;
 mod tcp;
 
 pub use event::Event;
 pub use many::Many;
+pub use note::Note;
 pub use piece_reader::PieceReader;
 pub use tcp::{TcpLine, TcpSockets};

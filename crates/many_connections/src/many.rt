@@ -1,16 +1,17 @@
 //! A port on which the pieces of many connections come, one after another.
 
 ghost use Rattle.std.specs.Prelude.{◌≡◌, [], Some, None, IfOk};
-ghost use Rattle.ready_connections.specs.Running.{IsEmpty};
+ghost use Rattle.ready_connections.specs.Running.{IsEmpty, is_shut};
 ghost use Rattle.many_connections.specs.Events.{Runs, seen_after};
 
 use crate::event::Event;
+use crate::note::Note;
 use crate::piece_reader::PieceReader;
 use gateway_ports::Port;
 use gateway_server::{Ended, Served};
 use http_server::Log;
 use http_wire::MemoryWriter;
-use ready_connections::{Hall, Sockets};
+use ready_connections::{Bounds, Hall, Sockets, Stream};
 use std::alloc::{AllocError, Global};
 use std::io;
 use std::time::Duration;
@@ -19,50 +20,58 @@ use std::time::Duration;
 const WAIT: u64 = 100;
 
 /// How many turns the connections have at most until a piece comes.
-const TURNS: u32 = 4_096;
+const TURNS: u32 = 64;
 
 /// A port on which each piece of the connections of some sockets comes as a connection: a whole request, or what no
 /// request can follow. What is written on it goes out on the connection that the piece is of.
 #[derive(Drop)]
-pub struct Many<K: Sockets + Drop> {
+pub struct Many<S: Stream + Drop, K: Sockets<Stream = S> + Drop> {
     alloc: Global,
     sockets: K,
-    hall: Hall<K::Stream>,
+    hall: Hall<S>,
     /// What happened, which only clauses read.
     events: Log<Event, bool>,
-    ghost runs: { ∥ Runs K.Stream.Stream (seen_after events.items) hall (K.traffic sockets) ∥₁ },
+    ghost runs: { ∥ Runs S.Stream (seen_after events.items) hall (K.traffic sockets) ∥₁ },
 }
 
-impl<K: Sockets + Drop> Many<K> {
-    /// The port of these sockets, on which no connection came yet. It serves so many of them at once.
-    pub fn new(alloc: Global, sockets: K, places: usize) -> Result<Many<K>, AllocError>
+impl<S: Stream + Drop, K: Sockets<Stream = S> + Drop> Many<S, K> {
+    /// The port of these sockets, on which no connection came yet.
+    pub fn new(alloc: Global, sockets: K, bounds: Bounds) -> Result<Many<S, K>, AllocError>
         requires { IsEmpty (K.traffic sockets) }
-        ensures { IfOk result (λ many. many.events.items ≡ []) }
+        ensures events { IfOk result (λ many. many.events.items ≡ []) }
+        ensures bounds { IfOk result (λ many. many.hall.bounds ≡ bounds) }
     {
         Ok(Many {
             alloc,
             sockets,
-            hall: Hall::new(alloc, places)?,
+            hall: Hall::new(alloc, bounds)?,
             events: Log::new(),
         })
     }
 }
 
-impl<K: Sockets + Drop> Port for Many<K> {
+impl<S: Stream<Note = Note> + Drop, K: Sockets<Stream = S> + Drop> Port for Many<S, K> {
     type Reader = PieceReader;
 
     type Writer = MemoryWriter;
 
     ghost traffic = { λ many. let seen = seen_after many.events.items in
-        record { coming = None; given = seen.given; over = Some seen.over } };
+        record { coming = None; given = seen.given; over = Some seen.over; is_shut = is_shut many.hall } };
 
     fn listen(&mut self) -> io::Result<()> {
         self.sockets.listen()
     }
 
+    fn is_shut(&self) -> bool {
+        self.hall.is_shut()
+    }
+
     fn accept(&mut self) -> io::Result<Option<(PieceReader, MemoryWriter)>> {
         if self.hall.is_out() {
             return Err(io::ErrorKind::Other.into());
+        }
+        if self.hall.is_shut() {
+            return Ok(None);
         }
         let wait = Duration::from_millis(WAIT);
         match self.hall.next_piece(&mut self.sockets, wait, TURNS)? {
@@ -88,9 +97,10 @@ impl<K: Sockets + Drop> Port for Many<K> {
         let left = reader.left();
         let is_open = left == 0 && matches!(served.ended, Ended::InputEnded);
         let text = writer.into_text();
+        let note = Note::new(reader.into_piece(), &served, &text);
         let event = Event::Over { left, text, served };
         self.events = self.events.and(&event, &true);
-        self.hall.give_back(event.into_bytes(), !is_open);
+        self.hall.give_back(event.into_bytes(), !is_open, &note);
         Ok(())
     }
 }

@@ -22,6 +22,11 @@ impl PieceReader {
         }
     }
 
+    /// The bytes of the piece.
+    pub(crate) fn into_piece(self) -> Vec<u8> {
+        self.cursor.into_inner()
+    }
+
     /// How many bytes were not read.
     pub(crate) fn left(&self) -> usize
         ensures { result ≡ length (bytes_left self.now) }

@@ -8,7 +8,7 @@ use mio::{Events, Interest, Poll, Token};
 use ready_connections::{Broken, Got, Sockets, Stream, Why};
 use std::io::{self, ErrorKind, Read, Write};
 use std::net::{IpAddr, Ipv4Addr, SocketAddr};
-use std::time::Duration;
+use std::time::{Duration, Instant};
 
 /// The token of the listener; those of connections are their places.
 const LISTENER: Token = Token(usize::MAX);
@@ -42,6 +42,8 @@ impl TcpLine {
 }
 
 impl Stream for TcpLine {
+    type Note = ();
+
     ghost came = { λ _. None };
 
     ghost went = { λ _. None };
@@ -70,6 +72,8 @@ impl Stream for TcpLine {
         self.is_broken = taken.is_err();
         taken
     }
+
+    fn note(&mut self, _note: &()) {}
 }
 
 /// Whether a call only cannot be answered now.
@@ -127,6 +131,8 @@ pub struct TcpSockets<'r> {
     most: usize,
     /// `None` until it listens.
     listening: Option<Listening>,
+    /// The moment from which on time is counted; `None` if the system has no clock.
+    start: Option<Instant>,
 }
 
 impl<'r> TcpSockets<'r> {
@@ -137,6 +143,7 @@ impl<'r> TcpSockets<'r> {
             number,
             most,
             listening: None,
+            start: Instant::now(rt).ok(),
         }
     }
 
@@ -240,6 +247,17 @@ impl Sockets for TcpSockets<'_> {
         match &mut self.listening {
             Some(listening) => listening.ask(has_turn, wait),
             None => Err(ErrorKind::NotConnected.into()),
+        }
+    }
+
+    // Without a clock no time passes.
+    fn now(&self) -> u64 {
+        let Some(start) = self.start else {
+            return 0;
+        };
+        match start.elapsed(self.rt) {
+            Ok(time) => u64::try_from(time.as_millis()).unwrap_or(u64::MAX),
+            Err(_) => 0,
         }
     }
 

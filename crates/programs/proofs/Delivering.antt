@@ -1,6 +1,6 @@
 -- Connections that were served in turn are deliveries.
-use Rattle.std.proofs.Common.{◌≡◌, ◌∙◌, ℕ, ◌^◌, ◌≤◌, List, [], ◌∷◌, ◌++◌, length, take, Option, Some, true, refl, sym}
-use Rattle.std.proofs.Common.{ap, subst, append_assoc}
+use Rattle.std.proofs.Common.{◌≡◌, ◌∙◌, ℕ, ◌^◌, ◌≤◌, List, [], ◌∷◌, ◌++◌, length, take, Some, true, refl, sym}
+use Rattle.std.proofs.Common.{subst, append_assoc}
 use Rattle.http_messages.specs.Message.{Arrival}
 use Rattle.filing_model.specs.declared.served.Ended.{Ended}
 use Rattle.filing_model.specs.declared.served.Ended.TheVariants.{Closed, InputEnded, Fault}
@@ -15,12 +15,9 @@ use Rattle.filing_world.specs.World.{Output, World, Event}
 use Rattle.filing_world.specs.Step.{Run, Delivers}
 use Rattle.filing_world.specs.Headline.{AreFilers, start, Holds}
 use Rattle.filing_world.proofs.Keeping.{holds_after}
-use Rattle.sqlite.specs.Store.{Ghosts}
-use Rattle.intake_core.specs.declared.intake.Intake.{Intake}
-use Rattle.intake_core.specs.Held.{old_style_of, IsClean, HoldsRequests}
-use Rattle.gateway_ports.specs.Ports.{Connection, Traffic}
-use Rattle.gateway_ports.specs.InTurn.{ServeInTurn, ServesSome}
-use Rattle.programs.specs.Deliveries.{Delivery, AreOf, events_of, end_in_world, GoesOnTo, StandsFor, IsServedIn}
+use Rattle.gateway_ports.specs.Ports.{Connection}
+use Rattle.gateway_ports.specs.InTurn.{ServeInTurn}
+use Rattle.programs.specs.Deliveries.{Delivery, AreOf, events_of, end_in_world, GoesOnTo}
 
 -- a connection that a fault ended is one for which memory ran out
 faults_alike : (requests : Keeping) (read : List ℕ) (marks : List Mark) (ended : Ended) (out : List ℕ)
@@ -135,29 +132,3 @@ pub still_holds : (filers : List (List ℕ)) (limit : ℕ) (events : List Event)
 still_holds filers limit events old new cs deliveries after are bound run on =
     holds_after filers limit (events ++ events_of deliveries) new are bound
     (run_join (start filers limit) events (events_of deliveries) old new run on.run)
-
--- the requests of before are told apart by their number
-none_old_style : {X : Type 0} (old_style : ℕ) (xs : List X) → old_style ≡ 0 → take old_style xs ≡ []
-none_old_style old_style xs none = subst (λ n. take n xs ≡ []) (sym none) refl
-
-pub served_in : {S : Type 0} (g : Ghosts S) (port port' : Traffic) (old new : Intake S) (taken : Option ℕ)
-    (world : World) → ServesSome g port port' old new taken → IsClean g new → StandsFor g old world → world.up ≡ true
-    → IsServedIn g world port port' new taken
-served_in g port port' old new taken world serves clean stands up =
-    let t = serves.serves clean (firsts world.done) stands.holds in
-    let served = rw (none_old_style (old_style_of old) (firsts world.done) stands.old_style, stands.limit) at t.3.1 in
-    record {
-      connections = t.3.0;
-      after = t.0;
-      served = served;
-      goes_on = λ deliveries are.
-          let on = delivered world t.3.0 deliveries t.0 up served.in_turn are in (
-            on.0,
-            on.1,
-            record {
-              holds = subst (λ requests. HoldsRequests g new requests) on.1.kept t.1;
-              old_style = serves.setting.old_style ∙ stands.old_style;
-              limit = serves.setting.limit ∙ stands.limit ∙ sym (ap (λ w. w.limit) on.1.others);
-            },
-          );
-    }

@@ -1,6 +1,6 @@
 mod Away
 pub mod Delivering
 mod Exchanging
-mod Happening
+pub mod Happening
 mod Limits
-mod Situations
+pub mod Situations

@@ -1,18 +1,13 @@
 -- Connections that were served, as events of the world; own rules.
-use Rattle.std.specs.Prelude.{◌≡◌, ℕ, List, [], ◌∷◌, ◌++◌, take, map, Option, Some}
+use Rattle.std.specs.Prelude.{◌≡◌, ℕ, List, [], ◌∷◌, ◌++◌, take, map, Some}
 use Rattle.http_messages.specs.declared.refusal.ConnFault.TheVariants.{Memory}
 use Rattle.filing_model.specs.declared.served.Ended.{Ended}
 use Rattle.filing_model.specs.declared.served.Ended.TheVariants.{Closed, InputEnded, Fault}
 use Rattle.filing_model.specs.Request.{Request, firsts}
 use Rattle.filing_model.specs.Stopping.{No}
-use Rattle.filing_model.specs.Serving.{keeping}
 use Rattle.filing_world.specs.World.{Sent, Output, World, Event, Deliver, numbered}
 use Rattle.filing_world.specs.Step.{Run}
-use Rattle.sqlite.specs.Store.{Ghosts}
-use Rattle.intake_core.specs.declared.intake.Intake.{Intake}
-use Rattle.intake_core.specs.Held.{old_style_of, limit_of, HoldsRequests}
-use Rattle.gateway_ports.specs.Ports.{Connection, Traffic}
-use Rattle.gateway_ports.specs.InTurn.{AreServed}
+use Rattle.gateway_ports.specs.Ports.{Connection}
 
 -- what came on a connection: so many of the first bytes of the item that was sent under this number
 pub record Delivery : Type 0 where
@@ -70,20 +65,3 @@ pub record GoesOnTo (old : World) (connections : List Connection) (deliveries : 
   pub are : AreOutputsOf connections deliveries more
   -- nothing else changed
   pub others : new ≡ record old { done = new.done; outputs = new.outputs }
-
--- An intake stands for a world: it holds the first ones of the requests that the world has completed, none of which is
--- old-style, and keeps as many keys at most.
-pub record StandsFor {S : Type 0} (g : Ghosts S) (intake : Intake S) (world : World) : Type 0 where
-  pub holds : HoldsRequests g intake (firsts world.done)
-  pub old_style : old_style_of intake ≡ 0
-  pub limit : limit_of intake ≡ world.limit
-
--- Connections of a port were served after what a world has completed. Whatever items were read on them, the world goes
--- on by their deliveries to one that the intake stands for.
-pub record IsServedIn {S : Type 0} (g : Ghosts S) (world : World) (port port' : Traffic) (intake : Intake S)
-    (taken : Option ℕ) : Type 0 where
-  pub connections : List Connection
-  pub after : List Request
-  pub served : AreServed (keeping world.limit [] (firsts world.done) after) port port' connections taken
-  pub goes_on : (deliveries : List Delivery) → AreOf world.sent connections deliveries
-      → (new : World) × GoesOnTo world connections deliveries after new × StandsFor g intake new

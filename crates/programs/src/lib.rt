@@ -1,6 +1,6 @@
 //! What the programs do, as their contracts say it, and that the headline holds of what they keep. What may live here:
-//! what a served port is in the world, what may happen at the programs, one thing after another, and laws over every
-//! list of such things. There is no code.
+//! what served connections are in the world, what may happen at the programs, one thing after another, and laws over
+//! every list of such things. There is no code.
 #![tactic(auto)]
 
 ghost use Rattle.std.specs.Prelude.{◌≡◌, ◌≤◌, ◌^◌, ℕ, List, [], Option, Some, true};
@@ -10,18 +10,14 @@ ghost use Rattle.filing_model.specs.Serving.{keeping};
 ghost use Rattle.filing_world.specs.World.{World, Outbox, Event};
 ghost use Rattle.filing_world.specs.Headline.{AreFilers, start, Holds};
 ghost use Rattle.filer_client.specs.Exchange.{IsOpenRequest, Hears};
-ghost use Rattle.gateway_ports.specs.InTurn.{ServeInTurn, ServesSome};
+ghost use Rattle.gateway_ports.specs.InTurn.{ServeInTurn};
 ghost use Rattle.intake_process.specs.Turns.{Turn, connections_of, served_in, AreTurnedAway};
-ghost use Rattle.programs.specs.Deliveries.{Delivery, AreOf, GoesOnTo, StandsFor, IsServedIn};
+ghost use Rattle.programs.specs.Deliveries.{Delivery, AreOf, GoesOnTo};
 ghost use Rattle.programs.specs.Exchanged.{IsBox, IsSent, ComesOf, IsMoved};
 ghost use Rattle.programs.specs.Happenings.{Situation, Happening, at_first, Happen, IsReached, AreRegistered};
 ghost use Rattle.programs.specs.Happenings.{TurnsHappen};
 ghost use Rattle.filing_world.specs.Step.{Run};
-ghost use Rattle.intake_core.specs.declared.intake.Intake.{Intake};
-ghost use Rattle.intake_core.specs.Held.{IsClean};
-ghost use Rattle.gateway_ports.specs.Ports.{Connection, Traffic};
-
-use sqlite::Alter;
+ghost use Rattle.gateway_ports.specs.Ports.{Connection};
 
 /// Connections that were served in turn after the requests which a world has completed are deliveries: each is a step
 /// of the world, and what is kept then are the first of the requests that the new world has completed. So more
@@ -35,15 +31,6 @@ pub fn connections_are_deliveries()
         (connections : List Connection) (deliveries : List Delivery) (after : List Request) → AreFilers filers
         → limit ≤ 2 ^ 62 → Run (start filers limit) events old → GoesOnTo old connections deliveries after new
         → Holds new }
-{}
-
-/// What serving the connections of a port did with an intake that stood for a world. If the disk is clean at the
-/// end, the connections that came were served in turn, and whatever sent items were read on them, the world goes on by
-/// their deliveries to one that the intake stands for.
-pub fn a_served_port_is_in_the_world<S: Alter>()
-    ensures { (port port' : Traffic) (old new : Intake S) (taken : Option ℕ) (world : World)
-        → ServesSome S.Store port port' old new taken → IsClean S.Store new → StandsFor S.Store old world
-        → world.up ≡ true → IsServedIn S.Store world port port' new taken }
 {}
 
 /// What an exchange writes is sent, and the reply that it reads is handed to its entry, whatever came in between at

@@ -1,12 +1,13 @@
 -- What one thing that happens in a hall changes of what holds of all its connections.
 use Rattle.std.proofs.Common.{◌≡◌, ◌≢◌, ◌⊎◌, inl, inr, ℕ, zero, suc, ◌+◌, ◌<◌, ◌≤◌, Bool, true, false, List, [], ◌∷◌}
 use Rattle.std.proofs.Common.{◌++◌, length, get_or, set}
-use Rattle.std.proofs.Common.{Option, Some, None, IfSome, refl, sym, ap, ◌∙◌, subst, arith, length-append, Vec}
+use Rattle.std.proofs.Common.{Option, Some, None, IfSome, refl, sym, ap, ◌∙◌, arith, length-append, Vec}
 use Rattle.std.proofs.Common.{Global, vec_len}
-use Rattle.std.specs.Prelude.{option_map}
-use Rattle.std.specs.List.{AllByRecursion}
+use Rattle.std.specs.Prelude.{option_map, is_some}
+use Rattle.std.specs.List.{AllByRecursion, sum_by}
 use Rattle.std.proofs.lemmas.Bool.Decides.{eqb_tells}
 use Rattle.std.proofs.lemmas.List.{get_or-set_same, get_or-set_other}
+use Rattle.std.proofs.lemmas.List.Sums.{sum_by-set, sum_by-cons}
 use Rattle.std.proofs.Math.ListN.{length-set}
 use Rattle.ready_connections.specs.declared.stream.Stream.{Ghosts}
 use Rattle.ready_connections.specs.declared.connection.Connection.{Connection}
@@ -14,11 +15,15 @@ use Rattle.ready_connections.specs.declared.hall.Hall.{Hall}
 use Rattle.ready_connections.specs.declared.hall.Out.{Out}
 use Rattle.ready_connections.specs.Streams.{Traffic, Gone, one_came, one_over}
 use Rattle.ready_connections.specs.declared.why.Why.{Why}
-use Rattle.ready_connections.specs.Pieces.{Piece, IsTold, longest}
+use Rattle.ready_connections.specs.declared.why.Why.TheVariants.{Done, Broken, NoMemory, Late}
+use Rattle.ready_connections.specs.Pieces.{Piece, longest}
 use Rattle.http_messages.specs.Message.{interim}
-use Rattle.ready_connections.specs.Connections.{IsServed, IsOut, IsWaiting, IsBounded, IsEnd}
-use Rattle.ready_connections.specs.Running.{taken, taken_places, out_count, IsInPlace, IsOutOf, WasTold, AreOver}
-use Rattle.ready_connections.specs.Running.{AreRunning, IsRunning, IsEmpty, Puts}
+use Rattle.ready_connections.specs.Connections.{IsServed, IsOut, IsWaiting, IsBounded, IsEnd, IsShortOfLoan}
+use Rattle.ready_connections.specs.Connections.{HoldsWithin, most_held}
+use Rattle.ready_connections.specs.Bounds.{most_lent}
+use Rattle.ready_connections.specs.Places.{taken, taken_places, lent, lent_places}
+use Rattle.ready_connections.specs.Running.{out_count, IsInPlace, WasTold, AreOver, AreRunning, IsEmpty}
+use Rattle.ready_connections.specs.Running.{KeepsAll, GivesTurns, Puts, IsResting, IsShort, IsRunning}
 use Rattle.ready_connections.proofs.Told.{told_more}
 
 -- ---- lists
@@ -33,7 +38,16 @@ all_push : {X : Type 0} (P : X → Type 0) (xs : List X) (x : X) → AllByRecurs
 all_push P [] x all at = (at, tt)
 all_push P (y ∷ xs) x all at = (all.0, all_push P xs x all.1 at)
 
+some_within : {X : Type 0} (xs : List (Option X)) (i : ℕ) (x : X) → get_or xs i None ≡ Some x → i < length xs
+some_within [] i x is = absurd (let h = is in cc)
+some_within (y ∷ xs) zero x is = omega arith
+some_within (y ∷ xs) (suc i) x is = let h = some_within xs i x is in omega (arith, h)
+
 -- ---- bounds
+
+within_more : (n : ℕ) (b : Bool) → n ≤ 16384 + 16384 → n ≤ most_held b + 16384
+within_more n true h = omega (arith, h)
+within_more n false h = h
 
 longest_some : (done : List Piece) → length interim ≤ longest done
 longest_some [] = omega arith
@@ -64,41 +78,70 @@ module _ {S : Type 0} where
 
   -- it went on
   pub bounded_on : (done : List Piece) (c c' : Connection S) (room : ℕ) → room ≤ 16384
-      → ((most : ℕ) → 1064962 + room ≤ most → vec_len c.held.bytes ≤ most → vec_len c'.held.bytes ≤ most)
+      → ((read : ℕ) → room ≤ read → HoldsWithin read c → HoldsWithin read c')
       → ((most : ℕ) → length interim ≤ most → vec_len c.owed ≤ most → vec_len c'.owed ≤ most) → IsBounded done c
       → IsBounded done c'
   bounded_on done c c' room small held owed bounded = record {
-    held = held (1064962 + 16384) (omega (arith, small)) bounded.held;
+    held = held 16384 small bounded.held;
     owed = owed (longest done) (longest_some done) bounded.owed;
   }
 
+  -- it has a loan now, or has not
+  pub bounded_lent : (done : List Piece) (c c' : Connection S)
+      → c' ≡ record c { is_lent = c'.is_lent; since = c'.since } → c.is_lent ≡ false → IsBounded done c
+      → IsBounded done c'
+  bounded_lent done c c' is none at = rw is (record {
+    held = within_more (vec_len c.held.bytes) c'.is_lent (rw none at at.held);
+    owed = at.owed;
+  })
+
   -- the output of its piece came back
   pub bounded_back : (done : List Piece) (back : Piece) (c c' : Connection S) (output : Vec ℕ Global)
-      → back.output ≡ output.items → c'.held.bytes ≡ c.held.bytes → vec_len c'.owed ≤ vec_len output
+      → back.output ≡ output.items → c'.held.bytes ≡ c.held.bytes → c'.is_lent ≡ c.is_lent
+      → vec_len c'.owed ≤ vec_len output
       → IsBounded done c → IsBounded (done ++ back ∷ []) c'
-  bounded_back done back c c' output is held owed bounded = record {
-    held = rw held bounded.held;
+  bounded_back done back c c' output is held lent owed bounded = record {
+    held = rw (held, lent) bounded.held;
     owed =
         let last = longest_last done back in
         let len : vec_len output ≡ length back.output = output.ok.0 ∙ ap length (sym is) in
         omega (arith, last, len, owed);
   }
 
-  pub count_set : (xs : List (Option (Connection S))) (i : ℕ) (x : Option (Connection S)) → i < length xs
-      → taken_places (set xs i x) + taken (get_or xs i None) ≡ taken_places xs + taken x
-  count_set [] i x low = absurd (omega (arith, low))
-  count_set (y ∷ xs) zero x low = omega arith
-  count_set (y ∷ xs) (suc i) x low = let h = count_set xs i x (omega (arith, low)) in omega (arith, h)
+  -- ---- places
 
-  none_taken : (xs : List (Option (Connection S))) → AllByRecursion (λ place. place ≡ None) xs → taken_places xs ≡ 0
-  none_taken [] all = refl
-  none_taken (x ∷ xs) all = let h = none_taken xs all.1 in rw all.0 (omega (arith, h))
+  -- a function of places that is 0 of those that are free
+  none_counted : (f : Option (Connection S) → ℕ) (places : List (Option (Connection S))) → f None ≡ 0
+      → AllByRecursion (λ place. place ≡ None) places → sum_by f places ≡ 0
+  none_counted f [] none all = refl
+  none_counted f (place ∷ places) none all =
+      sum_by-cons f place places
+      ∙ (let h = none_counted f places none all.1 in let e = ap f all.0 ∙ none in omega (arith, h, e))
 
-  all_none_at : (xs : List (Option (Connection S))) (i : ℕ) → AllByRecursion (λ place. place ≡ None) xs
-      → get_or xs i None ≡ None
+  -- a place that is taken counts
+  pub one_taken : (places : List (Option (Connection S))) (i : ℕ) (c : Connection S) → get_or places i None ≡ Some c
+      → 1 ≤ taken_places places
+  one_taken [] i c is = absurd (let h = is in cc)
+  one_taken (place ∷ places) zero c is =
+      let h = sum_by-cons taken place places in let e = ap taken is in omega (arith, h, e)
+  one_taken (place ∷ places) (suc i) c is =
+      let h = sum_by-cons taken place places in let e = one_taken places i c is in omega (arith, h, e)
+
+  -- where none is taken nothing counts
+  pub zero_taken : (places : List (Option (Connection S)))
+      → ((i : ℕ) → i < length places → get_or places i None ≡ None) → taken_places places ≡ 0
+  zero_taken [] none = refl
+  zero_taken (place ∷ places) none =
+      let h = sum_by-cons taken place places in
+      let here = ap taken (none 0 (omega arith)) in
+      let e = zero_taken places (λ i low. none (suc i) (omega (arith, low))) in
+      omega (arith, h, here, e)
+
+  all_none_at : (places : List (Option (Connection S))) (i : ℕ) → AllByRecursion (λ place. place ≡ None) places
+      → get_or places i None ≡ None
   all_none_at [] i all = refl
-  all_none_at (x ∷ xs) zero all = all.0
-  all_none_at (x ∷ xs) (suc i) all = all_none_at xs i all.1
+  all_none_at (place ∷ places) zero all = all.0
+  all_none_at (place ∷ places) (suc i) all = all_none_at places i all.1
 
   -- a place and its turn were written
   pub puts_set : (old new : Hall S) (place : ℕ) (slot : Option (Connection S)) (b : Bool)
@@ -106,50 +149,97 @@ module _ {S : Type 0} where
       → length new.has_turn.items ≡ length old.has_turn.items
       → (place < length old.has_turn.items → get_or new.has_turn.items place false ≡ b)
       → ((i : ℕ) → i ≢ place → get_or new.has_turn.items i false ≡ get_or old.has_turn.items i false)
-      → new.out ≡ old.out → Puts old new place slot b
-  puts_set old new place slot b low is turns_len turn other_turns out = record {
+      → new.out ≡ old.out → new.bounds ≡ old.bounds → new.left ≡ old.left → new.is_short ≡ old.is_short
+      → Puts old new place slot b
+  puts_set old new place slot b low is turns_len turn other_turns out bounds left short = record {
     here = rw is (get_or-set_same old.places.items place slot None low);
     others = λ i other. rw is (get_or-set_other old.places.items place i slot None other);
     len = rw is (length-set old.places.items place slot);
-    count = rw is (count_set old.places.items place slot low);
+    count = λ f. rw is (sum_by-set f old.places.items place slot None low);
     turn = turn;
     other_turns = other_turns;
     turns_len = turns_len;
     out = out;
+    bounds = bounds;
+    left = left;
+    short = λ is. short ∙ is;
   }
 
+  -- a connection left its place, and this is put there
   pub puts_twice : (old left entered new : Hall S) (place : ℕ) (slot : Option (Connection S)) (b : Bool)
-      → Puts old left place None false → entered.places.items ≡ left.places.items
-      → entered.has_turn.items ≡ left.has_turn.items → entered.out ≡ left.out → Puts entered new place slot b
+      → Puts old left place None false → KeepsAll left entered → Puts entered new place slot b
       → Puts old new place slot b
-  puts_twice old left entered new place slot b leaves same same_turns same_out enters = record {
+  puts_twice old left entered new place slot b leaves same enters = record {
     here = enters.here;
-    others = λ i other. enters.others i other ∙ ap (λ l. get_or l i None) same ∙ leaves.others i other;
-    len = enters.len ∙ ap length same ∙ leaves.len;
-    count =
-        let free = ap taken (ap (λ l. get_or l place None) same ∙ leaves.here) in
-        let places = ap taken_places same in
-        omega (arith, enters.count, leaves.count, free, places);
-    turn = λ low. enters.turn (rw same_turns (omega (arith, low, leaves.turns_len)));
+    others = λ i other. enters.others i other ∙ ap (λ l. get_or l i None) same.places ∙ leaves.others i other;
+    len = enters.len ∙ ap length same.places ∙ leaves.len;
+    count = λ f.
+        let free = ap f (ap (λ l. get_or l place None) same.places ∙ leaves.here) in
+        let places = ap (λ l. sum_by f l) same.places in
+        omega (arith, enters.count f, leaves.count f, free, places);
+    turn = λ low. enters.turn (rw same.turns (omega (arith, low, leaves.turns_len)));
     other_turns = λ i other.
-        enters.other_turns i other ∙ ap (λ l. get_or l i false) same_turns ∙ leaves.other_turns i other;
-    turns_len = enters.turns_len ∙ ap length same_turns ∙ leaves.turns_len;
-    out = enters.out ∙ same_out ∙ leaves.out;
+        enters.other_turns i other ∙ ap (λ l. get_or l i false) same.turns ∙ leaves.other_turns i other;
+    turns_len = enters.turns_len ∙ ap length same.turns ∙ leaves.turns_len;
+    out = enters.out ∙ same.out ∙ leaves.out;
+    bounds = enters.bounds ∙ same.bounds ∙ leaves.bounds;
+    left = enters.left ∙ same.left ∙ leaves.left;
+    short = λ is. enters.short (same.short (leaves.short is));
   }
 
-module _ {S : Type 0} (s : Ghosts S) where
+  -- a connection left its place, and nothing else is changed that places are told by
+  pub puts_kept : (old left kept : Hall S) (place : ℕ) → Puts old left place None false → KeepsAll left kept
+      → Puts old kept place None false
+  puts_kept old left kept place leaves same = record {
+    here = ap (λ l. get_or l place None) same.places ∙ leaves.here;
+    others = λ i other. ap (λ l. get_or l i None) same.places ∙ leaves.others i other;
+    len = ap length same.places ∙ leaves.len;
+    count = λ f. ap (λ l. sum_by f l + f (get_or old.places.items place None)) same.places ∙ leaves.count f;
+    turn = λ low. ap (λ l. get_or l place false) same.turns ∙ leaves.turn low;
+    other_turns = λ i other. ap (λ l. get_or l i false) same.turns ∙ leaves.other_turns i other;
+    turns_len = ap length same.turns ∙ leaves.turns_len;
+    out = same.out ∙ leaves.out;
+    bounds = same.bounds ∙ leaves.bounds;
+    left = same.left ∙ leaves.left;
+    short = λ is. same.short (leaves.short is);
+  }
+
+  pub gives_twice : (old more new : Hall S) → GivesTurns old more → GivesTurns more new → GivesTurns old new
+  gives_twice old more new first then = record {
+    places = then.places ∙ first.places;
+    turns_len = then.turns_len ∙ first.turns_len;
+    turns = λ i has. then.turns i (first.turns i has);
+    out = then.out ∙ first.out;
+    bounds = then.bounds ∙ first.bounds;
+    left = then.left ∙ first.left;
+  }
+
+  -- how many have a loan after one was put where this was
+  pub count_lent : (old new : Hall S) (place : ℕ) (slot was : Option (Connection S)) (b : Bool)
+      → Puts old new place slot b → get_or old.places.items place None ≡ was
+      → lent_places new.places.items + lent was ≡ lent_places old.places.items + lent slot
+  count_lent old new place slot was b puts is = rw is at puts.count lent
+
+  -- how many connections are in places after one was put where this was
+  pub count_taken : (old new : Hall S) (place : ℕ) (slot was : Option (Connection S)) (b : Bool)
+      → Puts old new place slot b → get_or old.places.items place None ≡ was
+      → taken_places new.places.items + taken was ≡ taken_places old.places.items + taken slot
+  count_taken old new place slot was b puts is = rw is at puts.count taken
+
+module _ {S N : Type 0} (s : Ghosts S N) where
   -- ---- more pieces were done
 
-  more_place : (done more : List Piece) (has_turn : Bool) (c : Connection S) → IsInPlace s done has_turn c
-      → IsInPlace s (done ++ more) has_turn c
-  more_place done more has_turn c at = record {
+  more_place : (done more : List Piece) (Rests : Connection S → Type 0) (has_turn : Bool) (c : Connection S)
+      → IsInPlace s done Rests has_turn c → IsInPlace s (done ++ more) Rests has_turn c
+  more_place done more Rests has_turn c at = record {
     told = record { told = told_more done more _ _ _ _ _ _ _ _ at.told.told; ended = at.told.ended };
     bounded = bounded_more done more c at.bounded;
     awake = at.awake;
   }
 
-  more_stream : (done more : List Piece) (gone : Gone S) → WasTold s done gone → WasTold s (done ++ more) gone
-  more_stream done more gone was = record {
+  more_stream : (patience : Option ℕ) (done more : List Piece) (gone : Gone S) → WasTold s patience done gone
+      → WasTold s patience (done ++ more) gone
+  more_stream patience done more gone was = record {
     held = was.held;
     owed = was.owed;
     is_early = was.is_early;
@@ -160,281 +250,476 @@ module _ {S : Type 0} (s : Ghosts S) where
 
   -- ---- one place is changed
 
-  abbrev pub AllInPlace : List Piece → Hall S → Type 0
-  AllInPlace done hall =
-      (i : ℕ) → IfSome (get_or hall.places.items i None) (IsInPlace s done (get_or hall.has_turn.items i false))
+  -- it rests for another reason
+  rests_so : (Rests Rests' : Connection S → Type 0) (done : List Piece) → ((c : Connection S) → Rests c → Rests' c)
+      → (has_turn : Bool) (c : Connection S) → IsInPlace s done Rests has_turn c
+      → IsInPlace s done Rests' has_turn c
+  rests_so Rests Rests' done so has_turn c at = record {
+    told = at.told;
+    bounded = at.bounded;
+    awake = elim at.awake [ inl turn ↦ inl turn | inr rests ↦ inr (so c rests) ];
+  }
 
-  put : (done done' : List Piece) (old new : Hall S) (place : ℕ) (slot : Option (Connection S)) (has_turn : Bool)
-      → place < length old.has_turn.items → ((b : Bool) (c : Connection S) → IsInPlace s done b c
-      → IsInPlace s done' b c)
-      → Puts old new place slot has_turn → IfSome slot (IsInPlace s done' has_turn) → AllInPlace done old
-      → AllInPlace done' new
-  put done done' old new place slot has_turn low weaker puts at all i = elim (eqb_tells i place) [
+  abbrev pub AllInPlace : List Piece → (Connection S → Type 0) → Hall S → Type 0
+  AllInPlace done Rests hall =
+      (i : ℕ) → IfSome (get_or hall.places.items i None)
+      (IsInPlace s done Rests (get_or hall.has_turn.items i false))
+
+  put : (done done' : List Piece) (Rests Rests' : Connection S → Type 0) (old new : Hall S) (place : ℕ)
+      (slot : Option (Connection S)) (has_turn : Bool) → place < length old.has_turn.items
+      → ((b : Bool) (c : Connection S) → IsInPlace s done Rests b c → IsInPlace s done' Rests' b c)
+      → Puts old new place slot has_turn → IfSome slot (IsInPlace s done' Rests' has_turn) → AllInPlace done Rests old
+      → AllInPlace done' Rests' new
+  put done done' Rests Rests' old new place slot has_turn low weaker puts at all i = elim (eqb_tells i place) [
     | inl same ↦ rw same.1 (rw (puts.here, puts.turn low) at)
     | inr other ↦ rw (puts.others i other.1, puts.other_turns i other.1)
         (weaken (get_or old.places.items i None) (get_or old.has_turn.items i false) (all i))
   ]
     where
-      weaken : (slot : Option (Connection S)) (b : Bool) → IfSome slot (IsInPlace s done b)
-          → IfSome slot (IsInPlace s done' b)
+      weaken : (slot : Option (Connection S)) (b : Bool) → IfSome slot (IsInPlace s done Rests b)
+          → IfSome slot (IsInPlace s done' Rests' b)
       weaken None b at = tt
       weaken (Some c) b at = weaker b c at
 
+  -- the connection leaves a place, and each other one that was awake is
+  put_by : (done : List Piece) (Rests Rests' : Connection S → Type 0) (old left new : Hall S) (place : ℕ)
+      → Puts old left place None false → new.places.items ≡ left.places.items
+      → ((i : ℕ) (it : Connection S) → i ≢ place → get_or old.places.items i None ≡ Some it
+      → (get_or old.has_turn.items i false ≡ true) ⊎ Rests it
+      → (get_or new.has_turn.items i false ≡ true) ⊎ Rests' it)
+      → AllInPlace done Rests old → AllInPlace done Rests' new
+  put_by done Rests Rests' old left new place puts same others all i = elim (eqb_tells i place) [
+    | inl at ↦ rw same (rw at.1 (rw puts.here tt))
+    | inr other ↦ rw same (rw (puts.others i other.1)
+        (weaken other.1 (get_or old.places.items i None) refl (all i)))
+  ]
+    where
+      weaken : i ≢ place → (slot : Option (Connection S)) → get_or old.places.items i None ≡ slot
+          → IfSome slot (IsInPlace s done Rests (get_or old.has_turn.items i false))
+          → IfSome slot (IsInPlace s done Rests' (get_or new.has_turn.items i false))
+      weaken other None is at = tt
+      weaken other (Some it) is at = record {
+        told = at.told;
+        bounded = at.bounded;
+        awake = others i it other is at.awake;
+      }
+
   -- a connection stays in its place, or one comes into a free one
-  pub stays : (done : List Piece) (old new : Hall S) (traffic traffic' : Option (Traffic S)) (place : ℕ)
-      (c' : Connection S) (has_turn : Bool) → place < length old.places.items → old.out ≡ None
-      → Puts old new place (Some c') has_turn → IsInPlace s done has_turn c'
-      → (IfSome traffic (AreOver s done old.places.items old.out)
-      → IfSome traffic' (AreOver s done new.places.items new.out))
-      → IsRunning s done None old traffic → IsRunning s done None new traffic'
-  stays done old new traffic traffic' place c' has_turn low none puts at over running = record {
+  stays : (done : List Piece) (Rests Rests' : Connection S → Type 0) (old new : Hall S)
+      (traffic traffic' : Option (Traffic S)) (place : ℕ) (c' : Connection S) (has_turn : Bool)
+      → place < length old.places.items → old.out ≡ None → Puts old new place (Some c') has_turn
+      → ((c : Connection S) → Rests c → Rests' c) → IsInPlace s done Rests' has_turn c'
+      → (IfSome traffic (AreOver s done old) → IfSome traffic' (AreOver s done new))
+      → AreRunning s done None Rests old traffic → AreRunning s done None Rests' new traffic'
+  stays done Rests Rests' old new traffic traffic' place c' has_turn low none puts so at over running = record {
     turns = omega (arith, puts.turns_len, puts.len, running.turns);
-    in_place = put done done old new place (Some c') has_turn (omega (arith, low, running.turns)) (λ b c h. h) puts at
-        running.in_place;
+    in_place = put done done Rests Rests' old new place (Some c') has_turn (omega (arith, low, running.turns))
+        (rests_so Rests Rests' done so) puts at running.in_place;
     is_out = rw (puts.out, none) tt;
     over = over running.over;
   }
 
-  -- the place is free now
-  pub leaves : (done : List Piece) (read : Option (List ℕ)) (old new : Hall S) (traffic traffic' : Option (Traffic S))
-      (place : ℕ) → place < length old.places.items → Puts old new place None false
-      → (places : List (Option (Connection S))) (turns : List Bool)
-      (out : Option (Out S))
-      → places ≡ new.places.items → turns ≡ new.has_turn.items
-      → IsOutOf s done read out places
-      → (IfSome traffic (AreOver s done old.places.items old.out) → IfSome traffic' (AreOver s done places out))
-      → IsRunning s done None old traffic → AreRunning s done read places turns out traffic'
-  leaves done read old new traffic traffic' place low puts places turns out same same_turns is_out over running =
-      record {
-        turns = rw (same, same_turns) (omega (arith, puts.turns_len, puts.len, running.turns));
-        in_place = rw (same, same_turns)
-            (put done done old new place None false (omega (arith, low, running.turns)) (λ b c h. h) puts tt
-            running.in_place);
-        is_out = is_out;
-        over = over running.over;
-      }
+  -- what ended without a limit to how long a peer is waited for
+  pub for_patience : (patience : Option ℕ) (why : Why) (stream : S) (held owed : List ℕ) (is_closing : Bool)
+      → IsEnd s None why stream held owed is_closing → IsEnd s patience why stream held owed is_closing
+  for_patience patience Done stream held owed is_closing h = h
+  for_patience patience Broken stream held owed is_closing h = h
+  for_patience patience NoMemory stream held owed is_closing h = h
+  for_patience patience Late stream held owed is_closing h = absurd (let is = h.0 in cc)
+
+  -- it waits, from whatever moment on
+  pub waits_since : (done : List Piece) (c c' : Connection S) → c' ≡ record c { since = c'.since }
+      → IsServed s done c × IsWaiting s c → IsServed s done c' × IsWaiting s c'
+  waits_since done c c' is at = rw is (
+    record { told = at.0.told; ended = at.0.ended },
+    elim at.1 [
+      | inl stuck ↦ inl stuck
+      | inr idle ↦
+          inr (idle.0, idle.1, idle.2, record { rest = idle.3.rest; interim = idle.3.interim }, idle.4)
+    ],
+  )
+
+  pub bounded_since : (done : List Piece) (c c' : Connection S) → c' ≡ record c { since = c'.since }
+      → IsBounded done c → IsBounded done c'
+  bounded_since done c c' is at = rw is (record { held = at.held; owed = at.owed })
+
+  -- it waits, and its peer was waited for long enough
+  pub ends_late : (c : Connection S) (patience : Option ℕ) → is_some patience ≡ true → IsWaiting s c
+      → IsEnd s patience Late c.stream c.held.bytes.items c.owed.items c.is_closing
+  ends_late c patience given waits =
+      (given, elim waits [ inl stuck ↦ inr stuck.1 | inr idle ↦ inl idle.4 ])
+
+  -- ---- why a connection rests
+
+  -- it rests still if no loan came back
+  pub rests_still : (old new : Hall S) → (old.is_short ≡ true → new.is_short ≡ true) → new.bounds ≡ old.bounds
+      → lent_places old.places.items ≤ lent_places new.places.items → (it : Connection S) → IsResting s old it
+      → IsResting s new it
+  rests_still old new short bounds more it rests = elim rests [
+    | inl waits ↦ inl waits
+    | inr is ↦ inr (is.0, short is.1, (let h = is.2 in rw bounds (omega (arith, h, more))))
+  ]
+
+  -- the connection in a place was left there with its loan, or without
+  pub rests_beside : (old new : Hall S) (place : ℕ) (c c' : Connection S) (b : Bool)
+      → Some c ≡ get_or old.places.items place None → Puts old new place (Some c') b
+      → lent (Some c) ≤ lent (Some c') → (it : Connection S) → IsResting s old it → IsResting s new it
+  rests_beside old new place c c' b was puts kept =
+      let count = count_lent old new place (Some c') (Some c) b puts (sym was) in
+      rests_still old new puts.short puts.bounds (omega (arith, count, kept))
+
+  -- each one that was short of a loan has its turn if one came back
+  pub rests_or_wakes : (old left new : Hall S) (place : ℕ) (c : Connection S)
+      → Some c ≡ get_or old.places.items place None → length old.has_turn.items ≡ length old.places.items
+      → Puts old left place None false → GivesTurns left new
+      → (c.is_lent ≡ true → left.is_short ≡ true → (i : ℕ) → i < length left.has_turn.items
+      → get_or new.has_turn.items i false ≡ true)
+      → (c.is_lent ≡ false → new.is_short ≡ left.is_short) → (i : ℕ) (it : Connection S) → i ≢ place
+      → get_or old.places.items i None ≡ Some it
+      → (get_or old.has_turn.items i false ≡ true) ⊎ IsResting s old it
+      → (get_or new.has_turn.items i false ≡ true) ⊎ IsResting s new it
+  rests_or_wakes old left new place c was len puts gives woken same i it other there awake = elim awake [
+    | inl turn ↦ inl (gives.turns i (puts.other_turns i other ∙ turn))
+    | inr rests ↦ elim rests [ inl waits ↦ inr (inl waits) | inr short ↦ by_loan c.is_lent refl short ]
+  ]
+    where
+      low : i < length left.has_turn.items
+      low =
+          let within = some_within old.places.items i it there in
+          omega (arith, within, len, puts.turns_len)
+
+      by_loan : (is_lent : Bool) → c.is_lent ≡ is_lent → IsShort old it
+          → (get_or new.has_turn.items i false ≡ true) ⊎ IsResting s new it
+      by_loan true is short = inl (woken is (puts.short short.1) i low)
+      by_loan false is short =
+          inr (rests_still old new (λ was_short. same is ∙ puts.short was_short) (gives.bounds ∙ puts.bounds)
+          (let count = count_lent old left place None (Some c) false puts (sym was) in
+          let none : lent (Some c) ≡ 0 = rw is refl in
+          let places = ap lent_places gives.places in
+          omega (arith, count, none, places)) it (inr short))
+
+  -- it was short of a loan, and got one, or none is left
+  pub lends : (new : Hall S) (done : List Piece) (c c' : Connection S)
+      → c' ≡ record c { is_lent = c'.is_lent; since = c'.since }
+      → (c'.is_lent ≡ false → (new.is_short ≡ true)
+      × (most_lent new.bounds.memory ≤ lent_places new.places.items))
+      → IsServed s done c × IsShortOfLoan c → IsServed s done c' × ((c'.is_lent ≡ true) ⊎ IsResting s new c')
+  lends new done c c' is none at = (
+    rw is (record { told = at.0.told; ended = at.0.ended }),
+    by_loan c'.is_lent refl,
+  )
+    where
+      by_loan : (is_lent : Bool) → c'.is_lent ≡ is_lent → (c'.is_lent ≡ true) ⊎ IsResting s new c'
+      by_loan true has = inl has
+      by_loan false not_lent = inr (inr (
+        record {
+          owes_nothing = ap (λ it. it.owed.items) is ∙ at.1.owes_nothing;
+          open_still = ap (λ it. it.is_closing) is ∙ at.1.open_still;
+          goes_on = ap (λ it. it.has_ended) is ∙ at.1.goes_on;
+          no_piece = rw is (record { rest = at.1.no_piece.rest; interim = at.1.no_piece.interim });
+          not_lent = not_lent;
+          full = rw is at.1.full;
+        },
+        (none not_lent).0,
+        (none not_lent).1,
+      ))
+
+  -- none was left before it came back into its place, so none is left
+  pub none_left : (left lent_ new : Hall S) (place : ℕ) (c' : Connection S) (b : Bool)
+      → get_or left.places.items place None ≡ None → KeepsAll left lent_ → Puts lent_ new place (Some c') b
+      → most_lent left.bounds.memory ≤ lent_places left.places.items
+      → most_lent new.bounds.memory ≤ lent_places new.places.items
+  none_left left lent_ new place c' b free same puts none =
+      rw (puts.bounds, same.bounds)
+      (let here = ap (λ l. get_or l place None) same.places ∙ free in
+      let count = count_lent lent_ new place (Some c') None b puts here in
+      let places = ap lent_places same.places in
+      omega (arith, count, places, none))
+
+  pub lent_same : (c c' : Connection S) → c'.is_lent ≡ c.is_lent → lent (Some c) ≤ lent (Some c')
+  lent_same c c' is = rw is (omega arith)
+
+  pub lent_none : (c c' : Connection S) → c.is_lent ≡ false → lent (Some c) ≤ lent (Some c')
+  lent_none c c' is = rw is (omega arith)
 
   -- ---- what one call of a hall does
 
-  at_most : (old new : Hall S) (place : ℕ) (slot was : Option (Connection S)) (b : Bool) → Puts old new place slot b
-      → get_or old.places.items place None ≡ was
-      → taken_places new.places.items + taken was ≡ taken_places old.places.items + taken slot
-  at_most old new place slot was b puts is = rw is at puts.count
+  -- nothing that matters here was changed
+  pub kept : (done : List Piece) (read : Option (List ℕ)) (old new : Hall S) (traffic : Option (Traffic S))
+      → KeepsAll old new → IsRunning s done read old traffic → IsRunning s done read new traffic
+  kept done read old new traffic same running = record {
+    turns = rw (same.turns, same.places) running.turns;
+    in_place = λ i.
+        all (IsResting s new) (rests_still old new same.short same.bounds (omega (arith, ap lent_places same.places)))
+        i;
+    is_out = rw (same.out, same.places) running.is_out;
+    over = over traffic running.over;
+  }
+    where
+      all : (Rests : Connection S → Type 0) → ((it : Connection S) → IsResting s old it → Rests it)
+          → AllInPlace done Rests new
+      all Rests so i = rw (same.turns, same.places)
+          (each (get_or old.places.items i None) (get_or old.has_turn.items i false) (running.in_place i))
+        where
+          each : (slot : Option (Connection S)) (b : Bool) → IfSome slot (IsInPlace s done (IsResting s old) b)
+              → IfSome slot (IsInPlace s done Rests b)
+          each None b at = tt
+          each (Some it) b at = rests_so (IsResting s old) Rests done so b it at
+
+      over : (traffic : Option (Traffic S)) → IfSome traffic (AreOver s done old) → IfSome traffic (AreOver s done new)
+      over None h = tt
+      over (Some known) h = record {
+        told = rw same.bounds h.told;
+        none_lost = rw (same.places, same.out) h.none_lost;
+        in_all = rw (same.left, same.bounds) h.in_all;
+      }
 
   -- the connection in a place went on, and stays there
-  pub went_on : (done : List Piece) (old left entered new : Hall S) (traffic : Option (Traffic S)) (place : ℕ)
-      (c c' : Connection S) (has_turn : Bool) → place < length old.places.items → old.out ≡ None
-      → Some c ≡ get_or old.places.items place None → Puts old left place None false
-      → entered.places.items ≡ left.places.items → entered.has_turn.items ≡ left.has_turn.items
-      → entered.out ≡ left.out → Puts entered new place (Some c') has_turn
-      → (IsServed s done c → IsServed s done c' × ((has_turn ≡ true) ⊎ IsWaiting s c'))
-      → (IsBounded done c → IsBounded done c')
-      → IsRunning s done None old traffic → IsRunning s done None new traffic
-  went_on done old left entered new traffic place c c' has_turn low none was leaves same same_turns same_out enters step
-      bound running =
-      stays done old new traffic traffic place c' has_turn low none puts
-      (record { told = (step here.told).0; bounded = bound here.bounded; awake = (step here.told).1 }) over running
+  pub went_on : (done : List Piece) (Rests Rests' : Connection S → Type 0) (old new : Hall S)
+      (traffic : Option (Traffic S)) (place : ℕ) (c c' : Connection S) (has_turn : Bool)
+      → place < length old.places.items → old.out ≡ None → Some c ≡ get_or old.places.items place None
+      → Puts old new place (Some c') has_turn → ((c : Connection S) → Rests c → Rests' c)
+      → (IsServed s done c → IsServed s done c' × ((has_turn ≡ true) ⊎ Rests' c'))
+      → (IsBounded done c → IsBounded done c') → AreRunning s done None Rests old traffic
+      → AreRunning s done None Rests' new traffic
+  went_on done Rests Rests' old new traffic place c c' has_turn low none was puts so step bound running =
+      stays done Rests Rests' old new traffic traffic place c' has_turn low none puts so
+      (record { told = (step here.told).0; bounded = bound here.bounded; awake = (step here.told).1 }) (over traffic)
+      running
     where
-      puts : Puts old new place (Some c') has_turn
-      puts = puts_twice old left entered new place (Some c') has_turn leaves same same_turns same_out enters
-
-      here : IsInPlace s done (get_or old.has_turn.items place false) c
+      here : IsInPlace s done Rests (get_or old.has_turn.items place false) c
       here = rw (sym was) at (running.in_place place)
 
-      over : IfSome traffic (AreOver s done old.places.items old.out)
-          → IfSome traffic (AreOver s done new.places.items new.out)
-      over h = kept traffic h
-        where
-          kept : (traffic : Option (Traffic S)) → IfSome traffic (AreOver s done old.places.items old.out)
-              → IfSome traffic (AreOver s done new.places.items new.out)
-          kept None h = tt
-          kept (Some known) h = record {
-            told = h.told;
-            none_lost =
-                let count = at_most old new place (Some c') (Some c) has_turn puts (sym was) in
-                let out = ap out_count puts.out in
-                omega (arith, h.none_lost, count, out);
-          }
+      over : (traffic : Option (Traffic S)) → IfSome traffic (AreOver s done old) → IfSome traffic (AreOver s done new)
+      over None h = tt
+      over (Some known) h = record {
+        told = rw puts.bounds h.told;
+        none_lost =
+            let count = count_taken old new place (Some c') (Some c) has_turn puts (sym was) in
+            let out = ap out_count puts.out in
+            omega (arith, h.none_lost, count, out);
+        in_all = rw (puts.left, puts.bounds) h.in_all;
+      }
 
   -- it is over
-  pub ended : (done : List Piece) (old left : Hall S) (places : List (Option (Connection S))) (turns : List Bool)
-      (out : Option (Out S)) (traffic traffic' : Option (Traffic S)) (place : ℕ) (why : Why)
-      (c c' : Connection S) → place < length old.places.items → old.out ≡ None
-      → Some c ≡ get_or old.places.items place None → Puts old left place None false
-      → places ≡ left.places.items → turns ≡ left.has_turn.items → out ≡ left.out
-      → traffic' ≡ option_map (one_over c'.stream why) traffic → (IsServed s done c
-      → IsServed s done c' × IsEnd s why c'.stream c'.held.bytes.items c'.owed.items c'.is_closing)
-      → IsRunning s done None old traffic → AreRunning s done None places turns out traffic'
-  ended done old left places turns out traffic traffic' place why c c' low none was leaves_ same same_turns same_out
-      ends step running =
-      leaves done None old left traffic traffic' place low leaves_ places turns out same same_turns
-      (rw (same_out, leaves_.out, none) tt) (λ h. rw ends (kept traffic h)) running
+  pub ended : (done : List Piece) (Rests Rests' : Connection S → Type 0) (old left new : Hall S)
+      (traffic traffic' : Option (Traffic S)) (place : ℕ) (why : Why) (c c' : Connection S)
+      → place < length old.places.items → old.out ≡ None → Some c ≡ get_or old.places.items place None
+      → Puts old left place None false → GivesTurns left new → traffic' ≡ option_map (one_over c'.stream why) traffic
+      → ((i : ℕ) (it : Connection S) → i ≢ place → get_or old.places.items i None ≡ Some it
+      → (get_or old.has_turn.items i false ≡ true) ⊎ Rests it
+      → (get_or new.has_turn.items i false ≡ true) ⊎ Rests' it)
+      → (IsServed s done c
+      → IsServed s done c' × IsEnd s old.bounds.patience why c'.stream c'.held.bytes.items c'.owed.items c'.is_closing)
+      → AreRunning s done None Rests old traffic → AreRunning s done None Rests' new traffic'
+  ended done Rests Rests' old left new traffic traffic' place why c c' low none was puts gives ends others step running
+      =
+      record {
+        turns = omega (arith, puts.turns_len, puts.len, running.turns, gives.turns_len, ap length gives.places);
+        in_place = put_by done Rests Rests' old left new place puts gives.places others running.in_place;
+        is_out = rw (gives.out, puts.out, none) tt;
+        over = rw ends (over traffic running.over);
+      }
     where
       served : IsServed s done c
       served = (rw (sym was) at (running.in_place place)).told
 
-      kept : (traffic : Option (Traffic S)) → IfSome traffic (AreOver s done old.places.items old.out)
-          → IfSome (option_map (one_over c'.stream why) traffic) (AreOver s done places out)
-      kept None h = tt
-      kept (Some known) h = record {
-        told = all_push (WasTold s done) known.over (record { stream = c'.stream; why = why }) h.told (record {
-          held = c'.held.bytes.items;
-          owed = c'.owed.items;
-          is_early = c'.is_awaited;
-          is_closing = c'.is_closing;
-          told = (step served).0.told;
-          why = (step served).1;
-        });
+      over : (traffic : Option (Traffic S)) → IfSome traffic (AreOver s done old)
+          → IfSome (option_map (one_over c'.stream why) traffic) (AreOver s done new)
+      over None h = tt
+      over (Some known) h = record {
+        told = rw (gives.bounds, puts.bounds)
+            (all_push (WasTold s old.bounds.patience done) known.over (record { stream = c'.stream; why = why }) h.told
+            (record {
+              held = c'.held.bytes.items;
+              owed = c'.owed.items;
+              is_early = c'.is_awaited;
+              is_closing = c'.is_closing;
+              told = (step served).0.told;
+              why = (step served).1;
+            }));
         none_lost =
-            let count = at_most old left place None (Some c) false leaves_ (sym was) in
-            let left_places = ap taken_places same in
-            let none_out = ap out_count (same_out ∙ leaves_.out) in
+            let count = count_taken old left place None (Some c) false puts (sym was) in
+            let none_out = ap out_count (gives.out ∙ puts.out) in
+            let places = ap taken_places gives.places in
             let more = length-append known.over (record { stream = c'.stream; why = why } ∷ []) in
-            omega (arith, h.none_lost, count, none_out, left_places, more);
+            omega (arith, h.none_lost, count, none_out, places, more);
+        in_all = rw (gives.left, puts.left, gives.bounds, puts.bounds) h.in_all;
       }
 
   -- it hands a piece out
-  pub handed_out : (done : List Piece) (read : List ℕ) (old left : Hall S) (places : List (Option (Connection S)))
-      (turns : List Bool)
-      (out : Option (Out S)) (traffic : Option (Traffic S))
-      (place : ℕ) (c c' : Connection S) → place < length old.places.items → old.out ≡ None
-      → Some c ≡ get_or old.places.items place None → Puts old left place None false
-      → places ≡ left.places.items → turns ≡ left.has_turn.items
-      → out ≡ Some (record { place = place; connection = c' })
+  pub handed_out : (done : List Piece) (read : List ℕ) (Rests Rests' : Connection S → Type 0) (old left new : Hall S)
+      (traffic : Option (Traffic S)) (place : ℕ) (c c' : Connection S) → place < length old.places.items
+      → old.out ≡ None → Some c ≡ get_or old.places.items place None → Puts old left place None false
+      → new.places.items ≡ left.places.items → length new.has_turn.items ≡ length left.has_turn.items
+      → new.bounds ≡ left.bounds → new.left ≡ left.left
+      → new.out ≡ Some (record { place = place; connection = c' })
+      → ((i : ℕ) (it : Connection S) → i ≢ place → get_or old.places.items i None ≡ Some it
+      → (get_or old.has_turn.items i false ≡ true) ⊎ Rests it
+      → (get_or new.has_turn.items i false ≡ true) ⊎ Rests' it)
       → (IsServed s done c → IsOut s done read c') → (IsBounded done c → IsBounded done c')
-      → IsRunning s done None old traffic → AreRunning s done (Some read) places turns out traffic
-  handed_out done read old left places turns out traffic place c c' low none was leaves_ same same_turns is_out step
-      bound running =
-      leaves done (Some read) old left traffic traffic place low leaves_ places turns out same same_turns
-      (rw (is_out, same) (step here.told, bound here.bounded, omega (arith, low, leaves_.len), leaves_.here)) (kept
-      traffic) running
+      → AreRunning s done None Rests old traffic → AreRunning s done (Some read) Rests' new traffic
+  handed_out done read Rests Rests' old left new traffic place c c' low none was puts same turns_len same_bounds
+      same_left is_out others step bound running = record {
+        turns = omega (arith, puts.turns_len, puts.len, running.turns, turns_len, ap length same);
+        in_place = put_by done Rests Rests' old left new place puts same others running.in_place;
+        is_out = rw (is_out, same) (step here.told, bound here.bounded, omega (arith, low, puts.len), puts.here);
+        over = over traffic running.over;
+      }
     where
-      here : IsInPlace s done (get_or old.has_turn.items place false) c
+      here : IsInPlace s done Rests (get_or old.has_turn.items place false) c
       here = rw (sym was) at (running.in_place place)
 
-      kept : (traffic : Option (Traffic S)) → IfSome traffic (AreOver s done old.places.items old.out)
-          → IfSome traffic (AreOver s done places out)
-      kept None h = tt
-      kept (Some known) h = record {
-        told = h.told;
+      over : (traffic : Option (Traffic S)) → IfSome traffic (AreOver s done old) → IfSome traffic (AreOver s done new)
+      over None h = tt
+      over (Some known) h = record {
+        told = rw (same_bounds, puts.bounds) h.told;
         none_lost =
-            let count = at_most old left place None (Some c) false leaves_ (sym was) in
+            let count = count_taken old left place None (Some c) false puts (sym was) in
             let left_places = ap taken_places same in
             let one_out = ap out_count is_out in
             let before = ap out_count none in
             omega (arith, h.none_lost, count, one_out, left_places, before);
+        in_all = rw (same_left, puts.left, same_bounds, puts.bounds) h.in_all;
       }
 
   -- a connection comes into a place that is free
-  pub came : (done : List Piece) (old new : Hall S) (traffic traffic' : Option (Traffic S)) (place : ℕ)
-      (c : Connection S) → place < length old.places.items → old.out ≡ None
-      → get_or old.places.items place None ≡ None → Puts old new place (Some c) true
-      → traffic' ≡ option_map one_came traffic → IsServed s done c → IsBounded done c
-      → IsRunning s done None old traffic → IsRunning s done None new traffic'
-  came done old new traffic traffic' place c low none free puts comes served bounded running =
-      stays done old new traffic traffic' place c true low none puts (record {
-        told = served;
-        bounded = bounded;
-        awake = inl refl;
-      })
-      (λ h. rw comes (kept traffic h)) running
+  pub came : (done : List Piece) (Rests Rests' : Connection S → Type 0) (old counted new : Hall S)
+      (traffic traffic' : Option (Traffic S)) (place : ℕ) (c : Connection S) → place < length old.places.items
+      → old.out ≡ None → get_or old.places.items place None ≡ None → counted.places.items ≡ old.places.items
+      → counted.has_turn.items ≡ old.has_turn.items → counted.out ≡ old.out → counted.bounds ≡ old.bounds
+      → counted.left + 1 ≡ old.left → Puts counted new place (Some c) true
+      → traffic' ≡ option_map one_came traffic → ((c : Connection S) → Rests c → Rests' c) → IsServed s done c
+      → IsBounded done c → AreRunning s done None Rests old traffic → AreRunning s done None Rests' new traffic'
+  came done Rests Rests' old counted new traffic traffic' place c low none free same same_turns same_out same_bounds
+      one_less puts comes so served bounded running = record {
+        turns = omega (arith, puts.turns_len, puts.len, ap length same, ap length same_turns, running.turns);
+        in_place = put done done Rests Rests' counted new place (Some c) true
+            (rw same_turns (omega (arith, low, running.turns))) (rests_so Rests Rests' done so) puts
+            (record { told = served; bounded = bounded; awake = inl refl }) (rw (same, same_turns) running.in_place);
+        is_out = rw (puts.out, same_out, none) tt;
+        over = rw comes (over traffic running.over);
+      }
     where
-      kept : (traffic : Option (Traffic S)) → IfSome traffic (AreOver s done old.places.items old.out)
-          → IfSome (option_map one_came traffic) (AreOver s done new.places.items new.out)
-      kept None h = tt
-      kept (Some known) h = record {
-        told = h.told;
+      over : (traffic : Option (Traffic S)) → IfSome traffic (AreOver s done old)
+          → IfSome (option_map one_came traffic) (AreOver s done new)
+      over None h = tt
+      over (Some known) h = record {
+        told = rw (puts.bounds, same_bounds) h.told;
         none_lost =
-            let count = at_most old new place (Some c) None true puts free in
-            let out = ap out_count puts.out in
-            omega (arith, h.none_lost, count, out);
+            let here = ap (λ l. get_or l place None) same ∙ free in
+            let count = count_taken counted new place (Some c) None true puts here in
+            let places = ap taken_places same in
+            let out = ap out_count (puts.out ∙ same_out) in
+            omega (arith, h.none_lost, count, places, out);
+        in_all = rw (puts.left, puts.bounds, same_bounds) (let all = h.in_all in omega (arith, all, one_less));
       }
 
-  -- the system was asked
-  pub asked : (done : List Piece) (old : Hall S) (places : List (Option (Connection S))) (turns : List Bool)
-      (out : Option (Out S)) (traffic : Option (Traffic S)) → old.out ≡ None
-      → places ≡ old.places.items → length turns ≡ length old.has_turn.items
-      → ((i : ℕ) → get_or old.has_turn.items i false ≡ true → get_or turns i false ≡ true)
-      → out ≡ old.out → IsRunning s done None old traffic → AreRunning s done None places turns out traffic
-  asked done old places turns out traffic none same len kept same_out running = record {
-    turns = omega (arith, ap length same, len, running.turns);
-    in_place = λ i. rw same (keep i (get_or old.places.items i None) (running.in_place i));
-    is_out = rw (same_out, none) tt;
+  -- more places have their turn
+  pub asked : (done : List Piece) (Rests Rests' : Connection S → Type 0) (old new : Hall S)
+      (traffic : Option (Traffic S)) → GivesTurns old new → ((c : Connection S) → Rests c → Rests' c) → old.out ≡ None
+      → AreRunning s done None Rests old traffic
+      → AreRunning s done None Rests' new traffic
+  asked done Rests Rests' old new traffic gives so none running = record {
+    turns = omega (arith, ap length gives.places, gives.turns_len, running.turns);
+    in_place = λ i. rw gives.places (keep i (get_or old.places.items i None) (running.in_place i));
+    is_out = rw (gives.out, none) tt;
     over = over traffic running.over;
   }
     where
-      keep : (i : ℕ) (slot : Option (Connection S)) → IfSome slot (IsInPlace s done (get_or old.has_turn.items i false))
-          → IfSome slot (IsInPlace s done (get_or turns i false))
+      keep : (i : ℕ) (slot : Option (Connection S))
+          → IfSome slot (IsInPlace s done Rests (get_or old.has_turn.items i false))
+          → IfSome slot (IsInPlace s done Rests' (get_or new.has_turn.items i false))
       keep i None at = tt
       keep i (Some c) at = record {
         told = at.told;
         bounded = at.bounded;
-        awake = elim at.awake [ inl turn ↦ inl (kept i turn) | inr waits ↦ inr waits ];
+        awake = elim at.awake [ inl turn ↦ inl (gives.turns i turn) | inr rests ↦ inr (so c rests) ];
       }
 
-      over : (traffic : Option (Traffic S)) → IfSome traffic (AreOver s done old.places.items old.out)
-          → IfSome traffic (AreOver s done places out)
+      over : (traffic : Option (Traffic S)) → IfSome traffic (AreOver s done old) → IfSome traffic (AreOver s done new)
       over None h = tt
       over (Some known) h = record {
-        told = h.told;
-        none_lost = omega (arith, h.none_lost, ap taken_places same, ap out_count same_out);
+        told = rw gives.bounds h.told;
+        none_lost = rw (gives.places, gives.out) h.none_lost;
+        in_all = rw (gives.left, gives.bounds) h.in_all;
       }
 
   -- the output of the piece that is out came back
   pub came_back : (done : List Piece) (read : List ℕ) (back : Piece) (old taken_ new : Hall S)
       (traffic : Option (Traffic S)) (out : Out S) (c' : Connection S) → old.out ≡ Some out
-      → taken_.places.items ≡ old.places.items → taken_.has_turn.items ≡ old.has_turn.items → taken_.out ≡ None
+      → taken_.places.items ≡ old.places.items → taken_.has_turn.items ≡ old.has_turn.items
+      → taken_.bounds ≡ old.bounds → taken_.left ≡ old.left → taken_.is_short ≡ old.is_short → taken_.out ≡ None
       → Puts taken_ new out.place (Some c') true
       → (IsOut s done read out.connection → IsServed s (done ++ back ∷ []) c')
       → (IsBounded done out.connection → IsBounded (done ++ back ∷ []) c')
       → IsRunning s done (Some read) old traffic → IsRunning s (done ++ back ∷ []) None new traffic
-  came_back done read back old taken_ new traffic out c' is_out same same_turns none puts step bound running = record {
-    turns = omega (arith, puts.turns_len, puts.len, ap length same, ap length same_turns, running.turns);
-    in_place = put done (done ++ back ∷ []) taken_ new out.place (Some c') true
-        (rw same_turns (omega (arith, was.2, running.turns))) (more_place done (back ∷ [])) puts
-        (record { told = step was.0; bounded = bound was.1; awake = inl refl }) (rw (same, same_turns)
-        running.in_place);
-    is_out = rw (puts.out, none) tt;
-    over = over traffic running.over;
-  }
+  came_back done read back old taken_ new traffic out c' is_out same same_turns same_bounds same_left same_short none
+      puts step bound running = record {
+        turns = omega (arith, puts.turns_len, puts.len, ap length same, ap length same_turns, running.turns);
+        in_place = put done (done ++ back ∷ []) (IsResting s old) (IsResting s new) taken_ new out.place (Some c') true
+            (rw same_turns (omega (arith, was.2, running.turns)))
+            (λ b c at.
+            rests_so (IsResting s old) (IsResting s new) (done ++ back ∷ []) so b c
+            (more_place done (back ∷ []) (IsResting s old) b c at)) puts
+            (record { told = step was.0; bounded = bound was.1; awake = inl refl })
+            (moved (IsResting s old) running.in_place);
+        is_out = rw (puts.out, none) tt;
+        over = over traffic running.over;
+      }
     where
       was : IsOut s done read out.connection × IsBounded done out.connection × (out.place < length old.places.items)
           × (get_or old.places.items out.place None ≡ None)
       was = rw is_out at running.is_out
 
-      over : (traffic : Option (Traffic S)) → IfSome traffic (AreOver s done old.places.items old.out)
-          → IfSome traffic (AreOver s (done ++ back ∷ []) new.places.items new.out)
+      moved : (Rests : Connection S → Type 0) → AllInPlace done Rests old → AllInPlace done Rests taken_
+      moved Rests all = rw (same, same_turns) all
+
+      free : get_or taken_.places.items out.place None ≡ None
+      free = ap (λ places. get_or places out.place None) same ∙ was.3
+
+      so : (it : Connection S) → IsResting s old it → IsResting s new it
+      so = rests_still old new (λ is. puts.short (same_short ∙ is)) (puts.bounds ∙ same_bounds)
+          (let count = count_lent taken_ new out.place (Some c') None true puts free in
+          let places = ap lent_places same in
+          omega (arith, count, places))
+
+      over : (traffic : Option (Traffic S)) → IfSome traffic (AreOver s done old)
+          → IfSome traffic (AreOver s (done ++ back ∷ []) new)
       over None h = tt
       over (Some known) h = record {
-        told = all_weaker _ _ (more_stream done (back ∷ [])) known.over h.told;
+        told = rw (puts.bounds, same_bounds)
+            (all_weaker _ _ (more_stream old.bounds.patience done (back ∷ [])) known.over h.told);
         none_lost =
             let free = ap (λ places. get_or places out.place None) same ∙ was.3 in
-            let count = at_most taken_ new out.place (Some c') None true puts free in
+            let count = count_taken taken_ new out.place (Some c') None true puts free in
             let places = ap taken_places same in
             let now = ap out_count (puts.out ∙ none) in
             let before = ap out_count is_out in
             omega (arith, h.none_lost, count, places, now, before);
+        in_all = rw (puts.left, same_left, puts.bounds, same_bounds) h.in_all;
       }
 
   -- no connection came yet
-  pub none_yet : (places : List (Option (Connection S))) (turns : List Bool)
-      (out : Option (Out S)) (traffic : Option (Traffic S)) → IsEmpty traffic
-      → AllByRecursion (λ place. place ≡ None) places
-      → length turns ≡ length places → out ≡ None → AreRunning s [] None places turns out traffic
-  none_yet places turns out traffic empty free len none = record {
+  pub none_yet : (Rests : Connection S → Type 0) (hall : Hall S) (traffic : Option (Traffic S)) → IsEmpty traffic
+      → AllByRecursion (λ place. place ≡ None) hall.places.items
+      → length hall.has_turn.items ≡ length hall.places.items → hall.out ≡ None → hall.left ≡ hall.bounds.connections
+      → AreRunning s [] None Rests hall traffic
+  none_yet Rests hall traffic empty free len none all = record {
     turns = len;
-    in_place = λ i. rw (all_none_at places i free) tt;
+    in_place = λ i. rw (all_none_at hall.places.items i free) tt;
     is_out = rw none tt;
     over = over traffic empty;
   }
     where
-      over : (traffic : Option (Traffic S)) → IsEmpty traffic → IfSome traffic (AreOver s [] places out)
+      over : (traffic : Option (Traffic S)) → IsEmpty traffic → IfSome traffic (AreOver s [] hall)
       over None h = tt
       over (Some known) h = record {
         told = rw h.1 tt;
         none_lost =
-            let none_there = none_taken places free in
+            let none_there : taken_places hall.places.items ≡ 0 = none_counted taken hall.places.items refl free in
             let none_out = ap out_count none in
             let count = ap length h.1 in
             omega (arith, h.0, none_there, none_out, count);
+        in_all = omega (arith, h.0, all);
       }

@@ -1,19 +1,59 @@
 -- What one thing that a connection does changes of what it was told.
-use Rattle.std.proofs.Common.{◌≡◌, ◌||◌, ◌⊎◌, inl, inr, ℕ, ◌+◌, ◌≤◌, Bool, true, false, List, [], ◌∷◌, ◌++◌, length}
-use Rattle.std.proofs.Common.{take, drop, Option, Some, None, refl, sym}
-use Rattle.std.proofs.Common.{ap, ◌∙◌, append_assoc, IfSome, arith}
-use Rattle.std.specs.List.{flat_map}
+use Rattle.std.proofs.Common.{◌≡◌, ◌||◌, ◌⊎◌, inl, inr, ℕ, Bool, true, false, List, [], ◌∷◌, ◌++◌}
+use Rattle.std.proofs.Common.{take, Option, Some, None, refl, sym}
+use Rattle.std.proofs.Common.{ap, ◌∙◌, append_assoc, IfSome}
 use Rattle.std.specs.Io.KnownBytes.{append_known}
 use Rattle.std.proofs.lemmas.List.Concat.{flat_map-append}
-use Rattle.std.proofs.lemmas.Grind.{common_steps}
-use Rattle.http_messages.specs.Message.{interim}
+use Rattle.http_messages.specs.Message.{Asks, awaits, interim}
+use Rattle.http_messages.proofs.MoreBytes.{BeginsHead-more}
+use Rattle.http_messages.proofs.Unique.{BeginsHead-unique}
 use Rattle.request_pieces.specs.Pieces.{IsLast}
-use Rattle.ready_connections.specs.Pieces.{Piece, IsWhole, AreAmong, AreInTurn, IsTold, reads_of, texts_of, text_of}
-use Rattle.ready_connections.specs.Pieces.{early_text, text_left}
+use Rattle.ready_connections.specs.Pieces.{Piece, IsWhole, IsAsked, AreAsked, AreAmong, AreInTurn, IsTold}
+use Rattle.ready_connections.specs.Pieces.{EndsWhole, IsShut, reads_of, texts_of, text_of, early_text, text_left}
 
 pub append_nil : {X : Type 0} (xs : List X) → xs ++ [] ≡ xs
 append_nil [] = refl
 append_nil (x ∷ xs) = ap (λ ys. x ∷ ys) (append_nil xs)
+
+-- ---- what asks for an interim response
+
+-- bytes that ask for it still do, whatever follows them
+pub asks_more : (bytes more : List ℕ) → Asks bytes true → Asks (bytes ++ more) true
+asks_more bytes more asks = (asks.0, asks.1, BeginsHead-more bytes more asks.0 asks.1 asks.2, asks.3)
+
+-- a whole request at their front asks for it
+pub asks_front : (front rest : List ℕ) → IsWhole front → Asks (front ++ rest) true → Asks front true
+asks_front front rest whole asks =
+    let head = whole.1.head in
+    let same =
+    BeginsHead-unique (front ++ rest) whole.0.head asks.0 whole.1.head_len asks.1
+    (BeginsHead-more front rest whole.0.head whole.1.head_len head) asks.2 in
+    (whole.0.head, whole.1.head_len, head, ap awaits same.0 ∙ asks.3)
+
+asked_push : (pieces : List Piece) (last : Piece) → AreAsked pieces → IsAsked last.is_early last.read
+    → AreAsked (pieces ++ last ∷ [])
+asked_push [] last asked at = (at, tt)
+asked_push (piece ∷ pieces) last asked at = (asked.0, asked_push pieces last asked.1 at)
+
+-- ---- nothing came and nothing went
+
+pub told_new : (done : List Piece) (came went : Option (List ℕ)) (held owed : List ℕ) (is_ended : Bool) → held ≡ []
+    → owed ≡ [] → IfSome came (λ bytes. bytes ≡ []) → IfSome went (λ bytes. bytes ≡ [])
+    → IsTold done came went [] held owed false false is_ended
+told_new done came went held owed is_ended none_held none_owed none_came none_went = record {
+  pieces = [];
+  among = tt;
+  in_turn = refl;
+  asked = tt;
+  next_asked = λ early. absurd (let h : false ≡ true = early in cc);
+  shut = λ closing. absurd (let h : false ≡ true = closing in cc);
+  read = rw none_held none_came;
+  wrote = rw none_owed (behind went none_went);
+}
+  where
+    behind : (went : Option (List ℕ)) → IfSome went (λ bytes. bytes ≡ []) → IfSome went (λ bytes. bytes ++ [] ≡ [])
+    behind None h = tt
+    behind (Some bytes) h = append_nil bytes ∙ h
 
 -- ---- more pieces were done
 
@@ -43,6 +83,9 @@ told_more done more came went out held owed is_early is_closing is_ended told = 
   pieces = told.pieces;
   among = among_more done more told.pieces told.among;
   in_turn = told.in_turn;
+  asked = told.asked;
+  next_asked = told.next_asked;
+  shut = told.shut;
   read = told.read;
   wrote = told.wrote;
 }
@@ -50,12 +93,15 @@ told_more done more came went out held owed is_early is_closing is_ended told = 
 -- ---- the interim response went, or is owed
 
 pub told_interim : (done : List Piece) (came went : Option (List ℕ)) (held : List ℕ) (is_closing is_ended : Bool)
-    → IsTold done came went [] held [] false is_closing is_ended
+    → is_closing ≡ false → Asks held true → IsTold done came went [] held [] false is_closing is_ended
     → IsTold done came went [] held interim true is_closing is_ended
-told_interim done came went held is_closing is_ended told = record {
+told_interim done came went held is_closing is_ended goes_on asks told = record {
   pieces = told.pieces;
   among = told.among;
   in_turn = told.in_turn;
+  asked = told.asked;
+  next_asked = λ early. asks;
+  shut = λ closing. absurd (let h : false ≡ true = sym goes_on ∙ closing in cc);
   read = told.read;
   wrote = more went told.wrote;
 }
@@ -86,6 +132,9 @@ told_read done came came' went went' held held' owed bytes is_early is_closing b
       pieces = told.pieces;
       among = told.among;
       in_turn = rw goes_on (in_turn_open before after told.pieces (rw goes_on at told.in_turn));
+      asked = told.asked;
+      next_asked = λ early. rw held_is (asks_more held bytes (told.next_asked early));
+      shut = λ closing. absurd (let h : false ≡ true = sym goes_on ∙ closing in cc);
       read = rw (came_is, held_is) (more came told.read);
       wrote = rw went_is told.wrote;
     }
@@ -114,6 +163,9 @@ told_out done came went held read rest is_early is_closing is_ended goes_on spli
   pieces = told.pieces;
   among = told.among;
   in_turn = rw goes_on at told.in_turn;
+  asked = told.asked;
+  next_asked = λ early. rw (← splits) (told.next_asked early);
+  shut = λ closing. absurd (let h : false ≡ true = closing in cc);
   read = split came told.read;
   wrote = told.wrote;
 }
@@ -149,14 +201,36 @@ in_turn_push (piece ∷ pieces) back is_closing is_ended comes in_turn = elim in
   | inr at ↦ absurd (let h = at.0 in cc)
 ]
 
+ends_whole : (pieces : List Piece) (last : Piece) → IsWhole last.read → EndsWhole (pieces ++ last ∷ [])
+ends_whole [] last whole = whole
+ends_whole (piece ∷ []) last whole = whole
+ends_whole (piece ∷ next ∷ pieces) last whole = ends_whole (next ∷ pieces) last whole
+
+-- nothing is held behind a piece that came back, unless it is a whole request
+pub none_behind : (read held : List ℕ) (was_closing : Bool) → (was_closing ≡ false → IsWhole read)
+    → (was_closing ≡ true → held ≡ []) → IsWhole read ⊎ (held ≡ [])
+none_behind read held false whole none = inl (whole refl)
+none_behind read held true whole none = inr (none refl)
+
+shut_back : (pieces : List Piece) (back : Piece) (held : List ℕ) → IsWhole back.read ⊎ (held ≡ [])
+    → IsShut (pieces ++ back ∷ []) held false
+shut_back pieces back held behind = record {
+  none_early = refl;
+  all_out = elim behind [ inl whole ↦ inl (ends_whole pieces back whole) | inr none ↦ inr none ];
+}
+
 pub told_back : (done : List Piece) (came went : Option (List ℕ)) (held : List ℕ) (back : Piece)
-    (is_closing is_ended : Bool) → ComesBack back is_closing is_ended
+    (is_closing is_ended : Bool) → ComesBack back is_closing is_ended → IsAsked back.is_early back.read
+    → IsWhole back.read ⊎ (held ≡ [])
     → IsTold done came went back.read held [] back.is_early false is_ended
     → IsTold (done ++ back ∷ []) came went [] held (text_left back.is_early back.output) false is_closing is_ended
-told_back done came went held back is_closing is_ended comes told = record {
+told_back done came went held back is_closing is_ended comes asked behind told = record {
   pieces = told.pieces ++ back ∷ [];
   among = among_push done told.pieces back told.among;
   in_turn = in_turn_push told.pieces back is_closing is_ended comes told.in_turn;
+  asked = asked_push told.pieces back told.asked asked;
+  next_asked = λ early. absurd (let h : false ≡ true = early in cc);
+  shut = λ closing. shut_back told.pieces back held behind;
   read = read came told.read;
   wrote = wrote went told.wrote;
 }

@@ -1,7 +1,6 @@
 -- What stands first in what is held of a connection; own rules.
-use Rattle.std.specs.Prelude.{◌≡◌, ◌⊎◌, ℕ, ◌<◌, ◌≤◌, Bool, true, false, List, length, take}
-use Rattle.http_messages.specs.Message.{IsRefused, IsRest, Asks}
-use Rattle.http_messages.specs.declared.refusal.Refusal.{Refusal}
+use Rattle.std.specs.Prelude.{◌≡◌, ℕ, ◌<◌, ◌≤◌, Bool, true, false, List, length, take}
+use Rattle.http_messages.specs.Message.{IsRest, Asks}
 use Rattle.ready_connections.specs.declared.held.Found.{Found}
 use Rattle.ready_connections.specs.declared.held.Found.TheVariants.{Whole, Last, Asks as AsksFirst, More}
 use Rattle.request_pieces.specs.Pieces.{IsLast, max_piece_len}

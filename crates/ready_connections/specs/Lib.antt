@@ -4,4 +4,7 @@ pub mod Pieces
 pub mod Found
 pub mod Connections
 pub mod Turns
+pub mod NextTurn
+pub mod Bounds
+pub mod Places
 pub mod Running

@@ -1,12 +1,12 @@
 //! One connection: what came and was not handed out yet, and what is owed to it.
 ghost use Rattle.std.specs.Prelude.{◌≡◌, ◌≤◌, ◌<◌, ◌+◌, ℕ, true, false, List, [], ◌++◌, length, take, drop, vec_len};
 ghost use Rattle.std.specs.Prelude.{◌∷◌};
-ghost use Rattle.http_messages.specs.Message.{interim};
+ghost use Rattle.http_messages.specs.Message.{Asks, interim};
 ghost use Rattle.request_pieces.specs.Pieces.{IsLast};
 ghost use Rattle.ready_connections.specs.Arriving.{IsFresh};
 ghost use Rattle.ready_connections.specs.Pieces.{Piece, IsWhole, text_left};
-ghost use Rattle.ready_connections.specs.Connections.{IsServed, IsOut, HoldsNoPiece, piece_back};
-ghost use Rattle.ready_connections.specs.Turns.{IsAfterTurn};
+ghost use Rattle.ready_connections.specs.Connections.{IsServed, IsOut, HoldsNoPiece, HoldsWithin, piece_back};
+ghost use Rattle.ready_connections.specs.Turns.{IsAfterTurn, KeepsLoan};
 
 use crate::held::{Found, Held};
 use crate::stream::{Got, Stream};
@@ -19,6 +19,9 @@ const INTERIM: &[u8] = b"HTTP/1.1 100 Continue\r\n\r\n";
 /// The most bytes of a piece: a skipped CRLF, 16,384 bytes of a head and 1,048,576 of a body.
 pub(crate) const MAX_PIECE: usize = 1_064_962;
 
+/// How many bytes a connection holds, beside one read, without a loan.
+const SMALL: usize = 16_384;
+
 /// How many things a connection does before the others have their turn.
 const SHARE: u32 = 16;
 
@@ -29,6 +32,8 @@ pub(crate) enum Turn {
     Again,
     /// It goes on when the system says so.
     Waits,
+    /// It reads on once room is lent to it.
+    Short,
     /// It is over.
     Over(Why),
     /// It hands this piece out, and goes on when the output comes back.
@@ -49,6 +54,10 @@ pub(crate) struct Connection<S> {
     pub(crate) is_closing: bool,
     /// Whether the interim response that the next piece asks for went already, or is owed.
     pub(crate) is_awaited: bool,
+    /// Whether room is lent to it, so that it may hold a whole piece.
+    pub(crate) is_lent: bool,
+    /// The moment from which its peer is waited for, if it is.
+    pub(crate) since: Option<u64>,
 }
 
 impl<S: Stream> Connection<S> {
@@ -66,6 +75,8 @@ impl<S: Stream> Connection<S> {
             has_ended: false,
             is_closing: false,
             is_awaited: false,
+            is_lent: false,
+            since: None,
         }
     }
 
@@ -80,6 +91,8 @@ impl<S: Stream> Connection<S> {
             has_ended: _,
             is_closing: _,
             is_awaited: _,
+            is_lent: _,
+            since: _,
         } = self;
         stream
     }
@@ -88,8 +101,8 @@ impl<S: Stream> Connection<S> {
     pub(crate) fn go_on(&mut self, alloc: Global, room: &mut [u8]) -> Turn
         ensures told { (done : List Piece) → IsServed S.Stream done self.old
             → IsAfterTurn S.Stream done result self.new }
-        ensures held { (most : ℕ) → MAX_PIECE + length room.old ≤ most → vec_len self.old.held.bytes ≤ most
-            → vec_len self.new.held.bytes ≤ most }
+        ensures held { (read : ℕ) → length room.old ≤ read → HoldsWithin read self.old → HoldsWithin read self.new }
+        ensures lent { KeepsLoan result self.old.is_lent self.new.is_lent }
         ensures owed { (most : ℕ) → length interim ≤ most → vec_len self.old.owed ≤ most
             → vec_len self.new.owed ≤ most }
     {
@@ -107,8 +120,8 @@ impl<S: Stream> Connection<S> {
     fn step(&mut self, alloc: Global, room: &mut [u8]) -> Turn
         ensures told { (done : List Piece) → IsServed S.Stream done self.old
             → IsAfterTurn S.Stream done result self.new }
-        ensures held { (most : ℕ) → MAX_PIECE + length room.old ≤ most → vec_len self.old.held.bytes ≤ most
-            → vec_len self.new.held.bytes ≤ most }
+        ensures held { (read : ℕ) → length room.old ≤ read → HoldsWithin read self.old → HoldsWithin read self.new }
+        ensures lent { KeepsLoan result self.old.is_lent self.new.is_lent }
         ensures owed { (most : ℕ) → length interim ≤ most → vec_len self.old.owed ≤ most
             → vec_len self.new.owed ≤ most }
     {
@@ -138,7 +151,8 @@ impl<S: Stream> Connection<S> {
         requires { 0 < vec_len self.old.owed }
         ensures told { (done : List Piece) → IsServed S.Stream done self.old
             → IsAfterTurn S.Stream done result self.new }
-        ensures held { self.new.held.bytes ≡ self.old.held.bytes }
+        ensures held { (read : ℕ) → HoldsWithin read self.old → HoldsWithin read self.new }
+        ensures lent { KeepsLoan result self.old.is_lent self.new.is_lent }
         ensures owed { vec_len self.new.owed ≤ vec_len self.old.owed }
     {
         match self.stream.write(self.owed.as_slice()) {
@@ -151,7 +165,8 @@ impl<S: Stream> Connection<S> {
         }
     }
 
-    /// Hands out the whole request that these first bytes of what is held are.
+    /// Hands out the whole request that these first bytes of what is held are. A loan that what is left does not need
+    /// is given back.
     fn hand_out(&mut self, alloc: Global, len: usize) -> Turn
         requires within { len ≤ vec_len self.old.held.bytes }
         requires whole { IsWhole (take len self.old.held.bytes.items) }
@@ -159,12 +174,27 @@ impl<S: Stream> Connection<S> {
         requires open { self.old.is_closing ≡ false }
         ensures told { (done : List Piece) → IsServed S.Stream done self.old
             → IsAfterTurn S.Stream done result self.new }
-        ensures held { vec_len self.new.held.bytes ≤ vec_len self.old.held.bytes }
+        ensures held { (read : ℕ) → HoldsWithin read self.old → HoldsWithin read self.new }
+        ensures lent { KeepsLoan result self.old.is_lent self.new.is_lent }
         ensures owed { self.new.owed ≡ self.old.owed }
     {
         match self.held.take_front(alloc, len) {
-            Some(piece) => Turn::HandsOut(piece),
+            Some(piece) => {
+                self.give_loan_back();
+                Turn::HandsOut(piece)
+            }
             None => Turn::Over(Why::NoMemory),
+        }
+    }
+
+    /// Gives its loan back, if it has one and holds no more than it may without.
+    fn give_loan_back(&mut self)
+        ensures rest { self.new ≡ record self.old { is_lent = self.new.is_lent } }
+        ensures lent { self.new.is_lent ≡ true → self.old.is_lent ≡ true }
+        ensures held { (read : ℕ) → HoldsWithin read self.old → HoldsWithin read self.new }
+    {
+        if self.held.len() <= SMALL {
+            self.is_lent = false;
         }
     }
 
@@ -175,20 +205,25 @@ impl<S: Stream> Connection<S> {
         requires last { IsLast self.old.held.bytes.items self.old.has_ended }
         ensures told { (done : List Piece) → IsServed S.Stream done self.old
             → IsAfterTurn S.Stream done result self.new }
-        ensures held { vec_len self.new.held.bytes ≤ vec_len self.old.held.bytes }
+        ensures held { (read : ℕ) → HoldsWithin read self.old → HoldsWithin read self.new }
+        ensures lent { KeepsLoan result self.old.is_lent self.new.is_lent }
         ensures owed { self.new.owed ≡ self.old.owed }
     {
         self.is_closing = true;
+        self.is_lent = false;
         Turn::HandsOut(self.held.take_all(alloc))
     }
 
     /// Owes the interim response that what is held asks for.
     fn owe_interim(&mut self) -> Turn
         requires none_owed { self.old.owed.items ≡ [] }
+        requires open { self.old.is_closing ≡ false }
         requires once { self.old.is_awaited ≡ false }
+        requires asks { Asks self.old.held.bytes.items true }
         ensures told { (done : List Piece) → IsServed S.Stream done self.old
             → IsAfterTurn S.Stream done result self.new }
-        ensures held { self.new.held.bytes ≡ self.old.held.bytes }
+        ensures held { (read : ℕ) → HoldsWithin read self.old → HoldsWithin read self.new }
+        ensures lent { KeepsLoan result self.old.is_lent self.new.is_lent }
         ensures owed { vec_len self.new.owed ≤ length interim }
     {
         if self.owed.extend_from_slice(INTERIM).is_err() {
@@ -198,7 +233,7 @@ impl<S: Stream> Connection<S> {
         Turn::Again
     }
 
-    /// Reads what is there.
+    /// Reads what is there, if it may hold more. From the first byte of a request on its peer is waited for anew.
     fn read(&mut self, room: &mut [u8]) -> Turn
         requires none_owed { self.old.owed.items ≡ [] }
         requires open { self.old.is_closing ≡ false }
@@ -207,15 +242,19 @@ impl<S: Stream> Connection<S> {
         requires short { vec_len self.old.held.bytes < MAX_PIECE }
         ensures told { (done : List Piece) → IsServed S.Stream done self.old
             → IsAfterTurn S.Stream done result self.new }
-        ensures held { (most : ℕ) → MAX_PIECE + length room.old ≤ most → vec_len self.old.held.bytes ≤ most
-            → vec_len self.new.held.bytes ≤ most }
+        ensures held { (read : ℕ) → length room.old ≤ read → HoldsWithin read self.old → HoldsWithin read self.new }
+        ensures lent { KeepsLoan result self.old.is_lent self.new.is_lent }
         ensures owed { self.new.owed ≡ self.old.owed }
     {
+        if !self.is_lent && self.held.len() >= SMALL {
+            return Turn::Short;
+        }
         if self.held.reserve(room.len()).is_err() {
             return Turn::Over(Why::NoMemory);
         }
         match self.stream.read(room) {
             Got::Bytes(count) => {
+                self.since = self.since_bytes();
                 self.held.append(&room[..count]);
                 Turn::Again
             }
@@ -227,27 +266,43 @@ impl<S: Stream> Connection<S> {
         }
     }
 
+    /// From when on its peer is waited for once bytes come: anew, if they are the first ones of a request.
+    fn since_bytes(&self) -> Option<u64> {
+        if self.held.is_empty() {
+            None
+        } else {
+            self.since
+        }
+    }
+
     /// Owes the output that came back for the piece that is out. After one that closes the connection is over once it
-    /// is written.
-    pub(crate) fn take_back(&mut self, output: Vec<u8>, closes: bool)
+    /// is written. From then on its peer is waited for anew.
+    pub(crate) fn take_back(&mut self, output: Vec<u8>, closes: bool, note: &S::Note)
         ensures told { (done : List Piece) (read : List ℕ) → IsOut S.Stream done read self.old
             → IsServed S.Stream (done ++ piece_back self.old read output.items closes ∷ []) self.new }
         ensures held { self.new.held.bytes ≡ self.old.held.bytes }
+        ensures lent { self.new.is_lent ≡ self.old.is_lent }
         ensures owed { vec_len self.new.owed ≤ vec_len output }
     {
+        self.stream.note(note);
         self.owed = without_interim(output, self.is_awaited);
         self.is_awaited = false;
         self.is_closing |= closes;
+        self.since = None;
     }
 }
 
-/// What is left to be written of an output, if the interim response went before.
+/// What is left to be written of an output, if the interim response went before: nothing, if it was cut off in that.
 fn without_interim(mut output: Vec<u8>, is_early: bool) -> Vec<u8>
     ensures text { result.items ≡ text_left is_early output.items }
     ensures len { vec_len result ≤ vec_len output }
 {
-    if is_early && output.as_slice().starts_with(INTERIM) {
-        drop_front(&mut output, INTERIM.len());
+    if is_early {
+        if output.as_slice().starts_with(INTERIM) {
+            drop_front(&mut output, INTERIM.len());
+        } else if INTERIM.starts_with(output.as_slice()) {
+            output.clear();
+        }
     }
     output
 }

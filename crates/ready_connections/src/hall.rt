@@ -1,19 +1,27 @@
 //! All connections that are served at once, each in its place, and whose turn is next.
-ghost use Rattle.std.specs.Prelude.{◌+◌, ◌≤◌, IsSome, ◌≡◌, ◌≢◌, ◌<◌, ℕ, List, [], ◌∷◌, ◌++◌, Option, Some};
+ghost use Rattle.std.specs.Prelude.{◌+◌, ◌/◌, ◌≤◌, IsSome, IsTrue, ◌≡◌, ◌≢◌, ◌<◌, ℕ, List, [], ◌∷◌, ◌++◌, Option, Some};
 ghost use Rattle.std.specs.Prelude.{None, IfSome, IfOk, IfNone};
-ghost use Rattle.std.specs.Prelude.{is_some, length, true, false, slice_index_or, vec_len};
+ghost use Rattle.std.specs.Prelude.{is_some, length, true, false, nat_eq, slice_index_or, vec_len};
 ghost use Rattle.ready_connections.specs.Streams.{Traffic};
 ghost use Rattle.ready_connections.specs.Pieces.{Piece};
-ghost use Rattle.ready_connections.specs.Running.{IsRunning, IsEmpty, IsNext, NoneHasTurn, Puts, items_of};
+ghost use Rattle.ready_connections.specs.NextTurn.{IsNext, NoneHasTurn};
+ghost use Rattle.ready_connections.specs.Places.{taken_places, lent, lent_places, owed, owed_places};
+ghost use Rattle.ready_connections.specs.Bounds.{most_lent};
+ghost use Rattle.ready_connections.specs.Running.{IsRunning, IsEmpty, KeepsAll, GivesTurns, Puts, is_shut, items_of};
 ghost use Rattle.ready_connections.specs.Running.{items_out_of, piece_of};
 
+use crate::bounds::Bounds;
 use crate::connection::{Connection, Turn};
 use crate::room::Room;
 use crate::sockets::Sockets;
 use crate::stream::Stream;
+use crate::why::Why;
 use std::alloc::{AllocError, Global};
 use std::io;
 use std::time::Duration;
+
+/// For how many milliseconds the system is asked at most while connections wait until less is owed.
+const PAUSE: u64 = 10;
 
 /// A connection whose piece is out, and its place, which is kept for it.
 #[derive(Drop)]
@@ -26,35 +34,50 @@ pub(crate) struct Out<S> {
 #[derive(Drop)]
 pub struct Hall<S> {
     alloc: Global,
+    pub(crate) bounds: Bounds,
+    /// How many connections are still to come.
+    pub(crate) left: u32,
     pub(crate) places: Vec<Option<Connection<S>>>,
     /// Which places have their turn.
     pub(crate) has_turn: Vec<bool>,
     /// The place from which on the next turn is given, and how many turns are given before the system is asked again.
     pub(crate) next: usize,
     pub(crate) turns_left: usize,
+    /// No deadline of a connection that waits is before this moment; no connection has one if there is none.
+    pub(crate) soonest: Option<u64>,
+    /// How many bytes all connections owe, or more.
+    pub(crate) owed: usize,
+    /// Whether a connection was short of a loan since all had their turn.
+    pub(crate) is_short: bool,
     pub(crate) out: Option<Out<S>>,
     /// What a read is made into.
     pub(crate) room: Room,
 }
 
 impl<S: Stream + Drop> Hall<S> {
-    /// So many places, all free.
-    pub fn new(alloc: Global, places: usize) -> Result<Hall<S>, AllocError>
-        ensures { IfOk result (λ hall. (traffic : Option (Traffic S)) → IsEmpty traffic
+    /// A hall in which no connection came yet, and all places are free.
+    pub fn new(alloc: Global, bounds: Bounds) -> Result<Hall<S>, AllocError>
+        ensures running { IfOk result (λ hall. (traffic : Option (Traffic S)) → IsEmpty traffic
             → IsRunning S.Stream [] None hall traffic) }
+        ensures bounds { IfOk result (λ hall. hall.bounds ≡ bounds) }
     {
         let mut free = Vec::new(alloc);
         let mut has_turn = Vec::new(alloc);
-        for _ in 0..places {
+        for _ in 0..bounds.places {
             free.push(None)?;
             has_turn.push(false)?;
         }
         Ok(Hall {
             alloc,
+            bounds,
+            left: bounds.connections,
             places: free,
             has_turn,
             next: 0,
             turns_left: 0,
+            soonest: None,
+            owed: 0,
+            is_short: false,
             out: None,
             room: Room::new(alloc)?,
         })
@@ -67,6 +90,13 @@ impl<S: Stream + Drop> Hall<S> {
         self.out.is_some()
     }
 
+    /// Whether no connection comes any more: as many came as were to come, and all are over.
+    pub fn is_shut(&self) -> bool
+        ensures { result ≡ is_shut self.now }
+    {
+        self.left == 0 && self.out.is_none() && are_free(&self.places)
+    }
+
     /// Goes on with the connections until a piece of one is whole, and hands it out; `None` if none is after so many
     /// turns. It waits up to so long if no connection may go on.
     pub fn next_piece<P: Sockets<Stream = S>>(
@@ -76,12 +106,16 @@ impl<S: Stream + Drop> Hall<S> {
         most: u32,
     ) -> io::Result<Option<Vec<u8>>>
         requires { self.old.out ≡ None }
-        ensures { (done : List Piece) → IsRunning S.Stream done None self.old (P.traffic sockets.old)
+        ensures running { (done : List Piece) → IsRunning S.Stream done None self.old (P.traffic sockets.old)
             → IsRunning S.Stream done (items_out_of result) self.new (P.traffic sockets.new) }
+        ensures bounds { self.new.bounds ≡ self.old.bounds }
     {
         for _ in 0..most {
             if let Some(piece) = self.turn(sockets, wait)? {
                 return Ok(Some(piece));
+            }
+            if self.is_shut() {
+                return Ok(None);
             }
         }
         Ok(None)
@@ -97,9 +131,15 @@ impl<S: Stream + Drop> Hall<S> {
         ensures running { (done : List Piece) → IsRunning S.Stream done None self.old (P.traffic sockets.old)
             → IsRunning S.Stream done (items_out_of result) self.new (P.traffic sockets.new) }
         ensures out { items_out_of result ≡ None → self.new.out ≡ None }
+        ensures bounds { self.new.bounds ≡ self.old.bounds }
     {
         match self.next_turn() {
-            Some(place) => Ok(self.go_on(place, sockets)),
+            Some(place) => {
+                if self.must_wait(place) {
+                    return Ok(None);
+                }
+                Ok(self.go_on(place, sockets))
+            }
             None => {
                 self.ask(sockets, wait)?;
                 Ok(None)
@@ -113,9 +153,7 @@ impl<S: Stream + Drop> Hall<S> {
         ensures next { IfSome result (IsNext self.old.has_turn.items self.old.next) }
         ensures after { IfSome result (λ place. self.new.next ≡ place + 1) }
         ensures left { IsSome result → self.new.turns_left + 1 ≡ self.old.turns_left }
-        ensures places { self.new.places ≡ self.old.places }
-        ensures turns { self.new.has_turn ≡ self.old.has_turn }
-        ensures out { self.new.out ≡ self.old.out }
+        ensures same { KeepsAll self.old self.new }
     {
         if self.turns_left == 0 {
             return None;
@@ -132,6 +170,21 @@ impl<S: Stream + Drop> Hall<S> {
         Some(place)
     }
 
+    /// Whether the connection in a place waits with its turn, since it owes nothing, and all together owe too much. The
+    /// places are counted only if as much may be owed.
+    fn must_wait(&mut self, place: usize) -> bool
+        requires { place < vec_len self.old.places }
+        ensures kept { KeepsAll self.old self.new }
+        ensures laden { IsTrue result → self.old.bounds.memory / 2 < owed_places self.old.places.items }
+    {
+        let most = self.bounds.memory / 2;
+        if self.owed <= most {
+            return false;
+        }
+        self.owed = count_owed(&self.places);
+        self.owed > most && owed_in(&self.places[place]) == 0
+    }
+
     /// Lets the connection in a place go on.
     fn go_on<P: Sockets<Stream = S>>(&mut self, place: usize, sockets: &mut P) -> Option<Vec<u8>>
         requires place { place < vec_len self.old.places }
@@ -139,25 +192,91 @@ impl<S: Stream + Drop> Hall<S> {
         ensures running { (done : List Piece) → IsRunning S.Stream done None self.old (P.traffic sockets.old)
             → IsRunning S.Stream done (items_of result) self.new (P.traffic sockets.new) }
         ensures out { IfNone result (self.new.out ≡ None) }
+        ensures bounds { self.new.bounds ≡ self.old.bounds }
     {
         let mut connection = self.leave(place)?;
+        let had_loan = connection.is_lent;
         match connection.go_on(self.alloc, &mut self.room.bytes) {
             Turn::Again => {
                 self.enter(place, connection, true);
                 None
             }
             Turn::Waits => {
+                if self.is_late(&mut connection, sockets) {
+                    sockets.end(connection.into_stream(), Why::Late);
+                    self.wake(had_loan);
+                    return None;
+                }
                 self.enter(place, connection, false);
+                None
+            }
+            Turn::Short => {
+                self.lend(&mut connection);
+                let is_lent = connection.is_lent;
+                self.enter(place, connection, is_lent);
                 None
             }
             Turn::Over(why) => {
                 sockets.end(connection.into_stream(), why);
+                self.wake(had_loan);
                 None
             }
             Turn::HandsOut(piece) => {
+                self.wake(had_loan);
                 self.out = Some(Out { place, connection });
                 Some(piece)
             }
+        }
+    }
+
+    /// Whether the peer of a connection that waits was waited for as long as the patience is. It is waited for from now
+    /// on, if it was not before.
+    fn is_late<P: Sockets<Stream = S>>(
+        &mut self,
+        connection: &mut Connection<S>,
+        sockets: &P,
+    ) -> bool
+        ensures kept { KeepsAll self.old self.new }
+        ensures connection { connection.new ≡ record connection.old { since = connection.new.since } }
+        ensures patience { result ≡ true → is_some self.old.bounds.patience ≡ true }
+    {
+        let Some(patience) = self.bounds.patience else {
+            return false;
+        };
+        let now = sockets.now();
+        let since = connection.since.unwrap_or(now);
+        connection.since = Some(since);
+        let deadline = since.saturating_add(patience);
+        self.soonest = earlier(self.soonest, deadline);
+        deadline <= now
+    }
+
+    /// Lends room to a connection, if a loan is left. Else it is short of one until one comes back. Its peer is not
+    /// waited for meanwhile.
+    fn lend(&mut self, connection: &mut Connection<S>)
+        ensures kept { KeepsAll self.old self.new }
+        ensures connection { connection.new
+            ≡ record connection.old { is_lent = connection.new.is_lent; since = connection.new.since } }
+        ensures lent { connection.new.is_lent ≡ true
+            → lent_places self.old.places.items < most_lent self.old.bounds.memory }
+        ensures short { connection.new.is_lent ≡ false → (self.new.is_short ≡ true)
+            × (most_lent self.old.bounds.memory ≤ lent_places self.old.places.items) }
+    {
+        connection.since = None;
+        connection.is_lent = count_lent(&self.places) < self.bounds.most_lent();
+        self.is_short |= !connection.is_lent;
+    }
+
+    /// Gives each connection its turn, if one of them was short of a loan, and one came back.
+    fn wake(&mut self, has_loan: bool)
+        ensures gives { GivesTurns self.old self.new }
+        ensures woken { has_loan ≡ true → self.old.is_short ≡ true → (i : ℕ) → i < length self.old.has_turn.items
+            → slice_index_or self.new.has_turn.items i false ≡ true }
+        ensures short { has_loan ≡ false → self.new.is_short ≡ self.old.is_short }
+    {
+        if has_loan && self.is_short {
+            self.has_turn.fill(true);
+            self.is_short = false;
         }
     }
 
@@ -200,42 +319,100 @@ impl<S: Stream + Drop> Hall<S> {
         ensures running { (done : List Piece) → IsRunning S.Stream done None self.old (P.traffic sockets.old)
             → IsRunning S.Stream done None self.new (P.traffic sockets.new) }
         ensures out { self.new.out ≡ None }
+        ensures bounds { self.new.bounds ≡ self.old.bounds }
     {
-        let wait = if first_true(&self.has_turn, 0).is_some() {
-            Duration::ZERO
-        } else {
-            wait
-        };
+        let wait = self.wait_at_most(sockets, wait);
         self.turns_left = self.places.len();
         sockets.ask(&mut self.has_turn, wait)?;
+        self.call_late(sockets);
         self.admit(sockets)
     }
 
-    /// Gives connections that came the places that are free.
+    /// How long to wait at most: not at all if a connection has its turn, and a little if those that have it wait until
+    /// less is owed.
+    fn wait_at_most<P: Sockets<Stream = S>>(&self, sockets: &P, wait: Duration) -> Duration {
+        if first_true(&self.has_turn, 0).is_none() {
+            return self.until_deadline(sockets, wait);
+        }
+        if self.owed <= self.bounds.memory / 2 {
+            return Duration::ZERO;
+        }
+        wait.min(Duration::from_millis(PAUSE))
+    }
+
+    /// How long to wait at most, so that no deadline passes.
+    fn until_deadline<P: Sockets<Stream = S>>(&self, sockets: &P, wait: Duration) -> Duration {
+        match self.soonest {
+            Some(soonest) => {
+                let left = soonest.saturating_sub(sockets.now());
+                wait.min(Duration::from_millis(left))
+            }
+            None => wait,
+        }
+    }
+
+    /// Gives each connection its turn whose peer was waited for as long as the patience is. The places are looked
+    /// through only if a deadline may have passed.
+    fn call_late<P: Sockets<Stream = S>>(&mut self, sockets: &P)
+        ensures gives { GivesTurns self.old self.new }
+        ensures short { self.new.is_short ≡ self.old.is_short }
+    {
+        let Some(soonest) = self.soonest else {
+            return;
+        };
+        let now = sockets.now();
+        if soonest > now {
+            return;
+        }
+        self.soonest = None;
+        for place in 0..self.places.len() {
+            if let Some(deadline) = self.deadline(place) {
+                if deadline <= now {
+                    self.set_turn(place, true);
+                } else {
+                    self.soonest = earlier(self.soonest, deadline);
+                }
+            }
+        }
+    }
+
+    /// When the connection in a place is over if its peer is waited for until then.
+    fn deadline(&self, place: usize) -> Option<u64> {
+        let since = self.places.get(place)?.as_ref()?.since?;
+        Some(since.saturating_add(self.bounds.patience?))
+    }
+
+    /// Gives connections that came the places that are free, as long as some are to come.
     fn admit<P: Sockets<Stream = S>>(&mut self, sockets: &mut P) -> io::Result<()>
         requires { self.old.out ≡ None }
         ensures running { (done : List Piece) → IsRunning S.Stream done None self.old (P.traffic sockets.old)
             → IsRunning S.Stream done None self.new (P.traffic sockets.new) }
         ensures out { self.new.out ≡ None }
+        ensures bounds { self.new.bounds ≡ self.old.bounds }
     {
         for place in 0..self.places.len() {
+            if self.left == 0 {
+                return Ok(());
+            }
             if self.places[place].is_none() {
                 let Some(stream) = sockets.accept(place)? else {
                     return Ok(());
                 };
+                self.left -= 1;
                 self.enter(place, Connection::new(self.alloc, stream), true);
             }
         }
         Ok(())
     }
 
-    /// Takes back the output of the piece that is out, which its connection gets. After one that closes, the connection
-    /// is over once it is written.
-    pub fn give_back(&mut self, output: Vec<u8>, closes: bool)
+    /// Takes back the output of the piece that is out, which its connection gets, and notes what became of it. After
+    /// one that closes, the connection is over once it is written.
+    pub fn give_back(&mut self, output: Vec<u8>, closes: bool, note: &S::Note)
         ensures running { (done : List Piece) (read : List ℕ) (traffic : Option (Traffic S))
             → IsRunning S.Stream done (Some read) self.old traffic
             → IsRunning S.Stream (done ++ piece_of self.old.out read output.items closes ∷ []) None self.new traffic }
         ensures out { self.new.out ≡ None }
+        ensures bounds { self.new.bounds ≡ self.old.bounds }
     {
         let Some(out) = self.out.take() else {
             return;
@@ -244,11 +421,74 @@ impl<S: Stream + Drop> Hall<S> {
             place,
             mut connection,
         } = out;
-        connection.take_back(output, closes);
+        self.owed = self.owed.saturating_add(output.len());
+        connection.take_back(output, closes, note);
         if place < self.places.len() {
             self.enter(place, connection, true);
         }
     }
+}
+
+/// The earlier one of two moments, if both are given.
+fn earlier(moment: Option<u64>, other: u64) -> Option<u64> {
+    match moment {
+        Some(moment) => Some(moment.min(other)),
+        None => Some(other),
+    }
+}
+
+/// How many connections in places have a loan.
+fn count_lent<S>(places: &[Option<Connection<S>>]) -> usize
+    ensures { result ≡ lent_places places.now }
+{
+    let mut count = 0;
+    for place in 0..places.len() {
+        count += lent_in(&places[place]);
+    }
+    count
+}
+
+/// How many bytes are owed to connections in places.
+fn count_owed<S>(places: &[Option<Connection<S>>]) -> usize
+    ensures { result ≤ owed_places places.now }
+{
+    let mut count: usize = 0;
+    for place in 0..places.len() {
+        count = count.saturating_add(owed_in(&places[place]));
+    }
+    count
+}
+
+/// How many bytes are owed to the connection in a place.
+fn owed_in<S>(place: &Option<Connection<S>>) -> usize
+    ensures { result ≡ owed place.now }
+{
+    match place {
+        Some(connection) => connection.owed.len(),
+        None => 0,
+    }
+}
+
+/// 1 if the connection in a place has a loan, and else 0.
+fn lent_in<S>(place: &Option<Connection<S>>) -> usize
+    ensures { result ≡ lent place.now }
+{
+    match place {
+        Some(connection) => usize::from(connection.is_lent),
+        None => 0,
+    }
+}
+
+/// Whether no place has a connection.
+fn are_free<S>(places: &[Option<Connection<S>>]) -> bool
+    ensures { result ≡ nat_eq (taken_places places.now) 0 }
+{
+    for place in 0..places.len() {
+        if places[place].is_some() {
+            return false;
+        }
+    }
+    true
 }
 
 /// The first place from this one on that has its turn.

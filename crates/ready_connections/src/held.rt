@@ -48,6 +48,13 @@ impl Held {
         self.bytes.is_empty()
     }
 
+    /// How many bytes there are.
+    pub(crate) fn len(&self) -> usize
+        ensures { result ≡ vec_len self.now.bytes }
+    {
+        self.bytes.len()
+    }
+
     /// What stands first, if the input has ended or not. No byte of a head is searched twice.
     pub(crate) fn find(&mut self, alloc: Global, has_ended: bool) -> Result<Found, AllocError>
         ensures found { IfOk result (IsFound self.old.bytes.items has_ended) }

@@ -4,6 +4,7 @@
 //! parts their bytes come and go, and whose turn is next. What a piece is served with is not known here.
 #![tactic(auto)]
 
+mod bounds;
 mod connection;
 mod hall;
 mod held;
@@ -15,6 +16,7 @@ mod stream;
 mod tests;
 mod why;
 
+pub use bounds::Bounds;
 pub use hall::Hall;
 pub use script::{Event, Reads, ScriptedSockets, ScriptedStream, Writes};
 pub use sockets::Sockets;

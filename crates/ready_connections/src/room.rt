@@ -4,7 +4,7 @@ ghost use Rattle.std.specs.Prelude.{◌≤◌, vec_len};
 use std::alloc::{AllocError, Global};
 
 /// The most bytes of one read.
-const ROOM: usize = 16_384;
+pub(crate) const ROOM: usize = 16_384;
 
 /// Bytes for one read, which are zeroed once.
 #[derive(Drop)]

@@ -100,6 +100,8 @@ impl<'a> ScriptedStream<'a> {
 }
 
 impl<'a> Stream for ScriptedStream<'a> {
+    type Note = ();
+
     ghost came = { λ stream. Some stream.came.items };
 
     ghost went = { λ stream. Some stream.went.items };
@@ -145,6 +147,8 @@ impl<'a> Stream for ScriptedStream<'a> {
         self.is_stuck = count < text.len();
         Ok(count)
     }
+
+    fn note(&mut self, _note: &()) {}
 }
 
 /// What an answer of the system says.
@@ -154,6 +158,8 @@ pub enum Event<'a> {
     Comes(&'a [Reads], &'a [Writes]),
     /// The connection in this place may go on.
     Ready(usize),
+    /// So many milliseconds pass.
+    Passes(u64),
 }
 
 /// Sockets of which each answer is the next of these events, and then nothing.
@@ -161,6 +167,7 @@ pub enum Event<'a> {
 pub struct ScriptedSockets<'a> {
     alloc: Global,
     events: &'a [Event<'a>],
+    now: u64,
     over: Vec<(ScriptedStream<'a>, Why)>,
 }
 
@@ -170,6 +177,7 @@ impl<'a> ScriptedSockets<'a> {
         ScriptedSockets {
             alloc,
             events,
+            now: 0,
             over: Vec::new(alloc),
         }
     }
@@ -199,13 +207,21 @@ impl<'a> Sockets for ScriptedSockets<'a> {
     }
 
     fn ask(&mut self, has_turn: &mut [bool], _wait: Duration) -> io::Result<()> {
-        if let Some(Event::Ready(place)) = self.events.first() {
-            if *place < has_turn.len() {
-                has_turn[*place] = true;
+        match self.events.first() {
+            Some(Event::Ready(place)) => {
+                if *place < has_turn.len() {
+                    has_turn[*place] = true;
+                }
             }
-            self.events = &self.events[1..];
+            Some(Event::Passes(time)) => self.now = self.now.saturating_add(*time),
+            _ => return Ok(()),
         }
+        self.events = &self.events[1..];
         Ok(())
+    }
+
+    fn now(&self) -> u64 {
+        self.now
     }
 
     fn end(&mut self, stream: ScriptedStream<'a>, why: Why) {

@@ -31,6 +31,9 @@ pub trait Sockets {
         ensures kept { (i : ℕ) → slice_index_or has_turn.old i false ≡ true
             → slice_index_or has_turn.new i false ≡ true };
 
+    /// How many milliseconds passed since some moment.
+    fn now(&self) -> u64;
+
     /// Takes back a connection that is over.
     fn end(&mut self, stream: Self::Stream, why: Why)
         ensures { traffic self.new ≡ option_map (one_over stream why) (traffic self.old) };

@@ -21,6 +21,9 @@ pub struct Broken;
 /// A stream that never waits. Which bytes come, when, and in which parts, is up to whoever implements this. A call that
 /// the system only interrupts is made again, since nobody is told when it could be.
 pub trait Stream {
+    /// What became of a piece.
+    type Note;
+
     // What was read of it so far, if that is known.
     ghost came: { Self → Option (List ℕ) };
 
@@ -58,4 +61,13 @@ pub trait Stream {
         ensures ended { is_ended self.new ≡ is_ended self.old }
         ensures stuck { is_stuck self.new ≡ nat_lt (took_len result) (length text.now) }
         ensures broken { is_broken self.new ≡ is_err result };
+
+    /// Notes what became of a piece that came on it.
+    fn note(&mut self, note: &Self::Note)
+        ensures came { came self.new ≡ came self.old }
+        ensures went { went self.new ≡ went self.old }
+        ensures idle { is_idle self.new ≡ is_idle self.old }
+        ensures ended { is_ended self.new ≡ is_ended self.old }
+        ensures stuck { is_stuck self.new ≡ is_stuck self.old }
+        ensures broken { is_broken self.new ≡ is_broken self.old };
 }

@@ -1,11 +1,20 @@
 //! Connections that an adversary lets come and go on as it likes.
 
+use crate::bounds::Bounds;
 use crate::hall::Hall;
 use crate::script::{Event, Reads, ScriptedSockets, Writes};
 use crate::why::Why;
 use std::alloc::{AllocError, Global};
 use std::str;
 use std::time::Duration;
+
+/// Two places, for as many connections as come, without a limit of time.
+const BOUNDS: Bounds = Bounds {
+    places: 2,
+    connections: 100,
+    patience: None,
+    memory: 4_194_304,
+};
 
 /// What the piece gets: its path, after the interim response if it asks for one.
 fn reply(alloc: Global, piece: &[u8]) -> Result<Vec<u8>, AllocError> {
@@ -21,10 +30,10 @@ fn reply(alloc: Global, piece: &[u8]) -> Result<Vec<u8>, AllocError> {
 }
 
 /// The paths of the pieces in the order in which they are handed out, and then what each connection that is over got,
-/// and why it is over.
-fn served(alloc: Global, events: &[Event]) -> Result<String, AllocError> {
+/// and why it is over; and at the end whether no connection comes any more.
+fn served(alloc: Global, events: &[Event], bounds: Bounds) -> Result<String, AllocError> {
     let mut sockets = ScriptedSockets::new(alloc, events);
-    let mut hall = Hall::new(alloc, 2)?;
+    let mut hall = Hall::new(alloc, bounds)?;
     let mut told = String::new(alloc);
     for _ in 0..40 {
         if hall.is_out() {
@@ -34,7 +43,7 @@ fn served(alloc: Global, events: &[Event]) -> Result<String, AllocError> {
             let text = str::from_utf8(&piece).unwrap_or("?");
             told.push_str(text.split(' ').nth(1).unwrap_or("-"))?;
             told.push_str(" ")?;
-            hall.give_back(reply(alloc, &piece)?, text.contains("close"));
+            hall.give_back(reply(alloc, &piece)?, text.contains("close"), &());
         }
     }
     for (stream, why) in sockets.over() {
@@ -45,7 +54,11 @@ fn served(alloc: Global, events: &[Event]) -> Result<String, AllocError> {
             Why::Done => " done ",
             Why::Broken => " broken ",
             Why::NoMemory => " no memory ",
+            Why::Late => " late ",
         })?;
+    }
+    if hall.is_shut() {
+        told.push_str("shut")?;
     }
     Ok(told)
 }
@@ -84,14 +97,14 @@ fn each_gets_its_own_in_whatever_order(rt: HostRuntime) {
         Event::Ready(0),
         Event::Ready(7),
     ];
-    let told = served(rt.alloc(), &events);
+    let told = served(rt.alloc(), &events, BOUNDS);
     assert!(rt; told.is_ok_and(|told| told.as_str() == "/b /a /c | /a done | /b/c done "));
 }
 
 #[test]
 fn interim_goes_once(rt: HostRuntime) {
     let events = [Event::Comes(AWAITED, &[]), Event::Ready(0)];
-    let told = served(rt.alloc(), &events);
+    let told = served(rt.alloc(), &events, BOUNDS);
     assert!(rt;
         told.is_ok_and(|told| told.as_str() == "/d | HTTP/1.1 100 Continue\r\n\r\n/d done ")
     );
@@ -103,6 +116,82 @@ fn one_that_breaks_or_closes_is_over(rt: HostRuntime) {
         Event::Comes(PIPELINED, &[Writes::Breaks]),
         Event::Comes(CLOSED, &[]),
     ];
-    let told = served(rt.alloc(), &events);
+    let told = served(rt.alloc(), &events, BOUNDS);
     assert!(rt; told.is_ok_and(|told| told.as_str() == "/b /e |  broken | /e done "));
+}
+
+#[test]
+fn no_more_connections_come_than_were_to_come(rt: HostRuntime) {
+    let events = [
+        Event::Comes(CUT, &[]),
+        Event::Ready(0),
+        Event::Ready(0),
+        Event::Comes(PIPELINED, &[]),
+    ];
+    let one = Bounds {
+        connections: 1,
+        ..BOUNDS
+    };
+    let told = served(rt.alloc(), &events, one);
+    assert!(rt; told.is_ok_and(|told| told.as_str() == "/a | /a done shut"));
+    let two = Bounds {
+        connections: 2,
+        ..BOUNDS
+    };
+    let told = served(rt.alloc(), &events, two);
+    assert!(rt; told.is_ok_and(|told| told.as_str() == "/a /b /c | /a done | /b/c done shut"));
+}
+
+const SILENT: &[Reads] = &[
+    Reads::Gives(b"GET /s HTTP/1.1\r\n"),
+    Reads::Pauses,
+    Reads::Pauses,
+    Reads::Pauses,
+];
+
+#[test]
+fn late_one_ends_and_one_that_sends_goes_on(rt: HostRuntime) {
+    let patient = Bounds {
+        patience: Some(100),
+        ..BOUNDS
+    };
+    let events = [
+        Event::Comes(SILENT, &[]),
+        Event::Comes(CUT, &[]),
+        Event::Passes(60),
+        Event::Ready(1),
+        Event::Passes(60),
+        Event::Ready(1),
+    ];
+    let told = served(rt.alloc(), &events, patient);
+    assert!(rt; told.is_ok_and(|told| told.as_str() == "/a |  late | /a done "));
+}
+
+const LONG: &[Reads] = &[
+    Reads::Gives(b"POST /l HTTP/1.1\r\nHost: h\r\nContent-Length: 40000\r\n\r\n"),
+    Reads::Gives(&[b'a'; 16_384]),
+    Reads::Gives(&[b'a'; 16_384]),
+    Reads::Pauses,
+    Reads::Gives(&[b'a'; 7_232]),
+];
+
+#[test]
+fn one_that_is_short_of_a_loan_goes_on_after_the_other(rt: HostRuntime) {
+    let tight = Bounds {
+        memory: 0,
+        ..BOUNDS
+    };
+    let events = [
+        Event::Comes(LONG, &[]),
+        Event::Comes(LONG, &[]),
+        Event::Ready(1),
+        Event::Ready(0),
+        Event::Passes(1),
+        Event::Ready(1),
+        Event::Passes(1),
+        Event::Ready(1),
+        Event::Ready(1),
+    ];
+    let told = served(rt.alloc(), &events, tight);
+    assert!(rt; told.is_ok_and(|told| told.as_str() == "/l /l | /l done | /l done "));
 }

@@ -9,4 +9,6 @@ pub enum Why {
     Broken,
     /// There was no memory for what comes next.
     NoMemory,
+    /// Its peer was waited for as long as the patience is.
+    Late,
 }

@@ -1,19 +1,26 @@
-use Rattle.std.proofs.Common.{None, subst}
-use Rattle.std.specs.Prelude.{option_map}
+use Rattle.std.proofs.Common.{None, refl, subst, sym}
 use Rattle.std.specs.Result.{result_ok}
+use Rattle.gateway_ports.specs.Ports.{MayShut}
+use Rattle.gateway_ports.proofs.Turns.{unchanged}
 use Rattle.intake_process.specs.Process.{parts}
 use Rattle.intake_process.specs.Turns.{AnswersSome}
 use Rattle.intake_process.proofs.Turns.{none}
+use Rattle.intake_process.proofs.History as history
 use Rattle.intake_process.proofs.serving.listen_and_serve.Goals as goal
 
 pub returns-in-Err-clause-answers : goal.returns-in-Err-clause-answers
 returns-in-Err-clause-answers g c =
     λ honest. none c.args.limit (g.L.Port.traffic c.args.port.now) (g.L.Port.traffic c.listen.new.self)
-    (parts g.P.Place.lying c.args.process.now) None c.listen.ensures.same tt
+    (parts g.P.Place.lying c.args.process.now) None
+    (subst (MayShut (g.L.Port.traffic c.args.port.now)) (sym c.listen.ensures.same)
+    (unchanged (g.L.Port.traffic c.args.port.now))) tt
 
 pub returns-clause-answers : goal.returns-clause-answers
 returns-clause-answers g c = λ honest.
     subst (λ port. AnswersSome c.args.limit port (g.L.Port.traffic c.serve_port.new.port)
     (parts g.P.Place.lying c.args.process.now) (parts g.P.Place.lying c.serve_port.new.process)
-    (option_map (λ _. c.args.most) (result_ok c.serve_port.result))) c.listen.ensures.same
+    (result_ok c.serve_port.result)) c.listen.ensures.same
     (c.serve_port.ensures.answers honest)
+
+pub returns-in-Err-clause-passes : goal.returns-in-Err-clause-passes
+returns-in-Err-clause-passes g c = history.none c.args.limit _ _ _ _ refl

@@ -1,23 +1,26 @@
-use Rattle.std.proofs.Common.{None, Some, [], refl, sym, ap, subst}
+use Rattle.std.proofs.Common.{None, Some, [], refl, sym, ap, subst, ◌∙◌}
 use Rattle.std.specs.Prelude.{option_map}
 use Rattle.http_wire.specs.Wire.{wire}
 use Rattle.gateway_ports.specs.InTurn.{AreCounted}
 use Rattle.gateway_ports.proofs.Turns.{none_told, counted_given_up}
 use Rattle.intake_process.specs.Process.{parts}
 use Rattle.intake_process.specs.Turns.{AnswersSome}
+use Rattle.intake_process.specs.History.{Passes, said_of}
+use Rattle.intake_process.specs.Observing.{Notes}
 use Rattle.intake_process.proofs.Keeping.{awake}
 use Rattle.intake_process.proofs.Turns.{none, one, between, same}
 use Rattle.intake_process.proofs.Up as up
+use Rattle.intake_process.proofs.History as history
 use Rattle.intake_process.proofs.serving.serve_next.Goals as goal
 
-pub returns-in_err-came-clause-answers : goal.returns-in_err-came-clause-answers
-returns-in_err-came-clause-answers g c = λ honest.
+pub returns-in_err-reader-clause-answers : goal.returns-in_err-reader-clause-answers
+returns-in_err-reader-clause-answers g c = λ honest.
     let process = parts g.P.Place.lying c.args.process.now in
     subst (λ taken. AnswersSome c.args.limit (g.L.Port.traffic c.args.port.now) (g.L.Port.traffic c.accept.new.self)
     process process taken) (sym (ap (option_map (λ _. 1))
     (none_told c.from_residual.result c.from_residual.ensures.0)))
     (none c.args.limit (g.L.Port.traffic c.args.port.now) (g.L.Port.traffic c.accept.new.self) process None
-    c.in_err-came.ensures.0 tt)
+    c.in_err-reader.ensures.0 tt)
 
 pub returns-in_err-end-clause-answers : goal.returns-in_err-end-clause-answers
 returns-in_err-end-clause-answers g c = λ honest.
@@ -36,7 +39,7 @@ returns-in_err-end-clause-answers g c = λ honest.
     (one c.args.limit honest (g.L.Port.traffic c.args.port.now) (g.L.Port.traffic c.accept.new.self)
     (g.L.Port.traffic c.end.new.self) (wire g.L.Reader.Source g.L.Writer.Sink c.in-Some.reader c.in-Some.writer)
     (wire g.L.Reader.Source g.L.Writer.Sink c.answer-answered.new.reader c.answer-answered.new.writer) first last
-    c.answer-answered.result None (rw c.in-Some.is at c.in_ok-came.ensures) c.answer-answered.ensures
+    c.answer-answered.result None (rw c.in-Some.is at c.in_ok-reader.ensures) c.answer-answered.ensures
     c.end.ensures.coming c.in_err-end.ensures.refused)
     (same c.args.limit last))
 
@@ -58,13 +61,13 @@ returns-in_ok-end-clause-answers g c = λ honest.
     (one c.args.limit honest (g.L.Port.traffic c.args.port.now) (g.L.Port.traffic c.accept.new.self)
     (g.L.Port.traffic c.end.new.self) (wire g.L.Reader.Source g.L.Writer.Sink c.in-Some.reader c.in-Some.writer)
     (wire g.L.Reader.Source g.L.Writer.Sink c.answer-answered.new.reader c.answer-answered.new.writer) first last
-    c.answer-answered.result (Some 1) (rw c.in-Some.is at c.in_ok-came.ensures) c.answer-answered.ensures
+    c.answer-answered.result (Some 1) (rw c.in-Some.is at c.in_ok-reader.ensures) c.answer-answered.ensures
     c.end.ensures.coming (refl, c.in_ok-end.ensures.over))
     (c.went.ensures.leaves honest c.args.limit)
 
 pub returns-in_default-clause-answers : goal.returns-in_default-clause-answers
 returns-in_default-clause-answers g c = λ honest.
-    let came = rw c.in_default.is at c.in_ok-came.ensures in
+    let came = rw c.in_default.is at c.in_ok-reader.ensures in
     none c.args.limit (g.L.Port.traffic c.args.port.now) (g.L.Port.traffic c.accept.new.self)
     (parts g.P.Place.lying c.args.process.now) (Some 1) came.0
     (subst (λ coming. AreCounted coming [] 1) (sym came.1) counted_given_up)
@@ -97,8 +100,42 @@ returns-in_ok-end-clause-stays g c =
     new c.answer-answered.result c.answer-answered.ensures
     (λ other. ap (parts g.P.Place.lying) (c.went.ensures.others other)) c.went.ensures.calls)
 
-pub returns-in_err-came-clause-stays : goal.returns-in_err-came-clause-stays
-returns-in_err-came-clause-stays g c = up.same (parts g.P.Place.lying c.args.process.now)
+pub returns-in_err-reader-clause-stays : goal.returns-in_err-reader-clause-stays
+returns-in_err-reader-clause-stays g c = up.same (parts g.P.Place.lying c.args.process.now)
 
 pub returns-in_default-clause-stays : goal.returns-in_default-clause-stays
 returns-in_default-clause-stays g c = up.same (parts g.P.Place.lying c.args.process.now)
+
+pub returns-in_err-reader-clause-passes : goal.returns-in_err-reader-clause-passes
+returns-in_err-reader-clause-passes g c = history.none c.args.limit _ _ _ _ refl
+
+pub returns-in_err-end-clause-passes : goal.returns-in_err-end-clause-passes
+returns-in_err-end-clause-passes g c =
+    let old = parts g.P.Place.lying c.args.process.now in
+    let ready = parts g.P.Place.lying c.open_again-refusal.new.process in
+    let last = parts g.P.Place.lying c.answer-answered.new.self in
+    let is = c.open_again-refusal.ensures.ready in
+    subst (λ taken. Passes c.args.limit old last (g.O.Observer.answers c.args.observer.now)
+    (g.O.Observer.answers c.served.new.self) taken)
+    (sym (ap (option_map (λ _. 1)) (none_told c.from_residual-in_err-end.result
+    c.from_residual-in_err-end.ensures.0)))
+    (history.cut c.args.limit old ready last _ _ is.0
+    (wire g.L.Reader.Source g.L.Writer.Sink c.in-Some.reader c.in-Some.writer)
+    (wire g.L.Reader.Source g.L.Writer.Sink c.answer-answered.new.reader c.answer-answered.new.writer)
+    c.answer-answered.result is.1 c.answer-answered.ensures
+    (subst (λ after. Notes (g.O.Observer.answers c.args.observer.now) after (said_of is.0)) (sym c.served.ensures)
+    is.2))
+
+pub returns-in_ok-end-clause-passes : goal.returns-in_ok-end-clause-passes
+returns-in_ok-end-clause-passes g c =
+    let old = parts g.P.Place.lying c.args.process.now in
+    let ready = parts g.P.Place.lying c.open_again-refusal.new.process in
+    let last = parts g.P.Place.lying c.answer-answered.new.self in
+    let new = parts g.P.Place.lying c.went.new.process in
+    let is = c.open_again-refusal.ensures.ready in
+    history.one c.args.limit old ready last new _ _ is.0
+    (wire g.L.Reader.Source g.L.Writer.Sink c.in-Some.reader c.in-Some.writer)
+    (wire g.L.Reader.Source g.L.Writer.Sink c.answer-answered.new.reader c.answer-answered.new.writer)
+    c.answer-answered.result is.1 c.answer-answered.ensures c.went.ensures.over
+    (subst (λ after. Notes (g.O.Observer.answers c.args.observer.now) after (said_of is.0))
+    (sym (c.ended.ensures ∙ c.served.ensures)) is.2)

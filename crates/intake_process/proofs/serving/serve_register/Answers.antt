@@ -1,6 +1,7 @@
-use Rattle.std.proofs.Common.{None, Some, refl}
+use Rattle.std.proofs.Common.{None, Some, refl, sym, subst}
 use Rattle.database_places.specs.Opening.{is_found}
 use Rattle.intake_process.specs.Process.{parts}
+use Rattle.intake_process.specs.History.{Passes}
 use Rattle.intake_process.proofs.Turns.{between, same, not_opened, while_open}
 use Rattle.intake_process.proofs.Up.{until}
 use Rattle.intake_process.proofs.serving.serve_register.Goals as goal
@@ -14,7 +15,7 @@ returns-in-Err g c =
           (c.in-Err.ensures.leaves honest is);
       made = λ honest is closed known. tt;
       closed = c.in-Err.ensures.refused;
-      steps = (c.in-Err.ensures, refl);
+      steps = (c.in-Err.ensures, refl, refl);
     }
 
 pub returns-in-Ok-served : goal.returns-in-Ok-served
@@ -27,14 +28,14 @@ returns-in-Ok-served g c =
     let served = parts g.P.Place.lying c.listen_and_serve-served.new.process in
     let new = parts g.P.Place.lying c.close.new.self in
     record {
-      found = λ honest is. between c.args.limit port port' old opened served new (Some c.args.most)
+      found = λ honest is. between c.args.limit port port' old opened served new (Some c.in-Ok-served.taken)
           (while_open c.args.limit has old opened served new c.in-Ok.totals c.close.result c.in-Ok.ensures
           c.close.ensures) (c.in-Ok.ensures.leaves honest is) (c.in-Ok-served.ensures.answers honest)
           (c.close.ensures.leaves honest c.args.limit);
       made = λ honest is closed known. (
         opened,
         c.in-Ok.ensures.made honest is closed known,
-        between c.args.limit port port' opened opened served new (Some c.args.most)
+        between c.args.limit port port' opened opened served new (Some c.in-Ok-served.taken)
             (until opened served new c.close.ensures.calls) (same c.args.limit opened)
             (c.in-Ok-served.ensures.answers honest) (c.close.ensures.leaves honest c.args.limit),
       );
@@ -46,6 +47,10 @@ returns-in-Ok-served g c =
         closed = c.close.result;
         opens = c.in-Ok.ensures;
         answers = c.in-Ok-served.ensures.answers;
+        ends = c.in-Ok-served.ensures.ends;
+        shut = c.in-Ok-served.ensures.shut;
+        passes = subst (λ noted. Passes c.args.limit opened served (g.O.Observer.answers c.args.observer.now) noted
+            (Some c.in-Ok-served.taken)) (sym c.closed.ensures) c.in-Ok-served.ensures.passes;
         stays = c.listen_and_serve-served.ensures.stays;
         closes = c.close.ensures;
       };
@@ -74,6 +79,10 @@ returns-in-Err-served g c =
         closed = c.close.result;
         opens = c.in-Ok.ensures;
         answers = c.in-Err-served.ensures.answers;
+        ends = tt;
+        shut = λ shut. tt;
+        passes = subst (λ noted. Passes c.args.limit opened served (g.O.Observer.answers c.args.observer.now) noted
+            None) (sym c.closed.ensures) c.in-Err-served.ensures.passes;
         stays = c.listen_and_serve-served.ensures.stays;
         closes = c.close.ensures;
       };

@@ -20,7 +20,7 @@ returns-in-Ok-begin g c =
     opens (is_found c.args.opening) c.args.limit _ _ c.in-Ok.conn c.in-Ok-begin.intake c.in-Ok-begin.totals
     (none_of c.args.self.now.intake (sym c.is_some.ensures ∙ c.if-is_some.false)) refl refl refl
     c.in-Ok-begin.ensures.up c.in-Ok.ensures.opens.comes c.in-Ok-begin.ensures.found
-    c.in-Ok-begin.ensures.made
+    c.in-Ok-begin.ensures.made c.in-Ok-begin.ensures.limited
 
 pub returns-then-is_of_others : goal.returns-then-is_of_others
 returns-then-is_of_others g c =

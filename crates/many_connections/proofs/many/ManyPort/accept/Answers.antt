@@ -1,4 +1,4 @@
-use Rattle.std.proofs.Common.{ℕ, [], ◌∷◌, true, Some, None, Ok, refl, sym, ap, subst, ◌∙◌}
+use Rattle.std.proofs.Common.{ℕ, true, Some, Ok, refl, sym, ap, subst, ◌∙◌}
 use Rattle.std.specs.Prelude.{Vec}
 use Rattle.std.specs.declared.alloc.Global.{Global}
 use Rattle.std.proofs.Math.Logic.{∥∥₁_map}
@@ -12,9 +12,9 @@ pub invariant_of-self : goal.invariant_of-self
 invariant_of-self g c =
     let old = c.args.self.now in
     record {
-      runs = ∥∥₁_map old.runs (no_piece g.K.Stream.Stream (seen_after old.events.items) old.hall c.next_piece.new.self
+      runs = ∥∥₁_map old.runs (no_piece g.S.Stream (seen_after old.events.items) old.hall c.next_piece.new.self
           (g.K.Sockets.traffic old.sockets) (g.K.Sockets.traffic c.next_piece.new.sockets) c.next_piece.result
-          (sym c.is_out.ensures ∙ c.if-is_out.false) (ap items_out_of c.in_err-piece.was) c.next_piece.ensures);
+          (sym c.is_out.ensures ∙ c.if-is_out.false) (ap items_out_of c.in_err-piece.was) c.next_piece.ensures.running);
     }
 
 pub invariant_of-self-in-Some : goal.invariant_of-self-in-Some
@@ -23,28 +23,29 @@ invariant_of-self-in-Some g c =
     let seen = seen_after old.events.items in
     let is = seen_more old.events.items c.and-self.result.items (Came c.in-Some.piece, true) c.and-self.ensures in
     record {
-      runs = ∥∥₁_map old.runs (λ runs. subst (λ (after : Seen). Runs g.K.Stream.Stream after c.next_piece.new.self
+      runs = ∥∥₁_map old.runs (λ runs. subst (λ (after : Seen). Runs g.S.Stream after c.next_piece.new.self
           (g.K.Sockets.traffic c.next_piece.new.sockets)) (sym is)
-          (one_piece g.K.Stream.Stream seen old.hall c.next_piece.new.self (g.K.Sockets.traffic old.sockets)
+          (one_piece g.S.Stream seen old.hall c.next_piece.new.self (g.K.Sockets.traffic old.sockets)
           (g.K.Sockets.traffic c.next_piece.new.sockets) c.next_piece.result c.in-Some.piece
           (sym c.is_out.ensures ∙ c.if-is_out.false)
-          (ap items_out_of (c.in_ok-piece.was ∙ ap Ok c.in-Some.is)) c.next_piece.ensures runs));
+          (ap items_out_of (c.in_ok-piece.was ∙ ap Ok c.in-Some.is)) c.next_piece.ensures.running runs));
     }
 
 pub invariant_of-self-in-None : goal.invariant_of-self-in-None
 invariant_of-self-in-None g c =
     let old = c.args.self.now in
     record {
-      runs = ∥∥₁_map old.runs (no_piece g.K.Stream.Stream (seen_after old.events.items) old.hall c.next_piece.new.self
+      runs = ∥∥₁_map old.runs (no_piece g.S.Stream (seen_after old.events.items) old.hall c.next_piece.new.self
           (g.K.Sockets.traffic old.sockets) (g.K.Sockets.traffic c.next_piece.new.sockets) c.next_piece.result
           (sym c.is_out.ensures ∙ c.if-is_out.false)
-          (ap items_out_of (c.in_ok-piece.was ∙ ap Ok c.in-None.is)) c.next_piece.ensures);
+          (ap items_out_of (c.in_ok-piece.was ∙ ap Ok c.in-None.is)) c.next_piece.ensures.running);
     }
 
 pub returns-in-Some : goal.returns-in-Some
 returns-in-Some g c =
     let old = c.args.self.now in
     let is = seen_more old.events.items c.and-self.result.items (Came c.in-Some.piece, true) c.and-self.ensures in (
+      sym c.is_shut.ensures ∙ c.if-is_shut.false,
       ap (λ (seen : Seen). Some seen.over) is,
       tt,
       (

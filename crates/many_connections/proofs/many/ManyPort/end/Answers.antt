@@ -1,5 +1,5 @@
 use Rattle.std.proofs.Common.{◌≡◌, true, false, Some, refl, sym, ap, subst, ◌∙◌, true≢false}
-use Rattle.std.specs.Prelude.{not}
+use Rattle.std.specs.Prelude.{◌≢◌, not}
 use Rattle.std.proofs.Math.Logic.{∥∥₁_map}
 use Rattle.gateway_ports.specs.Ports.{Adds}
 use Rattle.many_connections.specs.PieceReader.{bytes_left}
@@ -26,12 +26,19 @@ invariant_of-self g c =
       | else-left-eq0 w ↦ absurd (w.if-left-eq0.false (all_left c.left-left.result (sym w.is_open-is
           ∙ not_false c.if-left-eq0.is_open shut)))
     ] in
+    let closes : not c.if-left-eq0.is_open ≡ true → c.args.served.ended ≡ InputEnded → c.left-left.result ≢ 0 =
+    λ closing ended none.
+    elim c.if-left-eq0.branch [
+      | then-left-eq0+in-InputEnded w ↦ true≢false (sym (sym (ap not w.is_open-is) ∙ closing))
+      | then-left-eq0+in_default w ↦ w.in_default.not-InputEnded ended
+      | else-left-eq0 w ↦ w.if-left-eq0.false none
+    ] in
     record {
-      runs = ∥∥₁_map old.runs (λ runs. subst (λ (after : Seen). Runs g.K.Stream.Stream after c.give_back.new.self
+      runs = ∥∥₁_map old.runs (λ runs. subst (λ (after : Seen). Runs g.S.Stream after c.give_back.new.self
           (g.K.Sockets.traffic old.sockets)) (sym is)
-          (piece_back g.K.Stream.Stream seen old.hall c.give_back.new.self (g.K.Sockets.traffic old.sockets)
+          (piece_back g.S.Stream seen old.hall c.give_back.new.self (g.K.Sockets.traffic old.sockets)
           c.left-left.result c.into_text-text.result c.into_bytes.result c.args.served (not c.if-left-eq0.is_open)
-          (sym c.is_out.ensures ∙ c.if-not-is_out.false) c.into_bytes.ensures stays_open
+          (sym c.is_out.ensures ∙ c.if-not-is_out.false) c.into_bytes.ensures stays_open closes
           c.give_back.ensures.running runs));
     }
 

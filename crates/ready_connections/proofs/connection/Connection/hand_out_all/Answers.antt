@@ -1,4 +1,4 @@
-use Rattle.std.proofs.Common.{◌≡◌, ◌++◌, ◌∙◌, ℕ, List, [], Bool, true, false, refl, sym, subst, ap}
+use Rattle.std.proofs.Common.{◌≡◌, ◌++◌, ◌∙◌, ℕ, List, [], Bool, true, false, sym, subst, ap}
 use Rattle.request_pieces.specs.Pieces.{IsLast}
 use Rattle.ready_connections.specs.Pieces.{IsTold}
 use Rattle.ready_connections.proofs.Told.{told_out, append_nil}
@@ -24,4 +24,6 @@ returns-clause-told g c done served =
       owes_nothing = c.requires.none_owed;
       whole = λ goes_on. absurd (let h : true ≡ false = goes_on in cc);
       last = λ closing. rw c.take_all.ensures.all last;
+      none_held = λ closing. c.take_all.ensures.none;
+      asked = λ early. rw c.take_all.ensures.all (served.told.next_asked early);
     }

@@ -1,7 +1,7 @@
 use Rattle.std.proofs.Common.{◌≡◌, ℕ, List, [], Bool, true, false, sym, subst, arith}
 use Rattle.std.proofs.lemmas.Grind.{common_steps}
 use Rattle.http_messages.specs.Message.{interim}
-use Rattle.ready_connections.specs.Pieces.{Piece, IsTold}
+use Rattle.ready_connections.specs.Pieces.{IsTold}
 use Rattle.ready_connections.proofs.Told.{told_interim}
 use Rattle.ready_connections.proofs.connection.Connection.owe_interim.Goals as goal
 
@@ -28,6 +28,6 @@ returns-clause-told g c done served =
     ) in
     record {
       told = subst (λ (owed : List ℕ). IsTold done came went [] held owed true now.is_closing ended) (sym text)
-          (told_interim done came went held now.is_closing ended before);
+          (told_interim done came went held now.is_closing ended c.requires.open c.requires.asks before);
       ended = served.ended;
     }

@@ -1,4 +1,4 @@
-use Rattle.std.proofs.Common.{◌≡◌, inr, ap, sym, ◌∙◌, ◌++◌, take}
+use Rattle.std.proofs.Common.{inr, ap, sym, ◌∙◌, ◌++◌, take}
 use Rattle.ready_connections.proofs.Told.{told_idle, told_read}
 use Rattle.ready_connections.proofs.connection.Connection.read.Goals as goal
 

@@ -1,8 +1,8 @@
-use Rattle.std.proofs.Common.{◌≡◌, ◌<◌, ◌∙◌, Bool, true, false, not, ℕ, List, Option, Some, None, get_or, sym, refl}
-use Rattle.std.proofs.Common.{length, arith}
+use Rattle.std.proofs.Common.{◌≡◌, ◌<◌, ◌∙◌, Bool, true, not, ℕ, List, Option, Some, None, get_or, sym, refl}
+use Rattle.std.proofs.Common.{length, arith, ◌+◌, ◌-◌}
 use Rattle.std.specs.Prelude.{is_some}
 use Rattle.std.proofs.lemmas.Grind.{common_steps}
-use Rattle.ready_connections.proofs.Halls.{bounded_new, came}
+use Rattle.ready_connections.proofs.Halls.{bounded_new, came, count_lent, rests_still}
 use Rattle.ready_connections.proofs.hall.Hall.admit.Goals as goal
 use Rattle.ready_connections.proofs.hall.Hall.admit.Goals.{then-is_none+in_ok-stream+in-Some, else-is_none}
 
@@ -20,13 +20,19 @@ loop-place-preserved g c = elim c.if-is_none.branch [
         grind (arith, common_steps, c.loop-place-test.true, c.len-place-end.ensures) in
         let free = free_at old.places.items c.loop-place.place c.index.result.now c.is_none.result c.index.ensures
         c.is_none.ensures w.if-is_none.true in
+        let one_less : old.left - 1 + 1 ≡ old.left = omega (arith, c.if-self-eq0.false) in
         let comes = rw w.in-Some.is at w.in_ok-stream.ensures in
-        came g.S.Stream done old w.enter.new.self (g.P.Sockets.traffic c.loop-place.sockets)
+        came g.S.Stream done _ _ old _ w.enter.new.self (g.P.Sockets.traffic c.loop-place.sockets)
         (g.P.Sockets.traffic w.accept.new.self) c.loop-place.place w.new.result low c.loop-place.invariant.out free
-        w.enter.ensures comes.1 (w.new.ensures.told done)
+        refl refl refl refl one_less w.enter.ensures comes.1
+        (rests_still g.S.Stream old w.enter.new.self w.enter.ensures.short w.enter.ensures.bounds
+        (let count = count_lent _ w.enter.new.self c.loop-place.place (Some w.new.result) None true w.enter.ensures
+        free in
+        omega (arith, count))) (w.new.ensures.told done)
         (bounded_new done w.new.result w.new.ensures.held w.new.ensures.owed) (c.loop-place.invariant.running done
         running);
     out = w.enter.ensures.out ∙ c.loop-place.invariant.out;
+    bounds = w.enter.ensures.bounds ∙ c.loop-place.invariant.bounds;
   })
   | else-is_none w ↦ rw (w.self-is, w.sockets-is) c.loop-place.invariant
 ]

@@ -1,4 +1,4 @@
-use Rattle.std.proofs.Common.{◌≡◌, List, Option, None}
+use Rattle.std.proofs.Common.{◌≡◌, List, None}
 use Rattle.ready_connections.specs.Pieces.{Piece}
 use Rattle.ready_connections.specs.Running.{IsRunning}
 use Rattle.ready_connections.proofs.hall.Hall.admit.Given as goal
@@ -8,4 +8,5 @@ invariant-loop-place g l = record {
   running : (done : List Piece) → IsRunning g.S.Stream done None l.fn.self (g.P.Sockets.traffic l.fn.sockets)
       → IsRunning g.S.Stream done None l.self (g.P.Sockets.traffic l.sockets);
   out : l.self.out ≡ None;
+  bounds : l.self.bounds ≡ l.fn.self.bounds;
 }

@@ -1,7 +1,8 @@
 use Rattle.std.proofs.Common.{◌≡◌, refl, ap, sym, ◌∙◌, length, vec_len, arith, true, false}
 use Rattle.std.proofs.lemmas.Grind.{common_steps}
 use Rattle.std.proofs.lemmas.List.{with_items_is}
-use Rattle.ready_connections.proofs.Halls.{asked}
+use Rattle.ready_connections.proofs.Halls.{asked, gives_twice, rests_still}
+use Rattle.ready_connections.specs.Places.{lent_places}
 use Rattle.ready_connections.proofs.hall.Hall.ask.Goals as goal
 
 pub returns-clause-running : goal.returns-clause-running
@@ -12,6 +13,15 @@ returns-clause-running g c done running =
     c.ask.auto.has_turn ∙ ap length c.deref_mut.ensures.value ∙ items in
     let turns = with_items_is old.has_turn c.ask.new.has_turn len in
     c.admit.ensures.running done (rw c.in_ok-ask.ensures.traffic
-    (asked g.S.Stream done old _ _ _ (g.P.Sockets.traffic c.args.sockets.now) c.requires refl
-    (ap length turns ∙ len ∙ sym items)
-    (λ i has. rw turns (c.in_ok-ask.ensures.kept i (rw c.deref_mut.ensures.value has))) refl running))
+    (asked g.S.Stream done _ _ old c.call_late.new.self (g.P.Sockets.traffic c.args.sockets.now)
+    (gives_twice old _ c.call_late.new.self (record {
+      places = refl;
+      turns_len = ap length turns ∙ len ∙ sym items;
+      turns = λ i has. rw turns (c.in_ok-ask.ensures.kept i (rw c.deref_mut.ensures.value has));
+      out = refl;
+      bounds = refl;
+      left = refl;
+    }) c.call_late.ensures.gives)
+    (rests_still g.S.Stream old c.call_late.new.self (λ is. c.call_late.ensures.short ∙ is)
+    c.call_late.ensures.gives.bounds (let same = ap lent_places c.call_late.ensures.gives.places in omega
+    (arith, same))) c.requires running))

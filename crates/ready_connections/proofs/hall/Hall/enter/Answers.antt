@@ -1,4 +1,4 @@
-use Rattle.std.proofs.Common.{◌≡◌, ◌<◌, ap, Option, Some, set, length, vec_len, arith}
+use Rattle.std.proofs.Common.{◌≡◌, ◌<◌, ap, Some, set, length, vec_len, arith}
 use Rattle.std.proofs.lemmas.Grind.{common_steps}
 use Rattle.ready_connections.proofs.Halls.{puts_set}
 use Rattle.ready_connections.proofs.hall.Hall.enter.Goals as goal
@@ -14,3 +14,5 @@ returns g c =
     puts_set old _ c.args.place (Some c.args.connection) c.args.has_turn low
     (ap (λ hall. set hall.places.items c.args.place (Some c.args.connection)) rest) len
     (λ has. c.set_turn.ensures.turn (rw turns at has)) c.set_turn.ensures.others (ap (λ hall. hall.out) rest)
+    (ap (λ hall. hall.bounds) rest) (ap (λ hall. hall.left) rest)
+    (ap (λ hall. hall.is_short) rest)

@@ -1,6 +1,4 @@
-use Rattle.std.proofs.Common.{◌≡◌, ◌<◌, refl, ap, sym, ◌∙◌, length, arith, true, false}
-use Rattle.std.proofs.lemmas.Grind.{common_steps}
-use Rattle.ready_connections.specs.Running.{piece_of}
+use Rattle.std.proofs.Common.{refl, sym, ◌∙◌}
 use Rattle.ready_connections.proofs.Halls.{bounded_back, came_back}
 use Rattle.ready_connections.proofs.hall.Hall.give_back.Goals as goal
 
@@ -10,6 +8,6 @@ returns-then-place-len-clause-running g c done read traffic running =
     let is_out = sym c.take.ensures.value ∙ c.in-Some.is in
     rw is_out
     (came_back g.S.Stream done read _ old _ c.enter.new.self traffic c.in-Some.out c.take_back.new.self is_out
-    refl refl c.take.ensures.after c.enter.ensures (c.take_back.ensures.told done read)
+    refl refl refl refl refl c.take.ensures.after c.enter.ensures (c.take_back.ensures.told done read)
     (bounded_back done _ c.in-Some.out.connection c.take_back.new.self c.args.output refl c.take_back.ensures.held
-    c.take_back.ensures.owed) running)
+    c.take_back.ensures.lent c.take_back.ensures.owed) running)

@@ -1,4 +1,4 @@
-use Rattle.std.proofs.Common.{◌≡◌, ◌<◌, ap, ◌∙◌, Option, None, set, false, length, vec_len, arith}
+use Rattle.std.proofs.Common.{◌≡◌, ◌<◌, ap, ◌∙◌, None, set, false, length, vec_len, arith}
 use Rattle.std.proofs.lemmas.Grind.{common_steps}
 use Rattle.ready_connections.proofs.Halls.{puts_set}
 use Rattle.ready_connections.proofs.hall.Hall.leave.Goals as goal
@@ -15,3 +15,5 @@ returns-clause-free g c =
     (ap (λ hall. set hall.places.items c.args.place c.take.new.self) rest
     ∙ ap (λ slot. set old.places.items c.args.place slot) c.take.ensures.after) len
     (λ has. c.set_turn.ensures.turn (rw turns at has)) c.set_turn.ensures.others (ap (λ hall. hall.out) rest)
+    (ap (λ hall. hall.bounds) rest) (ap (λ hall. hall.left) rest)
+    (ap (λ hall. hall.is_short) rest)

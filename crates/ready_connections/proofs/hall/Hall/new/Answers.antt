@@ -1,6 +1,7 @@
-use Rattle.std.proofs.Common.{◌≡◌, refl}
+use Rattle.std.proofs.Common.{refl}
 use Rattle.ready_connections.proofs.Halls.{none_yet}
 use Rattle.ready_connections.proofs.hall.Hall.new.Goals as goal
 
-pub returns : goal.returns
-returns g c traffic empty = none_yet g.S.Stream _ _ _ traffic empty c.loop.invariant.free c.loop.invariant.turns refl
+pub returns-clause-running : goal.returns-clause-running
+returns-clause-running g c traffic empty =
+    none_yet g.S.Stream _ _ traffic empty c.loop.invariant.free c.loop.invariant.turns refl refl

@@ -1,7 +1,32 @@
-use Rattle.std.proofs.Common.{◌≡◌}
+use Rattle.std.proofs.Common.{◌≡◌, ℕ, Option, None, Result, Ok, Err, Vec, Global, refl}
+use Rattle.std.proofs.lemmas.Bool.{false≢true}
+use Rattle.std.specs.Prelude.{IsErr}
+use Rattle.ready_connections.specs.Running.{items_out_of}
+use Rattle.ready_connections.proofs.Halls.{kept}
 use Rattle.ready_connections.proofs.hall.Hall.turn.Goals as goal
 
-pub returns-in-Some-clause-running : goal.returns-in-Some-clause-running
-returns-in-Some-clause-running g c done running =
+none_out : {E : Type 0} (result : Result (Option (Vec ℕ Global)) E) → IsErr result → items_out_of result ≡ None
+none_out (Ok piece) failed = absurd (false≢true failed)
+none_out (Err error) failed = refl
+
+pub returns-in_ok-ask-in-None-clause-running : goal.returns-in_ok-ask-in-None-clause-running
+returns-in_ok-ask-in-None-clause-running g c done running =
+    c.ask.ensures.running done
+    (kept g.S.Stream done None c.args.self.now c.next_turn.new.self _ c.next_turn.ensures.same running)
+
+pub returns-in_err-ask-in-None-clause-running : goal.returns-in_err-ask-in-None-clause-running
+returns-in_err-ask-in-None-clause-running g c done running =
+    rw (none_out c.from_residual.result c.from_residual.ensures.0)
+    (c.ask.ensures.running done
+    (kept g.S.Stream done None c.args.self.now c.next_turn.new.self _ c.next_turn.ensures.same running))
+
+pub returns-then-must_wait-clause-running : goal.returns-then-must_wait-clause-running
+returns-then-must_wait-clause-running g c done running =
+    kept g.S.Stream done None c.next_turn.new.self c.must_wait.new.self _ c.must_wait.ensures.kept
+    (kept g.S.Stream done None c.args.self.now c.next_turn.new.self _ c.next_turn.ensures.same running)
+
+pub returns-else-must_wait-clause-running : goal.returns-else-must_wait-clause-running
+returns-else-must_wait-clause-running g c done running =
     c.go_on.ensures.running done
-    (rw (c.next_turn.ensures.places, c.next_turn.ensures.turns, c.next_turn.ensures.out) running)
+    (kept g.S.Stream done None c.next_turn.new.self c.must_wait.new.self _ c.must_wait.ensures.kept
+    (kept g.S.Stream done None c.args.self.now c.next_turn.new.self _ c.next_turn.ensures.same running))

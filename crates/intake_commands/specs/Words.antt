@@ -1,0 +1,147 @@
+-- What the command line asks `intake` for, by the word that `clap` found and the values of its options. `clap` says
+-- nothing of which words give which values, since an option may have a value that begins with a hyphen.
+use Rattle.std.specs.Prelude.{◌≡◌, ◌⊎◌, ◌&&◌, ℕ, Bool, true, false, List, [], ◌∷◌, map, codes, Option, Some, None}
+use Rattle.std.specs.Prelude.{is_some, option_map, option_and_then, unwrap_or, if◌then◌else◌}
+use Rattle.std.specs.List.{list_any}
+use Rattle.std.specs.Str.{bytes_eq}
+use Rattle.clap.specs.Words.{Row, Text, HasMatchesOf, IsParsedFrom, app_of, kind_of, subcommand_rows_of, takes}
+use Rattle.clap.specs.declared.builder.command.Command.{Command}
+use Rattle.clap.specs.declared.error.Error.{Error}
+use Rattle.clap.specs.declared.error.kind.ErrorKind.TheVariants.{OutOfMemory}
+use Rattle.clap.specs.declared.parser.matches.ArgMatches.{ArgMatches}
+use Rattle.fact_records.specs.declared.record.Form.{Form as Format}
+use Rattle.fact_records.specs.declared.record.Form.TheVariants.{Csv, JsonLines}
+use Rattle.finding_lines.specs.declared.form.Form.{Form}
+use Rattle.finding_lines.specs.declared.form.Form.TheVariants.{Sentences, Objects}
+use Rattle.intake_tasks.specs.declared.errand.Errand.{Errand}
+use Rattle.intake_tasks.specs.declared.errand.Errand.TheVariants.{List as ListOf, Show, Check, Migrate, Export, Pages}
+use Rattle.intake_commands.specs.declared.options.Asked.{Asked}
+use Rattle.intake_commands.specs.declared.options.Serving.{Serving}
+use Rattle.intake_commands.specs.declared.options.Task.{Task}
+use Rattle.intake_commands.specs.declared.options.Task.TheVariants.{Run, Serve, Visit, Lint}
+use Rattle.command_line.specs.Values.{value, values, is_set, number}
+
+-- ---- what options say
+
+-- `--limit`, or a million keys
+abbrev pub limit_of : List Row → ℕ
+limit_of options = unwrap_or (number 64 (codes "limit") options) 1000000
+
+-- `--json` asks for objects
+abbrev pub form_of : List Row → Form
+form_of options = if is_set (codes "json") options then Objects else Sentences
+
+abbrev pub format_named : Text → Option Format
+format_named text =
+    if bytes_eq text (codes "csv") then Some Csv
+    else if bytes_eq text (codes "jsonl") then Some JsonLines
+    else None
+
+-- the format that `--format` names
+abbrev pub format_of : List Row → Option Format
+format_of options = option_and_then format_named (value (codes "format") options)
+
+-- ---- tasks
+
+-- the register of `--db` is served as the options say: a new one with `--new`, and with lines of what came with `--log`
+pub record IsServingOf (options : List Row) (serving : Serving) : Type 0 where
+  pub database : value (codes "db") options ≡ Some serving.database.now
+  pub port : number 16 (codes "port") options ≡ Some serving.port
+  pub connections : number 32 (codes "connections") options ≡ Some serving.connections
+  pub at_once : serving.at_once ≡ unwrap_or (number 16 (codes "at-once") options) 256
+  pub memory : serving.memory ≡ unwrap_or (number 32 (codes "memory") options) 256
+  pub limit : serving.limit ≡ limit_of options
+  pub patience : serving.patience ≡ number 32 (codes "patience") options
+  pub new : serving.new ≡ is_set (codes "new") options
+  pub log : serving.log ≡ is_set (codes "log") options
+
+-- whether the values are there that serving needs
+abbrev pub has_serving : List Row → Bool
+has_serving options = is_some (value (codes "db") options) && (is_some (number 16 (codes "port") options)
+    && is_some (number 32 (codes "connections") options))
+
+-- the errand is what this word asks for
+abbrev pub IsErrand : Text → List Row → Errand → Type 0
+IsErrand word options (ListOf filer) = (word ≡ codes "list") × (value (codes "filer") options ≡ Some filer.now)
+IsErrand word options (Show filing) = (word ≡ codes "show") × (number 64 (codes "number") options ≡ Some filing)
+IsErrand word options Check = word ≡ codes "check"
+IsErrand word options Migrate = word ≡ codes "migrate"
+IsErrand word options (Export format filer) =
+    (word ≡ codes "export") × (format_of options ≡ Some format)
+    × (option_map (λ text. text.now) filer ≡ value (codes "filer") options)
+IsErrand word options (Pages folder) = (word ≡ codes "pages") × (value (codes "into") options ≡ Some folder.now)
+
+-- whether a word asks for an errand, and the values are there that the errand needs
+abbrev pub has_errand : Text → List Row → Bool
+has_errand word options =
+    if bytes_eq word (codes "list") then is_some (value (codes "filer") options)
+    else if bytes_eq word (codes "show") then is_some (number 64 (codes "number") options)
+    else if bytes_eq word (codes "export") then is_some (format_of options)
+    else if bytes_eq word (codes "pages") then is_some (value (codes "into") options)
+    else list_any (bytes_eq word) (codes "check" ∷ codes "migrate" ∷ [])
+
+-- the errand that a word asks for, if it asks for one
+abbrev pub IsErrandBy : Text → List Row → Option Errand → Type 0
+IsErrandBy word options None = has_errand word options ≡ false
+IsErrandBy word options (Some errand) = IsErrand word options errand
+
+-- the task is what this word asks for
+abbrev pub IsTask : Text → List Row → Task → Type 0
+IsTask word options (Run limit) = (word ≡ codes "run") × (limit ≡ limit_of options)
+IsTask word options (Serve serving) = (word ≡ codes "serve") × IsServingOf options serving
+IsTask word options (Visit database errand) =
+    (value (codes "db") options ≡ Some database.now) × IsErrand word options errand
+IsTask word options (Lint filer form files) =
+    (word ≡ codes "lint") × (value (codes "filer") options ≡ Some filer.now) × (form ≡ form_of options)
+    × (map (λ text. text.now) files.items ≡ values (codes "FILE") options)
+
+-- whether a word asks for a task, and the values are there that the task needs
+abbrev pub has_task : Text → List Row → Bool
+has_task word options =
+    if bytes_eq word (codes "run") then true
+    else if bytes_eq word (codes "serve") then has_serving options
+    else if bytes_eq word (codes "lint") then is_some (value (codes "filer") options)
+    else is_some (value (codes "db") options) && has_errand word options
+
+-- the task that a word asks for, if it asks for one
+abbrev pub IsTaskBy : Text → List Row → Option Task → Type 0
+IsTaskBy word options None = has_task word options ≡ false
+IsTaskBy word options (Some task) = IsTask word options task
+
+-- the file of the register, and the folder of the pages; empty if there is none
+abbrev pub database_of : Task → Text
+database_of (Serve serving) = serving.database.now
+database_of (Visit database errand) = database.now
+database_of other = []
+
+abbrev pub folder_of : Task → Text
+folder_of (Visit database (Pages folder)) = folder.now
+folder_of other = []
+
+-- ---- what is asked for
+
+-- a task, if the word that was found asks for one, and its file is waited for as long as `--wait` says, or not at all;
+-- without a word one connection is run, with the limit that is set if nothing is said
+abbrev pub IsAsked : Option (Text × List Row) → Option Asked → Type 0
+IsAsked None asked = asked ≡ Some (record { task = Run 1000000; wait = 0 })
+IsAsked (Some (word, options)) None = has_task word options ≡ false
+IsAsked (Some (word, options)) (Some asked) =
+    IsTask word options asked.task × (asked.wait ≡ unwrap_or (number 32 (codes "wait") options) 0)
+
+-- ---- reading the command line
+
+-- `clap` found these matches with this command, and they ask for that
+abbrev pub IsReadBy : Command → List Text → Option Asked → Type 0
+IsReadBy command words asked =
+    (matches : ArgMatches) × IsParsedFrom command matches × HasMatchesOf (app_of command) words matches
+    × IsAsked (subcommand_rows_of matches) asked
+
+-- the command does not take the words, as far as `clap` says which it takes, or memory ran out
+abbrev pub IsUnreadBy : Command → List Text → Error → Type 0
+IsUnreadBy command words error = takes (app_of command) words ≡ true → kind_of error ≡ OutOfMemory
+
+abbrev pub IsRead : List Text → Option Asked → Type 0
+IsRead words asked = (command : Command) × IsReadBy command words asked
+
+abbrev pub IsUnread : List Text → Error → Type 0
+IsUnread words error = (kind_of error ≡ OutOfMemory) ⊎ ((command : Command) × IsUnreadBy command words error)

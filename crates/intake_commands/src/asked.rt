@@ -1,0 +1,223 @@
+//! Reads what the command line asks for, by the word that `clap` found and the values of its options.
+
+ghost use Rattle.std.specs.Prelude.{◌≡◌, IfOk, IfErr, IfSome, string_bytes, unwrap_or, map, codes, Some, None, false};
+ghost use Rattle.clap.specs.Words.{subcommand_rows_of};
+ghost use Rattle.command_line.specs.Values.{options_of};
+ghost use Rattle.intake_commands.specs.Words.{limit_of, form_of, format_of, has_serving, has_errand, IsServingOf};
+ghost use Rattle.intake_commands.specs.Words.{IsErrandBy, IsTaskBy, IsAsked, IsRead, IsReadBy, IsUnread, IsUnreadBy};
+
+use crate::options::{
+    Asked, DEFAULT_AT_ONCE, DEFAULT_LIMIT, DEFAULT_MEMORY, Serving, Task, command,
+};
+use clap::{ArgMatches, Command, Error};
+use command_line::{
+    is_set, number_of, number_of_16_bits, number_of_32_bits, value_of, values_of, wait_of,
+};
+use fact_records::Form as Format;
+use intake_tasks::Errand;
+use report_tasks::Form;
+use std::alloc::{AllocError, Global};
+
+/// How many keys are kept at most.
+fn limit_of(values: &ArgMatches<'_>) -> u64
+    ensures { result ≡ limit_of (options_of values.now) }
+{
+    number_of(values, "limit").unwrap_or(DEFAULT_LIMIT)
+}
+
+/// How findings are written.
+fn form_of(values: &ArgMatches<'_>) -> Form
+    ensures { result ≡ form_of (options_of values.now) }
+{
+    if is_set(values, "json") {
+        Form::Objects
+    } else {
+        Form::Sentences
+    }
+}
+
+/// How facts are written.
+fn format_of(values: &ArgMatches<'_>) -> Option<Format>
+    ensures { result ≡ format_of (options_of values.now) }
+{
+    match value_of(values, "format")? {
+        "csv" => Some(Format::Csv),
+        "jsonl" => Some(Format::JsonLines),
+        _ => None,
+    }
+}
+
+/// What is served, and how. `None` if a value is not there that is needed for it.
+fn serving_of<'a>(values: &ArgMatches<'a>) -> Option<Serving<'a>>
+    ensures served { IfSome result (IsServingOf (options_of values.now)) }
+    ensures unserved { result ≡ None → has_serving (options_of values.now) ≡ false }
+{
+    Some(Serving {
+        database: value_of(values, "db")?,
+        port: number_of_16_bits(values, "port")?,
+        connections: number_of_32_bits(values, "connections")?,
+        at_once: number_of_16_bits(values, "at-once").unwrap_or(DEFAULT_AT_ONCE),
+        memory: number_of_32_bits(values, "memory").unwrap_or(DEFAULT_MEMORY),
+        limit: limit_of(values),
+        patience: number_of_32_bits(values, "patience"),
+        new: is_set(values, "new"),
+        log: is_set(values, "log"),
+    })
+}
+
+fn list_of<'a>(values: &ArgMatches<'a>) -> Option<Errand<'a>>
+    ensures { IsErrandBy (codes "list") (options_of values.now) result }
+{
+    Some(Errand::List {
+        filer: value_of(values, "filer")?,
+    })
+}
+
+fn show_of<'a>(values: &ArgMatches<'a>) -> Option<Errand<'a>>
+    ensures { IsErrandBy (codes "show") (options_of values.now) result }
+{
+    Some(Errand::Show {
+        number: number_of(values, "number")?,
+    })
+}
+
+fn export_of<'a>(values: &ArgMatches<'a>) -> Option<Errand<'a>>
+    ensures { IsErrandBy (codes "export") (options_of values.now) result }
+{
+    Some(Errand::Export {
+        form: format_of(values)?,
+        filer: value_of(values, "filer"),
+    })
+}
+
+fn pages_of<'a>(values: &ArgMatches<'a>) -> Option<Errand<'a>>
+    ensures { IsErrandBy (codes "pages") (options_of values.now) result }
+{
+    Some(Errand::Pages {
+        folder: value_of(values, "into")?,
+    })
+}
+
+/// The errand that a word asks for. `None` if it asks for none, or a value is not there that the errand needs.
+fn errand_of<'a>(word: &str, values: &ArgMatches<'a>) -> Option<Errand<'a>>
+    ensures { IsErrandBy word.now (options_of values.now) result }
+{
+    match word {
+        "list" => list_of(values),
+        "show" => show_of(values),
+        "check" => Some(Errand::Check),
+        "migrate" => Some(Errand::Migrate),
+        "export" => export_of(values),
+        "pages" => pages_of(values),
+        _ => None,
+    }
+}
+
+fn visit_of<'a>(word: &str, values: &ArgMatches<'a>) -> Option<Task<'a>>
+    requires run { word.now ≡ codes "run" → ⊥ }
+    requires serve { word.now ≡ codes "serve" → ⊥ }
+    requires lint { word.now ≡ codes "lint" → ⊥ }
+    ensures { IsTaskBy word.now (options_of values.now) result }
+{
+    Some(Task::Visit {
+        database: value_of(values, "db")?,
+        errand: errand_of(word, values)?,
+    })
+}
+
+fn lint_of<'a>(alloc: Global, values: &ArgMatches<'a>) -> Result<Option<Task<'a>>, AllocError>
+    ensures { IfOk result (IsTaskBy (codes "lint") (options_of values.now)) }
+{
+    let Some(filer) = value_of(values, "filer") else {
+        return Ok(None);
+    };
+    Ok(Some(Task::Lint {
+        filer,
+        form: form_of(values),
+        files: values_of(alloc, values, "FILE")?,
+    }))
+}
+
+/// The task that a word asks for. `None` if it asks for none, or a value is not there that the task needs.
+fn task_of<'a>(
+    alloc: Global,
+    word: &str,
+    values: &ArgMatches<'a>,
+) -> Result<Option<Task<'a>>, AllocError>
+    ensures { IfOk result (IsTaskBy word.now (options_of values.now)) }
+{
+    match word {
+        "run" => Ok(Some(Task::Run {
+            limit: limit_of(values),
+        })),
+        "serve" => match serving_of(values) {
+            Some(serving) => Ok(Some(Task::Serve(serving))),
+            None => Ok(None),
+        },
+        "lint" => lint_of(alloc, values),
+        _ => Ok(visit_of(word, values)),
+    }
+}
+
+/// What is asked for if no word says so.
+fn default_asked<'a>() -> Asked<'a>
+    ensures { IsAsked None (Some result) }
+{
+    Asked {
+        task: Task::Run {
+            limit: DEFAULT_LIMIT,
+        },
+        wait: 0,
+    }
+}
+
+/// What a word asks for.
+fn asked_by<'a>(
+    alloc: Global,
+    word: &str,
+    values: &ArgMatches<'a>,
+) -> Result<Option<Asked<'a>>, AllocError>
+    ensures { IfOk result (IsAsked (Some (word.now, options_of values.now))) }
+{
+    match task_of(alloc, word, values)? {
+        Some(task) => Ok(Some(Asked {
+            task,
+            wait: wait_of(values),
+        })),
+        None => Ok(None),
+    }
+}
+
+/// What is asked for by the word that was found.
+fn asked<'a>(alloc: Global, matches: &ArgMatches<'a>) -> Result<Option<Asked<'a>>, AllocError>
+    ensures { IfOk result (IsAsked (subcommand_rows_of matches.now)) }
+{
+    match matches.subcommand() {
+        Some((word, values)) => asked_by(alloc, word, values),
+        None => Ok(Some(default_asked())),
+    }
+}
+
+/// What these words ask for, as this command reads them.
+fn read_by<'a>(
+    alloc: Global,
+    command: Command<'a>,
+    words: &'a [String],
+) -> Result<Option<Asked<'a>>, Error>
+    ensures read { IfOk result (IsReadBy command.entry (map string_bytes words.now)) }
+    ensures unread { IfErr result (IsUnreadBy command.entry (map string_bytes words.now)) }
+{
+    match command.try_get_matches_from(words) {
+        Ok(matches) => Ok(asked(alloc, &matches)?),
+        Err(error) => Err(error),
+    }
+}
+
+/// What these words ask for. The first word is the program's name; if it is the only one, the task is `run`. `None` if
+/// the words ask for nothing.
+pub(crate) fn read<'a>(alloc: Global, words: &'a [String]) -> Result<Option<Asked<'a>>, Error>
+    ensures read { IfOk result (IsRead (map string_bytes words.now)) }
+    ensures unread { IfErr result (IsUnread (map string_bytes words.now)) }
+{
+    read_by(alloc, command(alloc)?, words)
+}

@@ -1,0 +1,179 @@
+-- What becomes of a process, connection by connection.
+use Rattle.std.proofs.Common.{◌≡◌, ◌++◌, ◌+◌, ℕ, Bool, List, [], ◌∷◌, Option, Some, None, refl, sym, ◌∙◌, ap, subst}
+use Rattle.std.proofs.Common.{◌⊎◌, true, false, inl, inr, Result, Ok, Err, OnOk}
+use Rattle.std.specs.Prelude.{option_map}
+use Rattle.std.proofs.lemmas.List.{append-nil, append_assoc}
+use Rattle.sqlite_disk.specs.declared.Disk.{Ghosts}
+use Rattle.sqlite.specs.declared.error.Error.{Error}
+use Rattle.http_wire.specs.Wire.{Wire}
+use Rattle.intake_process.specs.declared.begun.Totals.{Totals}
+use Rattle.intake_process.specs.declared.fault.OpeningFault.{OpeningFault}
+use Rattle.intake_process.specs.declared.process.Answered.{Answered}
+use Rattle.intake_process.specs.declared.process.Closed.{Closed}
+use Rattle.intake_process.specs.declared.process.Outcome.{Outcome}
+use Rattle.intake_process.specs.declared.process.Outcome.TheVariants as outcome
+use Rattle.intake_process.specs.Process.{Parts, AnswersWire, OpensProcess, ClosesProcess}
+use Rattle.intake_process.specs.Observing.{Notes}
+use Rattle.intake_process.specs.History.{Step, said_of, IsReady, IsOver, AreSteps, said_in, EndsIn, Passes, HasFailed}
+
+-- ---- what an observer answered
+
+pub noted_none : (noted noted' : Option (List Bool)) → noted' ≡ noted → Notes noted noted' []
+noted_none None noted' same = same
+noted_none (Some before) noted' same = same ∙ ap Some (sym (append-nil before))
+
+pub noted_join : (a b c : Option (List Bool)) (said more : List Bool) → Notes a b said → Notes b c more
+    → Notes a c (said ++ more)
+noted_join None b c said more first second = subst (λ x. Notes x c more) first second
+noted_join (Some before) b c said more first second =
+    subst (λ x. Notes x c more) first second ∙ ap Some (append_assoc before said more)
+
+pub noted_as : (a b : Option (List Bool)) (said more : List Bool) → said ≡ more → Notes a b said → Notes a b more
+noted_as a b said more same notes = subst (λ s. Notes a b s) same notes
+
+module _ {D : Type 0} {g : Ghosts D} (limit : ℕ) where
+  said_join : (xs ys : List (Step g)) (more : List Bool) → said_in (xs ++ ys) ++ more
+      ≡ said_in xs ++ (said_in ys ++ more)
+  said_join [] ys more = refl
+  said_join (x ∷ xs) ys more = append_assoc (said_of x.asked) (said_in (xs ++ ys)) more
+      ∙ ap (λ s. said_of x.asked ++ s) (said_join xs ys more)
+      ∙ sym (append_assoc (said_of x.asked) (said_in xs) (said_in ys ++ more))
+
+  steps_join : (old mid new : Parts g) (xs ys : List (Step g)) → AreSteps limit old xs mid → AreSteps limit mid ys new
+      → AreSteps limit old (xs ++ ys) new
+  steps_join old mid new [] ys first second = subst (λ p. AreSteps limit p ys new) first second
+  steps_join old mid new (x ∷ xs) ys first second =
+      (first.0, first.1, steps_join x.after mid new xs ys first.2 second)
+
+  -- no connection was answered
+  pub none : (process : Parts g) (noted noted' : Option (List Bool)) (taken : Option ℕ) → noted' ≡ noted
+      → Passes limit process process noted noted' taken
+  none process noted noted' taken same = record {
+    steps = [];
+    before = process;
+    said = [];
+    are = refl;
+    ends = at_once taken;
+    notes = noted_none noted noted' same;
+  }
+    where
+      at_once : (taken : Option ℕ) → EndsIn limit taken process [] process
+      at_once None = inl (refl, refl)
+      at_once (Some n) = (refl, refl)
+
+  -- one connection was answered, and is over
+  pub one : (old ready last new : Parts g) (noted noted' : Option (List Bool)) (asked : Option Bool) (from to : Wire)
+      (answered : Answered) → IsReady limit asked old ready → AnswersWire from to ready last answered
+      → IsOver answered.outcome last new → Notes noted noted' (said_of asked)
+      → Passes limit old new noted noted' (Some 1)
+  one old ready last new noted noted' asked from to answered readied answers over notes = record {
+    steps = record { asked = asked; ready = ready; answered = answered; last = last; after = new } ∷ [];
+    before = new;
+    said = [];
+    are = ((readied, (from, to, answers)), over, refl);
+    ends = (refl, refl);
+    notes = noted_as noted noted' _ _ (sym (append-nil (said_of asked)) ∙ sym (append-nil (said_of asked ++ []))) notes;
+  }
+
+  -- one was answered, and the port failed then
+  pub cut : (old ready last : Parts g) (noted noted' : Option (List Bool)) (asked : Option Bool) (from to : Wire)
+      (answered : Answered) → IsReady limit asked old ready → AnswersWire from to ready last answered
+      → Notes noted noted' (said_of asked) → Passes limit old last noted noted' None
+  cut old ready last noted noted' asked from to answered readied answers notes = record {
+    steps = [];
+    before = old;
+    said = said_of asked;
+    are = refl;
+    ends = inr (
+      record { asked = asked; ready = ready; answered = answered; last = last; after = last },
+      (readied, (from, to, answers)),
+      refl,
+      refl,
+    );
+    notes = notes;
+  }
+
+  -- some, and then more
+  pub join : (old mid new : Parts g) (a b c : Option (List Bool)) (m : ℕ) (taken : Option ℕ)
+      → Passes limit old mid a b (Some m) → Passes limit mid new b c taken
+      → Passes limit old new a c (option_map (λ n. m + n) taken)
+  join old mid new a b c m taken first second = record {
+    steps = first.steps ++ second.steps;
+    before = second.before;
+    said = second.said;
+    are = steps_join old mid second.before first.steps second.steps
+        (subst (λ p. AreSteps limit old first.steps p) (sym first.ends.1) first.are) second.are;
+    ends = as_many taken second.ends;
+    notes = noted_as a c _ _ (sym (said_join first.steps second.steps second.said))
+        (noted_join a b c (said_in first.steps) (said_in second.steps ++ second.said)
+        (noted_as a b _ _ (ap (λ s. said_in first.steps ++ s) first.ends.0 ∙ append-nil (said_in first.steps))
+        first.notes)
+        second.notes);
+  }
+    where
+      as_many : (taken : Option ℕ) → EndsIn limit taken second.before second.said new
+          → EndsIn limit (option_map (λ n. m + n) taken) second.before second.said new
+      as_many None ends = ends
+      as_many (Some n) ends = ends
+
+  -- where it is not answered how many came
+  pub untold : (old new : Parts g) (noted noted' : Option (List Bool)) (taken : Option ℕ)
+      → Passes limit old new noted noted' taken → Passes limit old new noted noted' None
+  untold old new noted noted' taken p = record {
+    steps = p.steps;
+    before = p.before;
+    said = p.said;
+    are = p.are;
+    ends = some_or_none taken p.ends;
+    notes = p.notes;
+  }
+    where
+      some_or_none : (taken : Option ℕ) → EndsIn limit taken p.before p.said new → EndsIn limit None p.before p.said new
+      some_or_none None ends = ends
+      some_or_none (Some n) ends = inl ends
+
+  -- ---- what falls only by a failure
+
+  by_opening : (old ready : Parts g) (result : Result (Option Totals) OpeningFault)
+      → OpensProcess g true limit old ready result
+      → (ready.is_certain ≡ old.is_certain) ⊎ ((why : OpeningFault) × OpensProcess g true limit old ready (Err why))
+  by_opening old ready (Ok totals) opens = inl opens.certain
+  by_opening old ready (Err why) opens = inr (why, opens)
+
+  by_ready : (asked : Option Bool) (old ready : Parts g) → IsReady limit asked old ready
+      → (ready.is_certain ≡ old.is_certain) ⊎ ((why : OpeningFault) × OpensProcess g true limit old ready (Err why))
+  by_ready None old ready is = inl (ap (λ (p : Parts g). p.is_certain) is.1)
+  by_ready (Some false) old ready is = inl (ap (λ (p : Parts g). p.is_certain) is.1)
+  by_ready (Some true) old ready is = by_opening old ready is.1.0 is.1.1
+
+  abbrev Unclosed : (last after : Parts g) → Type 0
+  Unclosed last after =
+      (closed : Closed) × (error : Error) × ClosesProcess g last after closed × (closed.outcome ≡ Err error)
+
+  by_outcome : (last after : Parts g) (closed : Closed) (came : Result (Unit {0}) Error) → closed.outcome ≡ came
+      → ClosesProcess g last after closed → (after.is_certain ≡ last.is_certain) ⊎ Unclosed last after
+  by_outcome last after closed (Ok done) is closes =
+      inl (subst (λ o. OnOk o (after.is_certain ≡ last.is_certain)) is closes.certain)
+  by_outcome last after closed (Err error) is closes = inr (closed, error, closes, is)
+
+  by_over : (o : Outcome) (last after : Parts g) → IsOver o last after
+      → (after.is_certain ≡ last.is_certain) ⊎ Unclosed last after
+  by_over outcome.Failed last after over = by_outcome last after over.0 over.0.outcome refl over.1
+  by_over outcome.Served last after over = inl (ap (λ (p : Parts g). p.is_certain) over)
+  by_over outcome.TurnedAway last after over = inl (ap (λ (p : Parts g). p.is_certain) over)
+
+  -- Whether a process is certain stays as it is, or an opening or a close failed.
+  pub falls : (old new : Parts g) (steps : List (Step g)) → AreSteps limit old steps new
+      → (new.is_certain ≡ old.is_certain) ⊎ HasFailed limit old steps
+  falls old new [] same = inl (ap (λ (p : Parts g). p.is_certain) same)
+  falls old new (step ∷ steps) are =
+      elim (by_ready step.asked old step.ready are.0.0) [
+        | inl first ↦ elim (by_over step.answered.outcome step.last step.after are.1) [
+          | inl second ↦ elim (falls step.after new steps are.2) [
+            | inl third ↦ inl (third ∙ second ∙ are.0.1.2.2 ∙ first)
+            | inr failed ↦ inr (inr (inr failed))
+          ]
+          | inr failed ↦ inr (inr (inl failed))
+        ]
+        | inr failed ↦ inr (inl failed)
+      ]

@@ -1,0 +1,89 @@
+-- What becomes of a process while the connections of a port are answered, one after another; own rules.
+use Rattle.std.specs.Prelude.{◌≡◌, ◌⊎◌, ◌++◌, ℕ, Bool, true, false, List, [], ◌∷◌, Option, Some, None, IsSome}
+use Rattle.std.specs.Prelude.{Result, Err}
+use Rattle.sqlite_disk.specs.declared.Disk.{Ghosts}
+use Rattle.sqlite.specs.declared.error.Error.{Error}
+use Rattle.http_wire.specs.Wire.{Wire}
+use Rattle.intake_process.specs.declared.begun.Totals.{Totals}
+use Rattle.intake_process.specs.declared.fault.OpeningFault.{OpeningFault}
+use Rattle.intake_process.specs.declared.process.Answered.{Answered}
+use Rattle.intake_process.specs.declared.process.Closed.{Closed}
+use Rattle.intake_process.specs.declared.process.Outcome.{Outcome}
+use Rattle.intake_process.specs.declared.process.Outcome.TheVariants as outcome
+use Rattle.intake_process.specs.Process.{Parts, OpensProcess, AnswersWire, ClosesProcess}
+use Rattle.intake_process.specs.Observing.{Notes}
+
+-- What was asked for a connection, and what became of the process. `asked` is what the observer answered; `None` if the
+-- register was open, so that it was not asked.
+pub record Step {D : Type 0} (g : Ghosts D) : Type 0 where
+  pub asked : Option Bool
+  pub ready : Parts g
+  pub answered : Answered
+  pub last : Parts g
+  pub after : Parts g
+
+abbrev pub said_of : Option Bool → List Bool
+said_of None = []
+said_of (Some said) = said ∷ []
+
+-- A register that is open is left as it is. One that is closed is opened with this limit if the observer lets it, and
+-- otherwise it is left as it is.
+abbrev pub IsReady : {D : Type 0} {g : Ghosts D} → ℕ → Option Bool → Parts g → Parts g → Type 0
+IsReady limit None old new = IsSome old.intake × (new ≡ old)
+IsReady limit (Some false) old new = (old.intake ≡ None) × (new ≡ old)
+IsReady {D} {g} limit (Some true) old new =
+    (old.intake ≡ None) × ((result : Result (Option Totals) OpeningFault) × OpensProcess g true limit old new result)
+
+-- it is closed if its database refused a call, and otherwise left as it is
+abbrev pub IsOver : {D : Type 0} {g : Ghosts D} → Outcome → Parts g → Parts g → Type 0
+IsOver {D} {g} outcome.Failed old new = (closed : Closed) × ClosesProcess g old new closed
+IsOver outcome.Served old new = new ≡ old
+IsOver outcome.TurnedAway old new = new ≡ old
+
+-- it was made ready for a connection, and answered it
+abbrev pub IsAnswered : {D : Type 0} {g : Ghosts D} → ℕ → Parts g → Step g → Type 0
+IsAnswered limit old step =
+    IsReady limit step.asked old step.ready
+    × ((from : Wire) × (to : Wire) × AnswersWire from to step.ready step.last step.answered)
+
+-- these connections were answered, one after another
+abbrev pub AreSteps : {D : Type 0} {g : Ghosts D} → ℕ → Parts g → List (Step g) → Parts g → Type 0
+AreSteps limit old [] new = new ≡ old
+AreSteps limit old (step ∷ steps) new =
+    IsAnswered limit old step × IsOver step.answered.outcome step.last step.after × AreSteps limit step.after steps new
+
+-- what the observer answered meanwhile
+abbrev pub said_in : {D : Type 0} {g : Ghosts D} → List (Step g) → List Bool
+said_in [] = []
+said_in (step ∷ steps) = said_of step.asked ++ said_in steps
+
+-- The port failed: while it was waited for the next connection, or at the end of one that was answered.
+abbrev pub IsCutOff : {D : Type 0} {g : Ghosts D} → ℕ → Parts g → List Bool → Parts g → Type 0
+IsCutOff {D} {g} limit old said new =
+    ((said ≡ []) × (new ≡ old))
+    ⊎ ((step : Step g) × IsAnswered limit old step × (said ≡ said_of step.asked) × (new ≡ step.last))
+
+-- the last connection is over, or, if it is not told how many came, the port failed
+abbrev pub EndsIn : {D : Type 0} {g : Ghosts D} → ℕ → Option ℕ → Parts g → List Bool → Parts g → Type 0
+EndsIn limit (Some taken) old said new = (said ≡ []) × (new ≡ old)
+EndsIn limit None old said new = IsCutOff limit old said new
+
+-- an opening or a close failed among these
+abbrev pub HasFailed : {D : Type 0} {g : Ghosts D} → ℕ → Parts g → List (Step g) → Type 0
+HasFailed limit old [] = ⊥
+HasFailed {D} {g} limit old (step ∷ steps) =
+    ((why : OpeningFault) × OpensProcess g true limit old step.ready (Err why))
+    ⊎ ((closed : Closed) × (error : Error) × ClosesProcess g step.last step.after closed
+    × (closed.outcome ≡ Err error)) ⊎ HasFailed limit step.after steps
+
+-- What becomes of a process while connections are answered. So whether it is certain changes only by an opening or a
+-- close that failed, each opening has this limit, and a register that is closed is opened for the next connection for
+-- which the observer lets it.
+pub record Passes {D : Type 0} {g : Ghosts D} (limit : ℕ) (old new : Parts g) (noted noted' : Option (List Bool))
+    (taken : Option ℕ) : Type 0 where
+  pub steps : List (Step g)
+  pub before : Parts g
+  pub said : List Bool
+  pub are : AreSteps limit old steps before
+  pub ends : EndsIn limit taken before said new
+  pub notes : Notes noted noted' (said_in steps ++ said)
