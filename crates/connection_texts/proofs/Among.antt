@@ -24,7 +24,7 @@ module _ (requests : Keeping) (pieces done : List Connection) where
         ascending = λ once. ascend requests.limit requests.old_style requests.before requests.after s.0 done once s.2;
       }
 
-  served_at : (at : HasPlaces requests pieces done) → ServeEach requests.limit requests.old_style at.places
+  pub served_at : (at : HasPlaces requests pieces done) → ServeEach requests.limit requests.old_style at.places
   served_at at =
       each_served requests.limit requests.old_style requests.before requests.after at.places done at.stand
 

@@ -27,7 +27,7 @@ use Rattle.connection_texts.proofs.Alone.{text_of_one, one_is_marked}
 
 -- ---- no bytes
 
-none_begins : (request : Message) (n : ℕ) → ¬ (BeginsRequest [] request n)
+pub none_begins : (request : Message) (n : ℕ) → ¬ (BeginsRequest [] request n)
 none_begins request n b = let within = IsBlockEnd-within [] b.head_len b.head.block in
     absurd (omega (arith, within.0))
 
@@ -41,7 +41,7 @@ none_arrives F [] ending h = refl
 none_arrives F (Refused refusal ∷ arrivals) ending h = absurd (none_refused refusal h.0)
 none_arrives F (Read message ∷ arrivals) ending h = absurd (none_begins message h.0 h.1)
 
-nothing : HasArrivals [] [] (Rest false)
+pub nothing : HasArrivals [] [] (Rest false)
 nothing = (
   false,
   record { none = none_begins; refused = none_refused },
@@ -49,7 +49,7 @@ nothing = (
   refl,
 )
 
-drop_whole : (bytes : List ℕ) → drop (length bytes) bytes ≡ []
+pub drop_whole : (bytes : List ℕ) → drop (length bytes) bytes ≡ []
 drop_whole bytes = grind (arith, common_steps)
 
 drop_front : (bytes more : List ℕ) → drop (length bytes) (bytes ++ more) ≡ more
@@ -58,7 +58,7 @@ drop_front bytes more = grind (arith, common_steps)
 -- ---- one piece
 
 -- a piece has one arrival, or none, and so have its first bytes
-piece_arrives : (F : List ℕ → Ending → Type 0) (bytes rest : List ℕ) → IsPiece (bytes ++ rest)
+pub piece_arrives : (F : List ℕ → Ending → Type 0) (bytes rest : List ℕ) → IsPiece (bytes ++ rest)
     → (arrivals : List Arrival) (ending : Ending) → ArrivalsThen F bytes arrivals ending → length arrivals ≤ 1
 piece_arrives F bytes rest is [] ending h = omega arith
 piece_arrives F bytes rest is (Refused refusal ∷ arrivals) ending h = let none = ap length h.1 in omega (arith, none)
@@ -81,7 +81,7 @@ piece_arrives F bytes rest (inr (inl (refusal, refused))) (Read other ∷ arriva
 piece_arrives F bytes rest (inr (inr is)) (Read other ∷ arrivals) ending h =
     absurd (is.none other h.0 (BeginsRequest-more bytes rest other h.0 h.1))
 
-closed_end : (ending : Ending) → Closed ≡ end_of ending → ending ≡ Ending.Closed
+pub closed_end : (ending : Ending) → Closed ≡ end_of ending → ending ≡ Ending.Closed
 closed_end Ending.Closed same = refl
 closed_end (Rest asks) same = absurd (cc)
 
@@ -129,7 +129,7 @@ seen_one limit old_style before after read more marks (Fault fault) out is s all
 -- ---- a whole request, and what follows it
 
 -- a request after which the connection goes on: its mark, and what was written for it
-record IsWholeOne (limit : ℕ) (old_style before : List Request) (read : List ℕ) (marks : List Mark) (out : List ℕ)
+pub record IsWholeOne (limit : ℕ) (old_style before : List Request) (read : List ℕ) (marks : List Mark) (out : List ℕ)
     : Type 0 where
   message : Message
   mark : Mark
@@ -196,7 +196,7 @@ module _ (requests : Keeping) (read : List ℕ) (out : List ℕ) (message : Mess
       (subst (λ list. out ≡ text_with requests.old_style requests.before list (Rest false) marks) same.0
       (subst (λ e. out ≡ text_with requests.old_style requests.before s.arrivals e marks) same.1 s.written))
 
-goes_on_whole : (limit : ℕ) (old_style : List Request) (place : Place) → GoesOn place.piece
+pub goes_on_whole : (limit : ℕ) (old_style : List Request) (place : Place) → GoesOn place.piece
     → ServesAt limit old_style place
     → IsWholeOne limit old_style place.before place.piece.read place.piece.output.marks place.piece.output.bytes
 goes_on_whole limit old_style place g serves =
@@ -261,7 +261,7 @@ module _ (limit : ℕ) (old_style before : List Request) (befores : List (List R
     end = s.end;
   }
 
-  seen_first : (bytes : List ℕ) (more : List Mark) (ended : Ended) (text : List ℕ)
+  pub seen_first : (bytes : List ℕ) (more : List Mark) (ended : Ended) (text : List ℕ)
       → Sees (standing limit old_style befores) bytes more ended text
       → Sees (standing limit old_style (before ∷ befores)) (read ++ bytes) (marks ++ more) ended (out ++ text)
   seen_first bytes more Closed text s = seen_all_first bytes more Closed text s

@@ -1,3 +1,4 @@
+pub mod Cut
 pub mod Pieces
 pub mod Places
 pub mod Seen

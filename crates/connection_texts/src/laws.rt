@@ -6,10 +6,12 @@ ghost use Rattle.filing_model.specs.declared.served.Ended.{Ended};
 ghost use Rattle.filing_model.specs.declared.served.Ended.TheVariants.{InputEnded};
 ghost use Rattle.filing_model.specs.declared.served.Mark.{Mark};
 ghost use Rattle.filing_model.specs.Request.{Request};
-ghost use Rattle.filing_model.specs.Serving.{Keeping, IsServed};
+ghost use Rattle.filing_model.specs.Serving.{Keeping, IsServed, Serves};
+ghost use Rattle.filing_model.specs.Stopping.{Crash, IsStopped};
 ghost use Rattle.filing_model.specs.Text.{text_with};
 ghost use Rattle.gateway_ports.specs.InTurn.{ServeInTurn};
 ghost use Rattle.gateway_ports.specs.Ports.{Connection};
+ghost use Rattle.connection_texts.specs.Cut.{IsInPieces, IsStoppedInPieces};
 ghost use Rattle.connection_texts.specs.Seen.{text_seen, befores_alone, standing, IsSeen, IsSeenSoFar, Sees};
 ghost use Rattle.connection_texts.specs.Places.{Place, pieces_of, befores_of, ServeEach, AreAmong, HasPlaces};
 ghost use Rattle.connection_texts.specs.Places.{standing_at};
@@ -36,6 +38,17 @@ pub fn pieces_are_one_connection()
         → (ended_of (pieces_of places) ≡ InputEnded → more ≡ [])
         → Sees (standing limit old_style (befores_of places)) (joined_reads (pieces_of places) ++ more)
         (joined_marks (pieces_of places)) (ended_of (pieces_of places)) (joined_texts (pieces_of places)) }
+{}
+
+/// A connection that is served by itself, with whatever messages one behind another, is pieces that are served in turn:
+/// its bytes, its marks and what was written on it are theirs, and the same is kept. If it was stopped at one of its
+/// messages, that one is a piece that was stopped at its first, and those before it were served.
+pub fn a_connection_is_its_pieces()
+    ensures served { (requests : Keeping) (connection : Connection)
+        → Serves requests connection.read connection.output.marks connection.output.ended connection.output.bytes
+        → IsInPieces requests connection }
+    ensures stopped { (requests : Keeping) (bytes : List ℕ) (crash : Crash) (marks : List Mark) (out : List ℕ)
+        → IsStopped requests bytes crash marks out → IsStoppedInPieces requests bytes crash marks out }
 {}
 
 /// As long as a connection goes on, what its pieces got is the text of the first arrivals of its bytes, with the

@@ -1,0 +1,3 @@
+pub mod Away
+pub mod Each
+pub mod Whole

@@ -1,0 +1,63 @@
+-- What each whole connection gets whose pieces are served among those of all; own rules.
+use Rattle.std.specs.Prelude.{◌≡◌, ◌≢◌, ℕ, Bool, true, false, List, [], ◌∷◌, ◌++◌}
+use Rattle.http_messages.specs.declared.refusal.ConnFault.{ConnFault}
+use Rattle.filing_model.specs.declared.served.Ended.{Ended}
+use Rattle.filing_model.specs.declared.served.Ended.TheVariants.{InputEnded, Fault}
+use Rattle.filing_model.specs.declared.served.Mark.{Mark}
+use Rattle.filing_model.specs.Prefix.{IsPrefixOf}
+use Rattle.filing_model.specs.Serving.{Keeping}
+use Rattle.ready_connections.specs.Pieces.{Piece}
+use Rattle.ready_connections.specs.declared.why.Why.{Why}
+use Rattle.ready_connections.specs.declared.why.Why.TheVariants.{Done}
+use Rattle.gateway_ports.specs.Ports.{Connection}
+use Rattle.connection_texts.specs.Pieces.{joined_reads, joined_marks, ended_of}
+use Rattle.connection_texts.specs.Places.{HasPlaces, standing_at}
+use Rattle.connection_texts.specs.Seen.{Standing, IsSeen, IsSeenSoFar, Sees}
+
+-- Each piece whose input was found to have ended was read whole. What is served by `serve`, or turned away, is so read:
+-- both say that nothing is left then.
+abbrev pub AreReadToEnd : List Piece → List Connection → Type 0
+AreReadToEnd [] connections = Unit {0}
+AreReadToEnd (piece ∷ pieces) [] = Unit {0}
+AreReadToEnd (piece ∷ pieces) (connection ∷ connections) =
+    (connection.output.ended ≡ InputEnded → piece.read ≡ connection.read) × AreReadToEnd pieces connections
+
+-- these bytes begin the text of the first arrivals
+abbrev pub SeesFirst : Standing → List ℕ → List Mark → List ℕ → Type 0
+SeesFirst at came marks went = (text : List ℕ) × IsPrefixOf went text × IsSeenSoFar at came marks text
+
+-- What a connection got that is over. One that is done got all its text, or, if a fault ended its last piece, a first
+-- part of it; one that is over for another reason got a first part.
+abbrev pub SeesUntil : Why → Standing → List ℕ → List Mark → Ended → List ℕ → Type 0
+SeesUntil Done at came marks ended went = Sees at came marks ended went
+SeesUntil why at came marks ended went = SeesFirst at came marks went
+
+-- The pieces of a connection of which these bytes came: what was read of them comes first, and they have their places
+-- among all that were served.
+pub record HasPieces (requests : Keeping) (done : List Connection) (came : List ℕ) : Type 0 where
+  pub pieces : List Connection
+  pub at : HasPlaces requests pieces done
+  pub left : List ℕ
+  pub splits : came ≡ joined_reads pieces ++ left
+
+-- what a connection got that is over, of which these bytes came and on which these went
+pub record HasText (requests : Keeping) (done : List Connection) (why : Why) (came went : List ℕ) : Type 0 where
+  pub own : HasPieces requests done came
+  pub seen : SeesUntil why (standing_at requests own.at.places) came (joined_marks own.pieces) (ended_of own.pieces)
+      went
+
+-- What a connection got and is owed that is not over: the text of its first arrivals, or, if it is closing, all its
+-- text.
+pub record HasTextSoFar (requests : Keeping) (done : List Connection) (is_closing : Bool) (came text : List ℕ) : Type 0
+  where
+    pub own : HasPieces requests done came
+    pub goes_on : is_closing ≡ false
+        → IsSeenSoFar (standing_at requests own.at.places) came (joined_marks own.pieces) text
+    pub closing : is_closing ≡ true
+        → Sees (standing_at requests own.at.places) came (joined_marks own.pieces) (ended_of own.pieces) text
+
+-- what a connection got that is done: all its text, if no fault ended its last piece
+pub record HasWholeText (requests : Keeping) (done : List Connection) (came went : List ℕ) : Type 0 where
+  pub own : HasPieces requests done came
+  pub seen : ((fault : ConnFault) → ended_of own.pieces ≢ Fault fault)
+      → IsSeen (standing_at requests own.at.places) came (joined_marks own.pieces) (ended_of own.pieces) went
