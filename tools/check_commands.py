@@ -222,14 +222,18 @@ NAMELESS_TO_OUTBOX = [
     "lint --filer ACME ",
     "lint --filer ACME @small ",
 ]
-# Ports are 1 to 65535, seconds of patience 1 to 86400, seconds to wait 0 to 86400, and the numbers that `--amend` takes
-# 1 to 9223372036854775807; limits, other numbers and ids begin with 0.
+# Ports and connections at once are 1 to 65535, megabytes 1 to 65536, seconds of patience 1 to 86400, seconds to wait 0
+# to 86400, and the numbers that `--amend` takes 1 to 9223372036854775807; limits, other numbers and ids begin with 0.
 OUT_OF_RANGE = [
     *((INTAKE, line) for line in NAMELESS_TO_INTAKE),
     *((OUTBOX, line) for line in NAMELESS_TO_OUTBOX),
     (INTAKE, "serve --db @r.db --port 0 --connections 1"),
     (INTAKE, "serve --db @r.db --port 65536 --connections 1"),
     (INTAKE, "serve --db @r.db --port 1 --connections 0"),
+    (INTAKE, "serve --db @r.db --port 1 --connections 1 --at-once 0"),
+    (INTAKE, "serve --db @r.db --port 1 --connections 1 --at-once 65536"),
+    (INTAKE, "serve --db @r.db --port 1 --connections 1 --memory 0"),
+    (INTAKE, "serve --db @r.db --port 1 --connections 1 --memory 65537"),
     (INTAKE, "serve --db @r.db --port 1 --connections 1 --patience 0"),
     (INTAKE, "serve --db @r.db --port 1 --connections 1 --patience 86401"),
     (INTAKE, "show --db @r.db --number -1"),

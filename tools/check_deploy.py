@@ -374,12 +374,12 @@ def free_port():
 
 
 class Intake:
-    """A stand-in for the intake: one connection at a time, one reply on each, and what it was sent. As many connections
-    as `resets` says are reset in place of a reply."""
+    """A stand-in for the intake: connections that stay open, a reply to each request, and what it was sent. As many
+    connections as `resets` says are reset in place of a reply."""
 
     def __init__(self, status):
         self.status, self.requests, self.listener = status, [], socket.create_server(("127.0.0.1", 0))
-        self.port, self.resets = self.listener.getsockname()[1], 0
+        self.port, self.resets, self.peers = self.listener.getsockname()[1], 0, []
 
     def __enter__(self):
         threading.Thread(target=self.serve, daemon=True).start()
@@ -389,10 +389,13 @@ class Intake:
         self.leave()
 
     def leave(self):
-        """Listens no more."""
+        """Listens no more, and ends its connections."""
         if self.listener.fileno() >= 0:
             self.listener.shutdown(socket.SHUT_RDWR)
             self.listener.close()
+        for peer in self.peers:
+            with contextlib.suppress(OSError):
+                peer.shutdown(socket.SHUT_RDWR)
 
     def serve(self):
         while True:
@@ -400,18 +403,23 @@ class Intake:
                 peer, _ = self.listener.accept()
             except OSError:
                 return
-            with peer:
-                self.requests.append(read_message(peer))
+            self.peers.append(peer)
+            threading.Thread(target=self.serve_one, args=(peer,), daemon=True).start()
+
+    def serve_one(self, peer):
+        with peer, contextlib.suppress(OSError):
+            while (given := read_message(peer)) != b"\r\n\r\n":
+                self.requests.append(given)
                 if self.resets:
                     self.resets -= 1
                     peer.setsockopt(socket.SOL_SOCKET, socket.SO_LINGER, struct.pack("ii", 1, 0))
-                    continue
+                    return
                 content = b'{"number":1,"status":"registered"}'
                 head = (
                     f"HTTP/1.1 {self.status} Whatever\r\nContent-Type: application/json\r\n"
-                    f"Content-Length: {len(content)}\r\n"
+                    f"Content-Length: {len(content)}\r\n\r\n"
                 )
-                peer.sendall(head.encode() + b"Connection: close\r\n\r\n" + content)
+                peer.sendall(head.encode() + content)
 
 
 def read_message(peer):
@@ -660,20 +668,35 @@ def try_filer_lines(folder):
          (done.returncode, done.stdout, f"    {line}" in second.read_text()), (0, line, True))
 
 
-def try_resets(folder, intake, port):
-    """A connection that is reset, as Linux does if too many wait, is made again, three times at most. The log has the
-    last answer."""
-    for resets, (status, asked) in [(1, (201, 2)), (3, (201, 4)), (4, (503, 4))]:
-        before, intake.resets = len(intake.requests), resets
-        found = ask(folder, port, "acme", "ACME")[0]
-        hold(f"a request whose connection is reset {resets} times", (found, len(intake.requests) - before),
-             (status, asked))
-        hold("each time it is the same", len({it for it in intake.requests[before:]}), 1)
+def try_kept_open(folder, intake, port):
+    """Requests share a connection to the intake. If one that was kept open breaks, the request is sent again on
+    another; one that breaks on a new connection is answered 503. The log has the last answer."""
+    # One connection to nginx is served by one of its processes.
+    front = http.client.HTTPConnection("intake.example")
+    front.sock = connect(folder, port, "acme", "intake.example")
+
+    def post():
+        front.request("POST", "/filings/ACME", b"{}", {"Idempotency-Key": '"k-1"'})
+        reply = front.getresponse()
+        reply.read()
+        return reply.status
+
+    before = len(intake.peers)
+    found = [post() for _ in range(5)]
+    hold("requests share a connection to the intake", (found, len(intake.peers) - before <= 1), ([201] * 5, True))
+    asked, intake.resets = len(intake.requests), 1
+    hold("a request whose connection was kept open and breaks", (post(), len(intake.requests) - asked), (201, 2))
+    hold("both times it is the same", len({it for it in intake.requests[asked:]}), 1)
+    # Of connections that were kept open each process has four at most, and the next one is new.
+    asked, intake.resets = len(intake.requests), 100
+    hold("a request whose new connection breaks", (post(), 2 <= len(intake.requests) - asked <= 5), (503, True))
+    intake.resets = 0
+    hold("the next request", post(), 201)
     # nginx writes the line after the reply.
     time.sleep(0.5)
     lines = [json.loads(line) for line in (folder / "filings.log").read_text().splitlines()[-3:]]
     hold("their lines of the log", [(line["status"], line["intake_status"]) for line in lines],
-         [(201, "201"), (201, "201"), (503, "502")])
+         [(201, "201"), (503, "502"), (201, "201")])
 
 
 def try_health(folder, intake, port):
@@ -706,8 +729,8 @@ def try_requests(folder, intake, port, outbox_port):
     own = b'{"number":1,"status":"registered"}'
     hold("a filer's own report", ask(folder, port, "acme", "ACME"), (201, own))
     sent = intake.requests[-1]
-    whole = sent.endswith(b"{}") and b"Content-Length: 2" in sent and b"Connection: close" in sent
-    hold("it comes whole, with its length, and closes", whole, True)
+    whole = sent.endswith(b"{}") and b"Content-Length: 2" in sent and b"Connection:" not in sent
+    hold("it comes whole, with its length, and the connection stays open", whole, True)
     status, _ = ask(folder, port, "acme", "ACME", body=iter([b"{", b"}"]), **{"Transfer-Encoding": "chunked"})
     hold("a chunked report gets its length", (status, b"Content-Length: 2" in intake.requests[-1]), (201, True))
     hold("a report that replaces a filing", ask(folder, port, "acme", "ACME/17"), (201, own))
@@ -785,7 +808,7 @@ def try_nginx(folder):
             try:
                 time.sleep(1)
                 try_requests(folder, intake, port, outbox_port)
-                try_resets(folder, intake, port)
+                try_kept_open(folder, intake, port)
                 try_users(folder, port)
                 try_filer_lines(folder)
                 try_health(folder, intake, port)

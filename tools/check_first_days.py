@@ -311,6 +311,8 @@ HEAD = ("POST /filings/ACME HTTP/1.1\\r\\nHost: intake.example\\r\\nIdempotency-
         "Content-Length: {}\\r\\n\\r\\n")  # fmt: skip
 # A second filer waits no longer than this beside slow clients, in seconds, if it waited so much less alone.
 LONGER = 5
+# How many connections the intake serves at once then, and how many slow clients there are.
+PLACES = 24
 
 
 def second_filer(supervisor, filer):
@@ -334,9 +336,19 @@ def times_of(filer, keys):
     return max(float(seconds) for seconds, _ in found), {status for _, status in found}
 
 
+def have_places(page, supervisor, before, after):
+    """Has the intake serve so many connections at once in place of so many before."""
+    supervisor.paste(f"sed -i 's/AT_ONCE={before}/AT_ONCE={after}/' /etc/systemd/system/berruzpil-intake.service; "
+                     "systemctl daemon-reload; systemctl restart berruzpil-intake")
+    hold(f"an intake that serves {after} at once",
+         supervisor.until(ask_health(page, supervisor), seconds=patience())[0], 0)
+
+
 def slow(page, supervisor, filer):
-    """A client that sends a byte a second of a large report, and one that doesn't read a large reply: a second filer
-    waits no longer than alone."""
+    """Clients that send a byte a second of a large report, and such as don't read a large reply, as many as the intake
+    serves at once: nginx lets none of them take a connection of the intake, so a second filer waits no longer than
+    alone."""
+    have_places(page, supervisor, 256, PLACES)
     hold("a second filer", second_filer(supervisor, filer), '{"filings":[]}')
     alone, statuses = times_of(filer, ["alone-1", "alone-2", "alone-3"])
     hold("it gets its answers", statuses, {"422"})
@@ -351,11 +363,11 @@ def slow(page, supervisor, filer):
     ]  # fmt: skip
     filer.paste(f"{{ cat /run/large; sleep 1; }} | timeout 60 {TLS} | head -c 1 | wc -c")
     for what, command in clients:
-        begun = [filer.begin(command.replace("{}", str(at))) for at in range(2)]
+        begun = [filer.begin(command.replace("{}", str(at))) for at in range(PLACES)]
         try:
-            time.sleep(3)
+            time.sleep(5)
             # Once the intake has made their replies it is free.
-            supervisor.paste("curl -s -m 15 http://127.0.0.1:8080/filings/health")
+            supervisor.paste("curl -s -m 75 http://127.0.0.1:8080/filings/health")
             beside, statuses = times_of(filer, [f"{what[:8]}-{at}" for at in range(2)])
         finally:
             filer.paste("pkill openssl; pkill -f 'sleep 600'")
@@ -364,6 +376,7 @@ def slow(page, supervisor, filer):
                 it.wait()
         print(f"alone the second filer waits {alone:.2f} s, beside {what} {beside:.2f} s")
         hold(f"a second filer beside {what}", (beside < alone + LONGER, statuses), (True, {"422"}))
+    have_places(page, supervisor, PLACES, 256)
 
 
 def abort(page, supervisor, filer):

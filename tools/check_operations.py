@@ -11,7 +11,6 @@ is said, and is no failure. The last line says how many trials passed and failed
 A further trial is a function in TRIALS, which gets a folder. A further kind of copy is a row in COPIES, a further reply
 that a round may meet a row in ROUNDS, a further request to nginx a row in FRONT, and one to a full disk a row in FULL.
 """
-import collections
 import contextlib
 import fcntl
 import gzip
@@ -1079,7 +1078,7 @@ def check_front(folder):
     folder.chmod(0o755)
     database, copy, log = folder / "register.db", folder / "copy.db", folder / "filings.log"
     check_deploy.make_certificates("openssl", folder)
-    serving = Serving(database, sum(reaches for *_, reaches in FRONT), "--new")
+    serving = Serving(database, 4_294_967_295, "--new", "--log")
     port = free_port()
     file = check_deploy.nginx_file(folder, port, (serving.port, serving.port), free_port())
     with subprocess.Popen([check_deploy.find("nginx"), "-p", folder, "-c", file], stderr=subprocess.DEVNULL) as front:
@@ -1092,49 +1091,16 @@ def check_front(folder):
                     script("register-snapshot", database, copy)
         finally:
             front.terminate()
-    hold("the intake got what it is to get", serving.end()[0], 0)
+    # Each connection that nginx kept open has a line once it is over.
+    time.sleep(1)
+    serving.process.terminate()
+    lines = [json.loads(line) for line in serving.process.communicate()[0].splitlines()]
+    hold("the intake got what it is to get", sum(line["places"] for line in lines),
+         sum(reaches for *_, reaches in FRONT))
     hold("each request has a line in the log", len(log.read_bytes().splitlines()), len(FRONT))
     hold("lost-filings of the register", script("lost-filings", database, log), (0, "", ""))
     status, said, errors = script("lost-filings", "--host", "intake.example", copy, log)
     hold("lost-filings of the copy", (status, said.partition(" ")[2], errors), (1, 'ACME "k-2"\n', ""))
-
-
-MANY = 300
-
-
-def check_many(folder):
-    """More clients at once than the intake can hold waiting, through nginx as Debian has it: each gets its answer."""
-    if missing("nginx", "openssl"):
-        return
-    folder.chmod(0o755)
-    check_deploy.make_certificates("openssl", folder)
-    serving = Serving(folder / "register.db", 10 * MANY, "--new")
-    port, replies, begin = free_port(), [], threading.Barrier(MANY)
-    file = check_deploy.nginx_file(folder, port, (serving.port, serving.port), free_port())
-
-    def send(at):
-        begin.wait()
-        try:
-            own = {"Idempotency-Key": f'"k-{at}"'}
-            replies.append(check_deploy.ask(folder, port, "acme", "ACME", body=REPORT, **own))
-        except OSError as fault:
-            replies.append((repr(fault), b""))
-
-    with subprocess.Popen([check_deploy.find("nginx"), "-p", folder, "-c", file], stderr=subprocess.DEVNULL) as front:
-        try:
-            time.sleep(1)
-            clients = [threading.Thread(target=send, args=(at,)) for at in range(MANY)]
-            for client in clients:
-                client.start()
-            for client in clients:
-                client.join()
-        finally:
-            front.terminate()
-            serving.process.terminate()
-            serving.process.communicate()
-    hold(f"{MANY} clients at once", collections.Counter(status for status, _ in replies), {201: MANY})
-    numbers = sorted(json.loads(content)["number"] for status, content in replies if status == 201)
-    hold("each report has a number of its own", numbers, list(range(1, MANY + 1)))
 
 
 # ---- a full disk
@@ -1190,7 +1156,6 @@ TRIALS = [
     check_rounds,
     check_lost,
     check_front,
-    check_many,
     check_full_disk,
 ]
 
