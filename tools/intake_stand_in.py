@@ -166,7 +166,10 @@ class Serving:
     def run(self):
         while self.lines or self.taken < self.words.connections:
             self.register_interests()
-            for key, events in self.selector.select(0 if self.spins() else 0.02):
+            ready = self.selector.select(0 if self.spins() else 0.02)
+            if FAULT == "cuts off what waits for the server":
+                self.cut_off()
+            for key, events in ready:
                 if key.data is None:
                     self.accept()
                 elif key.data.peer.fileno() >= 0:
