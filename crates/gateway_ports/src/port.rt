@@ -2,6 +2,7 @@
 
 ghost use Rattle.std.specs.Prelude.{◌≡◌, None, true, IfErr, OnOk};
 ghost use Rattle.http_wire.specs.Wire.{wire};
+ghost use Rattle.gateway_server.specs.Progress.{IsReadToEnd};
 ghost use Rattle.gateway_ports.specs.Ports.{Traffic, IsShutBy, Comes, Adds};
 
 use gateway_server::Served;
@@ -37,13 +38,14 @@ pub trait Port {
     fn accept(&mut self) -> io::Result<Option<(Self::Reader, Self::Writer)>>
         ensures { Comes (wire Self.Reader.Source Self.Writer.Sink) (traffic self.old) (traffic self.new) result };
 
-    /// Takes back a connection that is over, and what became of it.
+    /// Takes back a connection that is over, and what became of it. If its input ended, it was read to its end.
     fn end(
         &mut self,
         reader: Self::Reader,
         writer: Self::Writer,
         served: Served,
     ) -> Result<(), AllocError>
+        requires { IsReadToEnd (Self.Reader.left reader) served.ended }
         ensures coming { (traffic self.new).coming ≡ (traffic self.old).coming }
         ensures shut { (traffic self.old).is_shut ≡ true → (traffic self.new).is_shut ≡ true }
         ensures over { OnOk result (Adds (traffic self.old).over (traffic self.new).over served

@@ -1,5 +1,6 @@
--- Which fault ends a connection, and what was read.
-use Rattle.std.proofs.Common.{arith, ℕ, List, ◌++◌, Option}
+-- Why a connection ends, and what was read.
+use Rattle.std.proofs.Common.{arith, ℕ, List, ◌++◌, Option, Some, None}
+use Rattle.std.specs.Prelude.{IfSome}
 use Rattle.std.proofs.KnownBytes.{Consumes-trans}
 use Rattle.std.proofs.lemmas.List.{length-append}
 use Rattle.http_wire.specs.declared.inbox.Inbox.{Inbox}
@@ -9,17 +10,26 @@ use Rattle.http_messages.specs.declared.refusal.ConnFault.TheVariants as fault
 use Rattle.http_wire.specs.Calls.{IsFault}
 use Rattle.http_wire.specs.Inbox.{held, reads}
 use Rattle.http_wire.specs.Wire.{Wire}
-use Rattle.filing_model.specs.declared.served.Ended.TheVariants.{Fault}
-use Rattle.gateway_server.specs.Progress.{ReadsSome, TellsLimit}
+use Rattle.filing_model.specs.declared.served.Ended.{Ended}
+use Rattle.filing_model.specs.declared.served.Ended.TheVariants.{Closed, InputEnded, Fault}
+use Rattle.gateway_server.specs.Progress.{IsReadToEnd, ReadsSome, TellsEnd}
 
 -- which fault it is
-pub TellsLimit-fault : (from to : Wire) (inbox : Inbox) (f : ConnFault) → IsFault from to (reads inbox) (held inbox) f
-    → TellsLimit inbox (Fault f)
-TellsLimit-fault from to inbox fault.Read why = tt
-TellsLimit-fault from to inbox (Write sent) why = tt
-TellsLimit-fault from to inbox ReadLimit why = (why.1, why.2)
-TellsLimit-fault from to inbox Memory why = λ all u. let block = why.1 all in
+pub TellsEnd-fault : (from to : Wire) (inbox : Inbox) (left : Option (List ℕ)) (f : ConnFault)
+    → IsFault from to (reads inbox) (held inbox) f → TellsEnd inbox left (Fault f)
+TellsEnd-fault from to inbox left fault.Read why = tt
+TellsEnd-fault from to inbox left (Write sent) why = tt
+TellsEnd-fault from to inbox left ReadLimit why = (why.1, why.2)
+TellsEnd-fault from to inbox left Memory why = λ all u. let block = why.1 all in
     u.unended block.1.0 block.1.1.short block.1.1.ends
+
+-- if it was the end of the input, nothing is left
+pub told_at_end : (inbox : Inbox) (left : Option (List ℕ)) (ended : Option Ended) → IfSome ended (TellsEnd inbox left)
+    → IfSome ended (IsReadToEnd left)
+told_at_end inbox left None told = tt
+told_at_end inbox left (Some Closed) told = λ e. absurd (cc)
+told_at_end inbox left (Some InputEnded) told = λ _. told
+told_at_end inbox left (Some (Fault fault)) told = λ e. absurd (cc)
 
 -- ---- what was read
 

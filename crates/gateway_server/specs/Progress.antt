@@ -97,6 +97,10 @@ abbrev pub IsLimited : Wire → Wire → Ended → Type 0
 IsLimited old new ended = ended ≡ Fault fault.ReadLimit
     → (bytes : List ℕ) × Consumes old.left new.left bytes × (max_reads ≤ length bytes)
 
+-- if the input ended, nothing is left of it
+abbrev pub IsReadToEnd : Option (List ℕ) → Ended → Type 0
+IsReadToEnd left ended = ended ≡ InputEnded → IsAtEnd left
+
 -- What serving a connection to its end does with its wire and an intake, and what it came to.
 pub record ServesToEnd {S : Type 0} (g : Ghosts S) (from to : Wire) (old new : Intake S) (result
     : Served) : Type 0 where
@@ -108,6 +112,7 @@ pub record ServesToEnd {S : Type 0} (g : Ghosts S) (from to : Wire) (old new : I
   -- why it ended, whatever the disk did
   pub fault : IsEndedBy from to result.ended
   pub limited : IsLimited from to result.ended
+  pub at_end : IsReadToEnd to.left result.ended
   -- what went out, whatever the disk did
   pub texts : WritesTexts from.written to.written (Some result.ended)
 
@@ -159,12 +164,13 @@ IsEndedByReply failures failures' (Fault fault) = IsReplyFault failures failures
 abbrev pub ReadsSome : Option (List ℕ) → Option (List ℕ) → Inbox → Inbox → Type 0
 ReadsSome left left' old new = (bytes : List ℕ) × Consumes left left' bytes × (reads new ≤ reads old + length bytes)
 
--- Which fault ended a connection. The limit comes if all reads that may give bytes were made and one more was wanted;
--- memory only if fewer were made, or the inbox does not wait for the end of a block.
-abbrev pub TellsLimit : Inbox → Ended → Type 0
-TellsLimit inbox Closed = Unit {0}
-TellsLimit inbox InputEnded = Unit {0}
-TellsLimit inbox (Fault fault.Read) = Unit {0}
-TellsLimit inbox (Fault (fault.Write sent)) = Unit {0}
-TellsLimit inbox (Fault fault.ReadLimit) = (reads inbox ≡ max_reads) × ¬ (HoldsArrival (held inbox))
-TellsLimit inbox (Fault fault.Memory) = reads inbox ≡ max_reads → ¬ (IsUnended (held inbox))
+-- Why a connection ended of whose input this is left. The input ended if nothing is. The limit comes if all reads that
+-- may give bytes were made and one more was wanted; memory only if fewer were made, or the inbox does not wait for the
+-- end of a block.
+abbrev pub TellsEnd : Inbox → Option (List ℕ) → Ended → Type 0
+TellsEnd inbox left Closed = Unit {0}
+TellsEnd inbox left InputEnded = IsAtEnd left
+TellsEnd inbox left (Fault fault.Read) = Unit {0}
+TellsEnd inbox left (Fault (fault.Write sent)) = Unit {0}
+TellsEnd inbox left (Fault fault.ReadLimit) = (reads inbox ≡ max_reads) × ¬ (HoldsArrival (held inbox))
+TellsEnd inbox left (Fault fault.Memory) = reads inbox ≡ max_reads → ¬ (IsUnended (held inbox))

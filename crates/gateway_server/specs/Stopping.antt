@@ -21,8 +21,8 @@ use Rattle.gateway_server.specs.declared.stop.Stop.{Stop}
 use Rattle.gateway_server.specs.declared.stop.Stop.TheVariants as stop
 use Rattle.gateway_server.specs.Answered.{WritesPart}
 use Rattle.gateway_server.specs.Written.{WritesTexts}
-use Rattle.gateway_server.specs.Progress.{GoesOn, FailsWithin, ServesConnection, IsEndedBy, IsLimited, IsEndedByReply}
-use Rattle.gateway_server.specs.Progress.{TellsLimit}
+use Rattle.gateway_server.specs.Progress.{GoesOn, FailsWithin, ServesConnection, IsEndedBy, IsLimited, IsReadToEnd}
+use Rattle.gateway_server.specs.Progress.{IsEndedByReply, TellsEnd}
 
 -- the stop as the model has it
 abbrev pub view_stop : Stop → Crash
@@ -72,6 +72,7 @@ pub record ServesUpTo {S : Type 0} (g : Ghosts S) (from to : Wire) (old new : In
   -- why it ended, whatever the disk did
   pub fault : IsEndedOrStoppedBy from to result.ended
   pub limited : IfSome result.ended (IsLimited from to)
+  pub at_end : IfSome result.ended (IsReadToEnd to.left)
   -- what went out, whatever the disk did
   pub texts : WritesTexts from.written to.written result.ended
   -- how many marks there are, whatever the disk did; if no stop is asked for, the connection ended
@@ -135,11 +136,11 @@ IsTurnByReply failures failures' On = failures' ≡ failures
 IsTurnByReply failures failures' Stopped = failures' ≡ failures
 IsTurnByReply failures failures' (Ends ended) = IsEndedByReply failures failures' ended
 
--- which fault ended the connection, if one did
-abbrev pub TellsTurn : Inbox → Turn → Type 0
-TellsTurn inbox On = Unit {0}
-TellsTurn inbox Stopped = Unit {0}
-TellsTurn inbox (Ends ended) = TellsLimit inbox ended
+-- why the connection ended, if it did
+abbrev pub TellsTurn : Inbox → Option (List ℕ) → Turn → Type 0
+TellsTurn inbox left On = Unit {0}
+TellsTurn inbox left Stopped = Unit {0}
+TellsTurn inbox left (Ends ended) = TellsEnd inbox left ended
 
 -- the connection was stopped exactly if the stop is after the request of this number
 abbrev pub IsStoppedAfter : Crash → ℕ → Turn → Type 0

@@ -11,7 +11,7 @@ ghost use Rattle.filing_model.specs.Serving.{Keeping, keeping};
 ghost use Rattle.filing_model.specs.Stopping.{ComeBefore};
 ghost use Rattle.intake_core.specs.Held.{limit_of, KeepsSetting, IsTransition};
 ghost use Rattle.gateway_server.specs.Decided.{IsPhrased};
-ghost use Rattle.gateway_server.specs.Progress.{with_written, GoesOn, HasMessage, HasRefusal, ReadsSome, TellsLimit};
+ghost use Rattle.gateway_server.specs.Progress.{with_written, GoesOn, HasMessage, HasRefusal, ReadsSome, TellsEnd};
 ghost use Rattle.gateway_server.specs.Progress.{ServesToEnd};
 ghost use Rattle.gateway_server.specs.Stopping.{view_stop, ServesUpTo, IsCountUntil, IsEndedOrStoppedBy, Continues};
 ghost use Rattle.gateway_server.specs.Stopping.{StopsOrEnds, IsCountAt, IsTurnBy, IsTurnByReply, TellsTurn, Replies};
@@ -123,7 +123,7 @@ fn serve_arrivals<R: Source, W: Sink, S: Alter>(
         (wire R.Source W.Sink reader.new writer.new) result }
     ensures texts { WritesTexts (W.written writer.old) (W.written writer.new) result }
     ensures read { ReadsSome (R.left reader.old) (R.left reader.new) inbox.old inbox.new }
-    ensures told { IfSome result (TellsLimit inbox.new) }
+    ensures told { IfSome result (TellsEnd inbox.new (R.left reader.new)) }
 {
     'arrivals: loop {
         match serve_arrival(alloc, inbox, reader, writer, intake, stop, marks) {
@@ -160,7 +160,7 @@ fn serve_arrival<R: Source, W: Sink, S: Alter>(
         (wire R.Source W.Sink reader.new writer.new) result }
     ensures texts { WritesTexts (W.written writer.old) (W.written writer.new) (end_of result) }
     ensures read { ReadsSome (R.left reader.old) (R.left reader.new) inbox.old inbox.new }
-    ensures told { TellsTurn inbox.new result }
+    ensures told { TellsTurn inbox.new (R.left reader.new) result }
 {
     match inbox.next(reader, writer) {
         Ok(Next::Message) => serve_message(alloc, inbox, writer, intake, stop, marks),

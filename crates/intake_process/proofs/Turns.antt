@@ -10,6 +10,7 @@ use Rattle.http_wire.specs.Wire.{Wire}
 use Rattle.filing_model.specs.Request.{Request}
 use Rattle.filing_model.specs.Serving.{keeping, Serves}
 use Rattle.intake_core.specs.declared.intake.Intake.{Intake}
+use Rattle.gateway_server.specs.Progress.{IsReadToEnd}
 use Rattle.gateway_ports.specs.InTurn.{ServeInTurn, Came, AreCounted, AreTold}
 use Rattle.gateway_ports.specs.Ports.{Connection, Traffic, MayShut, Takes, IsNew, connection_with}
 use Rattle.gateway_ports.proofs.Turns.{IsEndTold, came_none, told_none, came_one, counted_told, told_one, told_untold}
@@ -83,6 +84,12 @@ answered_join limit was_clean before between after first mid last ts us m (Some 
 }
 
 -- ---- what a process does
+
+-- a connection whose input ended was read to its end, by the intake or while it was turned away
+pub read_to_end : {D : Type 0} {g : Ghosts D} (from to : Wire) (old new : Option (Intake (FileStore D g)))
+    (answered : Answered) → AnswersBy from to old new answered → IsReadToEnd to.left answered.served.ended
+read_to_end from to (Some intake) new answered by = by.2.serves.at_end
+read_to_end from to None new answered by = by.1.at_end
 
 module _ {D : Type 0} {g : Ghosts D} (limit : ℕ) where
   -- some, and then more

@@ -1,7 +1,7 @@
 -- A connection that is turned away, since there is no register; own rule.
 use Rattle.std.specs.Prelude.{◌≡◌, ◌≤◌, ℕ, Bool, true, false, List, [], ◌∷◌, length, Some, Result, Ok, Err}
 use Rattle.std.specs.Prelude.{if◌then◌else◌}
-use Rattle.std.specs.Io.KnownBytes.{Consumes, Appends, IsAtEnd}
+use Rattle.std.specs.Io.KnownBytes.{Consumes, Appends}
 use Rattle.http_messages.specs.declared.refusal.ConnFault.{ConnFault}
 use Rattle.http_messages.specs.declared.refusal.ConnFault.TheVariants as fault
 use Rattle.http_messages.specs.Message.{Arrival, Read, Refused, Ending, IsRest}
@@ -18,7 +18,7 @@ use Rattle.filing_model.specs.Serving.{BeginsArrivals}
 use Rattle.filing_model.specs.Text.{interim_of, is_head}
 use Rattle.gateway_server.specs.declared.serving.Served.{Served}
 use Rattle.gateway_server.specs.Answered.{WritesText}
-use Rattle.gateway_server.specs.Progress.{IsEndedBy}
+use Rattle.gateway_server.specs.Progress.{IsEndedBy, IsReadToEnd}
 
 -- the 503, which has no content in reply to HEAD (RFC 9110, section 9.3.2)
 abbrev pub closing_reply : Bool → ReplyParts
@@ -68,6 +68,6 @@ pub record TurnsAway (old new : Wire) (served : Served) : Type 0 where
   pub read : Consumes old.left new.left got
   pub wrote : Appends old.written new.written sent
   pub turned : IsTurnedAway got served.marks.items served.ended sent
-  pub at_end : served.ended ≡ InputEnded → IsAtEnd new.left
+  pub at_end : IsReadToEnd new.left served.ended
   pub limited : served.ended ≡ Fault fault.ReadLimit → max_reads ≤ length got
   pub fault : IsEndedBy old new served.ended

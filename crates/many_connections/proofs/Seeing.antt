@@ -1,9 +1,9 @@
 -- What was seen on a port after one more event.
 use Rattle.std.proofs.Common.{◌≡◌, ◌-◌, ℕ, Bool, true, false, List, [], ◌∷◌, ◌++◌, length, take, drop, Some, None, refl}
 use Rattle.std.proofs.Common.{sym, ◌∙◌, ap, subst, arith, true≢false}
-use Rattle.std.specs.Prelude.{◌≢◌, Option, Result, Vec, is_some, nat_eq, not}
+use Rattle.std.specs.Prelude.{◌≢◌, Option, Result, Vec, is_some}
 use Rattle.std.specs.declared.alloc.Global.{Global}
-use Rattle.std.proofs.lemmas.List.{take-append-drop, length-append, length-drop}
+use Rattle.std.proofs.lemmas.List.{take-append-drop, length-append}
 use Rattle.std.proofs.Math.Seq.{take-append_seam, drop-length}
 use Rattle.filing_model.specs.declared.served.Ended.TheVariants.{InputEnded}
 use Rattle.gateway_server.specs.declared.serving.Served.{Served}
@@ -29,21 +29,6 @@ from_more seen (e ∷ events) event = from_more (after_event seen e.0) events ev
 pub seen_more : (events events' : List (Event × Bool)) (event : Event × Bool) → events' ≡ events ++ event ∷ []
     → seen_after events' ≡ after_event (seen_after events) event.0
 seen_more events events' event is = ap seen_after is ∙ from_more (record { given = None; over = [] }) events event
-
-pub not_false : (b : Bool) → not b ≡ false → b ≡ true
-not_false true is = refl
-not_false false is = absurd (true≢false is)
-
-pub all_left : (n : ℕ) → nat_eq n 0 ≡ true → n ≡ 0
-all_left n is = grind (arith, is)
-
--- nothing is behind those that were read only if there are none, or all were
-pub no_bytes : (bytes : List ℕ) (left : ℕ) → left ≢ 0 → drop (length bytes - left) bytes ≡ [] → bytes ≡ []
-no_bytes [] left some none = refl
-no_bytes (b ∷ bytes) left some none =
-    let count : length (b ∷ bytes) - (length (b ∷ bytes) - left) ≡ 0 =
-    sym (length-drop (length (b ∷ bytes) - left) (b ∷ bytes)) ∙ ap (λ (l : List ℕ). length l) none in
-    absurd (some (omega (arith, count)))
 
 one_more : (pieces : List Piece) (over : List Connection) (piece : Piece) (connection : Connection)
     → AreServedAs pieces over → IsServedAs piece connection
@@ -113,57 +98,57 @@ module _ {S N : Type 0} (s : Ghosts S N) where
 
   given_back : (given : Option (List ℕ)) (over : List Connection) (old new : Hall S) (traffic : Option (Traffic S))
       (left : ℕ) (text output : Vec ℕ Global) (served : Served) (closes : Bool) → is_some old.out ≡ true
-      → output ≡ text → (closes ≡ false → (left ≡ 0) × (served.ended ≡ InputEnded))
-      → (closes ≡ true → served.ended ≡ InputEnded → left ≢ 0)
+      → output ≡ text → (served.ended ≡ InputEnded → left ≡ 0) → (closes ≡ false → served.ended ≡ InputEnded)
+      → (closes ≡ true → served.ended ≢ InputEnded)
       → ((done : List Piece) (read : List ℕ) (known : Option (Traffic S)) → IsRunning s done (Some read) old known
       → IsRunning s (done ++ piece_of old.out read output.items closes ∷ []) None new known)
       → Runs s (record { given = given; over = over }) old traffic
       → Runs s (record { given = None; over = and_given given over left text.items served }) new traffic
-  given_back None over old new traffic left text output served closes is same opened shut back runs =
+  given_back None over old new traffic left text output served closes is same at_end opened shut back runs =
       absurd (nothing old.out runs.running.is_out is)
     where
       nothing : (out : Option (Out S)) → IsOutOf s runs.pieces None out old.places.items → is_some out ≡ true → ⊥
       nothing None of is = true≢false (sym is)
       nothing (Some out) of is = of
-  given_back (Some bytes) over old new traffic left text output served closes is same opened shut back runs =
+  given_back (Some bytes) over old new traffic left text output served closes is same at_end opened shut back runs =
       record {
         pieces = runs.pieces ++ piece_of old.out bytes output.items closes ∷ [];
         are = one_more runs.pieces over _ _ runs.are (served_as old.out);
         running = back runs.pieces bytes traffic runs.running;
       }
     where
-      none_left : closes ≡ false → (drop (length bytes - left) bytes ≡ []) × (served.ended ≡ InputEnded)
-      none_left stays =
-          let n : length bytes - left ≡ length bytes = omega (arith, (opened stays).0) in
-          (ap (λ k. drop k bytes) n ∙ drop-length bytes, (opened stays).1)
-
-      none_read : closes ≡ true → served.ended ≡ InputEnded → drop (length bytes - left) bytes ≡ [] → bytes ≡ []
-      none_read closing ended none = no_bytes bytes left (shut closing ended) none
+      none_left : served.ended ≡ InputEnded → drop (length bytes - left) bytes ≡ []
+      none_left ended =
+          let n : length bytes - left ≡ length bytes = omega (arith, at_end ended) in
+          ap (λ k. drop k bytes) n ∙ drop-length bytes
 
       served_as : (out : Option (Out S)) → IsServedAs (piece_of out bytes output.items closes)
           (connection_with served (read_but left bytes) text.items)
       served_as None = record {
         rest = drop (length bytes - left) bytes;
         splits = sym (take-append-drop (length bytes - left) bytes);
-        all = none_left;
-        closed = none_read;
+        at_end = none_left;
+        stays_open = opened;
+        closed = shut;
         output = ap (λ (o : Vec ℕ Global). o.items) same;
       }
       served_as (Some out) = record {
         rest = drop (length bytes - left) bytes;
         splits = sym (take-append-drop (length bytes - left) bytes);
-        all = none_left;
-        closed = none_read;
+        at_end = none_left;
+        stays_open = opened;
+        closed = shut;
         output = ap (λ (o : Vec ℕ Global). o.items) same;
       }
 
   -- the piece that was out is over
   pub piece_back : (seen : Seen) (old new : Hall S) (traffic : Option (Traffic S)) (left : ℕ)
       (text output : Vec ℕ Global) (served : Served) (closes : Bool) → is_some old.out ≡ true → output ≡ text
-      → (closes ≡ false → (left ≡ 0) × (served.ended ≡ InputEnded))
-      → (closes ≡ true → served.ended ≡ InputEnded → left ≢ 0)
+      → (served.ended ≡ InputEnded → left ≡ 0) → (closes ≡ false → served.ended ≡ InputEnded)
+      → (closes ≡ true → served.ended ≢ InputEnded)
       → ((done : List Piece) (read : List ℕ) (known : Option (Traffic S)) → IsRunning s done (Some read) old known
       → IsRunning s (done ++ piece_of old.out read output.items closes ∷ []) None new known)
       → Runs s seen old traffic → Runs s (after_event seen (Over left text served)) new traffic
-  piece_back seen old new traffic left text output served closes is same opened shut back runs =
-      given_back seen.given seen.over old new traffic left text output served closes is same opened shut back runs
+  piece_back seen old new traffic left text output served closes is same at_end opened shut back runs =
+      given_back seen.given seen.over old new traffic left text output served closes is same at_end opened shut back
+      runs

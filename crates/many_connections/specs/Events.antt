@@ -1,5 +1,6 @@
 -- The pieces that came on a port and what became of them, as its connections; own rules.
-use Rattle.std.specs.Prelude.{◌≡◌, ◌-◌, ℕ, Bool, true, false, List, [], ◌∷◌, ◌++◌, length, take, Option, Some, None}
+use Rattle.std.specs.Prelude.{◌≡◌, ◌≢◌, ◌-◌, ℕ, Bool, true, false, List, [], ◌∷◌, ◌++◌, length, take, Option, Some}
+use Rattle.std.specs.Prelude.{None}
 use Rattle.filing_model.specs.declared.served.Ended.TheVariants.{InputEnded}
 use Rattle.gateway_server.specs.declared.serving.Served.{Served}
 use Rattle.gateway_ports.specs.Ports.{Connection, connection_with}
@@ -38,13 +39,14 @@ seen_from seen (event ∷ events) = seen_from (after_event seen event.0) events
 abbrev pub seen_after : List (Event × Bool) → Seen
 seen_after events = seen_from (record { given = None; over = [] }) events
 
--- This piece was served as that connection: its first bytes were read. Its own connection stays open after it exactly
--- if all of them were and its input ended; of a piece without bytes that is not said.
+-- This piece was served as that connection: its first bytes were read, and all of them if its input ended. Its own
+-- connection stays open after it exactly in that case.
 pub record IsServedAs (piece : Piece) (connection : Connection) : Type 0 where
   pub rest : List ℕ
   pub splits : piece.read ≡ connection.read ++ rest
-  pub all : piece.closes ≡ false → (rest ≡ []) × (connection.output.ended ≡ InputEnded)
-  pub closed : piece.closes ≡ true → connection.output.ended ≡ InputEnded → rest ≡ [] → piece.read ≡ []
+  pub at_end : connection.output.ended ≡ InputEnded → rest ≡ []
+  pub stays_open : piece.closes ≡ false → connection.output.ended ≡ InputEnded
+  pub closed : piece.closes ≡ true → connection.output.ended ≢ InputEnded
   pub output : piece.output ≡ connection.output.bytes
 
 -- these pieces were served as those connections

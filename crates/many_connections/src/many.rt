@@ -94,8 +94,8 @@ impl<S: Stream<Note = Note> + Drop, K: Sockets<Stream = S> + Drop> Port for Many
         if !self.hall.is_out() {
             return Ok(());
         }
+        let is_open = matches!(served.ended, Ended::InputEnded);
         let left = reader.left();
-        let is_open = left == 0 && matches!(served.ended, Ended::InputEnded);
         let text = writer.into_text();
         let note = Note::new(reader.into_piece(), &served, &text);
         let event = Event::Over { left, text, served };

@@ -12,12 +12,11 @@ use Rattle.connection_texts.specs.Pieces.{joined_reads, joined_marks, joined_tex
 use Rattle.connection_texts.specs.Places.{AreAmong, pieces_of}
 use Rattle.connection_texts.specs.Seen.{IsSeenSoFar}
 use Rattle.many_connections.specs.Events.{AreServedAs}
-use Rattle.whole_connections.specs.Whole.{AreReadToEnd}
 use Rattle.intake_process.specs.Turns.{Turn, Served, TurnedAway, connections_of, served_in, AreTurnedAway}
 use Rattle.whole_connections.specs.Away.{GetsAway, TurnsAreAmong, IsTurnedAwayAfter, IsTurnedAwayUntil, HasTextOrIsAway}
 use Rattle.whole_connections.specs.Away.{HasTextSoFarOrIsAway}
 use Rattle.connection_texts.proofs.Among.{served_at}
-use Rattle.whole_connections.proofs.Served.{open_goes_on}
+use Rattle.whole_connections.proofs.Served.{read_whole, open_goes_on}
 use Rattle.whole_connections.proofs.Pieces.{texts_open}
 use Rattle.whole_connections.proofs.Together.{IsAllIfDone, Own, own_among, to, seen_open, told_so_far, told_over}
 use Rattle.whole_connections.proofs.TurnedAway.{turns_among, served_among_turns, served_in-map}
@@ -28,8 +27,8 @@ all_served : (ts : List Turn) → ts ≡ map Served (served_in ts) → connectio
 all_served ts same = ap connections_of same ∙ connections_of-map (served_in ts)
 
 module _ (requests : Keeping) (turns : List Turn) (turn : ServeInTurn requests (served_in turns)) (done : List Piece)
-    (are : AreServedAs done (connections_of turns)) (read : AreReadToEnd done (connections_of turns))
-    (away : AreTurnedAway turns) (came went : List ℕ) (out held owed : List ℕ) (is_early is_closing is_ended : Bool)
+    (are : AreServedAs done (connections_of turns)) (away : AreTurnedAway turns) (came went : List ℕ)
+    (out held owed : List ℕ) (is_early is_closing is_ended : Bool)
     (none_out : is_closing ≡ true → out ≡ [])
     (told : IsTold done (Some came) (Some went) out held owed is_early is_closing is_ended) where
   -- its last piece was turned away
@@ -40,7 +39,7 @@ module _ (requests : Keeping) (turns : List Turn) (turn : ServeInTurn requests (
       ap served_in ends.turns_are ∙ served_in-map ends.served (TurnedAway ends.c ∷ []) ∙ append_nil ends.served in
       let it =
       own_among requests (served_in turns) ends.front ends.served turn
-      (subst (λ cs. AreAmong cs (served_in turns)) served (served_among_turns ts turns among)) ends.are ends.read in
+      (subst (λ cs. AreAmong cs (served_in turns)) served (served_among_turns ts turns among)) ends.are in
       with_own it.0 it.1
     where
       with_own : (own : Own requests (served_in turns) ends.front) → own.cs ≡ ends.served
@@ -88,7 +87,8 @@ module _ (requests : Keeping) (turns : List Turn) (turn : ServeInTurn requests (
             reply = text_of ends.last;
             away = subst (λ bs. GetsAway bs ends.c.output.marks ends.c.output.ended (text_of ends.last)) behind
                 (away_by ends.last ends.c.read is.rest held ends.c.output.marks ends.c.output.ended
-                ends.c.output.bytes is.splits is.output ends.last_asked ends.last_read all_out ends.away);
+                ends.c.output.bytes is.splits is.output ends.last_asked (read_whole ends.last ends.c is) all_out
+                ends.away);
             written =
                 told.wrote ∙ ap (λ b. texts_of told.pieces ++ early_text b) shut.none_early
                 ∙ append_nil (texts_of told.pieces) ∙ ap texts_of ends.own_is ∙ texts_last ends.front ends.last
@@ -102,13 +102,11 @@ module _ (requests : Keeping) (turns : List Turn) (turn : ServeInTurn requests (
 
   known : Known
   known =
-      let it = turns_among told.pieces done turns told.among are read away in
-      elim (by_turns is_closing is_ended told.pieces it.0 told.in_turn it.2 it.3 it.4 told.asked) [
+      let it = turns_among told.pieces done turns told.among are away in
+      elim (by_turns is_closing is_ended told.pieces it.0 told.in_turn it.2 it.3 told.asked) [
         | inl same ↦
-            let cs = all_served it.0 same in
             inl (own_among requests (served_in turns) told.pieces (served_in it.0) turn
-            (served_among_turns it.0 turns it.1) (subst (AreServedAs told.pieces) cs it.2)
-            (subst (AreReadToEnd told.pieces) cs it.3)).0
+            (served_among_turns it.0 turns it.1) (subst (AreServedAs told.pieces) (all_served it.0 same) it.2)).0
         | inr ends ↦ inr (ends.closing, ends_away it.0 it.1 ends)
       ]
 
@@ -121,13 +119,12 @@ module _ (requests : Keeping) (turns : List Turn) (turn : ServeInTurn requests (
   ]
 
 module _ (requests : Keeping) (turns : List Turn) (turn : ServeInTurn requests (served_in turns)) (done : List Piece)
-    (are : AreServedAs done (connections_of turns)) (read : AreReadToEnd done (connections_of turns))
-    (away : AreTurnedAway turns) (came went : List ℕ) where
+    (are : AreServedAs done (connections_of turns)) (away : AreTurnedAway turns) (came went : List ℕ) where
   pub answered_over : (why : Why) (held owed : List ℕ) (is_early is_closing is_ended : Bool)
       → IsTold done (Some came) (Some went) [] held owed is_early is_closing is_ended
       → IsAllIfDone why held owed is_closing → HasTextOrIsAway requests turns why came went
   answered_over why held owed is_early is_closing is_ended told end =
-      elim (known requests turns turn done are read away came went [] held owed is_early is_closing is_ended (λ _. refl)
+      elim (known requests turns turn done are away came went [] held owed is_early is_closing is_ended (λ _. refl)
       told) [
         | inl own ↦
             inl (told_over requests (served_in turns) done came went why held owed is_early is_closing is_ended told own

@@ -24,7 +24,6 @@ use Rattle.gateway_ports.specs.InTurn.{ServeInTurn}
 use Rattle.gateway_ports.specs.Ports.{Connection}
 use Rattle.connection_texts.specs.Seen.{Standing, IsSeen, Sees}
 use Rattle.many_connections.specs.Events.{AreServedAs, Runs, Seen}
-use Rattle.whole_connections.specs.Whole.{AreReadToEnd}
 use Rattle.whole_connections.specs.Each.{Each, IfKnown}
 use Rattle.whole_connections.specs.Whole.{HasText, HasTextSoFar, HasWholeText}
 use Rattle.intake_process.specs.Turns.{Turn, connections_of, served_in, AreTurnedAway}
@@ -112,33 +111,32 @@ module _ {S N : Type 0} (s : Ghosts S N) (Over : Why → List ℕ → List ℕ �
 module _ {S N : Type 0} (s : Ghosts S N) where
   -- if each was served in turn
   pub each_has_text : (requests : Keeping) (seen : Seen) (hall : Hall S) (traffic : Traffic S)
-      → (runs : Runs s seen hall (Some traffic)) → AreReadToEnd runs.pieces seen.over → ServeInTurn requests seen.over
+      → Runs s seen hall (Some traffic) → ServeInTurn requests seen.over
       → Each s (HasText requests seen.over) (HasTextSoFar requests seen.over) hall traffic
-  each_has_text requests seen hall traffic runs read turn =
+  each_has_text requests seen hall traffic runs turn =
       each s (HasText requests seen.over) (HasTextSoFar requests seen.over) hall.bounds.patience runs.pieces
       (λ came went out held owed is_early is_closing is_ended none_out told.
       told_so_far requests seen.over runs.pieces came went out held owed is_early is_closing is_ended none_out told
-      (own_of requests seen.over told.pieces runs.pieces turn told.among runs.are read))
+      (own_of requests seen.over told.pieces runs.pieces turn told.among runs.are))
       (λ came went why held owed is_early is_closing is_ended told end.
       told_over requests seen.over runs.pieces came went why held owed is_early is_closing is_ended told
-      (own_of requests seen.over told.pieces runs.pieces turn told.among runs.are read) end)
+      (own_of requests seen.over told.pieces runs.pieces turn told.among runs.are) end)
       seen.given hall traffic refl runs.running
 
   -- if each was served in turn or turned away
   pub each_is_answered : (requests : Keeping) (turns : List Turn) (seen : Seen) (hall : Hall S) (traffic : Traffic S)
-      → (runs : Runs s seen hall (Some traffic)) → AreReadToEnd runs.pieces seen.over
-      → connections_of turns ≡ seen.over → ServeInTurn requests (served_in turns) → AreTurnedAway turns
+      → Runs s seen hall (Some traffic) → connections_of turns ≡ seen.over
+      → ServeInTurn requests (served_in turns) → AreTurnedAway turns
       → Each s (HasTextOrIsAway requests turns) (HasTextSoFarOrIsAway requests turns) hall traffic
-  each_is_answered requests turns seen hall traffic runs read are_turns turn away =
+  each_is_answered requests turns seen hall traffic runs are_turns turn away =
       let are = subst (AreServedAs runs.pieces) (sym are_turns) runs.are in
-      let to_end = subst (AreReadToEnd runs.pieces) (sym are_turns) read in
       each s (HasTextOrIsAway requests turns) (HasTextSoFarOrIsAway requests turns) hall.bounds.patience runs.pieces
       (λ came went out held owed is_early is_closing is_ended none_out told.
-      answered_so_far requests turns turn runs.pieces are to_end away came went out held owed is_early is_closing
-      is_ended none_out told)
+      answered_so_far requests turns turn runs.pieces are away came went out held owed is_early is_closing is_ended
+      none_out told)
       (λ came went why held owed is_early is_closing is_ended told end.
-      answered_over requests turns turn runs.pieces are to_end away came went why held owed is_early is_closing
-      is_ended told end)
+      answered_over requests turns turn runs.pieces are away came went why held owed is_early is_closing is_ended
+      told end)
       seen.given hall traffic refl runs.running
 
   -- ---- those that are done
@@ -168,7 +166,7 @@ module _ {S N : Type 0} (s : Ghosts S N) where
   )
 
   pub each_whole : (requests : Keeping) (seen : Seen) (hall : Hall S) (traffic : Traffic S)
-      → (runs : Runs s seen hall (Some traffic)) → AreReadToEnd runs.pieces seen.over → ServeInTurn requests seen.over
+      → Runs s seen hall (Some traffic) → ServeInTurn requests seen.over
       → AllByRecursion (λ gone. gone.why ≡ Done → IfKnown s gone.stream (HasWholeText requests seen.over)) traffic.over
-  each_whole requests seen hall traffic runs read turn =
-      each_done requests seen.over traffic.over (each_has_text requests seen hall traffic runs read turn).over
+  each_whole requests seen hall traffic runs turn =
+      each_done requests seen.over traffic.over (each_has_text requests seen hall traffic runs turn).over

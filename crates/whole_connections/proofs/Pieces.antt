@@ -21,12 +21,11 @@ use Rattle.connection_texts.specs.Pieces.{joined_reads, joined_marks, joined_tex
 use Rattle.connection_texts.specs.Places.{Place, pieces_of, befores_of, ServeEach}
 use Rattle.connection_texts.specs.Seen.{standing, Standing, IsSeen, Sees}
 use Rattle.many_connections.specs.Events.{IsServedAs, AreServedAs}
-use Rattle.whole_connections.specs.Whole.{AreReadToEnd}
 use Rattle.whole_connections.specs.Whole.{SeesFirst}
 use Rattle.connection_texts.proofs.Alone.{text_of_one, one_is_marked}
-use Rattle.connection_texts.proofs.Joining.{none_begins, piece_arrives, seen_one, closed_end, goes_on_whole, seen_first}
+use Rattle.connection_texts.proofs.Joining.{piece_arrives, seen_one, closed_end, goes_on_whole, seen_first}
 use Rattle.whole_connections.proofs.Early.{text_begins, text_so_far, text_whole, text_part, text_late}
-use Rattle.whole_connections.proofs.Served.{stays, goes_on, begins}
+use Rattle.whole_connections.proofs.Served.{read_whole, stays, goes_on, begins}
 
 -- ---- the text of one piece
 
@@ -142,14 +141,13 @@ texts_open limit old_style is_ended (place ∷ places) (piece ∷ own) serve are
 
 pub closing_seen : (limit : ℕ) (old_style : List Request) (is_ended : Bool) (places : List Place) (own : List Piece)
     (more : List ℕ) → ServeEach limit old_style places → AreServedAs own (pieces_of places)
-    → AreReadToEnd own (pieces_of places) → AreAsked own → AreInTurn true is_ended own
-    → (ended_of (pieces_of places) ≡ InputEnded → more ≡ [])
+    → AreAsked own → AreInTurn true is_ended own → (ended_of (pieces_of places) ≡ InputEnded → more ≡ [])
     → Sees (standing limit old_style (befores_of places)) (reads_of own ++ more) (joined_marks (pieces_of places))
     (ended_of (pieces_of places)) (texts_of own)
-closing_seen limit old_style is_ended [] [] more serve are read asked turn all = absurd (cc)
-closing_seen limit old_style is_ended [] (piece ∷ own) more serve are read asked turn all = absurd are
-closing_seen limit old_style is_ended (place ∷ places) [] more serve are read asked turn all = absurd are
-closing_seen limit old_style is_ended (last ∷ []) (piece ∷ []) more serve are read asked turn all = elim turn [
+closing_seen limit old_style is_ended [] [] more serve are asked turn all = absurd (cc)
+closing_seen limit old_style is_ended [] (piece ∷ own) more serve are asked turn all = absurd are
+closing_seen limit old_style is_ended (place ∷ places) [] more serve are asked turn all = absurd are
+closing_seen limit old_style is_ended (last ∷ []) (piece ∷ []) more serve are asked turn all = elim turn [
   | inl at ↦ absurd (let h : true ≡ false = at.2 in cc)
   | inr at ↦
       let c = last.piece in
@@ -162,13 +160,12 @@ closing_seen limit old_style is_ended (last ∷ []) (piece ∷ []) more serve ar
       (subst (λ text. Sees to (piece.read ++ more) c.output.marks c.output.ended text)
       (sym (append_nil (text_of piece)))
       (last_by limit old_style last.before last.after piece c.read is.rest more c.output.marks c.output.ended
-      c.output.bytes is.splits (begins is_ended piece c is at.1) serve.0 is.output asked.0 read.0 all)))
+      c.output.bytes is.splits (begins is_ended piece c is at.1) serve.0 is.output asked.0 (read_whole piece c is)
+      all)))
 ]
-closing_seen limit old_style is_ended (place ∷ []) (piece ∷ next ∷ own) more serve are read asked turn all =
-    absurd are.1
-closing_seen limit old_style is_ended (place ∷ next ∷ places) (piece ∷ []) more serve are read asked turn all =
-    absurd are.1
-closing_seen limit old_style is_ended (place ∷ next ∷ places) (piece ∷ next' ∷ own) more serve are read asked turn
+closing_seen limit old_style is_ended (place ∷ []) (piece ∷ next ∷ own) more serve are asked turn all = absurd are.1
+closing_seen limit old_style is_ended (place ∷ next ∷ places) (piece ∷ []) more serve are asked turn all = absurd are.1
+closing_seen limit old_style is_ended (place ∷ next ∷ places) (piece ∷ next' ∷ own) more serve are asked turn
     all = elim turn [
       | inl at ↦
           let c = place.piece in
@@ -178,8 +175,7 @@ closing_seen limit old_style is_ended (place ∷ next ∷ places) (piece ∷ nex
           let whole =
           goes_on_whole limit old_style place (goes_on piece c are.0 at.0 at.1) serve.0 in
           let later =
-          closing_seen limit old_style is_ended (next ∷ places) (next' ∷ own) more serve.1 are.1 read.1 asked.1 at.2
-          all in
+          closing_seen limit old_style is_ended (next ∷ places) (next' ∷ own) more serve.1 are.1 asked.1 at.2 all in
           let reads = reads_of (next' ∷ own) in
           let texts = texts_of (next' ∷ own) in
           subst (λ bs. Sees to ((bs ++ reads) ++ more) (c.output.marks ++ joined_marks ps) (ended_of ps)
@@ -226,35 +222,23 @@ not_both read is_ended whole (inl refused) =
     IsRefused-excludes read whole.0.head whole.1.head_len refused.0 whole.1.head refused.1
 not_both read is_ended whole (inr rest) = rest.1.none whole.0 (length read) whole.1
 
-not_nothing : IsWhole [] → ⊥
-not_nothing whole = none_begins whole.0 0 whole.1
-
-append_is : (xs ys : List ℕ) → xs ≡ xs ++ ys → ys ≡ []
-append_is [] ys same = sym same
-append_is (x ∷ xs) ys same = append_is xs ys (tails (xs ++ ys) same)
-  where
-    tails : (zs : List ℕ) → x ∷ xs ≡ x ∷ zs → xs ≡ zs
-    tails zs e = cc
-
 -- if the input ended, the last piece is no whole request
 pub ended_last : (is_ended : Bool) (own : List Piece) (cs : List Connection) → AreInTurn true is_ended own
-    → AreServedAs own cs → AreReadToEnd own cs → ended_of cs ≡ InputEnded → EndsWhole own → ⊥
-ended_last is_ended [] [] turn are read ended whole = whole
-ended_last is_ended [] (c ∷ cs) turn are read ended whole = absurd are
-ended_last is_ended (piece ∷ own) [] turn are read ended whole = absurd are
-ended_last is_ended (piece ∷ []) (c ∷ []) turn are read ended whole = elim turn [
+    → AreServedAs own cs → ended_of cs ≡ InputEnded → EndsWhole own → ⊥
+ended_last is_ended [] [] turn are ended whole = whole
+ended_last is_ended [] (c ∷ cs) turn are ended whole = absurd are
+ended_last is_ended (piece ∷ own) [] turn are ended whole = absurd are
+ended_last is_ended (piece ∷ []) (c ∷ []) turn are ended whole = elim turn [
   | inl at ↦ absurd (let h : true ≡ false = at.2 in cc)
   | inr at ↦ elim at.1 [
-    | inl shut ↦
-        let none = are.0.closed shut.1 ended (append_is c.read are.0.rest (sym (read.0 ended) ∙ are.0.splits)) in
-        not_nothing (subst IsWhole none whole)
+    | inl shut ↦ are.0.closed shut.1 ended
     | inr last ↦ not_both piece.read is_ended whole last
   ]
 ]
-ended_last is_ended (piece ∷ []) (c ∷ d ∷ cs) turn are read ended whole = absurd are.1
-ended_last is_ended (piece ∷ next ∷ own) (c ∷ []) turn are read ended whole = absurd are.1
-ended_last is_ended (piece ∷ next ∷ own) (c ∷ d ∷ cs) turn are read ended whole = elim turn [
-  | inl at ↦ ended_last is_ended (next ∷ own) (d ∷ cs) at.2 are.1 read.1 ended whole
+ended_last is_ended (piece ∷ []) (c ∷ d ∷ cs) turn are ended whole = absurd are.1
+ended_last is_ended (piece ∷ next ∷ own) (c ∷ []) turn are ended whole = absurd are.1
+ended_last is_ended (piece ∷ next ∷ own) (c ∷ d ∷ cs) turn are ended whole = elim turn [
+  | inl at ↦ ended_last is_ended (next ∷ own) (d ∷ cs) at.2 are.1 ended whole
   | inr at ↦ absurd (let h = at.2 in cc)
 ]
 

@@ -10,55 +10,42 @@ use Rattle.gateway_ports.specs.Ports.{Connection}
 use Rattle.connection_texts.specs.Pieces.{joined_reads, IsPiece, BeginsPiece, GoesOn, GoOn, ArePieces, ended_of}
 use Rattle.connection_texts.specs.Places.{AreAmong}
 use Rattle.many_connections.specs.Events.{IsServedAs, AreServedAs}
-use Rattle.whole_connections.specs.Whole.{AreReadToEnd}
 
 -- ---- among all
 
 -- the connection as which a piece was served, and those behind it
 split_served : (before after : List Piece) (piece : Piece) (over : List Connection)
-    → AreServedAs (before ++ piece ∷ after) over → AreReadToEnd (before ++ piece ∷ after) over
+    → AreServedAs (before ++ piece ∷ after) over
     → (front : List Connection) × (it : Connection) × (back : List Connection) × (over ≡ front ++ it ∷ back)
-    × IsServedAs piece it × (it.output.ended ≡ InputEnded → piece.read ≡ it.read) × AreServedAs after back
-    × AreReadToEnd after back
-split_served [] after piece [] are read = absurd are
-split_served [] after piece (c ∷ over) are read = ([], c, over, refl, are.0, read.0, are.1, read.1)
-split_served (p ∷ before) after piece [] are read = absurd are
-split_served (p ∷ before) after piece (c ∷ over) are read =
-    let later = split_served before after piece over are.1 read.1 in (
-      c ∷ later.0,
-      later.1,
-      later.2,
-      ap (λ cs. c ∷ cs) later.3,
-      later.4,
-      later.5,
-      later.6,
-      later.7,
-    )
+    × IsServedAs piece it × AreServedAs after back
+split_served [] after piece [] are = absurd are
+split_served [] after piece (c ∷ over) are = ([], c, over, refl, are.0, are.1)
+split_served (p ∷ before) after piece [] are = absurd are
+split_served (p ∷ before) after piece (c ∷ over) are =
+    let later = split_served before after piece over are.1 in
+    (c ∷ later.0, later.1, later.2, ap (λ cs. c ∷ cs) later.3, later.4, later.5)
 
 -- pieces that are among all were served as connections that are among all, in the same order
 pub served_among : (own done : List Piece) (over : List Connection) → PiecesAreAmong own done → AreServedAs done over
-    → AreReadToEnd done over
-    → (cs : List Connection) × AreAmong cs over × AreServedAs own cs × AreReadToEnd own cs
-served_among [] done over among are read = ([], tt, tt, tt)
-served_among (piece ∷ own) done over among are read =
-    let parts =
-    split_served among.0 among.1 piece over (subst (λ ps. AreServedAs ps over) among.2 are)
-    (subst (λ ps. AreReadToEnd ps over) among.2 read) in
-    let later = served_among own among.1 parts.2 among.3 parts.6 parts.7 in (
-      parts.1 ∷ later.0,
-      (parts.0, parts.2, parts.3, later.1),
-      (parts.4, later.2),
-      (parts.5, later.3),
-    )
+    → (cs : List Connection) × AreAmong cs over × AreServedAs own cs
+served_among [] done over among are = ([], tt, tt)
+served_among (piece ∷ own) done over among are =
+    let parts = split_served among.0 among.1 piece over (subst (λ ps. AreServedAs ps over) among.2 are) in
+    let later = served_among own among.1 parts.2 among.3 parts.5 in
+    (parts.1 ∷ later.0, (parts.0, parts.2, parts.3, later.1), (parts.4, later.2))
 
 -- ---- one behind another
 
--- a piece after which its connection stays open was read whole
+-- a piece whose input ended was read whole
+pub read_whole : (piece : Piece) (c : Connection) → IsServedAs piece c → c.output.ended ≡ InputEnded
+    → piece.read ≡ c.read
+read_whole piece c is ended = is.splits ∙ ap (λ l. c.read ++ l) (is.at_end ended) ∙ append_nil c.read
+
+-- and so was one after which its connection stays open
 pub stays : (piece : Piece) (c : Connection) → IsServedAs piece c → piece.closes ≡ false
     → (piece.read ≡ c.read) × (c.output.ended ≡ InputEnded)
 stays piece c is open' =
-    let all = is.all open' in
-    (is.splits ∙ ap (λ l. c.read ++ l) all.0 ∙ append_nil c.read, all.1)
+    let ended = is.stays_open open' in (read_whole piece c is ended, ended)
 
 pub goes_on : (piece : Piece) (c : Connection) → IsServedAs piece c → IsWhole piece.read → piece.closes ≡ false
     → GoesOn c

@@ -18,7 +18,6 @@ use Rattle.connection_texts.specs.Pieces.{joined_reads, joined_marks, joined_tex
 use Rattle.connection_texts.specs.Places.{AreAmong, pieces_of, HasPlaces, standing_at}
 use Rattle.connection_texts.specs.Seen.{Standing, IsSeenSoFar, Sees}
 use Rattle.many_connections.specs.Events.{AreServedAs}
-use Rattle.whole_connections.specs.Whole.{AreReadToEnd}
 use Rattle.whole_connections.specs.Whole.{SeesFirst, SeesUntil, HasPieces, HasText, HasTextSoFar}
 use Rattle.connection_texts.proofs.Among.{places_among, served_at}
 use Rattle.connection_texts.proofs.Joining.{joined_seen, open_seen}
@@ -33,27 +32,19 @@ pub record Own (requests : Keeping) (over : List Connection) (pieces : List Piec
   pub cs : List Connection
   pub at : HasPlaces requests cs over
   pub served : AreServedAs pieces (pieces_of at.places)
-  pub to_end : AreReadToEnd pieces (pieces_of at.places)
 
 pub own_among : (requests : Keeping) (over : List Connection) (pieces : List Piece) (cs : List Connection)
-    → ServeInTurn requests over → AreAmong cs over → AreServedAs pieces cs → AreReadToEnd pieces cs
+    → ServeInTurn requests over → AreAmong cs over → AreServedAs pieces cs
     → (own : Own requests over pieces) × (own.cs ≡ cs)
-own_among requests over pieces cs turn among are read =
-    let at = places_among requests cs over turn among in (
-      record {
-        cs = cs;
-        at = at;
-        served = subst (AreServedAs pieces) (sym at.pieces_are) are;
-        to_end = subst (AreReadToEnd pieces) (sym at.pieces_are) read;
-      },
-      refl,
-    )
+own_among requests over pieces cs turn among are =
+    let at = places_among requests cs over turn among in
+    (record { cs = cs; at = at; served = subst (AreServedAs pieces) (sym at.pieces_are) are }, refl)
 
 pub own_of : (requests : Keeping) (over : List Connection) (pieces done : List Piece) → ServeInTurn requests over
-    → PiecesAreAmong pieces done → AreServedAs done over → AreReadToEnd done over → Own requests over pieces
-own_of requests over pieces done turn among are read =
-    let it = served_among pieces done over among are read in
-    (own_among requests over pieces it.0 turn it.1 it.2 it.3).0
+    → PiecesAreAmong pieces done → AreServedAs done over → Own requests over pieces
+own_of requests over pieces done turn among are =
+    let it = served_among pieces done over among are in
+    (own_among requests over pieces it.0 turn it.1 it.2).0
 
 module _ (requests : Keeping) (over : List Connection) (pieces : List Piece) (own : Own requests over pieces)
     (is_ended : Bool) where
@@ -117,13 +108,12 @@ module _ (requests : Keeping) (over : List Connection) (pieces : List Piece) (ow
       let places = own.at.places in
       let serve = served_at requests own.cs over own.at in
       let all : ended_of (pieces_of places) ≡ InputEnded → held ≡ [] = λ ended. elim all_out [
-        | inl whole ↦ absurd (ended_last is_ended pieces (pieces_of places) turn own.served own.to_end ended whole)
+        | inl whole ↦ absurd (ended_last is_ended pieces (pieces_of places) turn own.served ended whole)
         | inr none ↦ none
       ] in
       subst (λ ps. Sees to (reads_of pieces ++ held) (joined_marks ps) (ended_of ps) (texts_of pieces))
       own.at.pieces_are
-      (closing_seen requests.limit requests.old_style is_ended places pieces held serve own.served own.to_end asked turn
-      all)
+      (closing_seen requests.limit requests.old_style is_ended places pieces held serve own.served asked turn all)
 
 -- ---- what was told
 

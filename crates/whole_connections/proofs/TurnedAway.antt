@@ -23,7 +23,6 @@ use Rattle.gateway_ports.specs.Ports.{Connection}
 use Rattle.connection_texts.specs.Pieces.{interim_for}
 use Rattle.connection_texts.specs.Places.{AreAmong}
 use Rattle.many_connections.specs.Events.{IsServedAs, AreServedAs}
-use Rattle.whole_connections.specs.Whole.{AreReadToEnd}
 use Rattle.intake_process.specs.Turning.{IsTurnedAway, away_reply, end_by}
 use Rattle.intake_process.specs.Turns.{Turn, Served, TurnedAway, connection_of, connections_of}
 use Rattle.intake_process.specs.Turns.{served_in, AreTurnedAway}
@@ -47,20 +46,16 @@ away_one (TurnedAway c) turns first away = (first.0, away)
 
 -- the turn as which a piece was served, and those behind it
 split_turn : (before after : List Piece) (piece : Piece) (turns : List Turn)
-    → AreServedAs (before ++ piece ∷ after) (connections_of turns)
-    → AreReadToEnd (before ++ piece ∷ after) (connections_of turns) → AreTurnedAway turns
+    → AreServedAs (before ++ piece ∷ after) (connections_of turns) → AreTurnedAway turns
     → (front : List Turn) × (it : Turn) × (back : List Turn) × (turns ≡ front ++ it ∷ back)
-    × IsServedAs piece (connection_of it)
-    × ((connection_of it).output.ended ≡ InputEnded → piece.read ≡ (connection_of it).read)
-    × AreServedAs after (connections_of back) × AreReadToEnd after (connections_of back) × AreTurnedAway (it ∷ [])
+    × IsServedAs piece (connection_of it) × AreServedAs after (connections_of back) × AreTurnedAway (it ∷ [])
     × AreTurnedAway back
-split_turn [] after piece [] are read away = absurd are
-split_turn [] after piece (turn ∷ turns) are read away =
-    let both = away_both turn turns away in
-    ([], turn, turns, refl, are.0, read.0, are.1, read.1, both.0, both.1)
-split_turn (p ∷ before) after piece [] are read away = absurd are
-split_turn (p ∷ before) after piece (turn ∷ turns) are read away =
-    let later = split_turn before after piece turns are.1 read.1 (away_both turn turns away).1 in (
+split_turn [] after piece [] are away = absurd are
+split_turn [] after piece (turn ∷ turns) are away =
+    let both = away_both turn turns away in ([], turn, turns, refl, are.0, are.1, both.0, both.1)
+split_turn (p ∷ before) after piece [] are away = absurd are
+split_turn (p ∷ before) after piece (turn ∷ turns) are away =
+    let later = split_turn before after piece turns are.1 (away_both turn turns away).1 in (
       turn ∷ later.0,
       later.1,
       later.2,
@@ -69,25 +64,20 @@ split_turn (p ∷ before) after piece (turn ∷ turns) are read away =
       later.5,
       later.6,
       later.7,
-      later.8,
-      later.9,
     )
 
 pub turns_among : (own done : List Piece) (turns : List Turn) → PiecesAreAmong own done
-    → AreServedAs done (connections_of turns) → AreReadToEnd done (connections_of turns) → AreTurnedAway turns
-    → (ts : List Turn) × TurnsAreAmong ts turns × AreServedAs own (connections_of ts)
-    × AreReadToEnd own (connections_of ts) × AreTurnedAway ts
-turns_among [] done turns among are read away = ([], tt, tt, tt, tt)
-turns_among (piece ∷ own) done turns among are read away =
+    → AreServedAs done (connections_of turns) → AreTurnedAway turns
+    → (ts : List Turn) × TurnsAreAmong ts turns × AreServedAs own (connections_of ts) × AreTurnedAway ts
+turns_among [] done turns among are away = ([], tt, tt, tt)
+turns_among (piece ∷ own) done turns among are away =
     let parts =
-    split_turn among.0 among.1 piece turns (subst (λ ps. AreServedAs ps (connections_of turns)) among.2 are)
-    (subst (λ ps. AreReadToEnd ps (connections_of turns)) among.2 read) away in
-    let later = turns_among own among.1 parts.2 among.3 parts.6 parts.7 parts.9 in (
+    split_turn among.0 among.1 piece turns (subst (λ ps. AreServedAs ps (connections_of turns)) among.2 are) away in
+    let later = turns_among own among.1 parts.2 among.3 parts.5 parts.7 in (
       parts.1 ∷ later.0,
       (parts.0, parts.2, parts.3, later.1),
       (parts.4, later.2),
-      (parts.5, later.3),
-      away_one parts.1 later.0 parts.8 later.4,
+      away_one parts.1 later.0 parts.6 later.3,
     )
 
 served_in-append : (front back : List Turn) → served_in (front ++ back) ≡ served_in front ++ served_in back
@@ -154,22 +144,20 @@ pub record EndsAway (is_closing is_ended : Bool) (own : List Piece) (ts : List T
   pub turns_are : ts ≡ map Served served ++ TurnedAway c ∷ []
   pub turn : AreInTurn false is_ended front
   pub are : AreServedAs front served
-  pub read : AreReadToEnd front served
   pub asked : AreAsked front
   pub last_is : IsServedAs last c
-  pub last_read : c.output.ended ≡ InputEnded → last.read ≡ c.read
   pub last_asked : IsAsked last.is_early last.read
   pub away : IsTurnedAway c.read c.output.marks c.output.ended c.output.bytes
   pub closing : is_closing ≡ true
 
 pub by_turns : (is_closing is_ended : Bool) (own : List Piece) (ts : List Turn) → AreInTurn is_closing is_ended own
-    → AreServedAs own (connections_of ts) → AreReadToEnd own (connections_of ts) → AreTurnedAway ts → AreAsked own
+    → AreServedAs own (connections_of ts) → AreTurnedAway ts → AreAsked own
     → (ts ≡ map Served (served_in ts)) ⊎ EndsAway is_closing is_ended own ts
-by_turns is_closing is_ended [] [] turn are read away asked = inl refl
-by_turns is_closing is_ended [] (t ∷ ts) turn are read away asked = absurd are
-by_turns is_closing is_ended (piece ∷ own) [] turn are read away asked = absurd are
-by_turns is_closing is_ended (piece ∷ own) (Served c ∷ ts) turn are read away asked = elim turn [
-  | inl at ↦ elim (by_turns is_closing is_ended own ts at.2 are.1 read.1 away asked.1) [
+by_turns is_closing is_ended [] [] turn are away asked = inl refl
+by_turns is_closing is_ended [] (t ∷ ts) turn are away asked = absurd are
+by_turns is_closing is_ended (piece ∷ own) [] turn are away asked = absurd are
+by_turns is_closing is_ended (piece ∷ own) (Served c ∷ ts) turn are away asked = elim turn [
+  | inl at ↦ elim (by_turns is_closing is_ended own ts at.2 are.1 away asked.1) [
     | inl same ↦ inl (ap (λ l. Served c ∷ l) same)
     | inr ends ↦ inr (record {
       front = piece ∷ ends.front;
@@ -180,10 +168,8 @@ by_turns is_closing is_ended (piece ∷ own) (Served c ∷ ts) turn are read awa
       turns_are = ap (λ l. Served c ∷ l) ends.turns_are;
       turn = inl (at.0, at.1, ends.turn);
       are = (are.0, ends.are);
-      read = (read.0, ends.read);
       asked = (asked.0, ends.asked);
       last_is = ends.last_is;
-      last_read = ends.last_read;
       last_asked = ends.last_asked;
       away = ends.away;
       closing = ends.closing;
@@ -197,7 +183,7 @@ by_turns is_closing is_ended (piece ∷ own) (Served c ∷ ts) turn are read awa
     none [] [] is are' = refl
     none [] (t ∷ ts) is are' = absurd are'
     none (p ∷ ps) ts is are' = absurd (cc)
-by_turns is_closing is_ended (piece ∷ own) (TurnedAway c ∷ ts) turn are read away asked = elim turn [
+by_turns is_closing is_ended (piece ∷ own) (TurnedAway c ∷ ts) turn are away asked = elim turn [
   | inl at ↦ absurd (stays_away piece c are.0 at.0 at.1 away.0)
   | inr at ↦ inr (record {
     front = [];
@@ -208,10 +194,8 @@ by_turns is_closing is_ended (piece ∷ own) (TurnedAway c ∷ ts) turn are read
     turns_are = ap (λ l. TurnedAway c ∷ l) (none own ts at.2 are.1);
     turn = refl;
     are = tt;
-    read = tt;
     asked = tt;
     last_is = are.0;
-    last_read = read.0;
     last_asked = asked.0;
     away = away.0;
     closing = at.0;

@@ -1,26 +1,17 @@
 -- What each whole connection gets whose pieces are served among those of all; own rules.
-use Rattle.std.specs.Prelude.{◌≡◌, ◌≢◌, ℕ, Bool, true, false, List, [], ◌∷◌, ◌++◌}
+use Rattle.std.specs.Prelude.{◌≡◌, ◌≢◌, ℕ, Bool, true, false, List, ◌++◌}
 use Rattle.http_messages.specs.declared.refusal.ConnFault.{ConnFault}
 use Rattle.filing_model.specs.declared.served.Ended.{Ended}
-use Rattle.filing_model.specs.declared.served.Ended.TheVariants.{InputEnded, Fault}
+use Rattle.filing_model.specs.declared.served.Ended.TheVariants.{Fault}
 use Rattle.filing_model.specs.declared.served.Mark.{Mark}
 use Rattle.filing_model.specs.Prefix.{IsPrefixOf}
 use Rattle.filing_model.specs.Serving.{Keeping}
-use Rattle.ready_connections.specs.Pieces.{Piece}
 use Rattle.ready_connections.specs.declared.why.Why.{Why}
 use Rattle.ready_connections.specs.declared.why.Why.TheVariants.{Done}
 use Rattle.gateway_ports.specs.Ports.{Connection}
 use Rattle.connection_texts.specs.Pieces.{joined_reads, joined_marks, ended_of}
 use Rattle.connection_texts.specs.Places.{HasPlaces, standing_at}
 use Rattle.connection_texts.specs.Seen.{Standing, IsSeen, IsSeenSoFar, Sees}
-
--- Each piece whose input was found to have ended was read whole. What is served by `serve`, or turned away, is so read:
--- both say that nothing is left then.
-abbrev pub AreReadToEnd : List Piece → List Connection → Type 0
-AreReadToEnd [] connections = Unit {0}
-AreReadToEnd (piece ∷ pieces) [] = Unit {0}
-AreReadToEnd (piece ∷ pieces) (connection ∷ connections) =
-    (connection.output.ended ≡ InputEnded → piece.read ≡ connection.read) × AreReadToEnd pieces connections
 
 -- these bytes begin the text of the first arrivals
 abbrev pub SeesFirst : Standing → List ℕ → List Mark → List ℕ → Type 0

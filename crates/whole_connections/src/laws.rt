@@ -9,7 +9,7 @@ ghost use Rattle.ready_connections.specs.Streams.{Traffic};
 ghost use Rattle.gateway_ports.specs.InTurn.{ServeInTurn};
 ghost use Rattle.many_connections.specs.Events.{Seen, Runs};
 ghost use Rattle.intake_process.specs.Turns.{Turn, connections_of, served_in, AreTurnedAway};
-ghost use Rattle.whole_connections.specs.Whole.{AreReadToEnd, HasText, HasTextSoFar, HasWholeText};
+ghost use Rattle.whole_connections.specs.Whole.{HasText, HasTextSoFar, HasWholeText};
 ghost use Rattle.whole_connections.specs.Away.{HasTextOrIsAway, HasTextSoFarOrIsAway};
 ghost use Rattle.whole_connections.specs.Each.{Each, IfKnown};
 
@@ -20,8 +20,7 @@ use ready_connections::Stream;
 /// of memory, ended its last piece.
 pub fn a_whole_connection_gets_its_text<S: Stream>()
     ensures { (requests : Keeping) (seen : Seen) (hall : Hall S) (traffic : Traffic S)
-        → (runs : Runs S.Stream seen hall (Some traffic)) → AreReadToEnd runs.pieces seen.over
-        → ServeInTurn requests seen.over
+        → Runs S.Stream seen hall (Some traffic) → ServeInTurn requests seen.over
         → AllByRecursion (λ gone. gone.why ≡ Done
         → IfKnown S.Stream gone.stream (HasWholeText requests seen.over)) traffic.over }
 {}
@@ -31,8 +30,7 @@ pub fn a_whole_connection_gets_its_text<S: Stream>()
 /// the next one asks for, if that went already.
 pub fn each_connection_gets_its_text<S: Stream>()
     ensures { (requests : Keeping) (seen : Seen) (hall : Hall S) (traffic : Traffic S)
-        → (runs : Runs S.Stream seen hall (Some traffic)) → AreReadToEnd runs.pieces seen.over
-        → ServeInTurn requests seen.over
+        → Runs S.Stream seen hall (Some traffic) → ServeInTurn requests seen.over
         → Each S.Stream (HasText requests seen.over) (HasTextSoFar requests seen.over) hall traffic }
 {}
 
@@ -40,7 +38,7 @@ pub fn each_connection_gets_its_text<S: Stream>()
 /// were served, and if one of them was turned away, that is its last one, and what turning away writes stands behind.
 pub fn each_connection_is_answered<S: Stream>()
     ensures { (requests : Keeping) (turns : List Turn) (seen : Seen) (hall : Hall S) (traffic : Traffic S)
-        → (runs : Runs S.Stream seen hall (Some traffic)) → AreReadToEnd runs.pieces seen.over
-        → connections_of turns ≡ seen.over → ServeInTurn requests (served_in turns) → AreTurnedAway turns
+        → Runs S.Stream seen hall (Some traffic) → connections_of turns ≡ seen.over
+        → ServeInTurn requests (served_in turns) → AreTurnedAway turns
         → Each S.Stream (HasTextOrIsAway requests turns) (HasTextSoFarOrIsAway requests turns) hall traffic }
 {}

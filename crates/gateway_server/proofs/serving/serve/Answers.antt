@@ -1,9 +1,11 @@
 use Rattle.std.proofs.Common.{Option, subst, rules}
+use Rattle.std.specs.Prelude.{IfSome}
 use Rattle.filing_model.specs.declared.served.Ended.{Ended}
 use Rattle.filing_model.specs.Serving.{keeping}
 use Rattle.filing_model.specs.Stopping.{No}
 use Rattle.intake_core.specs.Held.{limit_of, old_style_in}
 use Rattle.http_wire.specs.Wire.{wire}
+use Rattle.gateway_server.specs.Progress.{IsReadToEnd}
 use Rattle.gateway_server.specs.Stopping.{ServesConnectionUntil}
 use Rattle.gateway_server.specs.Written.{WritesTexts}
 use Rattle.gateway_server.proofs.Stopping.{ServesConnection-ended}
@@ -24,6 +26,8 @@ returns g c = record {
   setting = search rules;
   fault = search rules;
   limited = search rules;
+  at_end = subst (λ (how : Option Ended). IfSome how (IsReadToEnd (g.R.Source.left c.serve_until-partly.new.reader)))
+      c.unwrap.ensures c.serve_until-partly.ensures.at_end;
   texts = subst (λ (how : Option Ended). WritesTexts (g.W.Sink.written c.args.writer.now)
       (g.W.Sink.written c.serve_until-partly.new.writer) how) c.unwrap.ensures c.serve_until-partly.ensures.texts;
 }

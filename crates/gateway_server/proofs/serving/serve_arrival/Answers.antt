@@ -10,7 +10,7 @@ use Rattle.http_wire.specs.Wire.{wire}
 use Rattle.gateway_server.specs.Progress.{with_written}
 use Rattle.gateway_server.specs.Stopping.{end_of}
 use Rattle.gateway_server.proofs.Continuing.{HasMessage-next, HasRefusal-next, Serves-end, Serves-fault, is_limit}
-use Rattle.gateway_server.proofs.Ending.{TellsLimit-fault}
+use Rattle.gateway_server.proofs.Ending.{TellsEnd-fault}
 use Rattle.gateway_server.proofs.Written.{WritesTexts-none, WritesTexts-join, WritesTexts-interim, WritesTexts-asked}
 use Rattle.gateway_server.proofs.Written.{WritesTexts-fault}
 use Rattle.gateway_server.proofs.serving.serve_arrival.Goals as goal
@@ -88,8 +88,14 @@ returns-in-Err-clause-serves g c = λ clean now kept. (
 
 pub returns-in-Err-clause-told : goal.returns-in-Err-clause-told
 returns-in-Err-clause-told g c =
-    TellsLimit-fault (wire g.R.Source g.W.Sink c.args.reader.now c.args.writer.now)
-    (wire g.R.Source g.W.Sink c.next.new.reader c.next.new.writer) c.next.new.self c.in-Err.fault c.in-Err.ensures.fault
+    TellsEnd-fault (wire g.R.Source g.W.Sink c.args.reader.now c.args.writer.now)
+    (wire g.R.Source g.W.Sink c.next.new.reader c.next.new.writer) c.next.new.self
+    (g.R.Source.left c.next.new.reader) c.in-Err.fault c.in-Err.ensures.fault
+
+pub returns-in-Ok-End-clause-told : goal.returns-in-Ok-End-clause-told
+returns-in-Ok-End-clause-told g c =
+    let arrival = rw c.in-Ok-End.field-0-is at c.in-Ok-End.ensures.arrival in
+    elim arrival.1 [ inl over ↦ absurd (true≢false (sym over ∙ c.requires.over)) | inr r ↦ r.1 ]
 
 -- ---- what went out
 

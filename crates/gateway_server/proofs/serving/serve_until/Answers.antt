@@ -7,6 +7,7 @@ use Rattle.intake_core.specs.Held.{limit_of, old_style_in}
 use Rattle.http_wire.specs.Wire.{wire}
 use Rattle.gateway_server.specs.Stopping.{IsCountUntil, view_stop}
 use Rattle.gateway_server.proofs.Continuing.{GoesOn-new, Serves-none}
+use Rattle.gateway_server.proofs.Ending.{told_at_end}
 use Rattle.gateway_server.proofs.Stopping.{ComeBefore-none, ServesConnectionUntil-either}
 use Rattle.gateway_server.proofs.Written.{WritesTexts-same}
 use Rattle.gateway_server.proofs.serving.serve_until.Goals as goal
@@ -32,6 +33,9 @@ returns-in-Ok g c = record {
   setting = search rules;
   fault = search rules;
   limited = search rules;
+  at_end =
+      told_at_end c.serve_arrivals-ended.new.inbox (g.R.Source.left c.serve_arrivals-ended.new.reader)
+      c.serve_arrivals-ended.result c.serve_arrivals-ended.ensures.told;
   texts = c.serve_arrivals-ended.ensures.texts;
   counted = search rules;
   never = search rules;
@@ -54,6 +58,7 @@ returns-in-Err g c = record {
   setting = search rules;
   fault = search rules;
   limited = search rules;
+  at_end = λ e. absurd (cc);
   texts = WritesTexts-same (g.W.Sink.written c.args.writer.now) (Some (Fault Memory)) refl;
   counted = search rules;
   never = search rules;

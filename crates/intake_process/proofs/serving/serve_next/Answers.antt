@@ -8,10 +8,17 @@ use Rattle.intake_process.specs.Turns.{AnswersSome}
 use Rattle.intake_process.specs.History.{Passes, said_of}
 use Rattle.intake_process.specs.Observing.{Notes}
 use Rattle.intake_process.proofs.Keeping.{awake}
-use Rattle.intake_process.proofs.Turns.{none, one, between, same}
+use Rattle.intake_process.proofs.Turns.{none, one, between, same, read_to_end}
 use Rattle.intake_process.proofs.Up as up
 use Rattle.intake_process.proofs.History as history
 use Rattle.intake_process.proofs.serving.serve_next.Goals as goal
+
+pub end-requires : goal.end-requires
+end-requires g c =
+    read_to_end (wire g.L.Reader.Source g.L.Writer.Sink c.in-Some.reader c.in-Some.writer)
+    (wire g.L.Reader.Source g.L.Writer.Sink c.answer-answered.new.reader c.answer-answered.new.writer)
+    c.open_again-refusal.new.process.intake c.answer-answered.new.self.intake c.answer-answered.result
+    c.answer-answered.ensures.0
 
 pub returns-in_err-reader-clause-answers : goal.returns-in_err-reader-clause-answers
 returns-in_err-reader-clause-answers g c = λ honest.

@@ -1,15 +1,14 @@
-use Rattle.std.proofs.Common.{◌≡◌, true, false, Some, refl, sym, ap, subst, ◌∙◌, true≢false}
+use Rattle.std.proofs.Common.{◌≡◌, true, false, Some, length, sym, ap, subst, ◌∙◌, true≢false}
 use Rattle.std.specs.Prelude.{◌≢◌, not}
 use Rattle.std.proofs.Math.Logic.{∥∥₁_map}
 use Rattle.gateway_ports.specs.Ports.{Adds}
 use Rattle.many_connections.specs.PieceReader.{bytes_left}
 use Rattle.many_connections.specs.declared.event.Event.TheVariants.{Over}
 use Rattle.many_connections.specs.Events.{Runs, Seen, after_event, seen_after}
-use Rattle.many_connections.proofs.Seeing.{seen_more, not_false, all_left, adds, piece_back}
+use Rattle.many_connections.proofs.Seeing.{seen_more, adds, piece_back}
 use Rattle.filing_model.specs.declared.served.Ended.TheVariants.{InputEnded}
 use Rattle.many_connections.proofs.many.ManyPort.end.Goals as goal
-use Rattle.many_connections.proofs.many.ManyPort.end.Goals.{then-left-eq0+in-InputEnded, then-left-eq0+in_default}
-use Rattle.many_connections.proofs.many.ManyPort.end.Goals.{else-left-eq0}
+use Rattle.many_connections.proofs.many.ManyPort.end.Goals.{in-InputEnded, in_default}
 
 pub invariant_of-self : goal.invariant_of-self
 invariant_of-self g c =
@@ -18,27 +17,24 @@ invariant_of-self g c =
     let is =
     seen_more old.events.items c.and-self.result.items
     (Over c.left-left.result c.into_text-text.result c.args.served, true) c.and-self.ensures in
-    let stays_open : not c.if-left-eq0.is_open ≡ false
-    → (c.left-left.result ≡ 0) × (c.args.served.ended ≡ InputEnded) = λ shut.
-    elim c.if-left-eq0.branch [
-      | then-left-eq0+in-InputEnded w ↦ (w.if-left-eq0.true, w.in-InputEnded.is)
-      | then-left-eq0+in_default w ↦ absurd (true≢false (sym (ap not w.is_open-is) ∙ shut))
-      | else-left-eq0 w ↦ absurd (w.if-left-eq0.false (all_left c.left-left.result (sym w.is_open-is
-          ∙ not_false c.if-left-eq0.is_open shut)))
+    let none_left : c.args.served.ended ≡ InputEnded → c.left-left.result ≡ 0 = λ ended.
+    c.left-left.ensures ∙ ap length (c.requires ended) in
+    let stays_open : not c.match-matches.matches ≡ false → c.args.served.ended ≡ InputEnded = λ shut.
+    elim c.match-matches.branch [
+      | in-InputEnded w ↦ w.in-InputEnded.is
+      | in_default w ↦ absurd (true≢false (sym (ap not w.matches-is) ∙ shut))
     ] in
-    let closes : not c.if-left-eq0.is_open ≡ true → c.args.served.ended ≡ InputEnded → c.left-left.result ≢ 0 =
-    λ closing ended none.
-    elim c.if-left-eq0.branch [
-      | then-left-eq0+in-InputEnded w ↦ true≢false (sym (sym (ap not w.is_open-is) ∙ closing))
-      | then-left-eq0+in_default w ↦ w.in_default.not-InputEnded ended
-      | else-left-eq0 w ↦ w.if-left-eq0.false none
+    let closes : not c.match-matches.matches ≡ true → c.args.served.ended ≢ InputEnded = λ closing ended.
+    elim c.match-matches.branch [
+      | in-InputEnded w ↦ true≢false (sym (sym (ap not w.matches-is) ∙ closing))
+      | in_default w ↦ w.in_default.not-InputEnded ended
     ] in
     record {
       runs = ∥∥₁_map old.runs (λ runs. subst (λ (after : Seen). Runs g.S.Stream after c.give_back.new.self
           (g.K.Sockets.traffic old.sockets)) (sym is)
           (piece_back g.S.Stream seen old.hall c.give_back.new.self (g.K.Sockets.traffic old.sockets)
-          c.left-left.result c.into_text-text.result c.into_bytes.result c.args.served (not c.if-left-eq0.is_open)
-          (sym c.is_out.ensures ∙ c.if-not-is_out.false) c.into_bytes.ensures stays_open closes
+          c.left-left.result c.into_text-text.result c.into_bytes.result c.args.served (not c.match-matches.matches)
+          (sym c.is_out.ensures ∙ c.if-not-is_out.false) c.into_bytes.ensures none_left stays_open closes
           c.give_back.ensures.running runs));
     }
 
