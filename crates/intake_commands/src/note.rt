@@ -6,7 +6,7 @@ use std::io::Write;
 /// The text for a register whose database refused a call.
 const DOWN: &str = concat!(
     "the database failed, as on a full disk: what was answered is kept; ",
-    "it is opened again before the next connection, and until it is open a request gets 503",
+    "it is opened again before the next request, and until it is open a request gets 503",
 );
 
 /// What becomes of requests until then.

@@ -1,13 +1,14 @@
 -- What one thing that happens in a hall changes of what holds of all its connections.
 use Rattle.std.proofs.Common.{◌≡◌, ◌≢◌, ◌⊎◌, inl, inr, ℕ, zero, suc, ◌+◌, ◌<◌, ◌≤◌, Bool, true, false, List, [], ◌∷◌}
-use Rattle.std.proofs.Common.{◌++◌, length, get_or, set}
+use Rattle.std.proofs.Common.{◌++◌, length, get_or, set, take}
 use Rattle.std.proofs.Common.{Option, Some, None, IfSome, refl, sym, ap, ◌∙◌, arith, length-append, Vec}
 use Rattle.std.proofs.Common.{Global, vec_len}
 use Rattle.std.specs.Prelude.{option_map, is_some}
 use Rattle.std.specs.List.{AllByRecursion, sum_by}
-use Rattle.std.proofs.lemmas.Bool.Decides.{eqb_tells}
-use Rattle.std.proofs.lemmas.List.{get_or-set_same, get_or-set_other}
-use Rattle.std.proofs.lemmas.List.Sums.{sum_by-set, sum_by-cons}
+use Rattle.std.proofs.lemmas.Bool.Decides.{eqb_tells, leb_tells}
+use Rattle.std.proofs.lemmas.List.{get_or-set_same, get_or-set_other, get_or-take, get_or_past, length-take}
+use Rattle.std.proofs.lemmas.List.{length-take-le}
+use Rattle.std.proofs.lemmas.List.Sums.{sum_by-set, sum_by-cons, sum_by-append}
 use Rattle.std.proofs.Math.ListN.{length-set}
 use Rattle.ready_connections.specs.declared.stream.Stream.{Ghosts}
 use Rattle.ready_connections.specs.declared.connection.Connection.{Connection}
@@ -42,6 +43,29 @@ some_within : {X : Type 0} (xs : List (Option X)) (i : ℕ) (x : X) → get_or x
 some_within [] i x is = absurd (let h = is in cc)
 some_within (y ∷ xs) zero x is = omega arith
 some_within (y ∷ xs) (suc i) x is = let h = some_within xs i x is in omega (arith, h)
+
+-- a list with one more default reads as before
+one_more : {X : Type 0} (xs : List X) (d : X) (i : ℕ) → get_or (xs ++ d ∷ []) i d ≡ get_or xs i d
+one_more [] d zero = refl
+one_more [] d (suc i) = refl
+one_more (x ∷ xs) d zero = refl
+one_more (x ∷ xs) d (suc i) = one_more xs d i
+
+-- Free places behind the last one that is taken were left out or added, while no piece is out, and nothing else is
+-- changed that matters here.
+pub record KeepsTaken {S : Type 0} (old new : Hall S) : Type 0 where
+  pub places : (i : ℕ) → get_or new.places.items i None ≡ get_or old.places.items i None
+  pub turns : (i : ℕ) (c : Connection S) → get_or old.places.items i None ≡ Some c
+      → get_or new.has_turn.items i false ≡ get_or old.has_turn.items i false
+  pub turns_len : length old.has_turn.items ≡ length old.places.items
+      → length new.has_turn.items ≡ length new.places.items
+  pub within : length old.places.items ≤ old.bounds.places → length new.places.items ≤ new.bounds.places
+  pub count : (f : Option (Connection S) → ℕ) → f None ≡ 0 → sum_by f new.places.items ≡ sum_by f old.places.items
+  pub was_out : old.out ≡ None
+  pub out : new.out ≡ None
+  pub bounds : new.bounds ≡ old.bounds
+  pub left : new.left ≡ old.left
+  pub short : old.is_short ≡ true → new.is_short ≡ true
 
 -- ---- bounds
 
@@ -110,14 +134,6 @@ module _ {S : Type 0} where
 
   -- ---- places
 
-  -- a function of places that is 0 of those that are free
-  none_counted : (f : Option (Connection S) → ℕ) (places : List (Option (Connection S))) → f None ≡ 0
-      → AllByRecursion (λ place. place ≡ None) places → sum_by f places ≡ 0
-  none_counted f [] none all = refl
-  none_counted f (place ∷ places) none all =
-      sum_by-cons f place places
-      ∙ (let h = none_counted f places none all.1 in let e = ap f all.0 ∙ none in omega (arith, h, e))
-
   -- a place that is taken counts
   pub one_taken : (places : List (Option (Connection S))) (i : ℕ) (c : Connection S) → get_or places i None ≡ Some c
       → 1 ≤ taken_places places
@@ -137,11 +153,21 @@ module _ {S : Type 0} where
       let e = zero_taken places (λ i low. none (suc i) (omega (arith, low))) in
       omega (arith, h, here, e)
 
-  all_none_at : (places : List (Option (Connection S))) (i : ℕ) → AllByRecursion (λ place. place ≡ None) places
-      → get_or places i None ≡ None
-  all_none_at [] i all = refl
-  all_none_at (place ∷ places) zero all = all.0
-  all_none_at (place ∷ places) (suc i) all = all_none_at places i all.1
+  -- behind the last place that is taken nothing counts
+  pub sum_used : (f : Option (Connection S) → ℕ) (places : List (Option (Connection S))) (used : ℕ) → f None ≡ 0
+      → ((i : ℕ) → used ≤ i → get_or places i None ≡ None) → sum_by f (take used places) ≡ sum_by f places
+  sum_used f [] zero none free = refl
+  sum_used f [] (suc used) none free = refl
+  sum_used f (place ∷ places) zero none free =
+      let rest = sum_used f places zero none (λ i low. free (suc i) (omega arith)) in
+      let first = sum_by-cons f place places in
+      let here = ap f (free 0 (omega arith)) ∙ none in
+      omega (arith, rest, first, here)
+  sum_used f (place ∷ places) (suc used) none free =
+      let rest = sum_used f places used none (λ i low. free (suc i) (omega (arith, low))) in
+      let all = sum_by-cons f place places in
+      let some = sum_by-cons f place (take used places) in
+      omega (arith, rest, all, some)
 
   -- a place and its turn were written
   pub puts_set : (old new : Hall S) (place : ℕ) (slot : Option (Connection S)) (b : Bool)
@@ -202,6 +228,63 @@ module _ {S : Type 0} where
     bounds = same.bounds ∙ leaves.bounds;
     left = same.left ∙ leaves.left;
     short = λ is. same.short (leaves.short is);
+  }
+
+  -- the last places were left out as far as they are free
+  pub trimmed : (old new : Hall S) (used : ℕ) → used ≤ length old.places.items
+      → ((i : ℕ) → used ≤ i → get_or old.places.items i None ≡ None)
+      → new.places.items ≡ take used old.places.items → new.has_turn.items ≡ take used old.has_turn.items
+      → old.out ≡ None → new.out ≡ old.out → new.bounds ≡ old.bounds → new.left ≡ old.left
+      → new.is_short ≡ old.is_short → KeepsTaken old new
+  trimmed old new used low free places turns none out bounds left short = record {
+    places = λ i. rw places (elim (leb_tells used i) [
+      | inl high ↦ get_or_past (take used old.places.items) i None (omega (arith, len, high.1)) ∙ sym (free i high.1)
+      | inr below ↦ get_or-take used old.places.items i None below.1
+    ]);
+    turns = λ i c there. rw turns (get_or-take used old.has_turn.items i false (elim (leb_tells used i) [
+      | inl high ↦ absurd (let h : None ≡ Some c = sym (free i high.1) ∙ there in cc)
+      | inr below ↦ below.1
+    ]));
+    turns_len = λ same.
+        let has = length-take used old.has_turn.items in
+        omega (arith, has, len, low, same, ap length turns, ap length places);
+    within = λ most. rw bounds (omega (arith, most, low, len, ap length places));
+    count = λ f zero. ap (λ l. sum_by f l) places ∙ sum_used f old.places.items used zero free;
+    was_out = none;
+    out = out ∙ none;
+    bounds = bounds;
+    left = left;
+    short = λ is. short ∙ is;
+  }
+    where
+      len : length (take used old.places.items) ≡ used
+      len = length-take-le used old.places.items low
+
+  -- a free place was added behind the last one
+  pub added : (old new : Hall S) → new.places.items ≡ old.places.items ++ None ∷ []
+      → new.has_turn.items ≡ old.has_turn.items ++ false ∷ [] → length old.places.items < old.bounds.places
+      → old.out ≡ None → new.out ≡ old.out → new.bounds ≡ old.bounds → new.left ≡ old.left
+      → new.is_short ≡ old.is_short → KeepsTaken old new
+  added old new places turns low none out bounds left short = record {
+    places = λ i. rw places (one_more old.places.items None i);
+    turns = λ i c there. rw turns (one_more old.has_turn.items false i);
+    turns_len = λ same.
+        let has = length-append old.has_turn.items (false ∷ []) in
+        let all = length-append old.places.items (None ∷ []) in
+        omega (arith, has, all, same, ap length turns, ap length places);
+    within = λ most.
+        let all = length-append old.places.items (None ∷ []) in
+        rw bounds (omega (arith, low, all, ap length places));
+    count = λ f zero.
+        let all = sum_by-append f old.places.items (None ∷ []) in
+        let last = sum_by-cons f None [] in
+        let same = ap (λ l. sum_by f l) places in
+        omega (arith, all, last, same, zero);
+    was_out = none;
+    out = out ∙ none;
+    bounds = bounds;
+    left = left;
+    short = λ is. short ∙ is;
   }
 
   pub gives_twice : (old more new : Hall S) → GivesTurns old more → GivesTurns more new → GivesTurns old new
@@ -313,6 +396,7 @@ module _ {S N : Type 0} (s : Ghosts S N) where
       → AreRunning s done None Rests old traffic → AreRunning s done None Rests' new traffic'
   stays done Rests Rests' old new traffic traffic' place c' has_turn low none puts so at over running = record {
     turns = omega (arith, puts.turns_len, puts.len, running.turns);
+    within = rw (puts.len, puts.bounds) running.within;
     in_place = put done done Rests Rests' old new place (Some c') has_turn (omega (arith, low, running.turns))
         (rests_so Rests Rests' done so) puts at running.in_place;
     is_out = rw (puts.out, none) tt;
@@ -449,6 +533,7 @@ module _ {S N : Type 0} (s : Ghosts S N) where
       → KeepsAll old new → IsRunning s done read old traffic → IsRunning s done read new traffic
   kept done read old new traffic same running = record {
     turns = rw (same.turns, same.places) running.turns;
+    within = rw (same.places, same.bounds) running.within;
     in_place = λ i.
         all (IsResting s new) (rests_still old new same.short same.bounds (omega (arith, ap lent_places same.places)))
         i;
@@ -471,6 +556,40 @@ module _ {S N : Type 0} (s : Ghosts S N) where
       over (Some known) h = record {
         told = rw same.bounds h.told;
         none_lost = rw (same.places, same.out) h.none_lost;
+        in_all = rw (same.left, same.bounds) h.in_all;
+      }
+
+  -- free places behind the last one that is taken were left out or added, and nothing else is changed
+  pub lined : (done : List Piece) (old new : Hall S) (traffic : Option (Traffic S)) → KeepsTaken old new
+      → IsRunning s done None old traffic → IsRunning s done None new traffic
+  lined done old new traffic same running = record {
+    turns = same.turns_len running.turns;
+    within = same.within running.within;
+    in_place = λ i. rw (same.places i)
+        (each i (get_or old.places.items i None) refl (running.in_place i));
+    is_out = rw same.out tt;
+    over = over traffic running.over;
+  }
+    where
+      so : (it : Connection S) → IsResting s old it → IsResting s new it
+      so = rests_still old new same.short same.bounds (omega (arith, same.count lent refl))
+
+      each : (i : ℕ) (slot : Option (Connection S)) → get_or old.places.items i None ≡ slot
+          → IfSome slot (IsInPlace s done (IsResting s old) (get_or old.has_turn.items i false))
+          → IfSome slot (IsInPlace s done (IsResting s new) (get_or new.has_turn.items i false))
+      each i None is at = tt
+      each i (Some it) is at =
+          rw (same.turns i it is) (rests_so (IsResting s old) (IsResting s new) done so _ it at)
+
+      over : (traffic : Option (Traffic S)) → IfSome traffic (AreOver s done old) → IfSome traffic (AreOver s done new)
+      over None h = tt
+      over (Some known) h = record {
+        told = rw same.bounds h.told;
+        none_lost =
+            let count = same.count taken refl in
+            let none = ap out_count same.out in
+            let before = ap out_count same.was_out in
+            omega (arith, h.none_lost, count, none, before);
         in_all = rw (same.left, same.bounds) h.in_all;
       }
 
@@ -516,6 +635,7 @@ module _ {S N : Type 0} (s : Ghosts S N) where
       =
       record {
         turns = omega (arith, puts.turns_len, puts.len, running.turns, gives.turns_len, ap length gives.places);
+        within = rw (gives.places, puts.len, gives.bounds, puts.bounds) running.within;
         in_place = put_by done Rests Rests' old left new place puts gives.places others running.in_place;
         is_out = rw (gives.out, puts.out, none) tt;
         over = rw ends (over traffic running.over);
@@ -562,6 +682,7 @@ module _ {S N : Type 0} (s : Ghosts S N) where
   handed_out done read Rests Rests' old left new traffic place c c' low none was puts same turns_len same_bounds
       same_left is_out others step bound running = record {
         turns = omega (arith, puts.turns_len, puts.len, running.turns, turns_len, ap length same);
+        within = rw (same, puts.len, same_bounds, puts.bounds) running.within;
         in_place = put_by done Rests Rests' old left new place puts same others running.in_place;
         is_out = rw (is_out, same) (step here.told, bound here.bounded, omega (arith, low, puts.len), puts.here);
         over = over traffic running.over;
@@ -594,6 +715,7 @@ module _ {S N : Type 0} (s : Ghosts S N) where
   came done Rests Rests' old counted new traffic traffic' place c low none free same same_turns same_out same_bounds
       one_less puts comes so served bounded running = record {
         turns = omega (arith, puts.turns_len, puts.len, ap length same, ap length same_turns, running.turns);
+        within = rw (puts.len, same, puts.bounds, same_bounds) running.within;
         in_place = put done done Rests Rests' counted new place (Some c) true
             (rw same_turns (omega (arith, low, running.turns))) (rests_so Rests Rests' done so) puts
             (record { told = served; bounded = bounded; awake = inl refl }) (rw (same, same_turns) running.in_place);
@@ -622,6 +744,7 @@ module _ {S N : Type 0} (s : Ghosts S N) where
       → AreRunning s done None Rests' new traffic
   asked done Rests Rests' old new traffic gives so none running = record {
     turns = omega (arith, ap length gives.places, gives.turns_len, running.turns);
+    within = rw (gives.places, gives.bounds) running.within;
     in_place = λ i. rw gives.places (keep i (get_or old.places.items i None) (running.in_place i));
     is_out = rw (gives.out, none) tt;
     over = over traffic running.over;
@@ -657,6 +780,7 @@ module _ {S N : Type 0} (s : Ghosts S N) where
   came_back done read back old taken_ new traffic out c' is_out same same_turns same_bounds same_left same_short none
       puts step bound running = record {
         turns = omega (arith, puts.turns_len, puts.len, ap length same, ap length same_turns, running.turns);
+        within = rw (puts.len, same, puts.bounds, same_bounds) running.within;
         in_place = put done (done ++ back ∷ []) (IsResting s old) (IsResting s new) taken_ new out.place (Some c') true
             (rw same_turns (omega (arith, was.2, running.turns)))
             (λ b c at.
@@ -702,12 +826,12 @@ module _ {S N : Type 0} (s : Ghosts S N) where
 
   -- no connection came yet
   pub none_yet : (Rests : Connection S → Type 0) (hall : Hall S) (traffic : Option (Traffic S)) → IsEmpty traffic
-      → AllByRecursion (λ place. place ≡ None) hall.places.items
-      → length hall.has_turn.items ≡ length hall.places.items → hall.out ≡ None → hall.left ≡ hall.bounds.connections
+      → hall.places.items ≡ [] → hall.has_turn.items ≡ [] → hall.out ≡ None → hall.left ≡ hall.bounds.connections
       → AreRunning s [] None Rests hall traffic
-  none_yet Rests hall traffic empty free len none all = record {
-    turns = len;
-    in_place = λ i. rw (all_none_at hall.places.items i free) tt;
+  none_yet Rests hall traffic empty free no_turns none all = record {
+    turns = rw (no_turns, free) refl;
+    within = rw free (omega arith);
+    in_place = λ i. rw free tt;
     is_out = rw none tt;
     over = over traffic empty;
   }
@@ -717,7 +841,7 @@ module _ {S N : Type 0} (s : Ghosts S N) where
       over (Some known) h = record {
         told = rw h.1 tt;
         none_lost =
-            let none_there : taken_places hall.places.items ≡ 0 = none_counted taken hall.places.items refl free in
+            let none_there : taken_places hall.places.items ≡ 0 = rw free refl in
             let none_out = ap out_count none in
             let count = ap length h.1 in
             omega (arith, h.0, none_there, none_out, count);

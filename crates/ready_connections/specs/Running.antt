@@ -60,10 +60,11 @@ pub record AreOver {S N : Type 0} (s : Ghosts S N) (done : List Piece) (hall : H
   pub in_all : traffic.came + hall.left ≡ hall.bounds.connections
 
 -- The connections of the hall after these pieces were handed out and came back, while the piece with these bytes is
--- out, if one is. One that has not its turn rests for one of these reasons.
+-- out, if one is. One that has not its turn rests for one of these reasons. No more are served at once than may be.
 pub record AreRunning {S N : Type 0} (s : Ghosts S N) (done : List Piece) (read : Option (List ℕ))
     (Rests : Connection S → Type 0) (hall : Hall S) (traffic : Option (Traffic S)) : Type 0 where
   pub turns : length hall.has_turn.items ≡ length hall.places.items
+  pub within : length hall.places.items ≤ hall.bounds.places
   pub in_place : (i : ℕ) → IfSome (slice_index_or hall.places.items i None)
       (IsInPlace s done Rests (slice_index_or hall.has_turn.items i false))
   pub is_out : IsOutOf s done read hall.out hall.places.items

@@ -307,13 +307,18 @@ fn without_interim(mut output: Vec<u8>, is_early: bool) -> Vec<u8>
     output
 }
 
-/// Drops the first bytes.
+/// Drops the first bytes. If none is left, their memory is let go.
 fn drop_front(bytes: &mut Vec<u8>, count: usize)
     requires { count ≤ vec_len bytes.old }
     ensures items { bytes.new.items ≡ drop count bytes.old.items }
     ensures len { vec_len bytes.new + count ≡ vec_len bytes.old }
 {
     let left = bytes.len() - count;
+    if left == 0 {
+        bytes.clear();
+        bytes.shrink_to_fit();
+        return;
+    }
     bytes.rotate_left(count);
     bytes.truncate(left);
 }

@@ -37,8 +37,10 @@ pub struct Hall<S> {
     pub(crate) bounds: Bounds,
     /// How many connections are still to come.
     pub(crate) left: u32,
+    /// The places up to the last one that was taken when the system was asked, or is taken since. Those behind it are
+    /// free, and cost nothing.
     pub(crate) places: Vec<Option<Connection<S>>>,
-    /// Which places have their turn.
+    /// Which of them have their turn.
     pub(crate) has_turn: Vec<bool>,
     /// The place from which on the next turn is given, and how many turns are given before the system is asked again.
     pub(crate) next: usize,
@@ -61,17 +63,13 @@ impl<S: Stream + Drop> Hall<S> {
             → IsRunning S.Stream [] None hall traffic) }
         ensures bounds { IfOk result (λ hall. hall.bounds ≡ bounds) }
     {
-        let mut free = Vec::new(alloc);
-        let mut has_turn = Vec::new(alloc);
-        for _ in 0..bounds.places {
-            free.push(None)?;
-            has_turn.push(false)?;
-        }
+        let places = Vec::with_capacity(alloc, bounds.places)?;
+        let has_turn = Vec::with_capacity(alloc, bounds.places)?;
         Ok(Hall {
             alloc,
             bounds,
             left: bounds.connections,
-            places: free,
+            places,
             has_turn,
             next: 0,
             turns_left: 0,
@@ -90,7 +88,7 @@ impl<S: Stream + Drop> Hall<S> {
         self.out.is_some()
     }
 
-    /// Whether no connection comes any more: as many came as were to come, and all are over.
+    /// Whether all connections came that were to come, and all are over.
     pub fn is_shut(&self) -> bool
         ensures { result ≡ is_shut self.now }
     {
@@ -321,11 +319,25 @@ impl<S: Stream + Drop> Hall<S> {
         ensures out { self.new.out ≡ None }
         ensures bounds { self.new.bounds ≡ self.old.bounds }
     {
+        self.trim();
         let wait = self.wait_at_most(sockets, wait);
-        self.turns_left = self.places.len();
+        self.turns_left = self.bounds.places;
         sockets.ask(&mut self.has_turn, wait)?;
         self.call_late(sockets);
         self.admit(sockets)
+    }
+
+    /// Leaves the last places out, as far as they are free.
+    fn trim(&mut self)
+        requires { self.old.out ≡ None }
+        ensures running { (done : List Piece) (traffic : Option (Traffic S))
+            → IsRunning S.Stream done None self.old traffic → IsRunning S.Stream done None self.new traffic }
+        ensures out { self.new.out ≡ None }
+        ensures bounds { self.new.bounds ≡ self.old.bounds }
+    {
+        let used = count_used(&self.places);
+        self.places.truncate(used);
+        self.has_turn.truncate(used);
     }
 
     /// How long to wait at most: not at all if a connection has its turn, and a little if those that have it wait until
@@ -382,7 +394,8 @@ impl<S: Stream + Drop> Hall<S> {
         Some(since.saturating_add(self.bounds.patience?))
     }
 
-    /// Gives connections that came the places that are free, as long as some are to come.
+    /// Gives connections that came the places that are free, as long as some are to come. One goes on waiting if there
+    /// is no memory for a place.
     fn admit<P: Sockets<Stream = S>>(&mut self, sockets: &mut P) -> io::Result<()>
         requires { self.old.out ≡ None }
         ensures running { (done : List Piece) → IsRunning S.Stream done None self.old (P.traffic sockets.old)
@@ -390,8 +403,11 @@ impl<S: Stream + Drop> Hall<S> {
         ensures out { self.new.out ≡ None }
         ensures bounds { self.new.bounds ≡ self.old.bounds }
     {
-        for place in 0..self.places.len() {
+        for place in 0..self.bounds.places {
             if self.left == 0 {
+                return Ok(());
+            }
+            if !self.has_place(place) {
                 return Ok(());
             }
             if self.places[place].is_none() {
@@ -403,6 +419,28 @@ impl<S: Stream + Drop> Hall<S> {
             }
         }
         Ok(())
+    }
+
+    /// Whether there is this place. If it would come behind the last one, it is added, unless there is no memory for it.
+    fn has_place(&mut self, place: usize) -> bool
+        requires place { place < self.old.bounds.places }
+        requires out { self.old.out ≡ None }
+        ensures running { (done : List Piece) (traffic : Option (Traffic S))
+            → IsRunning S.Stream done None self.old traffic → IsRunning S.Stream done None self.new traffic }
+        ensures there { IsTrue result → place < vec_len self.new.places }
+        ensures out { self.new.out ≡ None }
+        ensures bounds { self.new.bounds ≡ self.old.bounds }
+        ensures left { self.new.left ≡ self.old.left }
+    {
+        if place < self.places.len() {
+            return true;
+        }
+        if self.places.reserve(1).is_err() || self.has_turn.reserve(1).is_err() {
+            return false;
+        }
+        self.places.push_reserved(None);
+        self.has_turn.push_reserved(false);
+        place < self.places.len()
     }
 
     /// Takes back the output of the piece that is out, which its connection gets, and notes what became of it. After
@@ -477,6 +515,18 @@ fn lent_in<S>(place: &Option<Connection<S>>) -> usize
         Some(connection) => usize::from(connection.is_lent),
         None => 0,
     }
+}
+
+/// How many places there are up to the last one that has a connection.
+fn count_used<S>(places: &[Option<Connection<S>>]) -> usize
+    ensures within { result ≤ length places.now }
+    ensures free { (place : ℕ) → result ≤ place → slice_index_or places.now place None ≡ None }
+{
+    let mut used = places.len();
+    while used > 0 && places[used - 1].is_none() {
+        used -= 1;
+    }
+    used
 }
 
 /// Whether no place has a connection.

@@ -15,24 +15,32 @@ pub loop-place-preserved : goal.loop-place-preserved
 loop-place-preserved g c = elim c.if-is_none.branch [
   | then-is_none+in_ok-stream+in-Some w ↦ rw (w.self-is, w.sockets-is) (record {
     running = λ done running.
-        let old = c.loop-place.self in
+        let old = c.has_place.new.self in
         let low : c.loop-place.place < length old.places.items =
-        grind (arith, common_steps, c.loop-place-test.true, c.len-place-end.ensures) in
+        grind (arith, common_steps, c.has_place.ensures.there, c.if-not-has_place.false, c.if-not-has_place.ensures) in
         let free = free_at old.places.items c.loop-place.place c.index.result.now c.is_none.result c.index.ensures
         c.is_none.ensures w.if-is_none.true in
-        let one_less : old.left - 1 + 1 ≡ old.left = omega (arith, c.if-self-eq0.false) in
+        let one_less : old.left - 1 + 1 ≡ old.left = omega (
+          arith,
+          c.if-self-eq0.false,
+          c.has_place.ensures.left,
+        ) in
         let comes = rw w.in-Some.is at w.in_ok-stream.ensures in
         came g.S.Stream done _ _ old _ w.enter.new.self (g.P.Sockets.traffic c.loop-place.sockets)
-        (g.P.Sockets.traffic w.accept.new.self) c.loop-place.place w.new.result low c.loop-place.invariant.out free
+        (g.P.Sockets.traffic w.accept.new.self) c.loop-place.place w.new.result low c.has_place.ensures.out free
         refl refl refl refl one_less w.enter.ensures comes.1
         (rests_still g.S.Stream old w.enter.new.self w.enter.ensures.short w.enter.ensures.bounds
         (let count = count_lent _ w.enter.new.self c.loop-place.place (Some w.new.result) None true w.enter.ensures
         free in
         omega (arith, count))) (w.new.ensures.told done)
-        (bounded_new done w.new.result w.new.ensures.held w.new.ensures.owed) (c.loop-place.invariant.running done
-        running);
-    out = w.enter.ensures.out ∙ c.loop-place.invariant.out;
-    bounds = w.enter.ensures.bounds ∙ c.loop-place.invariant.bounds;
+        (bounded_new done w.new.result w.new.ensures.held w.new.ensures.owed) (c.has_place.ensures.running done _
+        (c.loop-place.invariant.running done running));
+    out = w.enter.ensures.out ∙ c.has_place.ensures.out;
+    bounds = w.enter.ensures.bounds ∙ c.has_place.ensures.bounds ∙ c.loop-place.invariant.bounds;
   })
-  | else-is_none w ↦ rw (w.self-is, w.sockets-is) c.loop-place.invariant
+  | else-is_none w ↦ rw (w.self-is, w.sockets-is) (record {
+    running = λ done running. c.has_place.ensures.running done _ (c.loop-place.invariant.running done running);
+    out = c.has_place.ensures.out;
+    bounds = c.has_place.ensures.bounds ∙ c.loop-place.invariant.bounds;
+  })
 ]

@@ -7,7 +7,7 @@ use Rattle.ready_connections.proofs.hall.Hall.ask.Goals as goal
 
 pub returns-clause-running : goal.returns-clause-running
 returns-clause-running g c done running =
-    let old = c.args.self.now in
+    let old = c.trim.new.self in
     let items : length old.has_turn.items ≡ vec_len old.has_turn = grind (arith, common_steps) in
     let len : length c.ask.new.has_turn ≡ vec_len old.has_turn =
     c.ask.auto.has_turn ∙ ap length c.deref_mut.ensures.value ∙ items in
@@ -24,4 +24,4 @@ returns-clause-running g c done running =
     }) c.call_late.ensures.gives)
     (rests_still g.S.Stream old c.call_late.new.self (λ is. c.call_late.ensures.short ∙ is)
     c.call_late.ensures.gives.bounds (let same = ap lent_places c.call_late.ensures.gives.places in omega
-    (arith, same))) c.requires running))
+    (arith, same))) c.trim.ensures.out (c.trim.ensures.running done _ running)))

@@ -1,0 +1,14 @@
+use Rattle.std.proofs.Common.{◌≡◌, ◌≤◌, ℕ, length, get_or, None, refl}
+use Rattle.ready_connections.proofs.Halls.{lined, trimmed}
+use Rattle.ready_connections.proofs.hall.Hall.trim.Goals as goal
+
+pub returns-clause-running : goal.returns-clause-running
+returns-clause-running g c done traffic running =
+    let old = c.args.self.now in
+    let used = c.count_used-used.result in
+    let within : used ≤ length old.places.items = rw c.deref.ensures.value at c.count_used-used.ensures.within in
+    let free : (i : ℕ) → used ≤ i → get_or old.places.items i None ≡ None =
+    λ i high. rw c.deref.ensures.value at (c.count_used-used.ensures.free i high) in
+    lined g.S.Stream done old _ traffic
+    (trimmed old _ used within free c.truncate.ensures.items c.truncate-2.ensures.items c.requires refl refl refl
+    refl) running
