@@ -17,6 +17,14 @@ IsAfterTurn s done (Over why) c =
     IsServed s done c × IsEnd s None why c.stream c.held.bytes.items c.owed.items c.is_closing
 IsAfterTurn s done (HandsOut piece) c = IsOut s done piece.items c
 
+-- no piece is handed out
+abbrev pub HandsNone : Turn → Type 0
+HandsNone Again = Unit {0}
+HandsNone Waits = Unit {0}
+HandsNone Short = Unit {0}
+HandsNone (Over why) = Unit {0}
+HandsNone (HandsOut piece) = ⊥
+
 -- none takes a loan in its turn, and one is given back only if a piece is handed out or the connection is over
 abbrev pub KeepsLoan : Turn → Bool → Bool → Type 0
 KeepsLoan Again was_lent is_lent = is_lent ≡ was_lent

@@ -6,7 +6,7 @@ ghost use Rattle.request_pieces.specs.Pieces.{IsLast};
 ghost use Rattle.ready_connections.specs.Arriving.{IsFresh};
 ghost use Rattle.ready_connections.specs.Pieces.{Piece, IsWhole, text_left};
 ghost use Rattle.ready_connections.specs.Connections.{IsServed, IsOut, HoldsNoPiece, HoldsWithin, piece_back};
-ghost use Rattle.ready_connections.specs.Turns.{IsAfterTurn, KeepsLoan};
+ghost use Rattle.ready_connections.specs.Turns.{IsAfterTurn, HandsNone, KeepsLoan};
 
 use crate::held::{Found, Held};
 use crate::stream::{Got, Stream};
@@ -97,8 +97,27 @@ impl<S: Stream> Connection<S> {
         stream
     }
 
+    /// Goes on, or only writes what it owes.
+    pub(crate) fn take_turn(&mut self, alloc: Global, room: &mut [u8], only_writes: bool) -> Turn
+        ensures told { (done : List Piece) → IsServed S.Stream done self.old
+            → IsAfterTurn S.Stream done result self.new }
+        ensures writes { only_writes ≡ true → HandsNone result }
+        ensures held { (read : ℕ) → length room.old ≤ read → HoldsWithin read self.old → HoldsWithin read self.new }
+        ensures lent { KeepsLoan result self.old.is_lent self.new.is_lent }
+        ensures owed { (most : ℕ) → length interim ≤ most → vec_len self.old.owed ≤ most
+            → vec_len self.new.owed ≤ most }
+    {
+        if !only_writes {
+            return self.go_on(alloc, room);
+        }
+        if self.owed.is_empty() {
+            return Turn::Again;
+        }
+        self.write()
+    }
+
     /// Goes on until it waits, is over, hands a piece out, or has had its share.
-    pub(crate) fn go_on(&mut self, alloc: Global, room: &mut [u8]) -> Turn
+    fn go_on(&mut self, alloc: Global, room: &mut [u8]) -> Turn
         ensures told { (done : List Piece) → IsServed S.Stream done self.old
             → IsAfterTurn S.Stream done result self.new }
         ensures held { (read : ℕ) → length room.old ≤ read → HoldsWithin read self.old → HoldsWithin read self.new }
@@ -151,6 +170,7 @@ impl<S: Stream> Connection<S> {
         requires { 0 < vec_len self.old.owed }
         ensures told { (done : List Piece) → IsServed S.Stream done self.old
             → IsAfterTurn S.Stream done result self.new }
+        ensures writes { HandsNone result }
         ensures held { (read : ℕ) → HoldsWithin read self.old → HoldsWithin read self.new }
         ensures lent { KeepsLoan result self.old.is_lent self.new.is_lent }
         ensures owed { vec_len self.new.owed ≤ vec_len self.old.owed }

@@ -183,18 +183,20 @@ impl<S: Stream + Drop> Hall<S> {
         self.owed > most && owed_in(&self.places[place]) == 0
     }
 
-    /// Lets the connection in a place go on.
+    /// Lets the connection in a place go on. While too much is owed it only writes.
     fn go_on<P: Sockets<Stream = S>>(&mut self, place: usize, sockets: &mut P) -> Option<Vec<u8>>
         requires place { place < vec_len self.old.places }
         requires out { self.old.out ≡ None }
         ensures running { (done : List Piece) → IsRunning S.Stream done None self.old (P.traffic sockets.old)
             → IsRunning S.Stream done (items_of result) self.new (P.traffic sockets.new) }
+        ensures light { IsSome result → self.old.owed ≤ self.old.bounds.memory / 2 }
         ensures out { IfNone result (self.new.out ≡ None) }
         ensures bounds { self.new.bounds ≡ self.old.bounds }
     {
+        let is_laden = self.owed > self.bounds.memory / 2;
         let mut connection = self.leave(place)?;
         let had_loan = connection.is_lent;
-        match connection.go_on(self.alloc, &mut self.room.bytes) {
+        match connection.take_turn(self.alloc, &mut self.room.bytes, is_laden) {
             Turn::Again => {
                 self.enter(place, connection, true);
                 None
@@ -421,7 +423,7 @@ impl<S: Stream + Drop> Hall<S> {
         Ok(())
     }
 
-    /// Whether there is this place. If it would come behind the last one, it is added, unless there is no memory for it.
+    /// Whether there is this place. One behind the last is added, unless there is no memory for it.
     fn has_place(&mut self, place: usize) -> bool
         requires place { place < self.old.bounds.places }
         requires out { self.old.out ≡ None }

@@ -19,8 +19,8 @@ returns-in-Again-clause-running g c done running =
       c.leave.new.self.room.bounded,
     ) in
     let low : c.args.place < length old.places.items = grind (arith, common_steps, c.requires.place) in
-    let puts : Puts old c.enter.new.self c.args.place (Some c.go_on.new.self) true =
-    puts_twice old c.leave.new.self _ c.enter.new.self c.args.place (Some c.go_on.new.self) true
+    let puts : Puts old c.enter.new.self c.args.place (Some c.take_turn.new.self) true =
+    puts_twice old c.leave.new.self _ c.enter.new.self c.args.place (Some c.take_turn.new.self) true
     c.in_ok-connection.ensures.free (record {
       places = refl;
       turns = refl;
@@ -30,13 +30,13 @@ returns-in-Again-clause-running g c done running =
       short = λ h. h;
     }) c.enter.ensures in
     went_on g.S.Stream done _ _ old c.enter.new.self (g.P.Sockets.traffic c.args.sockets.now) c.args.place
-    c.in_ok-connection.connection c.go_on.new.self true low c.requires.out c.in_ok-connection.ensures.was puts
-    (rests_beside g.S.Stream old c.enter.new.self c.args.place c.in_ok-connection.connection c.go_on.new.self true
-    c.in_ok-connection.ensures.was puts (lent_same g.S.Stream c.in_ok-connection.connection c.go_on.new.self
+    c.in_ok-connection.connection c.take_turn.new.self true low c.requires.out c.in_ok-connection.ensures.was puts
+    (rests_beside g.S.Stream old c.enter.new.self c.args.place c.in_ok-connection.connection c.take_turn.new.self true
+    c.in_ok-connection.ensures.was puts (lent_same g.S.Stream c.in_ok-connection.connection c.take_turn.new.self
     c.in-Again.ensures.lent))
     (λ served. (c.in-Again.ensures.told done served, inl refl))
     (λ bounded.
-    bounded_on done c.in_ok-connection.connection c.go_on.new.self _ small c.go_on.ensures.held c.go_on.ensures.owed
+    bounded_on done c.in_ok-connection.connection c.take_turn.new.self _ small c.take_turn.ensures.held c.take_turn.ensures.owed
     bounded) running
 
 pub returns-else-is_late-clause-running : goal.returns-else-is_late-clause-running
@@ -70,7 +70,7 @@ returns-else-is_late-clause-running g c done running =
     (after.0, inr (inl after.1)))
     (λ bounded.
     bounded_since g.S.Stream done _ _ c.is_late.ensures.connection
-    (bounded_on done c.in_ok-connection.connection c.go_on.new.self _ small c.go_on.ensures.held c.go_on.ensures.owed
+    (bounded_on done c.in_ok-connection.connection c.take_turn.new.self _ small c.take_turn.ensures.held c.take_turn.ensures.owed
     bounded)) running
 
 pub returns-in-Short-clause-running : goal.returns-in-Short-clause-running
@@ -113,11 +113,11 @@ returns-in-Short-clause-running g c done running =
     c.in_ok-connection.ensures.was puts (lent_none g.S.Stream c.in_ok-connection.connection c.lend.new.connection
     c.in-Short.ensures.lent.0))
     (λ served.
-    lends g.S.Stream c.enter-in-Short.new.self done c.go_on.new.self c.lend.new.connection lent
+    lends g.S.Stream c.enter-in-Short.new.self done c.take_turn.new.self c.lend.new.connection lent
     none (c.in-Short.ensures.told done served))
     (λ bounded.
-    bounded_lent done c.go_on.new.self c.lend.new.connection lent c.in-Short.ensures.lent.1
-    (bounded_on done c.in_ok-connection.connection c.go_on.new.self _ small c.go_on.ensures.held c.go_on.ensures.owed
+    bounded_lent done c.take_turn.new.self c.lend.new.connection lent c.in-Short.ensures.lent.1
+    (bounded_on done c.in_ok-connection.connection c.take_turn.new.self _ small c.take_turn.ensures.held c.take_turn.ensures.owed
     bounded)) running
 
 pub returns-then-is_late-clause-running : goal.returns-then-is_late-clause-running
@@ -157,7 +157,7 @@ returns-in-Over-clause-running g c done running =
     (record { places = refl; turns = refl; out = refl; bounds = refl; left = refl; short = λ h. h }) in
     ended g.S.Stream done _ _ old _ c.wake-in-Over.new.self (g.P.Sockets.traffic c.args.sockets.now)
     (g.P.Sockets.traffic c.end-in-Over.new.self) c.args.place c.in-Over.why c.in_ok-connection.connection
-    c.go_on.new.self low
+    c.take_turn.new.self low
     c.requires.out c.in_ok-connection.ensures.was leaves c.wake-in-Over.ensures.gives
     (rw c.into_stream-in-Over.ensures at c.end-in-Over.ensures)
     (rests_or_wakes g.S.Stream old _ c.wake-in-Over.new.self c.args.place c.in_ok-connection.connection
@@ -177,7 +177,7 @@ returns-in-HandsOut-clause-running g c done running =
     let low : c.args.place < length old.places.items = grind (arith, common_steps, c.requires.place) in
     let wakes = c.wake-in-HandsOut.ensures in
     handed_out g.S.Stream done c.in-HandsOut.piece.items _ _ old c.leave.new.self _
-    (g.P.Sockets.traffic c.args.sockets.now) c.args.place c.in_ok-connection.connection c.go_on.new.self low
+    (g.P.Sockets.traffic c.args.sockets.now) c.args.place c.in_ok-connection.connection c.take_turn.new.self low
     c.requires.out c.in_ok-connection.ensures.was c.in_ok-connection.ensures.free wakes.gives.places
     wakes.gives.turns_len wakes.gives.bounds wakes.gives.left refl
     (rests_or_wakes g.S.Stream old _ c.wake-in-HandsOut.new.self c.args.place c.in_ok-connection.connection
@@ -187,5 +187,5 @@ returns-in-HandsOut-clause-running g c done running =
     wakes.gives wakes.woken wakes.short)
     (λ served. c.in-HandsOut.ensures.told done served)
     (λ bounded.
-    bounded_on done c.in_ok-connection.connection c.go_on.new.self _ small c.go_on.ensures.held c.go_on.ensures.owed
+    bounded_on done c.in_ok-connection.connection c.take_turn.new.self _ small c.take_turn.ensures.held c.take_turn.ensures.owed
     bounded) running
