@@ -3,7 +3,7 @@ use Rattle.std.proofs.Common.{◌≡◌, ◌≢◌, ◌⊎◌, inl, inr, ℕ, ze
 use Rattle.std.proofs.Common.{◌++◌, length, get_or, set, take}
 use Rattle.std.proofs.Common.{Option, Some, None, IfSome, refl, sym, ap, ◌∙◌, arith, length-append, Vec}
 use Rattle.std.proofs.Common.{Global, vec_len}
-use Rattle.std.specs.Prelude.{option_map, is_some}
+use Rattle.std.specs.Prelude.{option_map, is_some, min}
 use Rattle.std.specs.List.{AllByRecursion, sum_by}
 use Rattle.std.proofs.lemmas.Bool.Decides.{eqb_tells, leb_tells}
 use Rattle.std.proofs.lemmas.List.{get_or-set_same, get_or-set_other, get_or-take, get_or_past, length-take}
@@ -22,8 +22,8 @@ use Rattle.http_messages.specs.Message.{interim}
 use Rattle.ready_connections.specs.Connections.{IsServed, IsOut, IsWaiting, IsBounded, IsEnd, IsShortOfLoan}
 use Rattle.ready_connections.specs.Connections.{HoldsWithin, most_held}
 use Rattle.ready_connections.specs.Bounds.{most_lent}
-use Rattle.ready_connections.specs.Places.{taken, taken_places, lent, lent_places}
-use Rattle.ready_connections.specs.Running.{out_count, IsInPlace, WasTold, AreOver, AreRunning, IsEmpty}
+use Rattle.ready_connections.specs.Places.{taken, taken_places, lent, lent_places, owed, owed_places}
+use Rattle.ready_connections.specs.Running.{CountsOwed, out_count, IsInPlace, WasTold, AreOver, AreRunning, IsEmpty}
 use Rattle.ready_connections.specs.Running.{KeepsAll, GivesTurns, Puts, IsResting, IsShort, IsRunning}
 use Rattle.ready_connections.proofs.Told.{told_more}
 
@@ -61,6 +61,7 @@ pub record KeepsTaken {S : Type 0} (old new : Hall S) : Type 0 where
       → length new.has_turn.items ≡ length new.places.items
   pub within : length old.places.items ≤ old.bounds.places → length new.places.items ≤ new.bounds.places
   pub count : (f : Option (Connection S) → ℕ) → f None ≡ 0 → sum_by f new.places.items ≡ sum_by f old.places.items
+  pub owed : new.owed ≡ old.owed
   pub was_out : old.out ≡ None
   pub out : new.out ≡ None
   pub bounds : new.bounds ≡ old.bounds
@@ -235,8 +236,8 @@ module _ {S : Type 0} where
       → ((i : ℕ) → used ≤ i → get_or old.places.items i None ≡ None)
       → new.places.items ≡ take used old.places.items → new.has_turn.items ≡ take used old.has_turn.items
       → old.out ≡ None → new.out ≡ old.out → new.bounds ≡ old.bounds → new.left ≡ old.left
-      → new.is_short ≡ old.is_short → KeepsTaken old new
-  trimmed old new used low free places turns none out bounds left short = record {
+      → new.is_short ≡ old.is_short → new.owed ≡ old.owed → KeepsTaken old new
+  trimmed old new used low free places turns none out bounds left short owed = record {
     places = λ i. rw places (elim (leb_tells used i) [
       | inl high ↦ get_or_past (take used old.places.items) i None (omega (arith, len, high.1)) ∙ sym (free i high.1)
       | inr below ↦ get_or-take used old.places.items i None below.1
@@ -250,6 +251,7 @@ module _ {S : Type 0} where
         omega (arith, has, len, low, same, ap length turns, ap length places);
     within = λ most. rw bounds (omega (arith, most, low, len, ap length places));
     count = λ f zero. ap (λ l. sum_by f l) places ∙ sum_used f old.places.items used zero free;
+    owed = owed;
     was_out = none;
     out = out ∙ none;
     bounds = bounds;
@@ -264,8 +266,8 @@ module _ {S : Type 0} where
   pub added : (old new : Hall S) → new.places.items ≡ old.places.items ++ None ∷ []
       → new.has_turn.items ≡ old.has_turn.items ++ false ∷ [] → length old.places.items < old.bounds.places
       → old.out ≡ None → new.out ≡ old.out → new.bounds ≡ old.bounds → new.left ≡ old.left
-      → new.is_short ≡ old.is_short → KeepsTaken old new
-  added old new places turns low none out bounds left short = record {
+      → new.is_short ≡ old.is_short → new.owed ≡ old.owed → KeepsTaken old new
+  added old new places turns low none out bounds left short owed = record {
     places = λ i. rw places (one_more old.places.items None i);
     turns = λ i c there. rw turns (one_more old.has_turn.items false i);
     turns_len = λ same.
@@ -280,6 +282,7 @@ module _ {S : Type 0} where
         let last = sum_by-cons f None [] in
         let same = ap (λ l. sum_by f l) places in
         omega (arith, all, last, same, zero);
+    owed = owed;
     was_out = none;
     out = out ∙ none;
     bounds = bounds;
@@ -308,6 +311,39 @@ module _ {S : Type 0} where
       → Puts old new place slot b → get_or old.places.items place None ≡ was
       → taken_places new.places.items + taken was ≡ taken_places old.places.items + taken slot
   count_taken old new place slot was b puts is = rw is at puts.count taken
+
+  -- ---- what is owed
+
+  -- the connection that was in a place is put there again, and owes at most so much more
+  pub counts_on : (old left entered new : Hall S) (place : ℕ) (c c' : Connection S) (b : Bool) (more : ℕ)
+      → Some c ≡ get_or old.places.items place None → Puts old left place None false
+      → entered.places.items ≡ left.places.items → Puts entered new place (Some c') b
+      → vec_len c'.owed ≤ vec_len c.owed + more → min (old.owed + more) 18446744073709551615 ≤ new.owed
+      → CountsOwed old → CountsOwed new
+  counts_on old left entered new place c c' b more was leaves same enters owes counts counted =
+      let out = rw (sym was) at leaves.count owed in
+      let here = ap (λ l. get_or l place None) same ∙ leaves.here in
+      let in_ = rw here at enters.count owed in
+      let places = ap owed_places same in
+      omega (arith, out, in_, places, owes, counts, counted)
+
+  -- the connection in a place is there no more
+  pub counts_less : (old left new : Hall S) (place : ℕ) → Puts old left place None false
+      → new.places.items ≡ left.places.items → min old.owed 18446744073709551615 ≤ new.owed → CountsOwed old
+      → CountsOwed new
+  counts_less old left new place leaves same counts counted =
+      let out = leaves.count owed in
+      let places = ap owed_places same in
+      omega (arith, out, places, counts, counted)
+
+  -- a connection is put into a place, and owes at most so much
+  pub counts_more : (old entered new : Hall S) (place : ℕ) (c : Connection S) (b : Bool) (more : ℕ)
+      → entered.places.items ≡ old.places.items → Puts entered new place (Some c) b → vec_len c.owed ≤ more
+      → min (old.owed + more) 18446744073709551615 ≤ new.owed → CountsOwed old → CountsOwed new
+  counts_more old entered new place c b more same enters owes counts counted =
+      let in_ = enters.count owed in
+      let places = ap owed_places same in
+      omega (arith, in_, places, owes, counts, counted)
 
 module _ {S N : Type 0} (s : Ghosts S N) where
   -- ---- more pieces were done
@@ -392,11 +428,12 @@ module _ {S N : Type 0} (s : Ghosts S N) where
       (traffic traffic' : Option (Traffic S)) (place : ℕ) (c' : Connection S) (has_turn : Bool)
       → place < length old.places.items → old.out ≡ None → Puts old new place (Some c') has_turn
       → ((c : Connection S) → Rests c → Rests' c) → IsInPlace s done Rests' has_turn c'
-      → (IfSome traffic (AreOver s done old) → IfSome traffic' (AreOver s done new))
+      → (IfSome traffic (AreOver s done old) → IfSome traffic' (AreOver s done new)) → (CountsOwed old → CountsOwed new)
       → AreRunning s done None Rests old traffic → AreRunning s done None Rests' new traffic'
-  stays done Rests Rests' old new traffic traffic' place c' has_turn low none puts so at over running = record {
+  stays done Rests Rests' old new traffic traffic' place c' has_turn low none puts so at over counts running = record {
     turns = omega (arith, puts.turns_len, puts.len, running.turns);
     within = rw (puts.len, puts.bounds) running.within;
+    counted = counts running.counted;
     in_place = put done done Rests Rests' old new place (Some c') has_turn (omega (arith, low, running.turns))
         (rests_so Rests Rests' done so) puts at running.in_place;
     is_out = rw (puts.out, none) tt;
@@ -530,10 +567,12 @@ module _ {S N : Type 0} (s : Ghosts S N) where
 
   -- nothing that matters here was changed
   pub kept : (done : List Piece) (read : Option (List ℕ)) (old new : Hall S) (traffic : Option (Traffic S))
-      → KeepsAll old new → IsRunning s done read old traffic → IsRunning s done read new traffic
-  kept done read old new traffic same running = record {
+      → KeepsAll old new → (CountsOwed old → CountsOwed new) → IsRunning s done read old traffic
+      → IsRunning s done read new traffic
+  kept done read old new traffic same counts running = record {
     turns = rw (same.turns, same.places) running.turns;
     within = rw (same.places, same.bounds) running.within;
+    counted = counts running.counted;
     in_place = λ i.
         all (IsResting s new) (rests_still old new same.short same.bounds (omega (arith, ap lent_places same.places)))
         i;
@@ -565,6 +604,7 @@ module _ {S N : Type 0} (s : Ghosts S N) where
   lined done old new traffic same running = record {
     turns = same.turns_len running.turns;
     within = same.within running.within;
+    counted = let count = same.count owed refl in omega (arith, running.counted, count, same.owed);
     in_place = λ i. rw (same.places i)
         (each i (get_or old.places.items i None) refl (running.in_place i));
     is_out = rw same.out tt;
@@ -599,12 +639,12 @@ module _ {S N : Type 0} (s : Ghosts S N) where
       → place < length old.places.items → old.out ≡ None → Some c ≡ get_or old.places.items place None
       → Puts old new place (Some c') has_turn → ((c : Connection S) → Rests c → Rests' c)
       → (IsServed s done c → IsServed s done c' × ((has_turn ≡ true) ⊎ Rests' c'))
-      → (IsBounded done c → IsBounded done c') → AreRunning s done None Rests old traffic
-      → AreRunning s done None Rests' new traffic
-  went_on done Rests Rests' old new traffic place c c' has_turn low none was puts so step bound running =
+      → (IsBounded done c → IsBounded done c') → (CountsOwed old → CountsOwed new)
+      → AreRunning s done None Rests old traffic → AreRunning s done None Rests' new traffic
+  went_on done Rests Rests' old new traffic place c c' has_turn low none was puts so step bound counts running =
       stays done Rests Rests' old new traffic traffic place c' has_turn low none puts so
       (record { told = (step here.told).0; bounded = bound here.bounded; awake = (step here.told).1 }) (over traffic)
-      running
+      counts running
     where
       here : IsInPlace s done Rests (get_or old.has_turn.items place false) c
       here = rw (sym was) at (running.in_place place)
@@ -630,12 +670,14 @@ module _ {S N : Type 0} (s : Ghosts S N) where
       → (get_or new.has_turn.items i false ≡ true) ⊎ Rests' it)
       → (IsServed s done c
       → IsServed s done c' × IsEnd s old.bounds.patience why c'.stream c'.held.bytes.items c'.owed.items c'.is_closing)
-      → AreRunning s done None Rests old traffic → AreRunning s done None Rests' new traffic'
-  ended done Rests Rests' old left new traffic traffic' place why c c' low none was puts gives ends others step running
-      =
+      → (CountsOwed old → CountsOwed new) → AreRunning s done None Rests old traffic
+      → AreRunning s done None Rests' new traffic'
+  ended done Rests Rests' old left new traffic traffic' place why c c' low none was puts gives ends others step counts
+      running =
       record {
         turns = omega (arith, puts.turns_len, puts.len, running.turns, gives.turns_len, ap length gives.places);
         within = rw (gives.places, puts.len, gives.bounds, puts.bounds) running.within;
+        counted = counts running.counted;
         in_place = put_by done Rests Rests' old left new place puts gives.places others running.in_place;
         is_out = rw (gives.out, puts.out, none) tt;
         over = rw ends (over traffic running.over);
@@ -678,11 +720,13 @@ module _ {S N : Type 0} (s : Ghosts S N) where
       → (get_or old.has_turn.items i false ≡ true) ⊎ Rests it
       → (get_or new.has_turn.items i false ≡ true) ⊎ Rests' it)
       → (IsServed s done c → IsOut s done read c') → (IsBounded done c → IsBounded done c')
-      → AreRunning s done None Rests old traffic → AreRunning s done (Some read) Rests' new traffic
+      → (CountsOwed old → CountsOwed new) → AreRunning s done None Rests old traffic
+      → AreRunning s done (Some read) Rests' new traffic
   handed_out done read Rests Rests' old left new traffic place c c' low none was puts same turns_len same_bounds
-      same_left is_out others step bound running = record {
+      same_left is_out others step bound counts running = record {
         turns = omega (arith, puts.turns_len, puts.len, running.turns, turns_len, ap length same);
         within = rw (same, puts.len, same_bounds, puts.bounds) running.within;
+        counted = counts running.counted;
         in_place = put_by done Rests Rests' old left new place puts same others running.in_place;
         is_out = rw (is_out, same) (step here.told, bound here.bounded, omega (arith, low, puts.len), puts.here);
         over = over traffic running.over;
@@ -711,11 +755,13 @@ module _ {S N : Type 0} (s : Ghosts S N) where
       → counted.has_turn.items ≡ old.has_turn.items → counted.out ≡ old.out → counted.bounds ≡ old.bounds
       → counted.left + 1 ≡ old.left → Puts counted new place (Some c) true
       → traffic' ≡ option_map one_came traffic → ((c : Connection S) → Rests c → Rests' c) → IsServed s done c
-      → IsBounded done c → AreRunning s done None Rests old traffic → AreRunning s done None Rests' new traffic'
+      → IsBounded done c → (CountsOwed old → CountsOwed new) → AreRunning s done None Rests old traffic
+      → AreRunning s done None Rests' new traffic'
   came done Rests Rests' old counted new traffic traffic' place c low none free same same_turns same_out same_bounds
-      one_less puts comes so served bounded running = record {
+      one_less puts comes so served bounded counts running = record {
         turns = omega (arith, puts.turns_len, puts.len, ap length same, ap length same_turns, running.turns);
         within = rw (puts.len, same, puts.bounds, same_bounds) running.within;
+        counted = counts running.counted;
         in_place = put done done Rests Rests' counted new place (Some c) true
             (rw same_turns (omega (arith, low, running.turns))) (rests_so Rests Rests' done so) puts
             (record { told = served; bounded = bounded; awake = inl refl }) (rw (same, same_turns) running.in_place);
@@ -740,11 +786,11 @@ module _ {S N : Type 0} (s : Ghosts S N) where
   -- more places have their turn
   pub asked : (done : List Piece) (Rests Rests' : Connection S → Type 0) (old new : Hall S)
       (traffic : Option (Traffic S)) → GivesTurns old new → ((c : Connection S) → Rests c → Rests' c) → old.out ≡ None
-      → AreRunning s done None Rests old traffic
-      → AreRunning s done None Rests' new traffic
-  asked done Rests Rests' old new traffic gives so none running = record {
+      → new.owed ≡ old.owed → AreRunning s done None Rests old traffic → AreRunning s done None Rests' new traffic
+  asked done Rests Rests' old new traffic gives so none same_owed running = record {
     turns = omega (arith, ap length gives.places, gives.turns_len, running.turns);
     within = rw (gives.places, gives.bounds) running.within;
+    counted = rw (gives.places, same_owed) running.counted;
     in_place = λ i. rw gives.places (keep i (get_or old.places.items i None) (running.in_place i));
     is_out = rw (gives.out, none) tt;
     over = over traffic running.over;
@@ -775,12 +821,13 @@ module _ {S N : Type 0} (s : Ghosts S N) where
       → taken_.bounds ≡ old.bounds → taken_.left ≡ old.left → taken_.is_short ≡ old.is_short → taken_.out ≡ None
       → Puts taken_ new out.place (Some c') true
       → (IsOut s done read out.connection → IsServed s (done ++ back ∷ []) c')
-      → (IsBounded done out.connection → IsBounded (done ++ back ∷ []) c')
+      → (IsBounded done out.connection → IsBounded (done ++ back ∷ []) c') → (CountsOwed old → CountsOwed new)
       → IsRunning s done (Some read) old traffic → IsRunning s (done ++ back ∷ []) None new traffic
   came_back done read back old taken_ new traffic out c' is_out same same_turns same_bounds same_left same_short none
-      puts step bound running = record {
+      puts step bound counts running = record {
         turns = omega (arith, puts.turns_len, puts.len, ap length same, ap length same_turns, running.turns);
         within = rw (puts.len, same, puts.bounds, same_bounds) running.within;
+        counted = counts running.counted;
         in_place = put done (done ++ back ∷ []) (IsResting s old) (IsResting s new) taken_ new out.place (Some c') true
             (rw same_turns (omega (arith, was.2, running.turns)))
             (λ b c at.
@@ -831,6 +878,7 @@ module _ {S N : Type 0} (s : Ghosts S N) where
   none_yet Rests hall traffic empty free no_turns none all = record {
     turns = rw (no_turns, free) refl;
     within = rw free (omega arith);
+    counted = rw free (omega arith);
     in_place = λ i. rw free tt;
     is_out = rw none tt;
     over = over traffic empty;

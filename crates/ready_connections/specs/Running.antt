@@ -2,7 +2,7 @@
 use Rattle.std.specs.Prelude.{◌≤◌}
 use Rattle.std.specs.Prelude.{◌≡◌, ◌≢◌, ◌⊎◌, ℕ, ◌+◌, ◌<◌, Bool, true, false, List, [], length, Option, Some}
 use Rattle.std.specs.Prelude.{None, IfSome, Result, Ok, Err}
-use Rattle.std.specs.Prelude.{slice_index_or, nat_eq}
+use Rattle.std.specs.Prelude.{slice_index_or, nat_eq, min}
 use Rattle.std.specs.List.{AllByRecursion, sum_by}
 use Rattle.std.specs.Prelude.{Vec}
 use Rattle.std.specs.declared.alloc.Global.{Global}
@@ -13,7 +13,7 @@ use Rattle.ready_connections.specs.declared.stream.Stream.{Ghosts}
 use Rattle.ready_connections.specs.Streams.{Traffic, Gone}
 use Rattle.ready_connections.specs.Pieces.{Piece, IsTold}
 use Rattle.ready_connections.specs.Bounds.{most_lent}
-use Rattle.ready_connections.specs.Places.{taken_places, lent_places}
+use Rattle.ready_connections.specs.Places.{taken_places, lent_places, owed_places}
 use Rattle.ready_connections.specs.Connections.{IsServed, IsOut, IsWaiting, IsShortOfLoan, IsBounded, IsEnd}
 use Rattle.ready_connections.specs.Connections.{piece_back}
 
@@ -59,12 +59,17 @@ pub record AreOver {S N : Type 0} (s : Ghosts S N) (done : List Piece) (hall : H
   pub none_lost : traffic.came ≡ length traffic.over + (taken_places hall.places.items + out_count hall.out)
   pub in_all : traffic.came + hall.left ≡ hall.bounds.connections
 
+-- no more is owed in all places than the hall counts, as far as it can count
+abbrev pub CountsOwed : {S : Type 0} → Hall S → Type 0
+CountsOwed hall = min (owed_places hall.places.items) 18446744073709551615 ≤ hall.owed
+
 -- The connections of the hall after these pieces were handed out and came back, while the piece with these bytes is
 -- out, if one is. One that has not its turn rests for one of these reasons. No more are served at once than may be.
 pub record AreRunning {S N : Type 0} (s : Ghosts S N) (done : List Piece) (read : Option (List ℕ))
     (Rests : Connection S → Type 0) (hall : Hall S) (traffic : Option (Traffic S)) : Type 0 where
   pub turns : length hall.has_turn.items ≡ length hall.places.items
   pub within : length hall.places.items ≤ hall.bounds.places
+  pub counted : CountsOwed hall
   pub in_place : (i : ℕ) → IfSome (slice_index_or hall.places.items i None)
       (IsInPlace s done Rests (slice_index_or hall.has_turn.items i false))
   pub is_out : IsOutOf s done read hall.out hall.places.items

@@ -1,14 +1,14 @@
 //! All connections that are served at once, each in its place, and whose turn is next.
 ghost use Rattle.std.specs.Prelude.{◌+◌, ◌/◌, ◌≤◌, IsSome, IsTrue, ◌≡◌, ◌≢◌, ◌<◌, ℕ, List, [], ◌∷◌, ◌++◌, Option, Some};
 ghost use Rattle.std.specs.Prelude.{None, IfSome, IfOk, IfNone};
-ghost use Rattle.std.specs.Prelude.{is_some, length, true, false, nat_eq, slice_index_or, vec_len};
+ghost use Rattle.std.specs.Prelude.{is_some, length, min, true, false, nat_eq, slice_index_or, vec_len};
 ghost use Rattle.ready_connections.specs.Streams.{Traffic};
 ghost use Rattle.ready_connections.specs.Pieces.{Piece};
 ghost use Rattle.ready_connections.specs.NextTurn.{IsNext, NoneHasTurn};
 ghost use Rattle.ready_connections.specs.Places.{taken_places, lent, lent_places, owed, owed_places};
 ghost use Rattle.ready_connections.specs.Bounds.{most_lent};
-ghost use Rattle.ready_connections.specs.Running.{IsRunning, IsEmpty, KeepsAll, GivesTurns, Puts, is_shut, items_of};
-ghost use Rattle.ready_connections.specs.Running.{items_out_of, piece_of};
+ghost use Rattle.ready_connections.specs.Running.{IsRunning, IsEmpty, CountsOwed, KeepsAll, GivesTurns, Puts};
+ghost use Rattle.ready_connections.specs.Running.{is_shut, items_of, items_out_of, piece_of};
 
 use crate::bounds::Bounds;
 use crate::connection::{Connection, Turn};
@@ -22,6 +22,9 @@ use std::time::Duration;
 
 /// For how many milliseconds the system is asked at most while connections wait until less is owed.
 const PAUSE: u64 = 10;
+
+/// The length of an interim response: `HTTP/1.1 100 Continue` and an empty line (RFC 9110, section 15.2.1).
+const INTERIM_LEN: usize = 25;
 
 /// A connection whose piece is out, and its place, which is kept for it.
 #[derive(Drop)]
@@ -107,6 +110,8 @@ impl<S: Stream + Drop> Hall<S> {
         ensures running { (done : List Piece) → IsRunning S.Stream done None self.old (P.traffic sockets.old)
             → IsRunning S.Stream done (items_out_of result) self.new (P.traffic sockets.new) }
         ensures bounds { self.new.bounds ≡ self.old.bounds }
+        ensures light { (done : List Piece) → IsRunning S.Stream done None self.old (P.traffic sockets.old)
+            → IsSome (items_out_of result) → owed_places self.new.places.items ≤ self.new.bounds.memory / 2 }
     {
         for _ in 0..most {
             if let Some(piece) = self.turn(sockets, wait)? {
@@ -130,6 +135,8 @@ impl<S: Stream + Drop> Hall<S> {
             → IsRunning S.Stream done (items_out_of result) self.new (P.traffic sockets.new) }
         ensures out { items_out_of result ≡ None → self.new.out ≡ None }
         ensures bounds { self.new.bounds ≡ self.old.bounds }
+        ensures light { (done : List Piece) → IsRunning S.Stream done None self.old (P.traffic sockets.old)
+            → IsSome (items_out_of result) → owed_places self.new.places.items ≤ self.new.bounds.memory / 2 }
     {
         match self.next_turn() {
             Some(place) => {
@@ -152,6 +159,7 @@ impl<S: Stream + Drop> Hall<S> {
         ensures after { IfSome result (λ place. self.new.next ≡ place + 1) }
         ensures left { IsSome result → self.new.turns_left + 1 ≡ self.old.turns_left }
         ensures same { KeepsAll self.old self.new }
+        ensures owed { self.new.owed ≡ self.old.owed }
     {
         if self.turns_left == 0 {
             return None;
@@ -173,6 +181,7 @@ impl<S: Stream + Drop> Hall<S> {
     fn must_wait(&mut self, place: usize) -> bool
         requires { place < vec_len self.old.places }
         ensures kept { KeepsAll self.old self.new }
+        ensures counted { CountsOwed self.old → CountsOwed self.new }
         ensures laden { IsTrue result → self.old.bounds.memory / 2 < owed_places self.old.places.items }
     {
         let most = self.bounds.memory / 2;
@@ -189,12 +198,15 @@ impl<S: Stream + Drop> Hall<S> {
         requires out { self.old.out ≡ None }
         ensures running { (done : List Piece) → IsRunning S.Stream done None self.old (P.traffic sockets.old)
             → IsRunning S.Stream done (items_of result) self.new (P.traffic sockets.new) }
-        ensures light { IsSome result → self.old.owed ≤ self.old.bounds.memory / 2 }
+        ensures light { CountsOwed self.old → IsSome (items_of result)
+            → owed_places self.new.places.items ≤ self.new.bounds.memory / 2 }
         ensures out { IfNone result (self.new.out ≡ None) }
         ensures bounds { self.new.bounds ≡ self.old.bounds }
     {
         let is_laden = self.owed > self.bounds.memory / 2;
         let mut connection = self.leave(place)?;
+        // It may owe an interim response after its turn.
+        self.owed = self.owed.saturating_add(INTERIM_LEN);
         let had_loan = connection.is_lent;
         match connection.take_turn(self.alloc, &mut self.room.bytes, is_laden) {
             Turn::Again => {
@@ -238,6 +250,7 @@ impl<S: Stream + Drop> Hall<S> {
     ) -> bool
         ensures kept { KeepsAll self.old self.new }
         ensures connection { connection.new ≡ record connection.old { since = connection.new.since } }
+        ensures owed { self.new.owed ≡ self.old.owed }
         ensures patience { result ≡ true → is_some self.old.bounds.patience ≡ true }
     {
         let Some(patience) = self.bounds.patience else {
@@ -255,6 +268,7 @@ impl<S: Stream + Drop> Hall<S> {
     /// waited for meanwhile.
     fn lend(&mut self, connection: &mut Connection<S>)
         ensures kept { KeepsAll self.old self.new }
+        ensures owed { self.new.owed ≡ self.old.owed }
         ensures connection { connection.new
             ≡ record connection.old { is_lent = connection.new.is_lent; since = connection.new.since } }
         ensures lent { connection.new.is_lent ≡ true
@@ -270,6 +284,7 @@ impl<S: Stream + Drop> Hall<S> {
     /// Gives each connection its turn, if one of them was short of a loan, and one came back.
     fn wake(&mut self, has_loan: bool)
         ensures gives { GivesTurns self.old self.new }
+        ensures owed { self.new.owed ≡ self.old.owed }
         ensures woken { has_loan ≡ true → self.old.is_short ≡ true → (i : ℕ) → i < length self.old.has_turn.items
             → slice_index_or self.new.has_turn.items i false ≡ true }
         ensures short { has_loan ≡ false → self.new.is_short ≡ self.old.is_short }
@@ -285,6 +300,7 @@ impl<S: Stream + Drop> Hall<S> {
         requires { place < vec_len self.old.places }
         ensures was { result ≡ slice_index_or self.old.places.items place None }
         ensures free { Puts self.old self.new place None false }
+        ensures owed { self.new.owed ≡ self.old.owed }
     {
         self.set_turn(place, false);
         self.places[place].take()
@@ -293,7 +309,8 @@ impl<S: Stream + Drop> Hall<S> {
     /// Puts a connection into a place, which has its turn or not.
     fn enter(&mut self, place: usize, connection: Connection<S>, has_turn: bool)
         requires { place < vec_len self.old.places }
-        ensures { Puts self.old self.new place (Some connection) has_turn }
+        ensures puts { Puts self.old self.new place (Some connection) has_turn }
+        ensures owed { self.new.owed ≡ self.old.owed }
     {
         self.set_turn(place, has_turn);
         self.places[place] = Some(connection);
@@ -369,6 +386,7 @@ impl<S: Stream + Drop> Hall<S> {
     /// through only if a deadline may have passed.
     fn call_late<P: Sockets<Stream = S>>(&mut self, sockets: &P)
         ensures gives { GivesTurns self.old self.new }
+        ensures owed { self.new.owed ≡ self.old.owed }
         ensures short { self.new.is_short ≡ self.old.is_short }
     {
         let Some(soonest) = self.soonest else {
@@ -488,9 +506,9 @@ fn count_lent<S>(places: &[Option<Connection<S>>]) -> usize
     count
 }
 
-/// How many bytes are owed to connections in places.
+/// How many bytes are owed to connections in places, as far as that can be counted.
 fn count_owed<S>(places: &[Option<Connection<S>>]) -> usize
-    ensures { result ≤ owed_places places.now }
+    ensures { result ≡ min (owed_places places.now) 18446744073709551615 }
 {
     let mut count: usize = 0;
     for place in 0..places.len() {

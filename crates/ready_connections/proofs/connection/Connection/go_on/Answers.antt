@@ -1,4 +1,4 @@
-use Rattle.std.proofs.Common.{◌≡◌, ◌≤◌, ◌∙◌, arith}
+use Rattle.std.proofs.Common.{◌∙◌}
 use Rattle.ready_connections.proofs.connection.Connection.go_on.Goals as goal
 
 pub loop-preserved : goal.loop-preserved

@@ -1,8 +1,8 @@
 use Rattle.std.proofs.Common.{◌≡◌, ◌<◌, ◌∙◌, Bool, true, not, ℕ, List, Option, Some, None, get_or, sym, refl}
-use Rattle.std.proofs.Common.{length, arith, ◌+◌, ◌-◌}
+use Rattle.std.proofs.Common.{length, arith, ap, vec_len, ◌+◌, ◌-◌}
 use Rattle.std.specs.Prelude.{is_some}
 use Rattle.std.proofs.lemmas.Grind.{common_steps}
-use Rattle.ready_connections.proofs.Halls.{bounded_new, came, count_lent, rests_still}
+use Rattle.ready_connections.proofs.Halls.{bounded_new, came, count_lent, counts_more, rests_still}
 use Rattle.ready_connections.proofs.hall.Hall.admit.Goals as goal
 use Rattle.ready_connections.proofs.hall.Hall.admit.Goals.{then-is_none+in_ok-stream+in-Some, else-is_none}
 
@@ -28,15 +28,18 @@ loop-place-preserved g c = elim c.if-is_none.branch [
         let comes = rw w.in-Some.is at w.in_ok-stream.ensures in
         came g.S.Stream done _ _ old _ w.enter.new.self (g.P.Sockets.traffic c.loop-place.sockets)
         (g.P.Sockets.traffic w.accept.new.self) c.loop-place.place w.new.result low c.has_place.ensures.out free
-        refl refl refl refl one_less w.enter.ensures comes.1
-        (rests_still g.S.Stream old w.enter.new.self w.enter.ensures.short w.enter.ensures.bounds
-        (let count = count_lent _ w.enter.new.self c.loop-place.place (Some w.new.result) None true w.enter.ensures
+        refl refl refl refl one_less w.enter.ensures.puts comes.1
+        (rests_still g.S.Stream old w.enter.new.self w.enter.ensures.puts.short w.enter.ensures.puts.bounds
+        (let count = count_lent _ w.enter.new.self c.loop-place.place (Some w.new.result) None true w.enter.ensures.puts
         free in
         omega (arith, count))) (w.new.ensures.told done)
-        (bounded_new done w.new.result w.new.ensures.held w.new.ensures.owed) (c.has_place.ensures.running done _
+        (bounded_new done w.new.result w.new.ensures.held w.new.ensures.owed)
+        (let none : vec_len w.new.result.owed ≡ 0 = w.new.result.owed.ok.0 ∙ ap length w.new.ensures.owed in
+        counts_more old _ w.enter.new.self c.loop-place.place w.new.result true 0 refl w.enter.ensures.puts
+        (omega (arith, none)) (omega (arith, w.enter.ensures.owed))) (c.has_place.ensures.running done _
         (c.loop-place.invariant.running done running));
-    out = w.enter.ensures.out ∙ c.has_place.ensures.out;
-    bounds = w.enter.ensures.bounds ∙ c.has_place.ensures.bounds ∙ c.loop-place.invariant.bounds;
+    out = w.enter.ensures.puts.out ∙ c.has_place.ensures.out;
+    bounds = w.enter.ensures.puts.bounds ∙ c.has_place.ensures.bounds ∙ c.loop-place.invariant.bounds;
   })
   | else-is_none w ↦ rw (w.self-is, w.sockets-is) (record {
     running = λ done running. c.has_place.ensures.running done _ (c.loop-place.invariant.running done running);

@@ -1,4 +1,4 @@
-use Rattle.std.proofs.Common.{◌≡◌, refl, ap, sym, ◌∙◌, length, vec_len, arith, true, false}
+use Rattle.std.proofs.Common.{◌≡◌, refl, ap, sym, ◌∙◌, length, vec_len, arith}
 use Rattle.std.proofs.lemmas.Grind.{common_steps}
 use Rattle.std.proofs.lemmas.List.{with_items_is}
 use Rattle.ready_connections.proofs.Halls.{asked, gives_twice, rests_still}
@@ -24,4 +24,4 @@ returns-clause-running g c done running =
     }) c.call_late.ensures.gives)
     (rests_still g.S.Stream old c.call_late.new.self (λ is. c.call_late.ensures.short ∙ is)
     c.call_late.ensures.gives.bounds (let same = ap lent_places c.call_late.ensures.gives.places in omega
-    (arith, same))) c.trim.ensures.out (c.trim.ensures.running done _ running)))
+    (arith, same))) c.trim.ensures.out c.call_late.ensures.owed (c.trim.ensures.running done _ running)))

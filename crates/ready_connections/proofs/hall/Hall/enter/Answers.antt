@@ -3,8 +3,8 @@ use Rattle.std.proofs.lemmas.Grind.{common_steps}
 use Rattle.ready_connections.proofs.Halls.{puts_set}
 use Rattle.ready_connections.proofs.hall.Hall.enter.Goals as goal
 
-pub returns : goal.returns
-returns g c =
+pub returns-clause-puts : goal.returns-clause-puts
+returns-clause-puts g c =
     let rest = c.set_turn.ensures.rest in
     let old = c.args.self.now in
     let low : c.args.place < length old.places.items = grind (arith, common_steps, c.requires) in
@@ -16,3 +16,6 @@ returns g c =
     (λ has. c.set_turn.ensures.turn (rw turns at has)) c.set_turn.ensures.others (ap (λ hall. hall.out) rest)
     (ap (λ hall. hall.bounds) rest) (ap (λ hall. hall.left) rest)
     (ap (λ hall. hall.is_short) rest)
+
+pub returns-clause-owed : goal.returns-clause-owed
+returns-clause-owed g c = ap (λ hall. hall.owed) c.set_turn.ensures.rest

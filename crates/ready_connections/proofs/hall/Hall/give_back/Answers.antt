@@ -1,5 +1,6 @@
-use Rattle.std.proofs.Common.{refl, sym, ◌∙◌}
-use Rattle.ready_connections.proofs.Halls.{bounded_back, came_back}
+use Rattle.std.proofs.Common.{refl, sym, ◌∙◌, vec_len, arith, true}
+use Rattle.std.proofs.lemmas.Grind.{common_steps}
+use Rattle.ready_connections.proofs.Halls.{bounded_back, came_back, counts_more}
 use Rattle.ready_connections.proofs.hall.Hall.give_back.Goals as goal
 
 pub returns-then-place-len-clause-running : goal.returns-then-place-len-clause-running
@@ -8,6 +9,10 @@ returns-then-place-len-clause-running g c done read traffic running =
     let is_out = sym c.take.ensures.value ∙ c.in-Some.is in
     rw is_out
     (came_back g.S.Stream done read _ old _ c.enter.new.self traffic c.in-Some.out c.take_back.new.self is_out
-    refl refl refl refl refl c.take.ensures.after c.enter.ensures (c.take_back.ensures.told done read)
+    refl refl refl refl refl c.take.ensures.after c.enter.ensures.puts (c.take_back.ensures.told done read)
     (bounded_back done _ c.in-Some.out.connection c.take_back.new.self c.args.output refl c.take_back.ensures.held
-    c.take_back.ensures.lent c.take_back.ensures.owed) running)
+    c.take_back.ensures.lent c.take_back.ensures.owed)
+    (counts_more old _ c.enter.new.self c.in-Some.out.place c.take_back.new.self true (vec_len c.args.output) refl
+    c.enter.ensures.puts c.take_back.ensures.owed
+    (let same = c.enter.ensures.owed in let sum = c.saturating_add-self.ensures in
+    grind (arith, common_steps, same, sum, c.len.ensures))) running)

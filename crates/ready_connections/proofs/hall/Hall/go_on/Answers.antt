@@ -1,14 +1,19 @@
 use Rattle.std.proofs.Common.{◌≡◌, ◌<◌, ◌≤◌, ◌∙◌, inl, inr, ap, sym, refl, length, is_some, arith, true, false, Some}
-use Rattle.std.proofs.Common.{None}
+use Rattle.std.proofs.Common.{None, vec_len, ◌+◌}
 use Rattle.std.proofs.lemmas.Grind.{common_steps}
 use Rattle.ready_connections.specs.declared.why.Why.TheVariants.{Late}
 use Rattle.ready_connections.specs.Bounds.{most_lent}
-use Rattle.ready_connections.specs.Places.{lent_places}
-use Rattle.ready_connections.specs.Running.{KeepsAll, Puts}
+use Rattle.http_messages.specs.Message.{interim}
+use Rattle.ready_connections.specs.Places.{lent_places, owed, owed_places}
+use Rattle.ready_connections.specs.Running.{Puts}
 use Rattle.ready_connections.proofs.Halls.{bounded_on, bounded_since, bounded_lent, puts_twice, puts_kept, waits_since}
 use Rattle.ready_connections.proofs.Halls.{ends_late, for_patience, lends, lent_same, lent_none, none_left}
-use Rattle.ready_connections.proofs.Halls.{rests_beside, rests_or_wakes, went_on, ended, handed_out}
+use Rattle.ready_connections.proofs.Halls.{counts_on, counts_less, rests_beside, rests_or_wakes, went_on, ended}
+use Rattle.ready_connections.proofs.Halls.{handed_out}
 use Rattle.ready_connections.proofs.hall.Hall.go_on.Goals as goal
+
+interim_len : length interim ≡ 25
+interim_len = refl
 
 pub returns-in-Again-clause-running : goal.returns-in-Again-clause-running
 returns-in-Again-clause-running g c done running =
@@ -28,7 +33,7 @@ returns-in-Again-clause-running g c done running =
       bounds = refl;
       left = refl;
       short = λ h. h;
-    }) c.enter.ensures in
+    }) c.enter.ensures.puts in
     went_on g.S.Stream done _ _ old c.enter.new.self (g.P.Sockets.traffic c.args.sockets.now) c.args.place
     c.in_ok-connection.connection c.take_turn.new.self true low c.requires.out c.in_ok-connection.ensures.was puts
     (rests_beside g.S.Stream old c.enter.new.self c.args.place c.in_ok-connection.connection c.take_turn.new.self true
@@ -36,8 +41,20 @@ returns-in-Again-clause-running g c done running =
     c.in-Again.ensures.lent))
     (λ served. (c.in-Again.ensures.told done served, inl refl))
     (λ bounded.
-    bounded_on done c.in_ok-connection.connection c.take_turn.new.self _ small c.take_turn.ensures.held c.take_turn.ensures.owed
-    bounded) running
+    bounded_on done c.in_ok-connection.connection c.take_turn.new.self _ small c.take_turn.ensures.held
+    c.take_turn.ensures.owed
+    bounded)
+    (counts_on old c.leave.new.self _ c.enter.new.self c.args.place c.in_ok-connection.connection
+    c.take_turn.new.self true 25
+    c.in_ok-connection.ensures.was c.in_ok-connection.ensures.free refl c.enter.ensures.puts
+    (c.take_turn.ensures.owed (vec_len c.in_ok-connection.connection.owed + 25) (omega (arith, interim_len))
+    (omega arith))
+    (omega (
+      arith,
+      c.enter.ensures.owed,
+      c.saturating_add-self.ensures,
+      c.in_ok-connection.ensures.owed,
+    ))) running
 
 pub returns-else-is_late-clause-running : goal.returns-else-is_late-clause-running
 returns-else-is_late-clause-running g c done running =
@@ -58,7 +75,7 @@ returns-else-is_late-clause-running g c done running =
       bounds = kept.bounds;
       left = kept.left;
       short = kept.short;
-    }) c.enter-in-Waits.ensures in
+    }) c.enter-in-Waits.ensures.puts in
     went_on g.S.Stream done _ _ old c.enter-in-Waits.new.self (g.P.Sockets.traffic c.args.sockets.now) c.args.place
     c.in_ok-connection.connection c.is_late.new.connection false low c.requires.out c.in_ok-connection.ensures.was puts
     (rests_beside g.S.Stream old c.enter-in-Waits.new.self c.args.place c.in_ok-connection.connection
@@ -70,8 +87,25 @@ returns-else-is_late-clause-running g c done running =
     (after.0, inr (inl after.1)))
     (λ bounded.
     bounded_since g.S.Stream done _ _ c.is_late.ensures.connection
-    (bounded_on done c.in_ok-connection.connection c.take_turn.new.self _ small c.take_turn.ensures.held c.take_turn.ensures.owed
-    bounded)) running
+    (bounded_on done c.in_ok-connection.connection c.take_turn.new.self _ small c.take_turn.ensures.held
+    c.take_turn.ensures.owed
+    bounded))
+    (counts_on old c.leave.new.self _ c.enter-in-Waits.new.self c.args.place c.in_ok-connection.connection
+    c.is_late.new.connection false 25
+    c.in_ok-connection.ensures.was c.in_ok-connection.ensures.free kept.places c.enter-in-Waits.ensures.puts
+    (omega (
+      arith,
+      ap (λ it. vec_len it.owed) c.is_late.ensures.connection,
+      (c.take_turn.ensures.owed (vec_len c.in_ok-connection.connection.owed + 25) (omega (arith, interim_len))
+          (omega arith)),
+    ))
+    (omega (
+      arith,
+      c.enter-in-Waits.ensures.owed,
+      c.is_late.ensures.owed,
+      c.saturating_add-self.ensures,
+      c.in_ok-connection.ensures.owed,
+    ))) running
 
 pub returns-in-Short-clause-running : goal.returns-in-Short-clause-running
 returns-in-Short-clause-running g c done running =
@@ -84,7 +118,7 @@ returns-in-Short-clause-running g c done running =
     let low : c.args.place < length old.places.items = grind (arith, common_steps, c.requires.place) in
     let kept = c.lend.ensures.kept in
     let lent = c.lend.ensures.connection in
-    let enters = c.enter-in-Short.ensures in
+    let enters = c.enter-in-Short.ensures.puts in
     let none : c.lend.new.connection.is_lent ≡ false → (c.enter-in-Short.new.self.is_short ≡ true)
     × (most_lent c.enter-in-Short.new.self.bounds.memory ≤ lent_places c.enter-in-Short.new.self.places.items) =
     λ not_lent. (
@@ -104,7 +138,7 @@ returns-in-Short-clause-running g c done running =
       bounds = kept.bounds;
       left = kept.left;
       short = kept.short;
-    }) c.enter-in-Short.ensures in
+    }) c.enter-in-Short.ensures.puts in
     went_on g.S.Stream done _ _ old c.enter-in-Short.new.self (g.P.Sockets.traffic c.args.sockets.now) c.args.place
     c.in_ok-connection.connection c.lend.new.connection c.lend.new.connection.is_lent low c.requires.out
     c.in_ok-connection.ensures.was puts
@@ -117,8 +151,25 @@ returns-in-Short-clause-running g c done running =
     none (c.in-Short.ensures.told done served))
     (λ bounded.
     bounded_lent done c.take_turn.new.self c.lend.new.connection lent c.in-Short.ensures.lent.1
-    (bounded_on done c.in_ok-connection.connection c.take_turn.new.self _ small c.take_turn.ensures.held c.take_turn.ensures.owed
-    bounded)) running
+    (bounded_on done c.in_ok-connection.connection c.take_turn.new.self _ small c.take_turn.ensures.held
+    c.take_turn.ensures.owed
+    bounded))
+    (counts_on old c.leave.new.self _ c.enter-in-Short.new.self c.args.place c.in_ok-connection.connection
+    c.lend.new.connection c.lend.new.connection.is_lent 25
+    c.in_ok-connection.ensures.was c.in_ok-connection.ensures.free kept.places c.enter-in-Short.ensures.puts
+    (omega (
+      arith,
+      ap (λ it. vec_len it.owed) lent,
+      (c.take_turn.ensures.owed (vec_len c.in_ok-connection.connection.owed + 25) (omega (arith, interim_len))
+          (omega arith)),
+    ))
+    (omega (
+      arith,
+      c.enter-in-Short.ensures.owed,
+      c.lend.ensures.owed,
+      c.saturating_add-self.ensures,
+      c.in_ok-connection.ensures.owed,
+    ))) running
 
 pub returns-then-is_late-clause-running : goal.returns-then-is_late-clause-running
 returns-then-is_late-clause-running g c done running =
@@ -146,7 +197,16 @@ returns-then-is_late-clause-running g c done running =
     c.wake.ensures.short)
     (λ served.
     let after = waits_since g.S.Stream done _ _ c.is_late.ensures.connection (c.in-Waits.ensures.told done served) in
-    (after.0, ends_late g.S.Stream c.is_late.new.connection _ patient after.1)) running
+    (after.0, ends_late g.S.Stream c.is_late.new.connection _ patient after.1))
+    (counts_less old c.leave.new.self c.wake.new.self c.args.place c.in_ok-connection.ensures.free
+    (c.wake.ensures.gives.places ∙ kept.places)
+    (omega (
+      arith,
+      c.wake.ensures.owed,
+      c.is_late.ensures.owed,
+      c.saturating_add-self.ensures,
+      c.in_ok-connection.ensures.owed,
+    ))) running
 
 pub returns-in-Over-clause-running : goal.returns-in-Over-clause-running
 returns-in-Over-clause-running g c done running =
@@ -164,7 +224,15 @@ returns-in-Over-clause-running g c done running =
     c.in_ok-connection.ensures.was running.turns leaves c.wake-in-Over.ensures.gives c.wake-in-Over.ensures.woken
     c.wake-in-Over.ensures.short)
     (λ served.
-    let after = c.in-Over.ensures.told done served in (after.0, for_patience g.S.Stream _ _ _ _ _ _ after.1)) running
+    let after = c.in-Over.ensures.told done served in (after.0, for_patience g.S.Stream _ _ _ _ _ _ after.1))
+    (counts_less old c.leave.new.self c.wake-in-Over.new.self c.args.place c.in_ok-connection.ensures.free
+    c.wake-in-Over.ensures.gives.places
+    (omega (
+      arith,
+      c.wake-in-Over.ensures.owed,
+      c.saturating_add-self.ensures,
+      c.in_ok-connection.ensures.owed,
+    ))) running
 
 pub returns-in-HandsOut-clause-running : goal.returns-in-HandsOut-clause-running
 returns-in-HandsOut-clause-running g c done running =
@@ -187,5 +255,20 @@ returns-in-HandsOut-clause-running g c done running =
     wakes.gives wakes.woken wakes.short)
     (λ served. c.in-HandsOut.ensures.told done served)
     (λ bounded.
-    bounded_on done c.in_ok-connection.connection c.take_turn.new.self _ small c.take_turn.ensures.held c.take_turn.ensures.owed
-    bounded) running
+    bounded_on done c.in_ok-connection.connection c.take_turn.new.self _ small c.take_turn.ensures.held
+    c.take_turn.ensures.owed
+    bounded)
+    (counts_less old c.leave.new.self c.wake-in-HandsOut.new.self c.args.place
+    c.in_ok-connection.ensures.free wakes.gives.places
+    (omega (
+      arith,
+      wakes.owed,
+      c.saturating_add-self.ensures,
+      c.in_ok-connection.ensures.owed,
+    ))) running
+
+pub returns-in-HandsOut-clause-light : goal.returns-in-HandsOut-clause-light
+returns-in-HandsOut-clause-light g c counted some =
+    let out = c.in_ok-connection.ensures.free.count owed in
+    let places = ap owed_places c.wake-in-HandsOut.ensures.gives.places in
+    grind (arith, common_steps, out, places, counted, c.take_turn.ensures.writes)

@@ -1,4 +1,4 @@
-use Rattle.std.proofs.Common.{◌≡◌, ◌<◌, ◌∙◌, ap, ◌++◌, ◌∷◌, [], None, false, length, refl, arith}
+use Rattle.std.proofs.Common.{◌<◌, ◌∙◌, ap, ◌++◌, ◌∷◌, [], None, false, length, refl, arith}
 use Rattle.std.proofs.lemmas.Grind.{common_steps}
 use Rattle.ready_connections.proofs.Halls.{lined, added}
 use Rattle.ready_connections.proofs.hall.Hall.has_place.Goals as goal
@@ -11,4 +11,4 @@ returns-clause-running g c done traffic running =
     lined g.S.Stream done old _ traffic
     (added old _ (c.push_reserved.ensures.items ∙ ap (λ l. l ++ None ∷ []) c.reserve.ensures.items)
     (c.push_reserved-2.ensures.items ∙ ap (λ l. l ++ false ∷ []) c.reserve-else-is_err.ensures.items) low
-    c.requires.out refl refl refl refl) running
+    c.requires.out refl refl refl refl refl) running

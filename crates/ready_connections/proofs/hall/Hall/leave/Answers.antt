@@ -17,3 +17,6 @@ returns-clause-free g c =
     (λ has. c.set_turn.ensures.turn (rw turns at has)) c.set_turn.ensures.others (ap (λ hall. hall.out) rest)
     (ap (λ hall. hall.bounds) rest) (ap (λ hall. hall.left) rest)
     (ap (λ hall. hall.is_short) rest)
+
+pub returns-clause-owed : goal.returns-clause-owed
+returns-clause-owed g c = ap (λ hall. hall.owed) c.set_turn.ensures.rest

@@ -11,4 +11,4 @@ returns-clause-running g c done traffic running =
     λ i high. rw c.deref.ensures.value at (c.count_used-used.ensures.free i high) in
     lined g.S.Stream done old _ traffic
     (trimmed old _ used within free c.truncate.ensures.items c.truncate-2.ensures.items c.requires refl refl refl
-    refl) running
+    refl refl) running

@@ -12,21 +12,37 @@ none_out (Err error) failed = refl
 pub returns-in_ok-ask-in-None-clause-running : goal.returns-in_ok-ask-in-None-clause-running
 returns-in_ok-ask-in-None-clause-running g c done running =
     c.ask.ensures.running done
-    (kept g.S.Stream done None c.args.self.now c.next_turn.new.self _ c.next_turn.ensures.same running)
+    (kept g.S.Stream done None c.args.self.now c.next_turn.new.self _ c.next_turn.ensures.same
+    (λ h. rw (c.next_turn.ensures.same.places, c.next_turn.ensures.owed) h) running)
 
 pub returns-in_err-ask-in-None-clause-running : goal.returns-in_err-ask-in-None-clause-running
 returns-in_err-ask-in-None-clause-running g c done running =
     rw (none_out c.from_residual.result c.from_residual.ensures.0)
     (c.ask.ensures.running done
-    (kept g.S.Stream done None c.args.self.now c.next_turn.new.self _ c.next_turn.ensures.same running))
+    (kept g.S.Stream done None c.args.self.now c.next_turn.new.self _ c.next_turn.ensures.same
+    (λ h. rw (c.next_turn.ensures.same.places, c.next_turn.ensures.owed) h) running))
 
 pub returns-then-must_wait-clause-running : goal.returns-then-must_wait-clause-running
 returns-then-must_wait-clause-running g c done running =
     kept g.S.Stream done None c.next_turn.new.self c.must_wait.new.self _ c.must_wait.ensures.kept
-    (kept g.S.Stream done None c.args.self.now c.next_turn.new.self _ c.next_turn.ensures.same running)
+    c.must_wait.ensures.counted
+    (kept g.S.Stream done None c.args.self.now c.next_turn.new.self _ c.next_turn.ensures.same
+    (λ h. rw (c.next_turn.ensures.same.places, c.next_turn.ensures.owed) h) running)
 
 pub returns-else-must_wait-clause-running : goal.returns-else-must_wait-clause-running
 returns-else-must_wait-clause-running g c done running =
     c.go_on.ensures.running done
     (kept g.S.Stream done None c.next_turn.new.self c.must_wait.new.self _ c.must_wait.ensures.kept
-    (kept g.S.Stream done None c.args.self.now c.next_turn.new.self _ c.next_turn.ensures.same running))
+    c.must_wait.ensures.counted
+    (kept g.S.Stream done None c.args.self.now c.next_turn.new.self _ c.next_turn.ensures.same
+    (λ h. rw (c.next_turn.ensures.same.places, c.next_turn.ensures.owed) h) running))
+
+pub returns-else-must_wait-clause-light : goal.returns-else-must_wait-clause-light
+returns-else-must_wait-clause-light g c done running some =
+    c.go_on.ensures.light
+    (c.must_wait.ensures.counted (rw (c.next_turn.ensures.same.places, c.next_turn.ensures.owed) running.counted)) some
+
+pub returns-in_err-ask-in-None-clause-light : goal.returns-in_err-ask-in-None-clause-light
+returns-in_err-ask-in-None-clause-light g c done running some =
+    absurd (let none = none_out c.from_residual.result c.from_residual.ensures.0 in
+    let h = rw none at some in cc)
