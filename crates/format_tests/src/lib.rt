@@ -1,36 +1,17 @@
-//! Tests of what is read and written as bytes or as a text: keys, heads, messages, replies, reports, the places of
-//! values in them, lines of findings, and scripts, through the public calls of the crates below. What may live here:
-//! tests alone, over no table and no file. They are together, since tests prove the crate that they are in once more,
-//! and this one has nothing else.
+//! Tests of what is read and written as bytes or as a text, as far as no case of `conformance/` shows it: devices that
+//! fail, inputs that are read whole, facts, the places of values in a text, and lines of findings, through the public
+//! calls of the crates below. What may live here: tests alone, over no table and no file.
 #![tactic(auto)]
 
 #[cfg(test)]
 mod devices;
 #[cfg(test)]
+mod facts;
+#[cfg(test)]
 mod findings;
-#[cfg(test)]
-mod heads;
-#[cfg(test)]
-mod inbox;
-#[cfg(test)]
-mod keys;
-#[cfg(test)]
-mod pieces;
 #[cfg(test)]
 mod places;
 #[cfg(test)]
-mod posting;
-#[cfg(test)]
-mod replies;
-#[cfg(test)]
-mod replies_read;
-#[cfg(test)]
-mod reports;
-#[cfg(test)]
 mod rows;
-#[cfg(test)]
-mod scripts;
-#[cfg(test)]
-mod streams;
 #[cfg(test)]
 mod whole;

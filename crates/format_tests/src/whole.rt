@@ -1,22 +1,23 @@
 //! Tests of an input that is read whole, up to a length.
 
-use crate::streams::Pieces;
 use command_line::{ReadFault, read_whole};
+use example_texts::Giving;
 use http_wire::Device;
 use std::alloc::Global;
 
 /// How many bytes of a reader that has `len` are read, if it may have `most`. Each read gets `piece` of them at most,
-/// and behind them the reader ends or fails.
+/// and one read may fail, before which so many don't.
 fn read_len(
     alloc: Global,
-    (len, piece, fails): (usize, usize, bool),
+    (len, piece): (usize, usize),
+    fails: Option<usize>,
     most: u32,
 ) -> Result<Option<usize>, ReadFault> {
     let mut text = Vec::new(alloc);
     text.resize(len, b' ')?;
-    let mut reader = Device::new(Pieces {
+    let mut reader = Device::new(Giving {
         rest: text.as_slice(),
-        piece,
+        most: piece,
         fails,
     });
     let found = read_whole(alloc, &mut reader, most as usize)?;
@@ -36,7 +37,7 @@ const REPORTS: &[((usize, usize), Option<usize>)] = &[
 #[test]
 fn as_long_as_a_report(rt: HostRuntime) {
     for &((len, piece), read) in REPORTS {
-        let given = read_len(rt.alloc(), (len, piece, false), 1_048_576);
+        let given = read_len(rt.alloc(), (len, piece), None, 1_048_576);
         assert_eq!(rt; given, Ok(read), "{len} in {piece}");
     }
 }
@@ -44,18 +45,24 @@ fn as_long_as_a_report(rt: HostRuntime) {
 /// A script may have 8,388,608 bytes, and take 4,194,304 reads, however many bytes these give.
 #[test]
 fn more_bytes_than_reads(rt: HostRuntime) {
-    let read = read_len(rt.alloc(), (6_000_000, 16_384, false), 8_388_608);
+    let read = read_len(rt.alloc(), (6_000_000, 16_384), None, 8_388_608);
     assert_eq!(rt; read, Ok(Some(6_000_000)));
 }
 
 #[test]
 fn behind_bytes_that_are_too_many(rt: HostRuntime) {
-    assert_eq!(rt; read_len(rt.alloc(), (1, 1, false), 0), Ok(None));
-    assert_eq!(rt; read_len(rt.alloc(), (2, 1, true), 1), Ok(None));
+    assert_eq!(rt; read_len(rt.alloc(), (1, 1), None, 0), Ok(None));
+    assert_eq!(rt; read_len(rt.alloc(), (2, 1), Some(2), 1), Ok(None));
 }
 
 #[test]
 fn a_reader_that_fails(rt: HostRuntime) {
-    assert_eq!(rt; read_len(rt.alloc(), (0, 1, true), 9), Err(ReadFault::Read));
-    assert_eq!(rt; read_len(rt.alloc(), (9, 2, true), 9), Err(ReadFault::Read));
+    assert_eq!(rt;
+        read_len(rt.alloc(), (0, 1), Some(0), 9),
+        Err(ReadFault::Read)
+    );
+    assert_eq!(rt;
+        read_len(rt.alloc(), (9, 2), Some(5), 9),
+        Err(ReadFault::Read)
+    );
 }

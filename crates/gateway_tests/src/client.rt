@@ -1,8 +1,8 @@
 //! Exchanges of an outbox over streams in memory.
 
 use crate::stores::Fresh;
-use example_texts::{Giving, REGISTERED, REGISTERED_CLOSED, REPORT, Taking, Text, bytes_of, front};
-use filer_client::{ExchangeFault, exchange, hand_over, request_bytes};
+use example_texts::{Giving, REGISTERED_CLOSED, REPORT, Taking, Text, bytes_of, front};
+use filer_client::{ExchangeFault, exchange, request_bytes};
 use http_wire::{Device, ReplyFault};
 use key_string::KeyText;
 use outbox_core::{Outbox, State, TakeFault};
@@ -20,9 +20,6 @@ const REQUEST: Text = &[
     (REPORT, 1),
 ];
 
-/// The first line of the request of an entry that replaces filing 1: 31 bytes.
-const AMENDMENT: &str = "POST /filings/ACME/1 HTTP/1.1\r\n";
-
 /// The outbox of a filer with one entry, which is open; `None` if memory is refused.
 fn with_entry<S: Fresh>(alloc: Global) -> Option<Outbox<S>> {
     let mut outbox = S::outbox(alloc)?;
@@ -36,20 +33,10 @@ fn put<S: Alter>(alloc: Global, outbox: &mut Outbox<S>) -> Option<u64> {
     put_body(outbox, key, REPORT.as_bytes().to_vec(alloc).ok()?)
 }
 
-/// Puts the report under the key `k-1`, to replace filing 1.
-fn put_amendment<S: Alter>(alloc: Global, outbox: &mut Outbox<S>) -> Option<u64> {
-    let key = KeyText::new(alloc, "k-1").ok()?;
-    put_replacing(outbox, key, REPORT.as_bytes().to_vec(alloc).ok()?)
-}
-
-// These three make one call each and have no clause, so that what calls them carries none of the call's.
+// These two make one call each and have no clause, so that what calls them carries none of the call's.
 
 fn put_body<S: Alter>(outbox: &mut Outbox<S>, key: KeyText, body: Vec<u8>) -> Option<u64> {
     outbox.put(key, None, body).ok()
-}
-
-fn put_replacing<S: Alter>(outbox: &mut Outbox<S>, key: KeyText, body: Vec<u8>) -> Option<u64> {
-    outbox.put(key, Some(1), body).ok()
 }
 
 fn request_of<S: Alter>(alloc: Global, outbox: &mut Outbox<S>) -> Result<Vec<u8>, TakeFault> {
@@ -242,55 +229,6 @@ fn hold<S: Fresh>(rt: &impl Abort, alloc: Global) -> Result<(), Fail> {
 #[test]
 fn each_read_and_write_fails_once(rt: HostRuntime) -> Result<(), Fail> {
     hold::<MemStore>(&rt, rt.alloc())
-}
-
-/// Whether a reply of these bytes to entry 1 comes to this, and leaves it in this state.
-fn is_heard<S: Alter>(
-    alloc: Global,
-    outbox: &mut Outbox<S>,
-    reply: &[u8],
-    answer: Result<State, ExchangeFault>,
-    state: State,
-) -> bool {
-    let given = hand_over(alloc, &mut Device::new(reply), outbox, 1);
-    given == answer && state_of(outbox) == Some(state)
-}
-
-/// Asserts that each front of a reply is cut, and the whole moves the entry.
-fn fronts_are_cut<S: Fresh>(rt: &impl Abort, alloc: Global) -> Result<(), Fail> {
-    let mut outbox: Outbox<S> = with_entry(alloc).ok_or("the outbox is not made")?;
-    let cut = Err(ExchangeFault::Reply(ReplyFault::Cut));
-    for most in 0..110 {
-        let reply = front(REGISTERED.as_bytes(), most);
-        assert!(rt;
-            is_heard(alloc, &mut outbox, reply, cut, State::Open),
-            "at {most}"
-        );
-    }
-    let confirmed = State::Confirmed(1);
-    let reply = REGISTERED.as_bytes();
-    assert!(rt; is_heard(alloc, &mut outbox, reply, Ok(confirmed), confirmed));
-    Ok(())
-}
-
-#[test]
-fn each_front_of_a_reply_is_cut(rt: HostRuntime) -> Result<(), Fail> {
-    fronts_are_cut::<MemStore>(&rt, rt.alloc())
-}
-
-/// Asserts that the request of an entry that replaces a filing says so in its path.
-fn path_has_the_number<S: Fresh>(rt: &impl Abort, alloc: Global) -> Result<(), Fail> {
-    let mut outbox: Outbox<S> = S::outbox(alloc).ok_or("the outbox is not made")?;
-    put_amendment(alloc, &mut outbox).ok_or("the report is not put")?;
-    let request = request_of(alloc, &mut outbox)?;
-    assert_eq!(rt; request.len(), 539);
-    assert!(rt; front(&request, 31) == AMENDMENT.as_bytes());
-    Ok(())
-}
-
-#[test]
-fn a_request_names_what_it_replaces(rt: HostRuntime) -> Result<(), Fail> {
-    path_has_the_number::<MemStore>(&rt, rt.alloc())
 }
 
 /// Whether the fault is that memory ran out, of the call or of the bytes that it writes to.
