@@ -1,13 +1,21 @@
-//! The worked examples of the protocol, all in one call.
+//! The worked examples of the protocol, in two calls, since a test has a minute and is run with checks as well.
 
 use std::test::Fail;
 use vector_examples::first_over;
-use vectors::run_all;
+use vectors::{NUMBERS, run};
 
 #[test]
-fn all_vectors_pass(rt: HostRuntime) -> Result<(), Fail> {
-    let report = run_all(rt.alloc())?;
-    assert_eq!(rt; report.passed, 27);
+fn vectors_1_to_14_pass(rt: HostRuntime) -> Result<(), Fail> {
+    let report = run(rt.alloc(), &NUMBERS[..14])?;
+    assert_eq!(rt; report.passed, 14);
+    assert!(rt; report.failed.is_empty());
+    Ok(())
+}
+
+#[test]
+fn vectors_15_to_27_pass(rt: HostRuntime) -> Result<(), Fail> {
+    let report = run(rt.alloc(), &NUMBERS[14..])?;
+    assert_eq!(rt; report.passed, 13);
     assert!(rt; report.failed.is_empty());
     Ok(())
 }

@@ -2,10 +2,11 @@
 
 ghost use Rattle.std.specs.Prelude.{◌≡◌, false, None};
 
+use crate::examples::REQUEST;
+use crate::fault::{VectorFault, refusal};
 use crate::files::execute;
-use crate::serving::goes;
+use crate::history::{self, PIECE, Part};
 use crate::visits::{Visit, visits};
-use connection_examples::{Part, REQUEST, VectorFault, refusal};
 use example_texts::NOT_JSON;
 use gateway_server::{Ended, Mark};
 use intake_core::Intake;
@@ -122,7 +123,7 @@ fn migrate_fault<S: Alter + Drop>(
 
 /// Whether the old key is answered as before, and a new one with problem details.
 fn tells_both<S: Alter>(alloc: Global, intake: &mut Intake<S>) -> Result<bool, VectorFault> {
-    let expected = connection_examples::Connection {
+    let expected = history::Connection {
         given: &[
             Part::Filing("ACME", "k-1", ""),
             Part::Text(REQUEST),
@@ -132,5 +133,5 @@ fn tells_both<S: Alter>(alloc: Global, intake: &mut Intake<S>) -> Result<bool, V
         marks: &[Mark::Done; 3],
         ended: Ended::InputEnded,
     };
-    goes(alloc, intake, &expected)
+    expected.goes(alloc, intake, PIECE)
 }

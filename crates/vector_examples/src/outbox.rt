@@ -2,8 +2,9 @@
 
 ghost use Rattle.std.specs.Prelude.{◌≡◌, false, None, IfOk};
 
+use crate::examples::repeated;
+use crate::fault::{VectorFault, refusal};
 use crate::visits::{Visit, visits};
-use connection_examples::{VectorFault, refusal, repeated};
 use example_texts::{REGISTERED_CLOSED, REPORT, SMALLEST, front};
 use filer_client::{ExchangeFault, exchange};
 use http_wire::{Device, Kind, MAX_BODY_LEN, Reply, ReplyFault, append_request};

@@ -2,9 +2,9 @@
 
 ghost use Rattle.std.specs.Prelude.{◌≡◌, false, None};
 
+use crate::fault::{VectorFault, refusal};
 use crate::files::execute;
 use crate::visits::{Visit, visits};
-use connection_examples::{VectorFault, refusal};
 use example_texts::REPORT;
 use outbox_core::{Entry, Outbox, OutboxFault, State};
 use sqlite::{Alter, Connection, params};

@@ -2,9 +2,10 @@
 
 ghost use Rattle.std.specs.Prelude.{◌≡◌, false, None};
 
-use crate::serving::goes;
+use crate::examples::REQUEST;
+use crate::fault::{VectorFault, refusal};
+use crate::history::{self, PIECE, Part};
 use crate::visits::{Visit, visits};
-use connection_examples::{Part, REQUEST, VectorFault, refusal};
 use example_texts::{REGISTERED, REPORT, SMALLEST};
 use gateway_server::{Ended, Mark};
 use intake_core::Intake;
@@ -67,13 +68,13 @@ fn empty_intake<S: Alter + Drop>(
 
 /// Whether a request that comes three times is answered three times that it is registered.
 fn takes_once<S: Alter>(alloc: Global, intake: &mut Intake<S>) -> Result<bool, VectorFault> {
-    let expected = connection_examples::Connection {
+    let expected = history::Connection {
         given: &[Part::Text(REQUEST); 3],
         written: &[REGISTERED; 3],
         marks: &[Mark::Done; 3],
         ended: Ended::InputEnded,
     };
-    goes(alloc, intake, &expected)
+    expected.goes(alloc, intake, PIECE)
 }
 
 /// Finds the one request in this database, and no other.

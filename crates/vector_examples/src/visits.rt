@@ -2,9 +2,9 @@
 
 ghost use Rattle.std.specs.Prelude.{◌≡◌, false, None, IfOk, IfSome, IsTrue};
 
+use crate::fault::VectorFault;
 use crate::files::{close, connect, new_files};
 use crate::{migration, outbox, outbox_migration, register};
-use connection_examples::VectorFault;
 use sqlite::{Alter, Connection, Files};
 use sqlite_disk::Disk;
 use std::alloc::Global;

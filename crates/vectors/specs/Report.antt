@@ -1,7 +1,7 @@
 -- How vectors went, and which of them failed.
 use Rattle.std.specs.Prelude.{◌≡◌, ℕ, ◌⊎◌, ◌&&◌, ◌||◌, not, Bool, true, List, [], ◌∷◌, Option, Some, None, is_some}
 use Rattle.std.specs.Prelude.{nat_eq}
-use Rattle.vectors.specs.declared.run.Outcome.{Outcome}
+use Rattle.vectors.specs.declared.report.Outcome.{Outcome}
 
 -- a part that a vector does not have fails nothing
 abbrev pub part_passes : Option Bool → Bool

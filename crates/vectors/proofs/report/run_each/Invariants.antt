@@ -1,6 +1,6 @@
 use Rattle.std.proofs.Common.{◌≡◌, All, map, take}
 use Rattle.vectors.specs.Report.{IsWhole}
-use Rattle.vectors.proofs.run.run_each.Given as goal
+use Rattle.vectors.proofs.report.run_each.Given as goal
 
 abbrev pub invariant-loop-number : goal.invariant-loop-number
 invariant-loop-number l = record {

@@ -1,6 +1,6 @@
 use Rattle.std.proofs.Common.{◌≡◌, ◌+◌, filter, map, take, vec_len}
 use Rattle.vectors.specs.Report.{fails}
-use Rattle.vectors.proofs.run.report_of.Given as goal
+use Rattle.vectors.proofs.report.report_of.Given as goal
 
 abbrev pub invariant-loop-outcome : goal.invariant-loop-outcome
 invariant-loop-outcome l = record {

@@ -12,7 +12,7 @@ use std::io::{self, Read, Write};
 
 /// A part of what is given on a connection.
 #[derive(Clone, Copy)]
-pub enum Part<'a> {
+pub(crate) enum Part<'a> {
     Text(&'a str),
     /// A character so many times.
     Repeated(char, u32),
@@ -22,12 +22,12 @@ pub enum Part<'a> {
 
 /// What is given to an intake on one connection, part by part, and the expected result, text by text.
 #[derive(Clone, Copy)]
-pub struct Connection<'a> {
-    pub given: &'a [Part<'a>],
-    pub written: &'a [&'a str],
+pub(crate) struct Connection<'a> {
+    pub(crate) given: &'a [Part<'a>],
+    pub(crate) written: &'a [&'a str],
     /// A mark for each request that came, in order.
-    pub marks: &'a [Mark],
-    pub ended: Ended,
+    pub(crate) marks: &'a [Mark],
+    pub(crate) ended: Ended,
 }
 
 /// The connections of an intake that is empty at first, one after another, and what it keeps in the end.
@@ -48,7 +48,7 @@ pub(crate) struct History<'a> {
 pub(crate) const LIMIT: u32 = 1_000_000;
 
 /// How many bytes a read gives at most if a vector names no other number.
-const PIECE: usize = 4096;
+pub(crate) const PIECE: usize = 4096;
 
 impl<'a> History<'a> {
     /// Connections that leave this many requests and filings, under the usual limits.
@@ -108,7 +108,7 @@ fn register_of<S: Alter>(intake: Intake<S>) -> Store<S> {
 
 impl Connection<'_> {
     /// Whether the intake answers as expected if a read gives at most this many bytes.
-    fn goes<S: Alter>(
+    pub(crate) fn goes<S: Alter>(
         &self,
         alloc: Global,
         intake: &mut Intake<S>,
@@ -125,7 +125,7 @@ impl Connection<'_> {
     }
 
     /// What is given, as one text.
-    pub fn text(&self, alloc: Global) -> Result<String, VectorFault> {
+    fn text(&self, alloc: Global) -> Result<String, VectorFault> {
         let mut text = String::new(alloc);
         for part in self.given {
             append(alloc, &mut text, *part)?;
@@ -134,7 +134,7 @@ impl Connection<'_> {
     }
 
     /// Whether the connection had this result. A writer in memory fails only if memory runs out.
-    pub fn is_so(&self, served: &Served, output: &[u8]) -> Result<bool, VectorFault> {
+    fn is_so(&self, served: &Served, output: &[u8]) -> Result<bool, VectorFault> {
         match served.ended {
             Ended::Fault(ConnFault::Memory | ConnFault::Write { .. }) => Err(VectorFault::Memory),
             ended => Ok(

@@ -8,7 +8,7 @@ use table_rows::Cause;
 
 /// Why a vector ended early.
 #[derive(Clone, Copy, Debug, PartialEq, Eq)]
-pub enum VectorFault {
+pub(crate) enum VectorFault {
     /// Memory was refused.
     Memory,
     /// A call was refused for another cause, or its answer is not the expected one, so the vector has failed.
@@ -17,7 +17,7 @@ pub enum VectorFault {
 
 impl VectorFault {
     /// Ends a vector in which something is not as expected.
-    pub fn unless(is_so: bool) -> Result<(), VectorFault> {
+    pub(crate) fn unless(is_so: bool) -> Result<(), VectorFault> {
         if is_so {
             Ok(())
         } else {
@@ -26,7 +26,7 @@ impl VectorFault {
     }
 
     /// The answer of a vector.
-    pub fn settle(outcome: Result<bool, VectorFault>) -> Result<bool, AllocError> {
+    pub(crate) fn settle(outcome: Result<bool, VectorFault>) -> Result<bool, AllocError> {
         match outcome {
             Ok(passed) => Ok(passed),
             Err(VectorFault::Memory) => Err(AllocError),
@@ -144,7 +144,7 @@ impl From<outbox_core::TakeFault> for VectorFault {
 }
 
 /// How a call was refused, if it was; `Err` if memory ran out.
-pub fn refusal<T: Drop, F: Copy + Into<VectorFault>>(
+pub(crate) fn refusal<T: Drop, F: Copy + Into<VectorFault>>(
     outcome: Result<T, F>,
 ) -> Result<Option<F>, VectorFault> {
     match outcome.err() {

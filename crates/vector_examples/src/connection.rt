@@ -41,7 +41,7 @@ fn closed<'a>(given: &'a [Part<'a>], written: &'a [&'a str], marks: &'a [Mark]) 
 pub(crate) const FIRST: Part<'static> = Part::Text(REQUEST);
 
 /// Vector 1: a valid report is registered, listed, and shown by its facts.
-pub fn registered(alloc: Global, limit: u32) -> Result<bool, VectorFault> {
+pub(crate) fn registered(alloc: Global, limit: u32) -> Result<bool, VectorFault> {
     let connections = [
         answered(&[FIRST], &[REGISTERED], &[Mark::Done]),
         answered(

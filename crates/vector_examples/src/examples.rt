@@ -4,7 +4,7 @@ use crate::fault::VectorFault;
 use std::alloc::Global;
 
 /// The request that files the report of one fact for `ACME` under the key `k-1`, 486 bytes.
-pub const REQUEST: &str =
+pub(crate) const REQUEST: &str =
     "POST /filings/ACME HTTP/1.1\r\nHost: localhost\r\nIdempotency-Key: \"k-1\"\r\nContent-Length: 393\r\n\r\n{\"documentInfo\":{\"documentType\":\"https://xbrl.org/2021/xbrl-json\",\"namespaces\":{\"eg\":\"http://example.com/eg\",\"iso4217\":\"http://www.xbrl.org/2003/iso4217\",\"lei\":\"http://standards.iso.org/iso/17442\"},\"taxonomy\":[\"http://example.com/eg.xsd\"]},\"facts\":{\"f1\":{\"value\":\"100\",\"decimals\":0,\"dimensions\":{\"concept\":\"eg:Assets\",\"entity\":\"lei:ACME\",\"period\":\"2024-12-31T00:00:00\",\"unit\":\"iso4217:EUR\"}}}}";
 
 /// The report of one fact, of the entity `BETA`, 393 bytes.
@@ -36,7 +36,7 @@ pub(crate) fn report(
 }
 
 /// A character so many times.
-pub fn repeated(alloc: Global, character: char, count: u32) -> Result<String, VectorFault> {
+pub(crate) fn repeated(alloc: Global, character: char, count: u32) -> Result<String, VectorFault> {
     let mut text = String::new(alloc);
     for _ in 0..count {
         text.push(character)?;

@@ -1,6 +1,6 @@
-//! The vectors of schedules by their numbers.
+//! The vectors of schedules by their numbers: each plays one script over the public calls, and says whether the result
+//! is the expected one.
 
-use crate::examples::{KEY_REUSED_CLOSED, REGISTERED_SECOND_CLOSED};
 use crate::outcome::play;
 use command_line::CommandFault;
 use drill_commands::Fault;
@@ -12,9 +12,17 @@ use outbox_core::StoreFault;
 use schedule::Fault as WorldFault;
 use std::alloc::{AllocError, Global};
 
+/// The reply to the second registered report if the connection closes.
+const REGISTERED_SECOND_CLOSED: &str =
+    "HTTP/1.1 201 Created\r\nContent-Type: application/json\r\nContent-Length: 34\r\nConnection: close\r\n\r\n{\"number\":2,\"status\":\"registered\"}";
+
+/// The reply to a key that was used for another body, if the connection closes.
+const KEY_REUSED_CLOSED: &str =
+    "HTTP/1.1 422 Unprocessable Content\r\nContent-Type: application/problem+json\r\nContent-Length: 89\r\nConnection: close\r\n\r\n{\"reason\":\"key-reused\",\"status\":422,\"title\":\"Unprocessable Content\",\"type\":\"about:blank\"}";
+
 /// Runs the vector of this number, of 24 its end, of 27 its beginning, and says whether it passed. A number without a
 /// schedule fails. If memory was refused, it answers that.
-pub fn run(alloc: Global, number: u32) -> Result<bool, AllocError> {
+pub(crate) fn run(alloc: Global, number: u32) -> Result<bool, AllocError> {
     let passed = match number {
         15 => stopped_after_keeping(alloc),
         16 => two_outboxes(alloc),

@@ -3,6 +3,7 @@
 ghost use Rattle.std.specs.Prelude.{◌≡◌, ◌+◌, ◌<◌, ◌^◌, All, filter, length, map, vec_len, IfOk};
 ghost use Rattle.vectors.specs.Report.{AreSomeOf, IsWhole, fails};
 
+use crate::schedules;
 use std::alloc::{AllocError, Global};
 
 /// Which vectors passed.
@@ -40,30 +41,39 @@ impl Outcome {
     }
 }
 
-/// Runs all vectors, each over databases of its own in memory. If memory was refused, it answers that.
+/// Runs all vectors.
 pub fn run_all(alloc: Global) -> Result<VectorReport, AllocError>
     ensures failed { IfOk result (λ report. AreSomeOf NUMBERS report.failed.items) }
     ensures passed { IfOk result (λ report. report.passed + vec_len report.failed ≡ length NUMBERS) }
 {
-    let outcomes = run_each(alloc, &NUMBERS)?;
+    run(alloc, &NUMBERS)
+}
+
+/// Runs the vectors of these numbers, each over databases of its own in memory. If memory was refused, it answers that.
+pub fn run(alloc: Global, numbers: &[u32]) -> Result<VectorReport, AllocError>
+    requires { length numbers.now < 2 ^ 32 }
+    ensures failed { IfOk result (λ report. AreSomeOf numbers.now report.failed.items) }
+    ensures passed { IfOk result (λ report. report.passed + vec_len report.failed ≡ length numbers.now) }
+{
+    let outcomes = run_each(alloc, numbers)?;
     report_of(alloc, outcomes.as_slice())
 }
 
-/// Runs the vectors of these numbers, in their order.
+/// How the vectors of these numbers went, in their order.
 fn run_each(alloc: Global, numbers: &[u32]) -> Result<Vec<Outcome>, AllocError>
     ensures numbers { IfOk result (λ outcomes. map (λ o. o.number) outcomes.items ≡ numbers.now) }
     ensures whole { IfOk result (λ outcomes. All IsWhole outcomes.items) }
 {
     let mut outcomes = Vec::new(alloc);
     for &number in numbers {
-        outcomes.push(run(alloc, number)?)?;
+        outcomes.push(outcome_of(alloc, number)?)?;
     }
     Ok(outcomes)
 }
 
-/// Runs the vector of this number. Vectors 15 and 16 are scripts, and so are the end of vector 24 and the beginning of
-/// vector 27.
-fn run(alloc: Global, number: u32) -> Result<Outcome, AllocError>
+/// How the vector of this number went. Vectors 15 and 16 are scripts, and so are the end of vector 24 and the beginning
+/// of vector 27.
+fn outcome_of(alloc: Global, number: u32) -> Result<Outcome, AllocError>
     ensures number { IfOk result (λ outcome. outcome.number ≡ number) }
     ensures whole { IfOk result IsWhole }
 {
@@ -72,7 +82,7 @@ fn run(alloc: Global, number: u32) -> Result<Outcome, AllocError>
         _ => Some(vector_examples::run(alloc, number)?),
     };
     let script = match number {
-        15 | 16 | 24 | 27 => Some(schedule_examples::run(alloc, number)?),
+        15 | 16 | 24 | 27 => Some(schedules::run(alloc, number)?),
         _ => None,
     };
     Ok(Outcome {
