@@ -17,7 +17,7 @@ use thiserror::Error;
 
 /// Why a database gave no register, and what it holds.
 #[derive(Clone, Copy, Debug)]
-pub(crate) struct Refusal {
+pub struct Refusal {
     pub(crate) fault: OpenFault,
     pub(crate) holding: Holding,
 }
@@ -119,7 +119,7 @@ fn error_text(error: DatabaseError) -> &'static str {
 
 /// What went wrong in a visit to the register of a file.
 #[derive(Clone, Copy, Debug, Error)]
-pub(crate) enum VisitFault {
+pub enum VisitFault {
     /// No register is made in a database that holds this.
     #[error("{text}", text = has_tables(*.0))]
     Taken(Holding),
@@ -192,7 +192,7 @@ impl VisitFault {
 
 /// Why a task was not done. Its text is one line.
 #[derive(Debug, Drop, Error)]
-pub(crate) enum Fault<'a> {
+pub enum Fault<'a> {
     #[error("{0}")]
     Command(CommandFault<'a>),
     #[error("there is no init: intake serve --new makes a register")]

@@ -13,7 +13,7 @@ use thiserror::Error;
 
 /// Why a page was not written.
 #[derive(Debug, Drop, Error)]
-pub(crate) enum PageFault {
+pub enum PageFault {
     #[error("{file}: {error}", file = OneLine(.path.as_str()))]
     File { path: String, error: io::Error },
     #[error("out of memory")]

@@ -26,4 +26,7 @@ mod tasks;
 mod told;
 mod visiting;
 
+pub use fault::{Fault, Refusal, VisitFault};
+pub use folder::PageFault;
+pub use options::{Serving, Task};
 pub use program::main;

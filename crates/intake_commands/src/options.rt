@@ -30,7 +30,7 @@ const MOST_MEMORY: i64 = 65_536;
 
 /// What is served, and how.
 #[derive(Clone, Copy)]
-pub(crate) struct Serving<'a> {
+pub struct Serving<'a> {
     pub(crate) database: &'a str,
     pub(crate) port: u16,
     /// How many connections are served.
@@ -59,7 +59,7 @@ pub(crate) struct Asked<'a> {
 
 /// A task of the program.
 #[derive(Drop)]
-pub(crate) enum Task<'a> {
+pub enum Task<'a> {
     /// Serve standard input on a register in memory.
     Run {
         limit: u64,

@@ -24,7 +24,7 @@ use thiserror::Error;
 
 /// What went wrong in a visit to the outbox of a file.
 #[derive(Clone, Copy, Debug, Error)]
-pub(crate) enum VisitFault {
+pub enum VisitFault {
     /// An outbox is made only in a database without tables.
     #[error("{why}", why = taken(*.0))]
     Taken(Holding),
@@ -157,7 +157,7 @@ impl VisitFault {
 
 /// What went wrong in an exchange, in words.
 #[derive(Clone, Copy, Debug)]
-pub(crate) struct Cause(pub(crate) ExchangeFault);
+pub struct Cause(pub(crate) ExchangeFault);
 
 impl fmt::Display for Cause {
     fn fmt<W: fmt::Write>(&self, f: &mut fmt::Formatter<W>) -> fmt::Result {
@@ -192,7 +192,7 @@ const OTHER_REGISTER: &str = "another register answers, or it was restored; ask 
 
 /// Why a task was not done. Its text is one line.
 #[derive(Debug, Drop, Error)]
-pub(crate) enum Fault<'a> {
+pub enum Fault<'a> {
     #[error("{0}")]
     Command(#[from] CommandFault<'a>),
     #[error("--key: {0}")]

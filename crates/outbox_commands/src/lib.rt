@@ -14,4 +14,7 @@ mod options;
 mod putting;
 mod tasks;
 
+pub use fault::{Cause, Fault, VisitFault};
+pub use options::{Peer, Task};
+pub use putting::Report;
 pub use tasks::{main, perform};

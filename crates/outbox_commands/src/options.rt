@@ -28,7 +28,7 @@ pub(crate) enum Asked<'a> {
 
 /// What is done with an outbox.
 #[derive(Drop)]
-pub(crate) enum Task<'a> {
+pub enum Task<'a> {
     /// Make an outbox of this filer.
     Init {
         database: &'a str,
@@ -108,7 +108,7 @@ impl<'a> Task<'a> {
 
 /// The intake to which entries are sent.
 #[derive(Clone, Copy)]
-pub(crate) struct Peer<'a> {
+pub struct Peer<'a> {
     /// Its port of 127.0.0.1.
     pub(crate) port: u16,
     /// How many seconds an exchange with it may take, if there is a limit.

@@ -24,7 +24,7 @@ use uuid::Uuid;
 
 /// A report that was read in the file of this name, and its key.
 #[derive(Drop)]
-pub(crate) struct Report<'a> {
+pub struct Report<'a> {
     file: &'a str,
     key: KeyText,
     body: Vec<u8>,

@@ -1,0 +1,11 @@
+mod Results
+mod Lies
+mod Puts
+mod Sends
+mod Tasks
+mod Happens
+mod Joining
+mod Together
+mod Services
+mod Looks
+mod Deployments

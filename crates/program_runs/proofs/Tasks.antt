@@ -1,0 +1,283 @@
+-- What a task of `outbox` is among deeds, by the errands that it does.
+use Rattle.std.proofs.Common.{◌≡◌, ◌∙◌, ℕ, Bool, true, false, List, [], ◌∷◌, ◌++◌, map, Option, Some, None, Result}
+use Rattle.std.proofs.Common.{Ok, Err, refl, sym, ap, subst, inl, inr, true≢false}
+use Rattle.std.specs.Borrow.{Bor}
+use Rattle.std.specs.Prelude.{◌==◌, IsSome}
+use Rattle.sqlite_disk.specs.declared.Disk.{Ghosts}
+use Rattle.sqlite.specs.Files.{over_files}
+use Rattle.sqlite_store.specs.declared.store.FileStore.{FileStore}
+use Rattle.filing_model.specs.Prefix.{IsPrefixOf}
+use Rattle.outbox_tables.specs.Entries.{Contents, empty}
+use Rattle.outbox_core.specs.declared.fault.PutFault.{PutFault}
+use Rattle.outbox_core.specs.OutboxParts.{OutboxParts, HasEntries}
+use Rattle.database_places.specs.Places.{IsHonest}
+use Rattle.outbox_tasks.specs.Dials.{Traffic}
+use Rattle.outbox_tasks.specs.Putting.{IsPutTold}
+use Rattle.outbox_tasks.specs.declared.fault.TaskFault.{TaskFault}
+use Rattle.outbox_tasks.specs.declared.fault.TaskFault.TheVariants as failed
+use Rattle.outbox_process.specs.declared.begun.Beginning.{Beginning}
+use Rattle.outbox_process.specs.declared.errand.Done.{Done}
+use Rattle.outbox_process.specs.declared.errand.Done.TheVariants as outcome
+use Rattle.outbox_process.specs.declared.errand.Errand.{Errand}
+use Rattle.outbox_process.specs.declared.errand.Errand.TheVariants as errand
+use Rattle.outbox_process.specs.declared.errand.Which.{Which}
+use Rattle.outbox_process.specs.declared.errand.Which.TheVariants.{Next, Entry, All}
+use Rattle.outbox_process.specs.declared.target.Target.{Target}
+use Rattle.outbox_process.specs.Errands.{DoesErrand, Sends, answer}
+use Rattle.outbox_process.specs.Process.{Parts, Keeps}
+use Rattle.outbox_commands.specs.Puts.{PutsInTurn, PutsOne, PutsReports, PutsThem, ended_as, put_of}
+use Rattle.outbox_commands.specs.Status.{status_by}
+use Rattle.outbox_commands.specs.Tasks.{Does, MakesOutbox, MigratesOutbox}
+use Rattle.outbox_commands.specs.Visits.{IsRefused, VisitsOutbox}
+use Rattle.outbox_commands.specs.declared.fault.Fault.{Fault}
+use Rattle.outbox_commands.specs.declared.options.Task.{Task}
+use Rattle.outbox_commands.specs.declared.options.Task.TheVariants.{Init, Put, Migrate, Send, Ask, Status, Show}
+use Rattle.outbox_commands.specs.declared.putting.Report.{Report}
+use Rattle.program_runs.specs.Deeds.{Deed, Added}
+use Rattle.program_runs.specs.Runs.{LiesClosed, IsRunBy, AreOfReports, AreOfPutting, AreOfSend, AreOfAsk, AreOfTask}
+use Rattle.program_runs.specs.Runs.{IsNoInit}
+use Rattle.program_runs.proofs.Joining.{done_join}
+use Rattle.program_runs.proofs.Lies.{Brings, Goes, performed, visited, keeps_of, lies_of}
+use Rattle.program_runs.proofs.Looks.{looks, ask_brings}
+use Rattle.program_runs.proofs.Puts.{AreBy, put_brings}
+use Rattle.program_runs.proofs.Results.{not_err}
+use Rattle.program_runs.proofs.Sends.{send_entry_brings, send_next_brings, send_all_brings}
+
+abbrev deed_of : Target → Report → Deed
+deed_of target report = Added report.key target.number report.body.items
+
+-- ---- the first of the deeds of some reports
+
+-- one more report was put in, and then the first of others
+goes_on : (deed : Deed) (others first rest : List Deed) → first ≡ deed ∷ [] → IsPrefixOf rest others
+    → IsPrefixOf (first ++ rest) (deed ∷ others)
+goes_on deed others first rest is are =
+    subst (λ (front : List Deed). IsPrefixOf (front ++ rest) (deed ∷ others)) (sym is)
+    (are.0, ap (λ (deeds : List Deed). deed ∷ deeds) are.1)
+
+-- one was put in or not, and none after it
+begins : (deed : Deed) (others : List Deed) (came : Result ℕ PutFault) (deeds : List Deed) → AreBy came deed deeds
+    → IsPrefixOf deeds (deed ∷ others)
+begins deed others (Ok id) deeds is =
+    subst (λ (front : List Deed). IsPrefixOf front (deed ∷ others)) (sym is) (others, refl)
+begins deed others (Err fault) deeds is =
+    subst (λ (front : List Deed). IsPrefixOf front (deed ∷ others)) (sym is) (deed ∷ others, refl)
+
+-- a put that is answered put the entry in
+answered : (deed : Deed) (deeds : List Deed) (puts : Result ℕ PutFault) (out out' : Option (List ℕ))
+    (told : Result ℕ TaskFault) (came : Result Done TaskFault) → IsPutTold puts out out' told
+    → came ≡ answer outcome.Put told → Ok tt ≡ ended_as came → AreBy puts deed deeds → deeds ≡ deed ∷ []
+answered deed deeds (Ok id) out out' told came is by ends are = are
+answered deed deeds (Err why) out out' told came is by ends are =
+    absurd (not_err tt (failed.Put why)
+    (ends ∙ ap ended_as by ∙ ap (λ (t : Result ℕ TaskFault). ended_as (answer outcome.Put t)) is.0))
+
+module _ {D : Type 0} {g : Ghosts D} where
+  was_put : (target : Target) (report : Report) (net : Traffic) (out out' : Option (List ℕ)) (old new : Parts g)
+      → (puts : PutsOne (put_of target report) net out out' old new (Ok tt)) → (deeds : List Deed)
+      → AreBy puts.performs.does.0.1.came (deed_of target report) deeds → deeds ≡ deed_of target report ∷ []
+  was_put target report net out out' old new puts deeds are =
+      let does = puts.performs.does.0 in
+      answered (deed_of target report) deeds does.1.came out out' does.0 puts.came does.1.told does.2 puts.ends are
+
+  -- nothing was done
+  stayed : (old new : Parts g) (it : Contents) (Are : List Deed → Type 0) → Are [] → LiesClosed old it → new ≡ old
+      → IsRunBy it new Are
+  stayed old new it Are none lies same =
+      record { deeds = []; are = none; after = it; done = refl; lies = subst (λ p. LiesClosed p it) (sym same) lies }
+
+  -- an outbox that was not opened is uncertain
+  not_refused : {X : Type 0} (beginning : Beginning) (old new : Parts g) (status : ℕ)
+      → IsRefused g beginning old new status → new.is_certain ≡ true → X
+  not_refused beginning old new status is certain = absurd (true≢false (sym certain ∙ is.opens.refused.2))
+
+  -- ---- one errand
+
+  -- An outbox was visited, if the errand brings each outbox to another one by such deeds.
+  visits : (what : Errand) (strict : Bool) (net net' : Traffic) (out out' : Option (List ℕ)) (old new : Parts g)
+      (status : ℕ) (it : Contents) (Are : List Deed → Type 0) → IsHonest g → LiesClosed old it
+      → VisitsOutbox g strict what net net' out out' old new status → new.is_certain ≡ true
+      → ((before after : OutboxParts (FileStore D g)) (came : Result Done TaskFault)
+      → HasEntries over_files before it.entries → before.filer ≡ it.filer
+      → DoesErrand over_files what net net' before after out out' came → Brings before after it Are)
+      → IsRunBy it new Are
+  visits what strict net net' out out' old new status it Are honest lies visit certain brings = elim visit [
+    | inl does ↦ visited old does.opened does.done new does.closed it Are honest lies does.opens does.closes certain
+        (λ keeps sure. performed what net net' out out' does.opened does.done does.came it Are does.performs keeps sure
+        (λ has filer.
+        brings does.performs.before does.performs.after does.came has filer does.performs.does))
+    | inr refused ↦ not_refused _ old new status refused.0 certain
+  ]
+
+  -- by what is sent
+  sends : (w : Which) (net net' : Traffic) (out out' : Option (List ℕ)) (it : Contents) → IsHonest g
+      → (before after : OutboxParts (FileStore D g)) (came : Result Done TaskFault)
+      → HasEntries over_files before it.entries → before.filer ≡ it.filer
+      → Sends over_files w net net' before after out out' came → Brings before after it (AreOfSend w)
+  sends Next net net' out out' it honest before after came has filer is =
+      send_next_brings net net' before after it out out' is.0 honest has filer is.1
+  sends (Entry id) net net' out out' it honest before after came has filer is =
+      send_entry_brings id net net' before after it out out' is.0 honest has filer is.1
+  sends All net net' out out' it honest before after came has filer is =
+      send_all_brings net net' before after it out out' is.0 honest has filer is.1
+
+  -- ---- reports are put in
+
+  -- a report was put in, or that failed
+  put_one : (target : Target) (report : Report) (net : Traffic) (out out' : Option (List ℕ)) (old new : Parts g)
+      (ended : Result (Unit {0}) TaskFault) (it : Contents) → IsHonest g
+      → (puts : PutsOne (put_of target report) net out out' old new ended) → Keeps old it → new.is_certain ≡ true
+      → Goes old new it (AreBy puts.performs.does.0.1.came (deed_of target report))
+  put_one target report net out out' old new ended it honest puts keeps sure =
+      let leaves = puts.looks honest in
+      let told = puts.performs.does.0.1 in
+      let by = performed (put_of target report) net net out out' old puts.done puts.came it
+      (AreBy told.came (deed_of target report)) puts.performs keeps (leaves.certain sure)
+      (λ has filer.
+      put_brings puts.performs.before puts.performs.after it report.key target.number report.body.items told.came
+      honest has filer told.puts) in
+      record {
+        deeds = by.deeds;
+        are = by.are;
+        after = by.after;
+        done = by.done;
+        keeps = leaves.kept by.after by.keeps;
+      }
+
+  one_certain : (put : Errand) (net : Traffic) (out out' : Option (List ℕ)) (old new : Parts g)
+      (ended : Result (Unit {0}) TaskFault) → IsHonest g → PutsOne put net out out' old new ended
+      → new.is_certain ≡ true → old.is_certain ≡ true
+  one_certain put net out out' old new ended honest puts sure =
+      sym puts.performs.certain ∙ (puts.looks honest).certain sure
+
+  turns_certain : (puts : List Errand) (net : Traffic) (out out' : Option (List ℕ)) (old new : Parts g)
+      (ended : Result (Unit {0}) TaskFault) → IsHonest g → PutsInTurn puts net out out' old new ended
+      → new.is_certain ≡ true → old.is_certain ≡ true
+  turns_certain [] net out out' old new ended honest is sure = sym (ap (λ (p : Parts g). p.is_certain) is.1) ∙ sure
+  turns_certain (put ∷ puts) net out out' old new ended honest is sure = elim is [
+    | inl one ↦ one_certain put net out one.0 old one.1 (Ok tt) honest one.2
+        (turns_certain puts net one.0 out' one.1 new ended honest one.3 sure)
+    | inr last ↦ one_certain put net out out' old new (Err last.0) honest last.1 sure
+  ]
+
+  -- reports were put in, one after another
+  turns : (target : Target) (reports : List Report) (net : Traffic) (out out' : Option (List ℕ)) (old new : Parts g)
+      (ended : Result (Unit {0}) TaskFault) (it : Contents) → IsHonest g
+      → PutsInTurn (map (put_of target) reports) net out out' old new ended → Keeps old it → new.is_certain ≡ true
+      → Goes old new it (AreOfReports target reports)
+  turns target [] net out out' old new ended it honest is keeps sure = record {
+    deeds = [];
+    are = ([], refl);
+    after = it;
+    done = refl;
+    keeps = subst (λ p. Keeps p it) (sym is.1) keeps;
+  }
+  turns target (report ∷ reports) net out out' old new ended it honest is keeps sure = elim is [
+    | inl one ↦
+        let mid = turns_certain (map (put_of target) reports) net one.0 out' one.1 new ended honest one.3 sure in
+        let first = put_one target report net out one.0 old one.1 (Ok tt) it honest one.2 keeps mid in
+        let rest = turns target reports net one.0 out' one.1 new ended first.after honest one.3 first.keeps sure in
+        record {
+          deeds = first.deeds ++ rest.deeds;
+          are = goes_on (deed_of target report) (map (deed_of target) reports) first.deeds rest.deeds
+              (was_put target report net out one.0 old one.1 one.2 first.deeds first.are) rest.are;
+          after = rest.after;
+          done = done_join it first.after rest.after first.deeds rest.deeds first.done rest.done;
+          keeps = rest.keeps;
+        }
+    | inr last ↦
+        let one = put_one target report net out out' old new (Err last.0) it honest last.1 keeps sure in
+        record {
+          deeds = one.deeds;
+          are = begins (deed_of target report) (map (deed_of target) reports) last.1.performs.does.0.1.came one.deeds
+              one.are;
+          after = one.after;
+          done = one.done;
+          keeps = one.keeps;
+        }
+  ]
+
+  puts_them : (target : Target) (reports : List Report) (net : Traffic) (out out' : Option (List ℕ))
+      (old new : Parts g) (status : ℕ) (it : Contents) → IsHonest g → LiesClosed old it
+      → PutsThem g (map (put_of target) reports) net out out' old new status → new.is_certain ≡ true
+      → IsRunBy it new (AreOfReports target reports)
+  puts_them target reports net out out' old new status it honest lies puts certain =
+      visited old puts.opened puts.done new puts.closed it (AreOfReports target reports) honest lies puts.opens
+      puts.closes certain (λ keeps sure.
+      turns target reports net out out' puts.opened puts.done puts.turns.0 it honest puts.turns.1 keeps sure)
+
+  put : {X : Type 0} (files : List (Bor (List ℕ))) (text : Option (Bor (List ℕ))) (target : Target)
+      (net net' : Traffic) (out out' : Option (List ℕ)) (old new : Parts g) (result : Result X Fault) (it : Contents)
+      → IsHonest g → LiesClosed old it → PutsReports g files text target net net' out out' old new result
+      → new.is_certain ≡ true → IsRunBy it new (AreOfPutting files text target)
+  put files text target net net' out out' old new result it honest lies puts certain = elim puts [
+    | inl two ↦ stayed old new it (AreOfPutting files text target) (inl refl) lies two.2.0
+    | inr read ↦ elim read.1 [
+      | inl all ↦ elim all.3 [
+        | inl them ↦
+            let is = puts_them target all.0 net out out' old new (status_by result) it honest lies them certain in
+            record {
+              deeds = is.deeds;
+              are = inr (all.0, all.1, is.are);
+              after = is.after;
+              done = is.done;
+              lies = is.lies;
+            }
+        | inr refused ↦ not_refused _ old new (status_by result) refused.0 certain
+      ]
+      | inr none ↦ stayed old new it (AreOfPutting files text target) (inl refl) lies none.3.0
+    ]
+  ]
+
+  -- ---- an outbox is made
+
+  pub makes : (filer : Bor (List ℕ)) (old new : Parts g) → IsHonest g → old.outbox ≡ None → IsSome old.lying
+      → MakesOutbox g filer old new 0 → new.is_certain ≡ true → LiesClosed new (empty filer.now)
+  makes filer old new honest closed there is certain = elim is [
+    | inl no_filer ↦ absurd (true≢false (ap (λ (status : ℕ). status == 0) no_filer.2))
+    | inr others ↦ elim others [
+      | inl done ↦
+          let keeps = done.2.keeps honest (empty filer.now) (closed, there, refl) in
+          lies_of new (empty filer.now) done.3.is_closed certain ((done.3.leaves honest).kept (empty filer.now) keeps)
+      | inr refused ↦ not_refused _ old new 0 refused certain
+    ]
+  ]
+
+  -- ---- all tasks
+
+  -- an outbox of this version is not migrated
+  migrates : (out out' : Option (List ℕ)) (old new : Parts g) (status : ℕ) (it : Contents) → IsHonest g
+      → LiesClosed old it → MigratesOutbox g out out' old new status → new.is_certain ≡ true
+      → IsRunBy it new (λ deeds. deeds ≡ [])
+  migrates out out' old new status it honest lies is certain = elim is [
+    | inl done ↦ absurd (done.2.current honest refl lies.closed lies.certain it (keeps_of old it lies))
+    | inr refused ↦ absurd (true≢false (sym certain ∙ refused.2.refused.2))
+  ]
+
+  pub run : {X : Type 0} (task : Task) (net net' : Traffic) (out out' : Option (List ℕ)) (old new : Parts g)
+      (result : Result X Fault) (it : Contents) → IsHonest g → LiesClosed old it → IsNoInit task
+      → Does g task net net' out out' old new result → new.is_certain ≡ true → IsRunBy it new (AreOfTask task)
+  run (Init database filer) net net' out out' old new result it honest lies made does certain = absurd made
+  run (Put database files key target) net net' out out' old new result it honest lies made does certain =
+      put files.items key target net net' out out' old new result it honest lies does certain
+  run (Migrate database) net net' out out' old new result it honest lies made does certain =
+      migrates out out' old new (status_by result) it honest lies does.0 certain
+  run (Send database peer w strict) net net' out out' old new result it honest lies made does certain =
+      visits (errand.Send w) strict net net' out out' old new (status_by result) it (AreOfSend w) honest lies does
+      certain (λ before after came has filer is. sends w net net' out out' it honest before after came has filer is)
+  run (Ask database peer id form) net net' out out' old new result it honest lies made does certain =
+      visits (errand.Ask id form) false net net' out out' old new (status_by result) it AreOfAsk honest lies does
+      certain (λ before after came has filer is.
+      ask_brings form id net net' before after it out out' is.0 honest has is.1)
+  run (Status database) net net' out out' old new result it honest lies made does certain =
+      visits errand.ShowStates false net net' out out' old new (status_by result) it (λ deeds. deeds ≡ []) honest lies
+      does certain (λ before after came has filer is.
+      looks before after it honest has is.0.1.kept is.0.1.filer)
+  run (Show database None) net net' out out' old new result it honest lies made does certain =
+      visits errand.ShowEach false net net' out out' old new (status_by result) it (λ deeds. deeds ≡ []) honest lies
+      does certain (λ before after came has filer is.
+      looks before after it honest has is.0.1.kept is.0.1.filer)
+  run (Show database (Some id)) net net' out out' old new result it honest lies made does certain =
+      visits (errand.ShowEntry id) false net net' out out' old new (status_by result) it (λ deeds. deeds ≡ []) honest
+      lies does certain (λ before after came has filer is.
+      looks before after it honest has is.0.1.kept is.0.1.filer)

@@ -1,0 +1,164 @@
+-- Runs of both programs on the files of a deployment, one after another on each file and beside each other on different
+-- ones; own rules.
+use Rattle.std.specs.Prelude.{◌≡◌, ◌++◌, ◌≤◌, ◌^◌, ℕ, true, List, [], ◌∷◌, Option, Some, None, Result}
+use Rattle.sqlite_disk.specs.declared.Disk.{Ghosts}
+use Rattle.sqlite_disk.specs.declared.Files.{Files}
+use Rattle.filing_model.specs.Request.{Request, firsts}
+use Rattle.filing_world.specs.World.{numbered}
+use Rattle.filing_world.specs.Headline.{AreFilers}
+use Rattle.register_store.specs.Files.{HoldRegister}
+use Rattle.outbox_tables.specs.Entries.{Contents}
+use Rattle.outbox_core.specs.Files.{HoldOutbox}
+use Rattle.database_places.specs.Places.{Lie}
+use Rattle.outbox_tasks.specs.Dials.{Traffic}
+use Rattle.outbox_process.specs.Process.{Parts}
+use Rattle.outbox_commands.specs.Tasks.{Does}
+use Rattle.outbox_commands.specs.declared.fault.Fault.{Fault}
+use Rattle.outbox_commands.specs.declared.options.Task.{Task}
+use Rattle.intake_commands.specs.Tasks.{Means, Performs}
+use Rattle.intake_commands.specs.declared.options.Task.{Task as IntakeTask}
+use Rattle.programs.specs.Happenings.{Situation, at_first, AreRegistered}
+use Rattle.fronts.specs.Fronts.{Passing, HappenBehind, IsReachedBehind}
+use Rattle.program_runs.specs.Beside.{Act, Service, InTurn, deeds_of, services_of, network_of, AreCarried}
+use Rattle.program_runs.specs.Deeds.{Deed, AreDone}
+use Rattle.program_runs.specs.Registers.{IsCovered}
+use Rattle.program_runs.specs.Runs.{AreOfTask, IsNoInit}
+
+module _ {D : Type 0} (g : Ghosts D) where
+  -- ---- one outbox
+
+  -- a run of `outbox` that came to its end
+  pub record OutboxRun : Type 0 where
+    pub task : Task
+    pub net : Traffic
+    pub net' : Traffic
+    pub out : Option (List ℕ)
+    pub out' : Option (List ℕ)
+    pub old : Parts g
+    pub new : Parts g
+    pub result : Result (Unit {0}) Fault
+
+  -- a run that came to its end, or one that was killed after these deeds
+  pub data OutboxTurn : Type 0 where
+    Whole : OutboxRun → OutboxTurn
+    Killed : List Deed → OutboxTurn
+
+  -- It found these files in its place, closed, did its task, as its contract says, no close and no opening failed, and
+  -- it left those files.
+  pub record IsOutboxRun (run : OutboxRun) (lying lying' : Option (Option (Files D))) : Type 0 where
+    pub closed : run.old.outbox ≡ None
+    pub began : run.old.is_certain ≡ true
+    pub found : run.old.lying ≡ lying
+    pub no_init : IsNoInit run.task
+    pub does : Does g run.task run.net run.net' run.out run.out' run.old run.new run.result
+    pub certain : run.new.is_certain ≡ true
+    pub left : run.new.lying ≡ lying'
+
+  -- what a run left that was killed after these deeds is an outbox to which they lead
+  abbrev pub LeavesDone : List Deed → Option (Option (Files D)) → Option (Option (Files D)) → Type 0
+  LeavesDone deeds lying lying' = (it : Contents) → Lie lying (λ files. HoldOutbox g files it)
+      → (after : Contents) × AreDone it deeds after × Lie lying' (λ files. HoldOutbox g files after)
+
+  abbrev pub IsOutboxTurn : OutboxTurn → Option (Option (Files D)) → Option (Option (Files D)) → Type 0
+  IsOutboxTurn (Whole run) lying lying' = IsOutboxRun run lying lying'
+  IsOutboxTurn (Killed deeds) lying lying' = LeavesDone deeds lying lying'
+
+  -- each begins with what the one before it left
+  abbrev pub AreOutboxTurns : List OutboxTurn → Option (Option (Files D)) → Option (Option (Files D)) → Type 0
+  AreOutboxTurns [] lying lying' = lying' ≡ lying
+  AreOutboxTurns (turn ∷ turns) lying lying' =
+      (between : Option (Option (Files D))) × IsOutboxTurn turn lying between × AreOutboxTurns turns between lying'
+
+  -- the deeds are those of the tasks of these runs, one after another
+  abbrev pub AreOfTurn : OutboxTurn → List Deed → Type 0
+  AreOfTurn (Whole run) deeds = AreOfTask run.task deeds
+  AreOfTurn (Killed some) deeds = deeds ≡ some
+
+  abbrev pub AreOfAll : List OutboxTurn → List Deed → Type 0
+  AreOfAll [] deeds = deeds ≡ []
+  AreOfAll (turn ∷ turns) deeds =
+      (first : List Deed) × (rest : List Deed) × (deeds ≡ first ++ rest) × AreOfTurn turn first × AreOfAll turns rest
+
+  -- ---- the register
+
+  -- a run of `intake` that came to its end
+  pub record IntakeRun : Type 0 where
+    pub task : IntakeTask
+    pub old : Means g
+    pub new : Means g
+    pub status : ℕ
+
+  -- a run that came to its end, or one that was killed after these services
+  pub data IntakeTurn : Type 0 where
+    Done : IntakeRun → IntakeTurn
+    Stopped : List Service → IntakeTurn
+
+  pub record IsIntakeRun (limit : ℕ) (run : IntakeRun) (lying lying' : Option (Option (Files D))) : Type 0 where
+    pub closed : run.old.process.intake ≡ None
+    pub began : run.old.process.is_certain ≡ true
+    pub found : run.old.process.lying ≡ lying
+    pub covered : IsCovered limit run.task
+    pub performs : Performs run.task run.old run.new run.status
+    pub certain : run.new.process.is_certain ≡ true
+    pub left : run.new.process.lying ≡ lying'
+
+  -- the register of these requests lies there, none of which is old-style
+  abbrev pub LieRequests : Option (Option (Files D)) → List Request → Type 0
+  LieRequests lying requests = (firsts requests ≡ requests) × Lie lying (λ files. HoldRegister g files 0 requests)
+
+  abbrev pub IsIntakeTurn : ℕ → IntakeTurn → Option (Option (Files D)) → Option (Option (Files D)) → Type 0
+  IsIntakeTurn limit (Done run) lying lying' = IsIntakeRun limit run lying lying'
+  IsIntakeTurn limit (Stopped services) lying lying' = (requests : List Request) → LieRequests lying requests
+      → (after : List Request) × InTurn limit requests services after × LieRequests lying' after
+
+  abbrev pub AreIntakeTurns : ℕ → List IntakeTurn → Option (Option (Files D)) → Option (Option (Files D)) → Type 0
+  AreIntakeTurns limit [] lying lying' = lying' ≡ lying
+  AreIntakeTurns limit (turn ∷ turns) lying lying' =
+      (between : Option (Option (Files D))) × IsIntakeTurn limit turn lying between
+      × AreIntakeTurns limit turns between lying'
+
+  -- ---- all files
+
+  -- what lies in the place of the register, and in the place of each outbox
+  pub record Deployment : Type 0 where
+    pub register : Option (Option (Files D))
+    pub boxes : ℕ → Option (Option (Files D))
+
+  -- the files hold what the situation has
+  pub record HoldSituation (deployment : Deployment) (situation : Situation) : Type 0 where
+    pub register : LieRequests deployment.register situation.requests
+    pub boxes : (outbox : ℕ) (it : Contents) → numbered situation.outboxes outbox ≡ Some it
+        → Lie (deployment.boxes outbox) (λ files. HoldOutbox g files it)
+
+  -- What happened, behind fronts or without, in one order that keeps each program's own. The files hold what is kept
+  -- then, the headline holds of it, and each confirmed entry is in the register once.
+  pub record IsOutcome (limit : ℕ) (filers : List (List ℕ)) (old : Situation) (deployment : Deployment) : Type 0 where
+    pub passings : List Passing
+    pub new : Situation
+    pub happen : HappenBehind limit old passings new
+    pub hold : HoldSituation deployment new
+    pub reached : IsReachedBehind filers limit new
+    pub registered : AreRegistered new
+
+  -- What these runs did is a list of deeds for each outbox, and of services of the register. In whatever order they
+  -- came, with what others wrote between them, they happen, if what each read was written to it or given back by a
+  -- front.
+  pub record RunsHappen (limit : ℕ) (filers : List (List ℕ)) (outboxes : ℕ → List OutboxTurn) (old : Situation)
+      (deployment : Deployment) : Type 0 where
+    pub deeds : ℕ → List Deed
+    pub are : (outbox : ℕ) (it : Contents) → numbered old.outboxes outbox ≡ Some it
+        → AreOfAll (outboxes outbox) (deeds outbox)
+    pub services : List Service
+    pub happen : (acts : List Act) → ((outbox : ℕ) → deeds_of outbox acts ≡ deeds outbox)
+        → services_of acts ≡ services → AreCarried (network_of old) acts
+        → IsOutcome limit filers old deployment
+
+  -- Whatever runs there are of both programs, on files that hold a situation to which such happenings led.
+  abbrev pub AnyRuns : Type 0
+  AnyRuns =
+      (limit : ℕ) (filers : List (List ℕ)) (before : List Passing) (situation : Situation) (old new : Deployment)
+      (intake : List IntakeTurn) (outboxes : ℕ → List OutboxTurn) → AreFilers filers → limit ≤ 2 ^ 62
+      → HappenBehind limit (at_first filers) before situation → HoldSituation old situation
+      → AreIntakeTurns limit intake old.register new.register
+      → ((outbox : ℕ) → AreOutboxTurns (outboxes outbox) (old.boxes outbox) (new.boxes outbox))
+      → RunsHappen limit filers outboxes situation new

@@ -1,0 +1,83 @@
+-- What a run of `outbox` makes of what lies in its place.
+use Rattle.std.specs.Prelude.{◌≡◌, ◌⊎◌, ℕ, true, List, [], ◌∷◌, ◌++◌, map, Option, None}
+use Rattle.std.specs.Borrow.{Bor}
+use Rattle.sqlite_disk.specs.declared.Disk.{Ghosts}
+use Rattle.filing_model.specs.Prefix.{IsPrefixOf}
+use Rattle.outbox_core.specs.Files.{HoldOutbox}
+use Rattle.outbox_tables.specs.Entries.{Contents}
+use Rattle.outbox_process.specs.Process.{Parts}
+use Rattle.outbox_process.specs.declared.errand.Which.{Which}
+use Rattle.outbox_process.specs.declared.errand.Which.TheVariants.{Next, Entry, All}
+use Rattle.database_places.specs.Places.{Lie}
+use Rattle.outbox_process.specs.declared.target.Target.{Target}
+use Rattle.outbox_commands.specs.Puts.{AreReadFor}
+use Rattle.outbox_commands.specs.declared.putting.Report.{Report}
+use Rattle.outbox_commands.specs.declared.options.Task.{Task}
+use Rattle.outbox_commands.specs.declared.options.Task.TheVariants.{Init, Put, Migrate, Send, Ask, Status, Show}
+use Rattle.program_runs.specs.Deeds.{Deed, Added, Wrote, Heard, Asked, AreDone}
+
+-- The process is closed, no close and no opening failed, and the outbox of these contents lies in its place.
+pub record LiesClosed {D : Type 0} {g : Ghosts D} (process : Parts g) (it : Contents) : Type 0 where
+  pub closed : process.outbox ≡ None
+  pub certain : process.is_certain ≡ true
+  pub there : Lie process.lying (λ files. HoldOutbox g files it)
+
+-- From what lay in the place these deeds lead to what lies there now.
+pub record IsRunBy {D : Type 0} {g : Ghosts D} (it : Contents) (new : Parts g) (Are : List Deed → Type 0)
+    : Type 0 where
+  pub deeds : List Deed
+  pub are : Are deeds
+  pub after : Contents
+  pub done : AreDone it deeds after
+  pub lies : LiesClosed new after
+
+-- ---- which deeds
+
+-- the first of these reports were put in, one after another
+abbrev pub AreOfReports : Target → List Report → List Deed → Type 0
+AreOfReports target reports deeds =
+    IsPrefixOf deeds (map (λ report. Added report.key target.number report.body.items) reports)
+
+-- reports of these files were put in, under the key that was given, or each under one at random, to replace the filing
+-- that was named, or none; or nothing was
+abbrev pub AreOfPutting : List (Bor (List ℕ)) → Option (Bor (List ℕ)) → Target → List Deed → Type 0
+AreOfPutting files text target deeds =
+    (deeds ≡ []) ⊎ ((reports : List Report) × AreReadFor text files reports × AreOfReports target reports deeds)
+
+-- what was written for one entry and what was read for it, if it was read
+abbrev pub AreOfOne : ℕ → List Deed → Type 0
+AreOfOne id [] = Unit {0}
+AreOfOne id (Wrote other written ∷ []) = other ≡ id
+AreOfOne id (Wrote other written ∷ Heard third asks read to ∷ []) = (other ≡ id) × (third ≡ id)
+AreOfOne id _ = ⊥
+
+-- those of the entries of these ids, one after another
+abbrev pub AreOfTurns : List ℕ → List Deed → Type 0
+AreOfTurns [] deeds = deeds ≡ []
+AreOfTurns (id ∷ ids) deeds =
+    (first : List Deed) × (rest : List Deed) × (deeds ≡ first ++ rest) × AreOfOne id first × AreOfTurns ids rest
+
+-- what a `send` does
+abbrev pub AreOfSend : Which → List Deed → Type 0
+AreOfSend Next deeds = (id : ℕ) × AreOfOne id deeds
+AreOfSend (Entry id) deeds = AreOfOne id deeds
+AreOfSend All deeds = (ids : List ℕ) × AreOfTurns ids deeds
+
+-- a request was written, whole or in part, or none
+abbrev pub AreOfAsk : List Deed → Type 0
+AreOfAsk deeds = (deeds ≡ []) ⊎ ((written : List ℕ) × (deeds ≡ Asked written ∷ []))
+
+-- what a task does with an outbox that lies there
+abbrev pub AreOfTask : Task → List Deed → Type 0
+AreOfTask (Init database filer) deeds = deeds ≡ []
+AreOfTask (Put database files key target) deeds = AreOfPutting files.items key target deeds
+AreOfTask (Migrate database) deeds = deeds ≡ []
+AreOfTask (Send database peer which strict) deeds = AreOfSend which deeds
+AreOfTask (Ask database peer id form) deeds = AreOfAsk deeds
+AreOfTask (Status database) deeds = deeds ≡ []
+AreOfTask (Show database entry) deeds = deeds ≡ []
+
+-- the task is not to make an outbox
+abbrev pub IsNoInit : Task → Type 0
+IsNoInit (Init database filer) = ⊥
+IsNoInit task = Unit {0}

@@ -1,0 +1,79 @@
+//! Runs of the programs, as the contracts of their commands say them, among the things that happen at the programs.
+//! What may live here: what a run did by its own contract, runs of both programs beside each other, and laws over every
+//! such deployment. There is no code.
+#![tactic(auto)]
+
+ghost use Rattle.std.specs.Prelude.{◌≡◌, ◌≤◌, ℕ, true, List, [], Option, None, Result, Ok, IsSome};
+ghost use Rattle.std.specs.Borrow.{Bor};
+ghost use Rattle.database_places.specs.Places.{IsHonest};
+ghost use Rattle.outbox_tables.specs.Entries.{Contents, empty};
+ghost use Rattle.outbox_tasks.specs.Dials.{Traffic};
+ghost use Rattle.outbox_process.specs.Process.{Parts};
+ghost use Rattle.outbox_commands.specs.declared.fault.Fault.{Fault};
+ghost use Rattle.outbox_commands.specs.declared.options.Task.{Task};
+ghost use Rattle.outbox_commands.specs.declared.options.Task.TheVariants.{Init};
+ghost use Rattle.outbox_commands.specs.Tasks.{Does};
+ghost use Rattle.program_runs.specs.Runs.{LiesClosed, IsRunBy, AreOfTask, IsNoInit};
+ghost use Rattle.filing_model.specs.Request.{Request};
+ghost use Rattle.programs.specs.Happenings.{Situation};
+ghost use Rattle.program_runs.specs.Beside.{Act, network_of, AreCarried, DoTogether, TogetherHappen};
+ghost use Rattle.intake_commands.specs.Tasks.{Means, Performs, Does as IntakeDoes};
+ghost use Rattle.intake_commands.specs.declared.options.Serving.{Serving};
+ghost use Rattle.intake_commands.specs.declared.options.Task.{Task as IntakeTask};
+ghost use Rattle.intake_commands.specs.declared.options.Task.TheVariants.{Serve};
+ghost use Rattle.program_runs.specs.Registers.{LiesRegister, IsServiceBy, IsCovered};
+ghost use Rattle.program_runs.specs.Deployment.{AnyRuns};
+
+use fronts::any_fronts;
+use sqlite_disk::Disk;
+
+/// A run of `outbox` on an outbox that lies there does deeds of its task, if its process is certain at the end.
+pub fn a_run_of_outbox_is_deeds<D: Disk>()
+    ensures { (task : Task) (net net' : Traffic) (out out' : Option (List ℕ)) (old new : Parts D.Disk)
+        (result : Result (Unit {0}) Fault) (it : Contents) → IsHonest D.Disk → LiesClosed old it → IsNoInit task
+        → Does D.Disk task net net' out out' old new result → new.is_certain ≡ true
+        → IsRunBy it new (AreOfTask task) }
+{}
+
+/// A run of `outbox init` that is done makes an outbox of its filer without entries, if its process is certain at the
+/// end.
+pub fn a_run_of_init_makes_an_outbox<D: Disk>()
+    ensures { (database filer : Bor (List ℕ)) (net net' : Traffic) (out out' : Option (List ℕ))
+        (old new : Parts D.Disk) → IsHonest D.Disk → old.outbox ≡ None → IsSome old.lying
+        → Does {X = Unit {0}} D.Disk (Init database filer) net net' out out' old new (Ok tt)
+        → new.is_certain ≡ true → LiesClosed new (empty filer.now) }
+{}
+
+/// Whatever programs do beside each other, in any order that keeps each one's own, happens one thing after another,
+/// behind fronts or without, if what each read was written to it or given back by a front.
+pub fn programs_happen_together()
+    ensures { (limit : ℕ) (old : Situation) (acts : List Act) (last : ℕ → Contents) (after : List Request)
+        → DoTogether limit old acts last after → AreCarried (network_of old) acts
+        → TogetherHappen limit old last after }
+{}
+
+/// A run of `intake` on a register that lies there answers connections in turn, or does nothing with it, if its process
+/// is certain at the end.
+pub fn a_run_of_intake_is_services<D: Disk>()
+    ensures { (limit : ℕ) (task : IntakeTask) (old new : Means D.Disk) (status : ℕ) (requests : List Request)
+        → IsHonest D.Disk → IsCovered limit task → LiesRegister old.process requests → Performs task old new status
+        → new.process.is_certain ≡ true → IsServiceBy limit requests new.process }
+{}
+
+/// A run of `intake serve --new` that is done answers connections in turn, on a register that begins without requests,
+/// if its process is certain at the end.
+pub fn a_run_that_makes_a_register_is_services<D: Disk>()
+    ensures { (limit status : ℕ) (serving : Serving) (old new : Means D.Disk) → IsHonest D.Disk
+        → serving.limit ≤ limit → serving.new ≡ true → old.process.intake ≡ None → IsSome old.process.lying
+        → IntakeDoes (Serve serving) old new (Ok status) → new.process.is_certain ≡ true
+        → IsServiceBy limit [] new.process }
+{}
+
+/// Whatever runs there are of both programs, one after another on each file and beside each other on different ones,
+/// each killed or not, with strangers and fronts between: what lies in the files then is what such happenings keep, the
+/// headline holds of it, and each confirmed entry is in the register once.
+pub fn any_runs<D: Disk>()
+    ensures { IsHonest D.Disk → AnyRuns D.Disk }
+{
+    any_fronts();
+}
