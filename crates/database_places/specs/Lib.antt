@@ -1,5 +1,9 @@
+pub mod Changes
 pub mod Closing
 pub mod Faults
+pub mod Files
+pub mod Note
 pub mod Opening
 pub mod Places
+pub mod ReadOnly
 pub mod Verdicts

@@ -1,5 +1,5 @@
-//! Where the files of one database lie: in a drawer in memory, or under a name in the file system. What may live here:
-//! how the files are taken out, or waited for while another program has them, how their database is opened, how it is
+//! Where the files of one database lie: in a drawer in memory, or under a name in the file system, also one that is
+//! only read (`reading`). What may live here: how files are taken out, or waited for, how their database is opened,
 //! closed and left there, and why it is refused. Of tables it knows only the names by which a register and an outbox
 //! differ.
 #![tactic(auto)]
@@ -10,6 +10,7 @@ mod fault;
 mod holding;
 mod opening;
 mod place;
+mod reading;
 mod refused;
 mod system;
 mod verdict;
@@ -20,7 +21,12 @@ pub use drawer::{Blank, Drawer};
 pub use holding::{Holding, held_in};
 pub use opening::{Cache, Opening, open, remove_new_log};
 pub use place::Place;
+pub use reading::opening::open_for_reading;
+pub use reading::place::{ReadingPlace, has_writable_log};
+pub use reading::read_only::ReadOnlyFile;
+pub use reading::{ReadingFile, ReadingFileFrom};
 pub use refused::refusal;
+pub use sqlite_disk::{Start, Unknown};
 pub use system::SystemPlace;
 pub use verdict::{Verdict, show_verdict};
 pub use waiting::WaitingPlace;

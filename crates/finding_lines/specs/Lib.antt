@@ -1,3 +1,4 @@
+pub mod Linting
 pub mod Messages
 pub mod Sentences
 pub mod Objects

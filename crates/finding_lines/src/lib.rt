@@ -1,10 +1,10 @@
-//! How findings are reported to people and to programs: a line for each.
-//!
-//! `lines` writes sentences or JSON objects. What may live here: the words for findings. Neither files nor command
-//! lines are known here.
+//! How findings are reported to people and to programs: a line for each. What may live here: the words for findings,
+//! and tasks on reports in files that need neither a register nor an outbox (`linting`). No words of a command line are
+//! known here.
 #![tactic(auto)]
 
 mod form;
+mod linting;
 mod message;
 mod object;
 mod passing;
@@ -14,5 +14,6 @@ mod telling;
 mod text;
 
 pub use form::Form;
+pub use linting::{Linted, lint_reports};
 pub use telling::lines;
 pub use terminal_text::one_line;

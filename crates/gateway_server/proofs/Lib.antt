@@ -1,3 +1,4 @@
+pub mod Turns
 pub mod Progress
 pub mod Statuses
 pub mod Decisions

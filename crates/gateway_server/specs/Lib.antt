@@ -1,3 +1,5 @@
+pub mod InTurn
+pub mod Ports
 pub mod Progress
 pub mod Stopping
 pub mod Decided

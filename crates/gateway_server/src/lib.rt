@@ -1,14 +1,19 @@
-//! The connection of an intake: what it writes is a function of what it read. What may live here:
-//! the order of reading, deciding and writing.
+//! The connection of an intake: what it writes is a function of what it read. What may live here: the order of reading,
+//! deciding and writing, what is known of the connections of a port (`port`), and what it means that they are served in
+//! turn.
 #![tactic(auto)]
 
 mod answer;
 mod decide;
+mod port;
+mod port_fault;
 mod serving;
 mod stop;
 
 pub use filing_model::{Ended, Mark};
 pub use gateway_requests::completed;
 pub use intake_answers::fact_line;
+pub use port::Port;
+pub use port_fault::PortFault;
 pub use serving::{Partly, Served, serve, serve_until};
 pub use stop::Stop;

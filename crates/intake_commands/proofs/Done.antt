@@ -2,7 +2,7 @@
 use Rattle.std.proofs.Common.{◌≡◌, ◌≤◌, ◌^◌, ℕ, Bool, true, false, true≢false, Result, None, subst, sym, inr, MatchBool}
 use Rattle.std.specs.Prelude.{not}
 use Rattle.sqlite_disk.specs.declared.Disk.{Ghosts}
-use Rattle.gateway_ports.specs.Ports.{Traffic}
+use Rattle.gateway_server.specs.Ports.{Traffic}
 use Rattle.intake_commands.specs.declared.options.Serving.{Serving}
 use Rattle.intake_process.specs.Process.{Parts}
 use Rattle.intake_process.specs.Turns.{ServesRegister}

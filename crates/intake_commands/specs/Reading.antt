@@ -1,7 +1,7 @@
 -- Which tasks of `intake` only read.
 use Rattle.std.specs.Prelude.{Bool, true, false}
-use Rattle.intake_tasks.specs.declared.errand.Errand.{Errand}
-use Rattle.intake_tasks.specs.declared.errand.Errand.TheVariants as errand
+use Rattle.intake_process.specs.declared.tasks.errand.Errand.{Errand}
+use Rattle.intake_process.specs.declared.tasks.errand.Errand.TheVariants as errand
 use Rattle.intake_commands.specs.declared.options.Task.{Task}
 use Rattle.intake_commands.specs.declared.options.Task.TheVariants as task
 

@@ -10,15 +10,15 @@ use Rattle.key_string.specs.Filer.{is_filer}
 use Rattle.http_wire.specs.Wire.{Wire}
 use Rattle.filing_model.specs.declared.served.Ended.{Ended}
 use Rattle.filing_model.specs.declared.served.Ended.TheVariants as ended
-use Rattle.gateway_ports.specs.Ports.{Traffic}
-use Rattle.gateway_ports.specs.declared.fault.PortFault.TheVariants as network
+use Rattle.gateway_server.specs.Ports.{Traffic}
+use Rattle.gateway_server.specs.declared.port_fault.PortFault.TheVariants as network
 use Rattle.command_line.specs.declared.fault.CommandFault.TheVariants as command
 use Rattle.database_places.specs.Verdicts.{verdict_text}
 use Rattle.database_places.specs.declared.verdict.Verdict.{Verdict}
 use Rattle.register_tables.specs.declared.fault.OpenFault.TheVariants as register
-use Rattle.intake_tasks.specs.Tasks.{ServesAlone}
-use Rattle.intake_tasks.specs.declared.errand.Errand.{Errand}
-use Rattle.intake_tasks.specs.declared.errand.Errand.TheVariants as asked
+use Rattle.intake_process.specs.Tasks.{ServesAlone}
+use Rattle.intake_process.specs.declared.tasks.errand.Errand.{Errand}
+use Rattle.intake_process.specs.declared.tasks.errand.Errand.TheVariants as asked
 use Rattle.intake_commands.specs.declared.options.Serving.{Serving}
 use Rattle.intake_commands.specs.declared.options.Task.{Task}
 use Rattle.intake_commands.specs.declared.options.Task.TheVariants as task

@@ -7,7 +7,7 @@ use Rattle.database_places.specs.Verdicts.{IsRefusalOf}
 use Rattle.database_places.specs.declared.holding.Holding.{Holding}
 use Rattle.register_tables.specs.declared.fault.OpenFault.{OpenFault}
 use Rattle.register_tables.specs.declared.fault.OpenFault.TheVariants as register
-use Rattle.intake_tasks.specs.declared.text.TextFault.TheVariants as text
+use Rattle.intake_process.specs.declared.tasks.text.TextFault.TheVariants as text
 use Rattle.intake_process.specs.declared.errand.ErrandFault.{ErrandFault}
 use Rattle.intake_process.specs.declared.errand.ErrandFault.TheVariants as errand
 use Rattle.intake_process.specs.declared.fault.OpeningFault.{OpeningFault}

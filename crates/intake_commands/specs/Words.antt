@@ -9,12 +9,13 @@ use Rattle.clap.specs.declared.builder.command.Command.{Command}
 use Rattle.clap.specs.declared.error.Error.{Error}
 use Rattle.clap.specs.declared.error.kind.ErrorKind.TheVariants.{OutOfMemory}
 use Rattle.clap.specs.declared.parser.matches.ArgMatches.{ArgMatches}
-use Rattle.fact_records.specs.declared.record.Form.{Form as Format}
-use Rattle.fact_records.specs.declared.record.Form.TheVariants.{Csv, JsonLines}
+use Rattle.register_export.specs.declared.facts.record.Form.{Form as Format}
+use Rattle.register_export.specs.declared.facts.record.Form.TheVariants.{Csv, JsonLines}
 use Rattle.finding_lines.specs.declared.form.Form.{Form}
 use Rattle.finding_lines.specs.declared.form.Form.TheVariants.{Sentences, Objects}
-use Rattle.intake_tasks.specs.declared.errand.Errand.{Errand}
-use Rattle.intake_tasks.specs.declared.errand.Errand.TheVariants.{List as ListOf, Show, Check, Migrate, Export, Pages}
+use Rattle.intake_process.specs.declared.tasks.errand.Errand.{Errand}
+use Rattle.intake_process.specs.declared.tasks.errand.Errand.TheVariants.{List as ListOf, Show, Check, Migrate, Export}
+use Rattle.intake_process.specs.declared.tasks.errand.Errand.TheVariants.{Pages}
 use Rattle.intake_commands.specs.declared.options.Asked.{Asked}
 use Rattle.intake_commands.specs.declared.options.Serving.{Serving}
 use Rattle.intake_commands.specs.declared.options.Task.{Task}

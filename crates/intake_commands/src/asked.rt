@@ -13,9 +13,9 @@ use clap::{ArgMatches, Command, Error};
 use command_line::{
     is_set, number_of, number_of_16_bits, number_of_32_bits, value_of, values_of, wait_of,
 };
-use fact_records::Form as Format;
-use intake_tasks::Errand;
-use report_tasks::Form;
+use finding_lines::Form;
+use intake_process::Errand;
+use register_export::Form as Format;
 use std::alloc::{AllocError, Global};
 
 /// How many keys are kept at most.

@@ -1,6 +1,6 @@
 //! The commands of `intake`: it answers the HTTP requests of filers, from standard input or a port, and shows what its
 //! register holds. What may live here: the tasks with their words and limits, how the file and the port of a task are
-//! opened and closed, which call of `intake_tasks` or `intake_process` does the task, and how a fault is reported. What
+//! opened and closed, which call of `intake_process` does the task, and how a fault is reported. What
 //! the bytes and the rows mean is not known here.
 #![tactic(auto)]
 

@@ -6,8 +6,8 @@ use command_line::{
     ToArg, VERSION, Word, database_option, filer_option, option, path_option, port_option,
     report_files, tasks,
 };
-use intake_tasks::Errand;
-use report_tasks::Form;
+use finding_lines::Form;
+use intake_process::Errand;
 use std::alloc::{AllocError, Global};
 
 /// How many keys are kept at most, if the command line does not say so.

@@ -2,8 +2,7 @@
 
 ghost use Rattle.std.specs.Prelude.{None, true};
 
-use gateway_ports::Port;
-use gateway_server::Served;
+use gateway_server::{Port, Served};
 use http_wire::{Device, MemoryWriter};
 use std::alloc::AllocError;
 use std::io;

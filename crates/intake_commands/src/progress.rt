@@ -1,6 +1,6 @@
 //! How far the check of a register is.
 
-use intake_tasks::Progress;
+use intake_process::Progress;
 use register_store::Watch;
 use std::io::{IsTerminal, Write};
 

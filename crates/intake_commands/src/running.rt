@@ -8,7 +8,7 @@ use crate::limit::Limit;
 use command_line::DONE;
 use gateway_server::Ended;
 use http_wire::{Sink, Source};
-use intake_tasks::run;
+use intake_process::run;
 use std::alloc::Global;
 
 /// Serves one connection on a register in memory, which begins empty and keeps at most `limit` keys.

@@ -12,7 +12,7 @@ use crate::reporter::Reporter;
 use crate::told::opening_fault;
 use command_line::{CommandFault, DONE};
 use database_places::{Cache, Opening, Place};
-use gateway_ports::{Port, PortFault};
+use gateway_server::{Port, PortFault};
 use intake_process::{IntakeProcess, ServingFault, serve_register};
 use sqlite_disk::Disk;
 use std::alloc::Global;

@@ -24,7 +24,7 @@ use Rattle.register_tables.specs.Registers.{ForRows, IsRegisterOf}
 use Rattle.register_store.specs.Calls.{OpensOrGivesBack}
 use Rattle.register_store.specs.Numbered.{facts_numbered}
 use Rattle.register_store.specs.Store.{StoreParts, HasRequests, shows}
-use Rattle.fact_records.specs.declared.record.Form.{Form}
+use Rattle.register_export.specs.declared.facts.record.Form.{Form}
 use Rattle.register_export.specs.Exports.{ExportsFacts}
 use Rattle.register_export.specs.Exports.{UnlessOutput}
 use Rattle.register_export.specs.Records.{export_begun, export_text}
@@ -38,18 +38,18 @@ use Rattle.register_pages.specs.declared.fault.WritingFault.TheVariants as writi
 use Rattle.database_places.specs.declared.holding.Holding.{Holding}
 use Rattle.intake_core.specs.declared.intake.Intake.{Intake}
 use Rattle.intake_core.specs.Held.{HoldsRequests, store_of}
-use Rattle.intake_tasks.specs.declared.errand.Errand.{Errand}
-use Rattle.intake_tasks.specs.declared.errand.Errand.TheVariants as asked
-use Rattle.intake_tasks.specs.declared.checking.CheckFault.TheVariants as checking
-use Rattle.intake_tasks.specs.declared.listing.ListFault.{ListFault}
-use Rattle.intake_tasks.specs.declared.listing.ListFault.TheVariants as listing
-use Rattle.intake_tasks.specs.declared.migrating.Migrated.{Migrated}
-use Rattle.intake_tasks.specs.declared.showing.ShowFault.{ShowFault}
-use Rattle.intake_tasks.specs.declared.showing.ShowFault.TheVariants as showing
-use Rattle.intake_tasks.specs.declared.text.TextFault.{TextFault}
-use Rattle.intake_tasks.specs.declared.text.TextFault.TheVariants.{Memory, Output}
-use Rattle.intake_tasks.specs.Lines.{list_line, fact_lines, sound_line, migrated_line}
-use Rattle.intake_tasks.specs.Tasks.{PrintsNothing, ListsFilings, ShowsFiling, ChecksRegister, MigratesRegister}
+use Rattle.intake_process.specs.declared.tasks.errand.Errand.{Errand}
+use Rattle.intake_process.specs.declared.tasks.errand.Errand.TheVariants as asked
+use Rattle.intake_process.specs.declared.tasks.checking.CheckFault.TheVariants as checking
+use Rattle.intake_process.specs.declared.tasks.listing.ListFault.{ListFault}
+use Rattle.intake_process.specs.declared.tasks.listing.ListFault.TheVariants as listing
+use Rattle.intake_process.specs.declared.tasks.migrating.Migrated.{Migrated}
+use Rattle.intake_process.specs.declared.tasks.showing.ShowFault.{ShowFault}
+use Rattle.intake_process.specs.declared.tasks.showing.ShowFault.TheVariants as showing
+use Rattle.intake_process.specs.declared.tasks.text.TextFault.{TextFault}
+use Rattle.intake_process.specs.declared.tasks.text.TextFault.TheVariants.{Memory, Output}
+use Rattle.intake_process.specs.Lines.{list_line, fact_lines, sound_line, migrated_line}
+use Rattle.intake_process.specs.Tasks.{PrintsNothing, ListsFilings, ShowsFiling, ChecksRegister, MigratesRegister}
 use Rattle.intake_process.specs.declared.errand.ErrandFault.{ErrandFault}
 use Rattle.intake_process.specs.declared.errand.ErrandFault.TheVariants as fault
 use Rattle.intake_process.specs.Errands.{text_of, IsRegisterFor, MayFail, Tells, Says, RunsErrand, FillsFolder, IsQuiet}

@@ -11,10 +11,10 @@ use Rattle.filing_model.specs.Request.{Request}
 use Rattle.filing_model.specs.Serving.{keeping, Serves}
 use Rattle.intake_core.specs.declared.intake.Intake.{Intake}
 use Rattle.gateway_server.specs.Progress.{IsReadToEnd}
-use Rattle.gateway_ports.specs.InTurn.{ServeInTurn, Came, AreCounted, AreTold}
-use Rattle.gateway_ports.specs.Ports.{Connection, Traffic, MayShut, Takes, IsNew, connection_with}
-use Rattle.gateway_ports.proofs.Turns.{IsEndTold, came_none, told_none, came_one, counted_told, told_one, told_untold}
-use Rattle.gateway_ports.proofs.Turns.{turns_join, came_join, counted_join, told_join, unchanged}
+use Rattle.gateway_server.specs.InTurn.{ServeInTurn, Came, AreCounted, AreTold}
+use Rattle.gateway_server.specs.Ports.{Connection, Traffic, MayShut, Takes, IsNew, connection_with}
+use Rattle.gateway_server.proofs.Turns.{IsEndTold, came_none, told_none, came_one, counted_told, told_one, told_untold}
+use Rattle.gateway_server.proofs.Turns.{turns_join, came_join, counted_join, told_join, unchanged}
 use Rattle.table_rows.proofs.CleanLemmas.{always_clean}
 use Rattle.database_places.specs.Places.{IsHonest}
 use Rattle.intake_process.specs.declared.begun.Totals.{Totals}

@@ -20,8 +20,8 @@ use Rattle.database_places.specs.Closing.{IsClosedIn, IsGivenUp, IsNotClosed}
 use Rattle.database_places.specs.Opening.{ComesFrom, OpensPlace}
 use Rattle.database_places.specs.Places.{KeepsLying, IsHonest}
 use Rattle.database_places.specs.Places as place
-use Rattle.intake_tasks.specs.declared.errand.Errand.{Errand}
-use Rattle.intake_tasks.specs.declared.errand.Errand.TheVariants as asked
+use Rattle.intake_process.specs.declared.tasks.errand.Errand.{Errand}
+use Rattle.intake_process.specs.declared.tasks.errand.Errand.TheVariants as asked
 use Rattle.intake_process.specs.declared.errand.ErrandFault.TheVariants as fault
 use Rattle.intake_process.specs.declared.visiting.Visited.{Visited}
 use Rattle.intake_process.specs.Errands.{IsRegisterFor, MayFail, Tells, is_for_pages, is_refused}

@@ -21,11 +21,11 @@ use Rattle.register_tables.specs.Registers.{IsRegisterOf}
 use Rattle.register_store.specs.Numbered.{facts_numbered}
 use Rattle.register_export.specs.Records.{export_begun, export_text}
 use Rattle.register_pages.specs.Pages.{WritesSite}
-use Rattle.intake_tasks.specs.declared.errand.Errand.{Errand}
-use Rattle.intake_tasks.specs.declared.errand.Errand.TheVariants as asked
-use Rattle.intake_tasks.specs.declared.text.TextFault.TheVariants.{Memory, Output}
-use Rattle.intake_tasks.specs.Lines.{list_line, fact_lines, sound_line, migrated_line}
-use Rattle.intake_tasks.specs.Tasks.{PrintsNothing}
+use Rattle.intake_process.specs.declared.tasks.errand.Errand.{Errand}
+use Rattle.intake_process.specs.declared.tasks.errand.Errand.TheVariants as asked
+use Rattle.intake_process.specs.declared.tasks.text.TextFault.TheVariants.{Memory, Output}
+use Rattle.intake_process.specs.Lines.{list_line, fact_lines, sound_line, migrated_line}
+use Rattle.intake_process.specs.Tasks.{PrintsNothing}
 use Rattle.intake_process.specs.declared.errand.ErrandFault.{ErrandFault}
 use Rattle.intake_process.specs.declared.errand.ErrandFault.TheVariants as fault
 

@@ -1,11 +1,11 @@
 -- What an errand answers, by the result of its task.
 use Rattle.std.specs.Prelude.{ℕ, Result, Ok, Err}
-use Rattle.intake_tasks.specs.declared.listing.ListFault.{ListFault}
-use Rattle.intake_tasks.specs.declared.listing.ListFault.TheVariants as listing
-use Rattle.intake_tasks.specs.declared.showing.ShowFault.{ShowFault}
-use Rattle.intake_tasks.specs.declared.showing.ShowFault.TheVariants as showing
-use Rattle.intake_tasks.specs.declared.text.TextFault.{TextFault}
-use Rattle.intake_tasks.specs.declared.text.TextFault.TheVariants as text
+use Rattle.intake_process.specs.declared.tasks.listing.ListFault.{ListFault}
+use Rattle.intake_process.specs.declared.tasks.listing.ListFault.TheVariants as listing
+use Rattle.intake_process.specs.declared.tasks.showing.ShowFault.{ShowFault}
+use Rattle.intake_process.specs.declared.tasks.showing.ShowFault.TheVariants as showing
+use Rattle.intake_process.specs.declared.tasks.text.TextFault.{TextFault}
+use Rattle.intake_process.specs.declared.tasks.text.TextFault.TheVariants as text
 use Rattle.register_export.specs.declared.fault.RecordsFault.{RecordsFault}
 use Rattle.register_export.specs.declared.fault.RecordsFault.TheVariants as records
 use Rattle.register_pages.specs.declared.fault.WritingFault.{WritingFault}

@@ -5,8 +5,8 @@ use Rattle.std.specs.Result.{result_ok}
 use Rattle.sqlite_disk.specs.declared.Disk.{Ghosts}
 use Rattle.filing_model.specs.Request.{Request}
 use Rattle.filing_model.specs.Serving.{Keeping, keeping}
-use Rattle.gateway_ports.specs.InTurn.{ServeInTurn, Came, AreCounted, AreTold}
-use Rattle.gateway_ports.specs.Ports.{Connection, Traffic}
+use Rattle.gateway_server.specs.InTurn.{ServeInTurn, Came, AreCounted, AreTold}
+use Rattle.gateway_server.specs.Ports.{Connection, Traffic}
 use Rattle.database_places.specs.Places.{IsHonest}
 use Rattle.intake_process.specs.declared.begun.Totals.{Totals}
 use Rattle.intake_process.specs.declared.process.Closed.{Closed}

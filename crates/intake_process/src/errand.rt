@@ -7,15 +7,16 @@ ghost use Rattle.table_rows.specs.Standing.{IsAtRest};
 ghost use Rattle.intake_process.specs.Errands.{FillsFolder, RunsErrand, is_refusal};
 ghost use Rattle.intake_process.specs.Outcomes.{listed_as, records_fault, shown_as, printed_as, writing_fault};
 
+use crate::tasks::checking::{CheckFault, Progress, check};
+use crate::tasks::errand::Errand;
+use crate::tasks::listing::{ListFault, list};
+use crate::tasks::migrating::{Migrated, migrate};
+use crate::tasks::showing::{ShowFault, show};
+use crate::tasks::text::TextFault;
 use command_line::DatabaseFault;
 use database_places::{Holding, held_in};
-use fact_records::Form;
 use intake_core::{Intake, Unavailable};
-use intake_tasks::{
-    CheckFault, Errand, ListFault, Migrated, Progress, ShowFault, TextFault, check, list, migrate,
-    show,
-};
-use register_export::{ExportFault, RecordsFault, export};
+use register_export::{ExportFault, Form, RecordsFault, export};
 use register_pages::{Folder, PagesFault, WritingFault, write_pages};
 use register_store::{OpenFault, Store, StoreFault};
 use sqlite::{Alter, Connection};

@@ -1,7 +1,7 @@
-//! The intake of a register that lies in a place: it is opened, serves connections, and is closed, and if the database
-//! refuses a call it is opened again before the next connection. What may live here: what meets a store in files, and
-//! in which order a port's connections are served or turned away. What a program reports of that, and how long it waits
-//! before an opening, is the caller's.
+//! The intake of a register that lies in a place: it is opened, serves connections, does an errand, and is closed, and
+//! if the database refuses a call it is opened again before the next connection. What may live here: what meets a store
+//! in files, in which order a port is served, and what a task prints (`tasks`). What a program reports of that, and how
+//! long it waits before an opening, is the caller's.
 #![tactic(auto)]
 
 mod begun;
@@ -10,6 +10,7 @@ mod fault;
 mod observer;
 mod process;
 mod serving;
+mod tasks;
 mod turning;
 mod visiting;
 
@@ -19,5 +20,12 @@ pub use fault::OpeningFault;
 pub use observer::{Observer, Went};
 pub use process::{Answered, Closed, IntakeProcess, Outcome};
 pub use serving::{ServingFault, serve_port, serve_register};
+pub use tasks::checking::{CheckFault, Progress, check};
+pub use tasks::errand::Errand;
+pub use tasks::listing::{ListFault, list};
+pub use tasks::migrating::{Migrated, migrate};
+pub use tasks::running::run;
+pub use tasks::showing::{ShowFault, show};
+pub use tasks::text::TextFault;
 pub use turning::turn_away;
 pub use visiting::Visited;

@@ -15,7 +15,7 @@ use crate::fault::OpeningFault;
 use crate::observer::{Observer, Went};
 use crate::process::{IntakeProcess, Outcome};
 use database_places::{Cache, Opening, Place};
-use gateway_ports::{Port, PortFault};
+use gateway_server::{Port, PortFault};
 use sqlite_disk::Disk;
 use std::alloc::Global;
 

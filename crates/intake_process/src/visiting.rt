@@ -9,8 +9,9 @@ ghost use Rattle.intake_process.specs.Visits.{IsLeftIn, VisitsPlace, VisitsRegis
 
 use crate::errand::{ErrandFault, run_errand};
 use crate::process::IntakeProcess;
+use crate::tasks::checking::Progress;
+use crate::tasks::errand::Errand;
 use database_places::{Cache, Opening, Place, close, give_up, open, remove_new_log};
-use intake_tasks::{Errand, Progress};
 use register_pages::Folder;
 use sqlite::{Connection, Error, FileStore};
 use sqlite_disk::Disk;

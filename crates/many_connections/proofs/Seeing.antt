@@ -7,7 +7,7 @@ use Rattle.std.proofs.lemmas.List.{take-append-drop, length-append}
 use Rattle.std.proofs.Math.Seq.{take-append_seam, drop-length}
 use Rattle.filing_model.specs.declared.served.Ended.TheVariants.{InputEnded}
 use Rattle.gateway_server.specs.declared.serving.Served.{Served}
-use Rattle.gateway_ports.specs.Ports.{Connection, Adds, connection_with}
+use Rattle.gateway_server.specs.Ports.{Connection, Adds, connection_with}
 use Rattle.ready_connections.specs.declared.connection.Connection.{Connection as Talk}
 use Rattle.ready_connections.specs.declared.hall.Hall.{Hall}
 use Rattle.ready_connections.specs.declared.hall.Out.{Out}

@@ -3,7 +3,7 @@ use Rattle.std.specs.Prelude.{◌≡◌, ◌≢◌, ◌-◌, ℕ, Bool, true, fa
 use Rattle.std.specs.Prelude.{None}
 use Rattle.filing_model.specs.declared.served.Ended.TheVariants.{InputEnded}
 use Rattle.gateway_server.specs.declared.serving.Served.{Served}
-use Rattle.gateway_ports.specs.Ports.{Connection, connection_with}
+use Rattle.gateway_server.specs.Ports.{Connection, connection_with}
 use Rattle.ready_connections.specs.declared.hall.Hall.{Hall}
 use Rattle.ready_connections.specs.declared.stream.Stream.{Ghosts}
 use Rattle.ready_connections.specs.Pieces.{Piece}

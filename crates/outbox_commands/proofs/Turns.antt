@@ -7,8 +7,8 @@ use Rattle.std.proofs.lemmas.List.Elements.{All-push}
 use Rattle.std.specs.Borrow.{Bor}
 use Rattle.std.specs.List.{All}
 use Rattle.sqlite_disk.specs.declared.Disk.{Ghosts}
-use Rattle.outbox_tasks.specs.Dials.{Traffic}
-use Rattle.outbox_tasks.specs.declared.fault.TaskFault.{TaskFault}
+use Rattle.outbox_process.specs.Dials.{Traffic}
+use Rattle.outbox_process.specs.declared.tasks.fault.TaskFault.{TaskFault}
 use Rattle.database_places.specs.Places.{IsHonest}
 use Rattle.outbox_process.specs.declared.errand.Done.{Done}
 use Rattle.outbox_process.specs.declared.errand.Errand.{Errand}

@@ -3,8 +3,8 @@ use Rattle.std.specs.Prelude.{◌≡◌, ℕ, List, map, Option, Result, Ok, Err
 use Rattle.std.specs.Borrow.{Bor}
 use Rattle.finding_lines.specs.declared.form.Form.{Form}
 use Rattle.command_line.specs.declared.fault.CommandFault.{CommandFault}
-use Rattle.report_tasks.specs.Linting.{LintsReports, lint_status}
-use Rattle.report_tasks.specs.declared.linting.Linted.{Linted}
+use Rattle.finding_lines.specs.Linting.{LintsReports, lint_status}
+use Rattle.finding_lines.specs.declared.linting.Linted.{Linted}
 use Rattle.outbox_commands.specs.declared.fault.Fault.{Fault}
 use Rattle.outbox_commands.specs.declared.fault.Fault.TheVariants as fault
 

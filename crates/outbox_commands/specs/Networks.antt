@@ -1,6 +1,6 @@
 -- What contracts see of a port of this machine.
 use Rattle.std.specs.Prelude.{Bool, None}
-use Rattle.outbox_tasks.specs.Dials.{Traffic}
+use Rattle.outbox_process.specs.Dials.{Traffic}
 
 -- it is not known what comes on its connections or what is written on them
 abbrev pub unknown : Bool → Traffic

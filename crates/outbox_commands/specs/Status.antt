@@ -12,11 +12,11 @@ use Rattle.filer_client.specs.declared.fault.ExchangeFault.TheVariants as exchan
 use Rattle.command_line.specs.Status.{database_status}
 use Rattle.command_line.specs.Status as command
 use Rattle.command_line.specs.Reports.{report_status}
-use Rattle.outbox_tasks.specs.declared.fault.SendFault.{SendFault}
-use Rattle.outbox_tasks.specs.declared.fault.SendFault.TheVariants as send
-use Rattle.outbox_tasks.specs.declared.fault.TaskFault.{TaskFault}
-use Rattle.outbox_tasks.specs.declared.fault.TaskFault.TheVariants as task
-use Rattle.outbox_tasks.specs.declared.rounds.Round.{Round}
+use Rattle.outbox_process.specs.declared.tasks.fault.SendFault.{SendFault}
+use Rattle.outbox_process.specs.declared.tasks.fault.SendFault.TheVariants as send
+use Rattle.outbox_process.specs.declared.tasks.fault.TaskFault.{TaskFault}
+use Rattle.outbox_process.specs.declared.tasks.fault.TaskFault.TheVariants as task
+use Rattle.outbox_process.specs.declared.tasks.rounds.Round.{Round}
 use Rattle.outbox_process.specs.declared.errand.Done.{Done}
 use Rattle.outbox_process.specs.declared.errand.Done.TheVariants as done
 use Rattle.outbox_process.specs.declared.fault.OpeningFault.{OpeningFault}

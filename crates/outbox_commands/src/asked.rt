@@ -10,8 +10,8 @@ use crate::options::{Asked, Peer, Task, command};
 use clap::{ArgMatches, Command, Error};
 use command_line::{is_set, number_of, number_of_16_bits, value_of, values_of, wait_of};
 use filing_model::MAX_FILING_NUMBER;
+use finding_lines::Form;
 use outbox_process::{Target, Which};
-use report_tasks::Form;
 use std::alloc::{AllocError, Global};
 
 /// How findings are written.

@@ -3,7 +3,7 @@
 ghost use Rattle.outbox_commands.specs.Lints.{Lints};
 
 use crate::fault::Fault;
-use report_tasks::{Form, lint_reports};
+use finding_lines::{Form, lint_reports};
 use std::io::Write;
 
 /// Prints a line for each finding of the reports of a filer in these files. A report that cannot be read is reported,

@@ -11,7 +11,7 @@ use filer_client::ExchangeFault;
 use http_wire::{Device, ReplyFault};
 use jiff::Timestamp;
 use outbox_core::State;
-use outbox_tasks::{Dial, TcpDial};
+use outbox_process::{Dial, TcpDial};
 use receipts::{Exchange, Folder, ReceiptFault, receipt_of};
 use std::alloc::Global;
 use std::io::{self, Write};

@@ -6,8 +6,8 @@ use command_line::{
     ToArg, VERSION, Word, database_option, filer_option, option, path_option, port_option,
     report_files, tasks,
 };
+use finding_lines::Form;
 use outbox_process::{Target, Which};
-use report_tasks::Form;
 use std::alloc::{AllocError, Global};
 
 /// What the command line asks for.

@@ -15,10 +15,11 @@ use crate::network::{Network, PeerDial};
 use crate::options::{Asked, Task};
 use crate::putting::put;
 use command_line::{CommandFault, DONE, show, show_refusal, words};
-use database_places::{Place, SystemPlace, WaitingPlace, show_verdict};
+use database_places::{
+    Place, ReadingPlace, SystemPlace, WaitingPlace, has_writable_log, show_verdict,
+};
 use key_string::is_filer;
 use outbox_process::{Beginning, Errand, OpeningFault, OutboxProcess};
-use reading_places::{ReadingPlace, has_writable_log};
 use receipts::Folder;
 use sqlite_disk::Disk;
 use std::alloc::Global;

@@ -1,2 +1,9 @@
+mod Asked
 mod Keeping
+mod Looks
 mod Migrating
+mod Opens
+mod Sendings
+mod Showings
+mod Trying
+mod Turns

@@ -4,16 +4,16 @@ use Rattle.std.specs.Result.{result_map_both}
 use Rattle.sqlite.specs.Store.{Ghosts}
 use Rattle.filing_model.specs.declared.state.State.{State}
 use Rattle.outbox_core.specs.OutboxParts.{OutboxParts}
-use Rattle.outbox_tasks.specs.declared.fault.TaskFault.{TaskFault}
-use Rattle.outbox_tasks.specs.declared.rounds.Round.{Round}
-use Rattle.outbox_tasks.specs.Asking.{AsksEntry}
-use Rattle.outbox_tasks.specs.Dials.{Traffic}
-use Rattle.outbox_tasks.specs.Endings.{none_sent, one_sent}
-use Rattle.outbox_tasks.specs.Looking.{AreAny}
-use Rattle.outbox_tasks.specs.Putting.{PutsAndTells}
-use Rattle.outbox_tasks.specs.Rounds.{SendsAll}
-use Rattle.outbox_tasks.specs.Sending.{SendsEntry, SendsNext}
-use Rattle.outbox_tasks.specs.Showing.{ShowsStates, ShowsEntry, ShowsEach}
+use Rattle.outbox_process.specs.declared.tasks.fault.TaskFault.{TaskFault}
+use Rattle.outbox_process.specs.declared.tasks.rounds.Round.{Round}
+use Rattle.outbox_process.specs.Asking.{AsksEntry}
+use Rattle.outbox_process.specs.Dials.{Traffic}
+use Rattle.outbox_process.specs.Endings.{none_sent, one_sent}
+use Rattle.outbox_process.specs.Looking.{AreAny}
+use Rattle.outbox_process.specs.Putting.{PutsAndTells}
+use Rattle.outbox_process.specs.Rounds.{SendsAll}
+use Rattle.outbox_process.specs.Sending.{SendsEntry, SendsNext}
+use Rattle.outbox_process.specs.Showing.{ShowsStates, ShowsEntry, ShowsEach}
 use Rattle.outbox_process.specs.declared.errand.Done.{Done}
 use Rattle.outbox_process.specs.declared.errand.Done.TheVariants as done
 use Rattle.outbox_process.specs.declared.errand.Errand.{Errand}

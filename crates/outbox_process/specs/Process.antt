@@ -16,8 +16,8 @@ use Rattle.database_places.specs.Closing.{IsNotClosed, LieGivenUp}
 use Rattle.database_places.specs.Opening.{ComesFrom, OpensPlace}
 use Rattle.database_places.specs.Places.{Lie, IsHonest}
 use Rattle.database_places.specs.Places as place
-use Rattle.outbox_tasks.specs.Dials.{Traffic}
-use Rattle.outbox_tasks.specs.declared.fault.TaskFault.{TaskFault}
+use Rattle.outbox_process.specs.Dials.{Traffic}
+use Rattle.outbox_process.specs.declared.tasks.fault.TaskFault.{TaskFault}
 use Rattle.outbox_process.specs.declared.begun.Beginning.{Beginning}
 use Rattle.outbox_process.specs.declared.begun.Beginning.TheVariants.{Found, Made, Migrated}
 use Rattle.outbox_process.specs.declared.errand.Done.{Done}

@@ -4,12 +4,16 @@ ghost use Rattle.std.specs.Prelude.{◌≡◌};
 ghost use Rattle.outbox_process.specs.Errands.{answer, Sends, DoesErrand};
 
 use crate::target::Target;
+use crate::tasks::asking::ask;
+use crate::tasks::dial::Dial;
+use crate::tasks::fault::TaskFault;
+use crate::tasks::putting::put;
+use crate::tasks::rounds::{Round, send_all};
+use crate::tasks::sending::{send_entry, send_next};
+use crate::tasks::showing::{show_each, show_entry, show_states};
+use finding_lines::Form;
 use key_string::KeyText;
 use outbox_core::Outbox;
-use outbox_tasks::{
-    Dial, Form, Round, TaskFault, ask, put, send_all, send_entry, send_next, show_each, show_entry,
-    show_states,
-};
 use sqlite::Alter;
 use std::alloc::Global;
 use std::io::Write;

@@ -1,6 +1,6 @@
 //! The outbox that lies in a place: it is opened, made or migrated, an errand is done on it, and it is closed. What may
-//! live here: what meets a store in files, and which call of `outbox_tasks` an errand is. What is reported of a refusal
-//! is the caller's.
+//! live here: what meets a store in files, and what a task does and prints (`tasks`), on a connection of its own for
+//! each entry. What is reported of a refusal is the caller's.
 #![tactic(auto)]
 
 mod begun;
@@ -8,10 +8,20 @@ mod errand;
 mod fault;
 mod process;
 mod target;
+mod tasks;
 
 pub use begun::Beginning;
 pub use errand::{Done, Errand, Which};
 pub use fault::OpeningFault;
-pub use outbox_tasks::Form;
+pub use finding_lines::Form;
 pub use process::OutboxProcess;
 pub use target::Target;
+pub use tasks::asking::ask;
+pub use tasks::dial::Dial;
+pub use tasks::fault::{LineFault, SendFault, TaskFault};
+pub use tasks::memory::{Finished, Replies};
+pub use tasks::putting::put;
+pub use tasks::rounds::{Round, send_all};
+pub use tasks::sending::{send_entry, send_next};
+pub use tasks::showing::{show_each, show_entry, show_states};
+pub use tasks::tcp::TcpDial;

@@ -10,7 +10,7 @@ use Rattle.outbox_tables.specs.Entries.{Contents, empty}
 use Rattle.outbox_core.specs.Files.{HoldOutbox}
 use Rattle.database_places.specs.Places.{Lie, IsHonest}
 use Rattle.programs.specs.Happenings.{Situation, at_first, AreRegistered}
-use Rattle.fronts.specs.Fronts.{Passing, HappenBehind, IsReachedBehind}
+use Rattle.programs.specs.Fronts.{Passing, HappenBehind, IsReachedBehind}
 use Rattle.program_runs.specs.Beside.{Service, InTurn, DoTogether}
 use Rattle.program_runs.specs.Deeds.{Deed, AreDone}
 use Rattle.program_runs.specs.Deployment.{OutboxTurn, Whole, Killed, AreOutboxTurns, IsOutboxTurn}

@@ -11,7 +11,7 @@ use Rattle.filing_world.specs.World.{numbered, renewed}
 use Rattle.filing_world.proofs.Lists.{renewed_same}
 use Rattle.outbox_tables.specs.Entries.{Contents}
 use Rattle.programs.specs.Happenings.{Situation, Putting, Writing, Hearing, HearingRefusal, Stranger}
-use Rattle.fronts.specs.Fronts.{Passing, Direct, HearingThrough, Passes, IsFront}
+use Rattle.programs.specs.Fronts.{Passing, Direct, HearingThrough, Passes, IsFront}
 use Rattle.program_runs.specs.Deeds.{Deed, Added, Wrote, Heard, Asked, Becomes}
 use Rattle.program_runs.specs.Beside.{OfOutbox, IsCarried, carries, network_of, seen_on}
 

@@ -7,8 +7,8 @@ use Rattle.sqlite.specs.declared.error.Error.{Error}
 use Rattle.filing_model.specs.Outbox.{Entry}
 use Rattle.outbox_tables.specs.Entries.{Contents, contents_of}
 use Rattle.outbox_core.specs.OutboxParts.{OutboxParts, HasEntries}
-use Rattle.outbox_tasks.specs.Dials.{Traffic}
-use Rattle.outbox_tasks.specs.declared.fault.TaskFault.{TaskFault}
+use Rattle.outbox_process.specs.Dials.{Traffic}
+use Rattle.outbox_process.specs.declared.tasks.fault.TaskFault.{TaskFault}
 use Rattle.database_places.specs.Places.{IsHonest}
 use Rattle.outbox_process.specs.declared.begun.Beginning.TheVariants.{Found}
 use Rattle.outbox_process.specs.declared.errand.Done.{Done}

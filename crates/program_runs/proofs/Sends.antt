@@ -21,15 +21,15 @@ use Rattle.filer_client.specs.Exchange.{IsOpenRequest, IsSettled, WritesBefore, 
 use Rattle.filer_client.specs.declared.fault.ExchangeFault.{ExchangeFault}
 use Rattle.filer_client.specs.declared.fault.ExchangeFault.TheVariants.{Write, Reply, Take}
 use Rattle.database_places.specs.Places.{IsHonest}
-use Rattle.outbox_tasks.specs.declared.fault.SendFault.{SendFault}
-use Rattle.outbox_tasks.specs.declared.fault.SendFault.TheVariants.{Connect, Exchange}
-use Rattle.outbox_tasks.specs.declared.fault.TaskFault.{TaskFault}
-use Rattle.outbox_tasks.specs.Dials.{Traffic}
-use Rattle.outbox_tasks.specs.Looking.{AreAny, DoesNothing}
-use Rattle.outbox_tasks.specs.declared.rounds.Round.{Round}
-use Rattle.outbox_tasks.specs.Rounds.{Turn, IsTurn, SentInTurn, ids_of, SendsAll}
-use Rattle.outbox_tasks.specs.Sending.{IsSentOnce, IsTried, Tries, SendsEntry, entries_after}
-use Rattle.outbox_tasks.specs.Sending.{SendsNext}
+use Rattle.outbox_process.specs.declared.tasks.fault.SendFault.{SendFault}
+use Rattle.outbox_process.specs.declared.tasks.fault.SendFault.TheVariants.{Connect, Exchange}
+use Rattle.outbox_process.specs.declared.tasks.fault.TaskFault.{TaskFault}
+use Rattle.outbox_process.specs.Dials.{Traffic}
+use Rattle.outbox_process.specs.Looking.{AreAny, DoesNothing}
+use Rattle.outbox_process.specs.declared.tasks.rounds.Round.{Round}
+use Rattle.outbox_process.specs.Rounds.{Turn, IsTurn, SentInTurn, ids_of, SendsAll}
+use Rattle.outbox_process.specs.Sending.{IsSentOnce, IsTried, Tries, SendsEntry, entries_after}
+use Rattle.outbox_process.specs.Sending.{SendsNext}
 use Rattle.outbox_process.specs.declared.errand.Which.TheVariants as which
 use Rattle.program_runs.specs.Deeds.{Deed, Wrote, Heard, AreDone}
 use Rattle.program_runs.specs.Runs.{AreOfOne, AreOfTurns, AreOfSend}

@@ -7,11 +7,11 @@ use Rattle.sqlite_disk.specs.declared.Disk.{Ghosts}
 use Rattle.filing_model.specs.Request.{Request}
 use Rattle.filing_model.specs.Serving.{keeping}
 use Rattle.database_places.specs.Places.{IsHonest}
-use Rattle.gateway_ports.specs.InTurn.{ServeInTurn}
-use Rattle.gateway_ports.specs.Ports.{Traffic}
+use Rattle.gateway_server.specs.InTurn.{ServeInTurn}
+use Rattle.gateway_server.specs.Ports.{Traffic}
 use Rattle.intake_process.specs.Process.{Parts, Keeps, KeepsBy}
 use Rattle.intake_process.specs.Turns.{Turn, Served, TurnedAway, served_in, AreTurnedAway, AnswersSome, ServesRegister}
-use Rattle.gateway_ports.specs.declared.fault.PortFault.TheVariants.{Network, Memory}
+use Rattle.gateway_server.specs.declared.port_fault.PortFault.TheVariants.{Network, Memory}
 use Rattle.intake_process.specs.declared.errand.ErrandFault.{ErrandFault}
 use Rattle.intake_process.specs.declared.serving.ServingFault.{ServingFault}
 use Rattle.intake_process.specs.declared.serving.ServingFault.TheVariants.{Register, Port}
@@ -22,8 +22,8 @@ use Rattle.intake_commands.specs.declared.options.Serving.{Serving}
 use Rattle.program_runs.specs.Beside.{Service, Answered, Away, Killed, InTurn}
 use Rattle.std.specs.Prelude.{MatchBool, Bool}
 use Rattle.std.specs.Borrow.{Bor}
-use Rattle.intake_tasks.specs.declared.errand.Errand.{Errand}
-use Rattle.intake_tasks.specs.declared.errand.Errand.TheVariants as asked
+use Rattle.intake_process.specs.declared.tasks.errand.Errand.{Errand}
+use Rattle.intake_process.specs.declared.tasks.errand.Errand.TheVariants as asked
 use Rattle.intake_process.specs.Visits.{Outputs, outputs, LiesFor, VisitsRegister}
 use Rattle.intake_process.specs.Errands.{IsRegisterFor}
 use Rattle.intake_commands.specs.Tasks.{Means, Does, Performs, Visits, IsNoFiler, is_wanted}

@@ -11,10 +11,10 @@ use Rattle.outbox_tables.specs.Entries.{Contents, empty}
 use Rattle.outbox_core.specs.declared.fault.PutFault.{PutFault}
 use Rattle.outbox_core.specs.OutboxParts.{OutboxParts, HasEntries}
 use Rattle.database_places.specs.Places.{IsHonest}
-use Rattle.outbox_tasks.specs.Dials.{Traffic}
-use Rattle.outbox_tasks.specs.Putting.{IsPutTold}
-use Rattle.outbox_tasks.specs.declared.fault.TaskFault.{TaskFault}
-use Rattle.outbox_tasks.specs.declared.fault.TaskFault.TheVariants as failed
+use Rattle.outbox_process.specs.Dials.{Traffic}
+use Rattle.outbox_process.specs.Putting.{IsPutTold}
+use Rattle.outbox_process.specs.declared.tasks.fault.TaskFault.{TaskFault}
+use Rattle.outbox_process.specs.declared.tasks.fault.TaskFault.TheVariants as failed
 use Rattle.outbox_process.specs.declared.begun.Beginning.{Beginning}
 use Rattle.outbox_process.specs.declared.errand.Done.{Done}
 use Rattle.outbox_process.specs.declared.errand.Done.TheVariants as outcome

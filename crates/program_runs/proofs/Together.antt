@@ -10,7 +10,7 @@ use Rattle.filing_world.specs.World.{numbered}
 use Rattle.filing_model.specs.Stopping.{IsStopped}
 use Rattle.outbox_tables.specs.Entries.{Contents}
 use Rattle.programs.specs.Happenings.{Situation, Stranger, Serving, Killing, TurningAway}
-use Rattle.fronts.specs.Fronts.{Direct}
+use Rattle.programs.specs.Fronts.{Direct}
 use Rattle.program_runs.specs.Deeds.{Deed, AreDone}
 use Rattle.program_runs.specs.Beside.{Act, OfOutbox, OfIntake, OfStranger, deeds_of, services_of, Network, network_of}
 use Rattle.program_runs.specs.Beside.{AreCarried, DoTogether, TogetherHappen, InTurn, Answered, Away, Killed}

@@ -7,12 +7,12 @@ use Rattle.filing_model.specs.Serving.{keeping, Serves}
 use Rattle.filing_model.specs.Stopping.{Crash, IsStopped}
 use Rattle.filing_model.specs.declared.served.Mark.{Mark}
 use Rattle.filing_world.specs.World.{Sent, numbered}
-use Rattle.gateway_ports.specs.Ports.{Connection}
+use Rattle.gateway_server.specs.Ports.{Connection}
 use Rattle.intake_process.specs.Turning.{IsTurnedAway}
 use Rattle.outbox_tables.specs.Entries.{Contents}
 use Rattle.programs.specs.Deliveries.{Delivery, IsOf}
 use Rattle.programs.specs.Happenings.{Answer, Situation}
-use Rattle.fronts.specs.Fronts.{Passing, HappenBehind, IsFront}
+use Rattle.programs.specs.Fronts.{Passing, HappenBehind, IsFront}
 use Rattle.program_runs.specs.Deeds.{Deed, Added, Wrote, Heard, Asked, AreDone}
 
 -- what a run of `intake serve` did with a connection

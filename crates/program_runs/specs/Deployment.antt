@@ -10,7 +10,7 @@ use Rattle.register_store.specs.Files.{HoldRegister}
 use Rattle.outbox_tables.specs.Entries.{Contents}
 use Rattle.outbox_core.specs.Files.{HoldOutbox}
 use Rattle.database_places.specs.Places.{Lie}
-use Rattle.outbox_tasks.specs.Dials.{Traffic}
+use Rattle.outbox_process.specs.Dials.{Traffic}
 use Rattle.outbox_process.specs.Process.{Parts}
 use Rattle.outbox_commands.specs.Tasks.{Does}
 use Rattle.outbox_commands.specs.declared.fault.Fault.{Fault}
@@ -18,7 +18,7 @@ use Rattle.outbox_commands.specs.declared.options.Task.{Task}
 use Rattle.intake_commands.specs.Tasks.{Means, Performs}
 use Rattle.intake_commands.specs.declared.options.Task.{Task as IntakeTask}
 use Rattle.programs.specs.Happenings.{Situation, at_first, AreRegistered}
-use Rattle.fronts.specs.Fronts.{Passing, HappenBehind, IsReachedBehind}
+use Rattle.programs.specs.Fronts.{Passing, HappenBehind, IsReachedBehind}
 use Rattle.program_runs.specs.Beside.{Act, Service, InTurn, deeds_of, services_of, network_of, AreCarried}
 use Rattle.program_runs.specs.Deeds.{Deed, AreDone}
 use Rattle.program_runs.specs.Registers.{IsCovered}

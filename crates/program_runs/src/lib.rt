@@ -7,7 +7,7 @@ ghost use Rattle.std.specs.Prelude.{◌≡◌, ◌≤◌, ℕ, true, List, [], O
 ghost use Rattle.std.specs.Borrow.{Bor};
 ghost use Rattle.database_places.specs.Places.{IsHonest};
 ghost use Rattle.outbox_tables.specs.Entries.{Contents, empty};
-ghost use Rattle.outbox_tasks.specs.Dials.{Traffic};
+ghost use Rattle.outbox_process.specs.Dials.{Traffic};
 ghost use Rattle.outbox_process.specs.Process.{Parts};
 ghost use Rattle.outbox_commands.specs.declared.fault.Fault.{Fault};
 ghost use Rattle.outbox_commands.specs.declared.options.Task.{Task};
@@ -24,7 +24,7 @@ ghost use Rattle.intake_commands.specs.declared.options.Task.TheVariants.{Serve}
 ghost use Rattle.program_runs.specs.Registers.{LiesRegister, IsServiceBy, IsCovered};
 ghost use Rattle.program_runs.specs.Deployment.{AnyRuns};
 
-use fronts::any_fronts;
+use programs::fronts::any_fronts;
 use sqlite_disk::Disk;
 
 /// A run of `outbox` on an outbox that lies there does deeds of its task, if its process is certain at the end.

@@ -22,8 +22,8 @@ use Rattle.filing_world.proofs.Lists.{changed_renewed, renewed_same, numbered_pu
 use Rattle.outbox_tables.specs.Entries.{Contents, contents_of, empty}
 use Rattle.outbox_core.specs.Entries.{opened, in_state, set_state}
 use Rattle.filer_client.specs.Exchange.{IsOpenRequest}
-use Rattle.gateway_ports.specs.InTurn.{ServeInTurn}
-use Rattle.gateway_ports.specs.Ports.{Connection}
+use Rattle.gateway_server.specs.InTurn.{ServeInTurn}
+use Rattle.gateway_server.specs.Ports.{Connection}
 use Rattle.intake_process.specs.Turning.{IsTurnedAway}
 use Rattle.intake_process.specs.Turns.{Turn, Served, TurnedAway, connections_of, served_in, AreTurnedAway}
 use Rattle.programs.specs.Deliveries.{Delivery, IsOf, AreOf, events_of, AreOutputsOf}

@@ -19,7 +19,7 @@ use Rattle.filing_world.specs.Headline.{start, Holds}
 use Rattle.outbox_tables.specs.Entries.{Contents, contents_of, empty}
 use Rattle.outbox_core.specs.Entries.{opened, set_state}
 use Rattle.filer_client.specs.Exchange.{IsOpenRequest}
-use Rattle.gateway_ports.specs.Ports.{Connection}
+use Rattle.gateway_server.specs.Ports.{Connection}
 use Rattle.intake_process.specs.Turning.{IsTurnedAway}
 use Rattle.intake_process.specs.Turns.{Turn, Served, TurnedAway}
 use Rattle.programs.specs.Deliveries.{Delivery, IsOf}

@@ -1,3 +1,5 @@
 pub mod Deliveries
 pub mod Exchanged
+pub mod Fronts
 pub mod Happenings
+pub mod Kept

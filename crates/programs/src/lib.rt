@@ -1,7 +1,9 @@
 //! What the programs do, as their contracts say it, and that the headline holds of what they keep. What may live here:
-//! what served connections are in the world, what may happen at the programs, one thing after another, and laws over
-//! every list of such things. There is no code.
+//! what served connections are in the world, what may happen at the programs, also behind fronts, which may give back
+//! other bytes (`fronts`), and laws over every list of such things. There is no code.
 #![tactic(auto)]
+
+pub mod fronts;
 
 ghost use Rattle.std.specs.Prelude.{◌≡◌, ◌≤◌, ◌^◌, ℕ, List, [], Option, Some, true};
 ghost use Rattle.filing_model.specs.Outbox.{State, Open, moved};
@@ -10,14 +12,14 @@ ghost use Rattle.filing_model.specs.Serving.{keeping};
 ghost use Rattle.filing_world.specs.World.{World, Outbox, Event};
 ghost use Rattle.filing_world.specs.Headline.{AreFilers, start, Holds};
 ghost use Rattle.filer_client.specs.Exchange.{IsOpenRequest, Hears};
-ghost use Rattle.gateway_ports.specs.InTurn.{ServeInTurn};
+ghost use Rattle.gateway_server.specs.InTurn.{ServeInTurn};
 ghost use Rattle.intake_process.specs.Turns.{Turn, connections_of, served_in, AreTurnedAway};
 ghost use Rattle.programs.specs.Deliveries.{Delivery, AreOf, GoesOnTo};
 ghost use Rattle.programs.specs.Exchanged.{IsBox, IsSent, ComesOf, IsMoved};
 ghost use Rattle.programs.specs.Happenings.{Situation, Happening, at_first, Happen, IsReached, AreRegistered};
 ghost use Rattle.programs.specs.Happenings.{TurnsHappen};
 ghost use Rattle.filing_world.specs.Step.{Run};
-ghost use Rattle.gateway_ports.specs.Ports.{Connection};
+ghost use Rattle.gateway_server.specs.Ports.{Connection};
 
 /// Connections that were served in turn after the requests which a world has completed are deliveries: each is a step
 /// of the world, and what is kept then are the first of the requests that the new world has completed. So more

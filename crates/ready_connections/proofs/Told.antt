@@ -7,7 +7,7 @@ use Rattle.std.proofs.lemmas.List.Concat.{flat_map-append}
 use Rattle.http_messages.specs.Message.{Asks, awaits, interim}
 use Rattle.http_messages.proofs.MoreBytes.{BeginsHead-more}
 use Rattle.http_messages.proofs.Unique.{BeginsHead-unique}
-use Rattle.request_pieces.specs.Pieces.{IsLast}
+use Rattle.ready_connections.specs.NextPiece.{IsLast}
 use Rattle.ready_connections.specs.Pieces.{Piece, IsWhole, IsAsked, AreAsked, AreAmong, AreInTurn, IsTold}
 use Rattle.ready_connections.specs.Pieces.{EndsWhole, IsShut, reads_of, texts_of, text_of, early_text, text_left}
 

@@ -5,7 +5,7 @@ use Rattle.http_messages.specs.Message.{IsRest, Asks}
 use Rattle.ready_connections.specs.declared.connection.Connection.{Connection}
 use Rattle.ready_connections.specs.declared.stream.Stream.{Ghosts}
 use Rattle.ready_connections.specs.Pieces.{Piece, IsWhole, IsAsked, IsTold, longest}
-use Rattle.request_pieces.specs.Pieces.{IsLast, max_piece_len}
+use Rattle.ready_connections.specs.NextPiece.{IsLast, max_piece_len}
 use Rattle.ready_connections.specs.declared.why.Why.{Why}
 use Rattle.ready_connections.specs.declared.why.Why.TheVariants.{Done, Broken, NoMemory, Late}
 

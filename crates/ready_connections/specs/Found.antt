@@ -3,7 +3,7 @@ use Rattle.std.specs.Prelude.{◌≡◌, ℕ, ◌<◌, ◌≤◌, Bool, true, fa
 use Rattle.http_messages.specs.Message.{IsRest, Asks}
 use Rattle.ready_connections.specs.declared.held.Found.{Found}
 use Rattle.ready_connections.specs.declared.held.Found.TheVariants.{Whole, Last, Asks as AsksFirst, More}
-use Rattle.request_pieces.specs.Pieces.{IsLast, max_piece_len}
+use Rattle.ready_connections.specs.NextPiece.{IsLast, max_piece_len}
 use Rattle.ready_connections.specs.Pieces.{IsWhole}
 
 -- the input goes on, and no piece is whole; `asks` is whether the bytes ask for an interim response

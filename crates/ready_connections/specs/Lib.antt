@@ -1,3 +1,4 @@
+pub mod NextPiece
 pub mod Streams
 pub mod Arriving
 pub mod Pieces

@@ -6,7 +6,7 @@ use Rattle.std.specs.Prelude.{if◌then◌else◌, nat_eq}
 use Rattle.std.specs.List.{flat_map, starts_with, AllByRecursion}
 use Rattle.http_messages.specs.Message.{SpellsRequest, Asks, interim}
 use Rattle.http_messages.specs.Request.{Request}
-use Rattle.request_pieces.specs.Pieces.{IsLast}
+use Rattle.ready_connections.specs.NextPiece.{IsLast}
 
 -- A piece that was handed out, and what was given back for it: its bytes, its output, whether the interim response that
 -- it asks for went before it was whole, and whether its connection is to close after it.

@@ -2,7 +2,7 @@
 ghost use Rattle.std.specs.Prelude.{◌≡◌, ◌≤◌, ◌<◌, ◌+◌, ℕ, true, false, List, [], ◌++◌, length, take, drop, vec_len};
 ghost use Rattle.std.specs.Prelude.{◌∷◌};
 ghost use Rattle.http_messages.specs.Message.{Asks, interim};
-ghost use Rattle.request_pieces.specs.Pieces.{IsLast};
+ghost use Rattle.ready_connections.specs.NextPiece.{IsLast};
 ghost use Rattle.ready_connections.specs.Arriving.{IsFresh};
 ghost use Rattle.ready_connections.specs.Pieces.{Piece, IsWhole, text_left};
 ghost use Rattle.ready_connections.specs.Connections.{IsServed, IsOut, HoldsNoPiece, HoldsWithin, piece_back};

@@ -3,7 +3,8 @@ ghost use Rattle.std.specs.Prelude.{◌≡◌, ◌≤◌, ◌+◌, List, ℕ, []
 ghost use Rattle.std.specs.Prelude.{IsTrue, IsSome, IfSome, IfNone, IfOk, OnOk};
 ghost use Rattle.http_messages.specs.Block.{from_block, HasNoEndUpTo};
 
-use request_pieces::{Piece, Progress, next_piece};
+use crate::piece::{Piece, next_piece};
+use crate::progress::Progress;
 use std::alloc::{AllocError, Global};
 use std::mem;
 

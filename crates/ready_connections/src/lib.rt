@@ -1,13 +1,15 @@
-//! Connections that one thread serves at once, by readiness: what comes on each is held until a piece of it is whole,
-//! pieces are handed out one after another, and what is given back for one is written as its connection takes it. What
-//! may live here: what is read, held, owed and written, in whatever order the connections may go on and in whatever
-//! parts their bytes come and go, and whose turn is next. What a piece is served with is not known here.
+//! Connections that one thread serves at once, by readiness. What may live here: where the next piece in the bytes of a
+//! connection ends (`piece`), what is read, held, owed and written, in whatever order the connections may go on and in
+//! whatever parts their bytes come and go, and whose turn is next. Which bytes are a request is known by
+//! `http_messages`; what a piece is served with is not known here.
 #![tactic(auto)]
 
 mod bounds;
 mod connection;
 mod hall;
 mod held;
+mod piece;
+mod progress;
 mod room;
 mod script;
 mod sockets;
@@ -18,6 +20,8 @@ mod why;
 
 pub use bounds::Bounds;
 pub use hall::Hall;
+pub use piece::{Piece, next_piece};
+pub use progress::Progress;
 pub use script::{Event, Reads, ScriptedSockets, ScriptedStream, Writes};
 pub use sockets::Sockets;
 pub use stream::{Broken, Got, Stream};

@@ -7,7 +7,7 @@ use Rattle.sqlite.specs.State.{HasCleanDisk}
 use Rattle.table_rows.specs.Leaving.{Leaves}
 use Rattle.table_rows.specs.Leaving.Ending.{Ended, Passed}
 use Rattle.table_rows.proofs.LeavingLemmas.{asked_before, clean_before}
-use Rattle.fact_records.specs.declared.record.Form.{Form}
+use Rattle.register_export.specs.declared.facts.record.Form.{Form}
 use Rattle.filing_model.specs.Request.{Request}
 use Rattle.filing_model.specs.Register.{register}
 use Rattle.register_rows.specs.Catalogue.{catalogue_of, view_lines}
@@ -15,7 +15,7 @@ use Rattle.register_tables.specs.declared.opening.Counts.{Counts}
 use Rattle.register_tables.specs.Opening.{ReadsRegister}
 use Rattle.register_tables.specs.Registers.{ForRows}
 use Rattle.register_store.specs.Store.{ForRegister}
-use Rattle.register_walk.proofs.Walks.{found_then, kept_then, nothing_then, opened}
+use Rattle.register_export.proofs.Walks.{found_then, kept_then, nothing_then, opened}
 use Rattle.register_export.specs.declared.fault.ExportFault.TheVariants as fault
 use Rattle.register_export.specs.declared.fault.RecordsFault.{RecordsFault}
 use Rattle.register_export.specs.declared.fault.RecordsFault.TheVariants as records

@@ -1,1 +1,5 @@
+mod Columns
 pub mod Done
+mod SentTexts
+pub mod Steps
+pub mod Walks

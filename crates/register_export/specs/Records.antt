@@ -1,10 +1,10 @@
 -- The records of a register.
 use Rattle.std.specs.Prelude.{ℕ, List, [], ◌++◌, take, Bool, true, bytes_eq, Option, Some, None, if◌then◌else◌}
 use Rattle.std.specs.List.{flat_map}
-use Rattle.fact_records.specs.declared.record.Form.{Form}
-use Rattle.fact_records.specs.Fields.{Head, first_line, record_text}
+use Rattle.register_export.specs.declared.facts.record.Form.{Form}
+use Rattle.register_export.specs.Fields.{Head, first_line, record_text}
 use Rattle.filing_model.specs.Register.{Filing}
-use Rattle.register_walk.specs.Filings.{FilingParts, whole}
+use Rattle.register_export.specs.Filings.{FilingParts, whole}
 
 -- what the records of a filing's facts say of it
 abbrev pub head_of : FilingParts → Head

@@ -1,12 +1,16 @@
-//! All facts of a register are written out, one after another. What may live here: which records are written, and in
-//! which order. How a record is written is known by `fact_records`; no file and no words of a command line are known
-//! here.
+//! A register is read one request at a time (`walk`), and all its facts are written out. What may live here: what is
+//! read of the row of one kept request, what the record of a fact holds and how it is written (`facts`), and which
+//! records are written, in which order. No file and no words of a command line are known here.
 #![tactic(auto)]
 
+pub mod facts;
 mod fault;
 mod records;
+mod walk;
 mod writing;
 
-pub use fact_records::Form;
+pub use facts::record::{Form, Head, first_line, record_text};
 pub use fault::{ExportFault, RecordsFault};
+pub use walk::filing::{WholeFiling, filing_at};
+pub use walk::sent::{Sent, sent_at};
 pub use writing::export;

@@ -3,13 +3,13 @@
 ghost use Rattle.std.specs.Prelude.{◌≡◌, ◌⊎◌, option_map, IfOk, IfErr, OnOk};
 ghost use Rattle.std.specs.List.{flat_map};
 ghost use Rattle.std.specs.Io.KnownBytes.{Appends};
-ghost use Rattle.fact_records.specs.Fields.{record_text, view_head};
+ghost use Rattle.register_export.specs.Fields.{record_text, view_head};
 ghost use Rattle.register_export.specs.Records.{head_of, is_wanted, records, wanted_records};
 
+use crate::facts::record::{Form, Head, record_text};
 use crate::fault::RecordsFault;
+use crate::walk::filing::WholeFiling;
 use command_line::show;
-use fact_records::{Form, Head, record_text};
-use register_walk::WholeFiling;
 use std::alloc::{AllocError, Global};
 use std::io::Write;
 use xbrl_report::Fact;

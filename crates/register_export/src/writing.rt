@@ -11,12 +11,12 @@ ghost use Rattle.register_store.specs.Store.{ForRegister};
 ghost use Rattle.register_export.specs.Records.{export_begun, export_text, filing_records};
 ghost use Rattle.register_export.specs.Exports.{ExportsFacts, UnlessOutput};
 
+use crate::facts::record::{Form, first_line};
 use crate::fault::{ExportFault, RecordsFault};
 use crate::records::{print, write_filing};
-use fact_records::{Form, first_line};
+use crate::walk::filing::filing_at;
 use register_rows::Catalogue;
 use register_store::{Counts, Unwatched, read_register};
-use register_walk::filing_at;
 use sqlite::{Alter, Connection};
 use std::alloc::Global;
 use std::io::Write;

@@ -11,7 +11,7 @@ use crate::parts::{MOST_ROWS, Part, behind, first, neighbours, pages_for};
 use json::Scratch;
 use json_tree::{Tree, Unread, read_tree};
 use markup::Markup;
-use register_walk::WholeFiling;
+use register_export::WholeFiling;
 use std::alloc::{AllocError, Global};
 use xbrl_report::Fact;
 

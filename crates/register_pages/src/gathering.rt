@@ -11,9 +11,9 @@ use crate::fault::WritingFault;
 use crate::filers::Filers;
 use crate::found::Found;
 use crate::reads::findings_at;
+use register_export::sent_at;
 use register_rows::{Catalogue, Line};
 use register_store::{Counts, StoreFault};
-use register_walk::sent_at;
 use sqlite::{Alter, Connection};
 use std::alloc::Global;
 

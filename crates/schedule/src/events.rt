@@ -6,10 +6,9 @@ ghost use Rattle.filing_world.specs.Step.{Run};
 ghost use Rattle.filing_world.specs.Headline.{AreFilers, Holds, start};
 ghost use Rattle.schedule.specs.Ending.{EndsBy};
 
-use end_processes::Honest;
 use event_script::Event;
 use std::alloc::Global;
-use world::{Fault, World};
+use world::{Fault, Honest, World};
 
 /// Plays the events on a new world, one after another, up to the first that has a fault.
 pub fn run<D: Honest>(

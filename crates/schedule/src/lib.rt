@@ -4,7 +4,6 @@
 
 mod events;
 
-pub use end_processes::{Durable, Honest};
 pub use event_script::{Crash, Event, Script, ScriptFault, read_script};
 pub use events::run;
-pub use world::{Fault, Output, Sent, World};
+pub use world::{Durable, Fault, Honest, Output, Sent, World};

@@ -7,15 +7,15 @@ use Rattle.ready_connections.specs.Pieces.{Piece, EndsWhole, IsTold, IsWhole, re
 use Rattle.ready_connections.specs.Pieces.{early_text}
 use Rattle.ready_connections.specs.declared.why.Why.{Why}
 use Rattle.ready_connections.specs.declared.why.Why.TheVariants.{Done}
-use Rattle.gateway_ports.specs.InTurn.{ServeInTurn}
-use Rattle.connection_texts.specs.Pieces.{joined_reads, joined_marks, joined_texts}
-use Rattle.connection_texts.specs.Places.{AreAmong, pieces_of}
-use Rattle.connection_texts.specs.Seen.{IsSeenSoFar}
+use Rattle.gateway_server.specs.InTurn.{ServeInTurn}
+use Rattle.whole_connections.specs.Pieces.{joined_reads, joined_marks, joined_texts}
+use Rattle.whole_connections.specs.Places.{AreAmong, pieces_of}
+use Rattle.whole_connections.specs.Seen.{IsSeenSoFar}
 use Rattle.many_connections.specs.Events.{AreServedAs}
 use Rattle.intake_process.specs.Turns.{Turn, Served, TurnedAway, connections_of, served_in, AreTurnedAway}
 use Rattle.whole_connections.specs.Away.{GetsAway, TurnsAreAmong, IsTurnedAwayAfter, IsTurnedAwayUntil, HasTextOrIsAway}
 use Rattle.whole_connections.specs.Away.{HasTextSoFarOrIsAway}
-use Rattle.connection_texts.proofs.Among.{served_at}
+use Rattle.whole_connections.proofs.Among.{served_at}
 use Rattle.whole_connections.proofs.Served.{read_whole, open_goes_on}
 use Rattle.whole_connections.proofs.Pieces.{texts_open}
 use Rattle.whole_connections.proofs.Together.{IsAllIfDone, Own, own_among, to, seen_open, told_so_far, told_over}

@@ -20,9 +20,9 @@ use Rattle.ready_connections.specs.Connections.{IsEnd}
 use Rattle.ready_connections.specs.Pieces.{Piece, IsTold}
 use Rattle.ready_connections.specs.Running.{IsInPlace, IsOutOf, IsResting, IsRunning, WasTold}
 use Rattle.ready_connections.specs.Streams.{Traffic, Gone}
-use Rattle.gateway_ports.specs.InTurn.{ServeInTurn}
-use Rattle.gateway_ports.specs.Ports.{Connection}
-use Rattle.connection_texts.specs.Seen.{Standing, IsSeen, Sees}
+use Rattle.gateway_server.specs.InTurn.{ServeInTurn}
+use Rattle.gateway_server.specs.Ports.{Connection}
+use Rattle.whole_connections.specs.Seen.{Standing, IsSeen, Sees}
 use Rattle.many_connections.specs.Events.{AreServedAs, Runs, Seen}
 use Rattle.whole_connections.specs.Each.{Each, IfKnown}
 use Rattle.whole_connections.specs.Whole.{HasText, HasTextSoFar, HasWholeText}

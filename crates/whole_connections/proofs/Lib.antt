@@ -1,7 +1,13 @@
+pub mod Alone
+pub mod Among
 pub mod Answered
+pub mod Cutting
 pub mod Early
+pub mod Growing
 pub mod Halls
+pub mod Joining
 pub mod Pieces
 pub mod Served
+pub mod Standing
 pub mod Together
 pub mod TurnedAway

@@ -13,17 +13,17 @@ use Rattle.filing_model.specs.Serving.{Keeping, keeping, BeginsArrivals, AnyFoll
 use Rattle.filing_model.specs.Text.{text_with}
 use Rattle.filing_model.proofs.Lists.{append_nil, prefix_trans}
 use Rattle.filing_model.proofs.Serving.{HasArrivals-more, BeginsArrivals-more}
-use Rattle.request_pieces.specs.Pieces.{IsLast}
+use Rattle.ready_connections.specs.NextPiece.{IsLast}
 use Rattle.ready_connections.specs.Pieces.{Piece, IsWhole, IsAsked, AreAsked, AreInTurn, EndsWhole, reads_of, texts_of}
 use Rattle.ready_connections.specs.Pieces.{text_of}
-use Rattle.gateway_ports.specs.Ports.{Connection}
-use Rattle.connection_texts.specs.Pieces.{joined_reads, joined_marks, joined_texts, ended_of, BeginsPiece}
-use Rattle.connection_texts.specs.Places.{Place, pieces_of, befores_of, ServeEach}
-use Rattle.connection_texts.specs.Seen.{standing, Standing, IsSeen, Sees}
+use Rattle.gateway_server.specs.Ports.{Connection}
+use Rattle.whole_connections.specs.Pieces.{joined_reads, joined_marks, joined_texts, ended_of, BeginsPiece}
+use Rattle.whole_connections.specs.Places.{Place, pieces_of, befores_of, ServeEach}
+use Rattle.whole_connections.specs.Seen.{standing, Standing, IsSeen, Sees}
 use Rattle.many_connections.specs.Events.{IsServedAs, AreServedAs}
 use Rattle.whole_connections.specs.Whole.{SeesFirst}
-use Rattle.connection_texts.proofs.Alone.{text_of_one, one_is_marked}
-use Rattle.connection_texts.proofs.Joining.{piece_arrives, seen_one, closed_end, goes_on_whole, seen_first}
+use Rattle.whole_connections.proofs.Alone.{text_of_one, one_is_marked}
+use Rattle.whole_connections.proofs.Joining.{piece_arrives, seen_one, closed_end, goes_on_whole, seen_first}
 use Rattle.whole_connections.proofs.Early.{text_begins, text_so_far, text_whole, text_part, text_late}
 use Rattle.whole_connections.proofs.Served.{read_whole, stays, goes_on, begins}
 

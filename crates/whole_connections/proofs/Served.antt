@@ -3,12 +3,12 @@ use Rattle.std.proofs.Common.{◌≡◌, ◌⊎◌, inl, inr, Bool, true, false,
 use Rattle.http_messages.specs.Message.{SpellsRequest}
 use Rattle.filing_model.specs.declared.served.Ended.TheVariants.{InputEnded}
 use Rattle.filing_model.proofs.Lists.{append_nil}
-use Rattle.request_pieces.specs.Pieces.{IsLast}
+use Rattle.ready_connections.specs.NextPiece.{IsLast}
 use Rattle.ready_connections.specs.Pieces.{Piece, AreInTurn, IsWhole, reads_of}
 use Rattle.ready_connections.specs.Pieces.{AreAmong as PiecesAreAmong}
-use Rattle.gateway_ports.specs.Ports.{Connection}
-use Rattle.connection_texts.specs.Pieces.{joined_reads, IsPiece, BeginsPiece, GoesOn, GoOn, ArePieces, ended_of}
-use Rattle.connection_texts.specs.Places.{AreAmong}
+use Rattle.gateway_server.specs.Ports.{Connection}
+use Rattle.whole_connections.specs.Pieces.{joined_reads, IsPiece, BeginsPiece, GoesOn, GoOn, ArePieces, ended_of}
+use Rattle.whole_connections.specs.Places.{AreAmong}
 use Rattle.many_connections.specs.Events.{IsServedAs, AreServedAs}
 
 -- ---- among all

@@ -12,15 +12,15 @@ use Rattle.ready_connections.specs.Pieces.{texts_of, early_text}
 use Rattle.ready_connections.specs.Pieces.{AreAmong as PiecesAreAmong}
 use Rattle.ready_connections.specs.declared.why.Why.{Why}
 use Rattle.ready_connections.specs.declared.why.Why.TheVariants.{Done}
-use Rattle.gateway_ports.specs.InTurn.{ServeInTurn}
-use Rattle.gateway_ports.specs.Ports.{Connection}
-use Rattle.connection_texts.specs.Pieces.{joined_reads, joined_marks, joined_texts, ended_of}
-use Rattle.connection_texts.specs.Places.{AreAmong, pieces_of, HasPlaces, standing_at}
-use Rattle.connection_texts.specs.Seen.{Standing, IsSeenSoFar, Sees}
+use Rattle.gateway_server.specs.InTurn.{ServeInTurn}
+use Rattle.gateway_server.specs.Ports.{Connection}
+use Rattle.whole_connections.specs.Pieces.{joined_reads, joined_marks, joined_texts, ended_of}
+use Rattle.whole_connections.specs.Places.{AreAmong, pieces_of, HasPlaces, standing_at}
+use Rattle.whole_connections.specs.Seen.{Standing, IsSeenSoFar, Sees}
 use Rattle.many_connections.specs.Events.{AreServedAs}
 use Rattle.whole_connections.specs.Whole.{SeesFirst, SeesUntil, HasPieces, HasText, HasTextSoFar}
-use Rattle.connection_texts.proofs.Among.{places_among, served_at}
-use Rattle.connection_texts.proofs.Joining.{joined_seen, open_seen}
+use Rattle.whole_connections.proofs.Among.{places_among, served_at}
+use Rattle.whole_connections.proofs.Joining.{joined_seen, open_seen}
 use Rattle.whole_connections.proofs.Served.{served_among, open_goes_on, go_on_are_pieces}
 use Rattle.whole_connections.proofs.Pieces.{texts_open, closing_seen, reads_first, ended_last, sees_first}
 

@@ -19,9 +19,9 @@ use Rattle.filing_model.proofs.Serving.{BeginsArrivals-more}
 use Rattle.ready_connections.specs.Pieces.{Piece, IsWhole, IsAsked, AreAsked, AreInTurn, EndsWhole, reads_of, texts_of}
 use Rattle.ready_connections.specs.Pieces.{text_of}
 use Rattle.ready_connections.specs.Pieces.{AreAmong as PiecesAreAmong}
-use Rattle.gateway_ports.specs.Ports.{Connection}
-use Rattle.connection_texts.specs.Pieces.{interim_for}
-use Rattle.connection_texts.specs.Places.{AreAmong}
+use Rattle.gateway_server.specs.Ports.{Connection}
+use Rattle.whole_connections.specs.Pieces.{interim_for}
+use Rattle.whole_connections.specs.Places.{AreAmong}
 use Rattle.many_connections.specs.Events.{IsServedAs, AreServedAs}
 use Rattle.intake_process.specs.Turning.{IsTurnedAway, away_reply, end_by}
 use Rattle.intake_process.specs.Turns.{Turn, Served, TurnedAway, connection_of, connections_of}

@@ -8,10 +8,10 @@ use Rattle.filing_model.specs.Prefix.{IsPrefixOf}
 use Rattle.filing_model.specs.Serving.{Keeping}
 use Rattle.ready_connections.specs.declared.why.Why.{Why}
 use Rattle.ready_connections.specs.declared.why.Why.TheVariants.{Done}
-use Rattle.gateway_ports.specs.Ports.{Connection}
-use Rattle.connection_texts.specs.Pieces.{joined_reads, joined_marks, joined_texts, interim_for}
-use Rattle.connection_texts.specs.Places.{HasPlaces, standing_at}
-use Rattle.connection_texts.specs.Seen.{IsSeenSoFar}
+use Rattle.gateway_server.specs.Ports.{Connection}
+use Rattle.whole_connections.specs.Pieces.{joined_reads, joined_marks, joined_texts, interim_for}
+use Rattle.whole_connections.specs.Places.{HasPlaces, standing_at}
+use Rattle.whole_connections.specs.Seen.{IsSeenSoFar}
 use Rattle.whole_connections.specs.Whole.{HasText, HasTextSoFar}
 use Rattle.intake_process.specs.Turning.{AnswersAway}
 use Rattle.intake_process.specs.Turns.{Turn, Served, TurnedAway, served_in}

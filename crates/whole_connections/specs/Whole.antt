@@ -8,10 +8,10 @@ use Rattle.filing_model.specs.Prefix.{IsPrefixOf}
 use Rattle.filing_model.specs.Serving.{Keeping}
 use Rattle.ready_connections.specs.declared.why.Why.{Why}
 use Rattle.ready_connections.specs.declared.why.Why.TheVariants.{Done}
-use Rattle.gateway_ports.specs.Ports.{Connection}
-use Rattle.connection_texts.specs.Pieces.{joined_reads, joined_marks, ended_of}
-use Rattle.connection_texts.specs.Places.{HasPlaces, standing_at}
-use Rattle.connection_texts.specs.Seen.{Standing, IsSeen, IsSeenSoFar, Sees}
+use Rattle.gateway_server.specs.Ports.{Connection}
+use Rattle.whole_connections.specs.Pieces.{joined_reads, joined_marks, ended_of}
+use Rattle.whole_connections.specs.Places.{HasPlaces, standing_at}
+use Rattle.whole_connections.specs.Seen.{Standing, IsSeen, IsSeenSoFar, Sees}
 
 -- these bytes begin the text of the first arrivals
 abbrev pub SeesFirst : Standing → List ℕ → List Mark → List ℕ → Type 0

@@ -6,7 +6,7 @@ ghost use Rattle.filing_model.specs.Serving.{Keeping};
 ghost use Rattle.ready_connections.specs.declared.hall.Hall.{Hall};
 ghost use Rattle.ready_connections.specs.declared.why.Why.TheVariants.{Done};
 ghost use Rattle.ready_connections.specs.Streams.{Traffic};
-ghost use Rattle.gateway_ports.specs.InTurn.{ServeInTurn};
+ghost use Rattle.gateway_server.specs.InTurn.{ServeInTurn};
 ghost use Rattle.many_connections.specs.Events.{Seen, Runs};
 ghost use Rattle.intake_process.specs.Turns.{Turn, connections_of, served_in, AreTurnedAway};
 ghost use Rattle.whole_connections.specs.Whole.{HasText, HasTextSoFar, HasWholeText};

@@ -13,7 +13,7 @@ use Rattle.filing_world.proofs.Lists.{changed_renewed, renewed_same, written}
 use Rattle.filing_model.specs.declared.state.State.{State as Stored}
 use Rattle.outbox_core.specs.Entries.{in_state, set_state}
 use Rattle.filing_model.specs.Views.{view_state}
-use Rattle.end_processes.specs.Outboxes.{state_or, entries_after}
+use Rattle.world.specs.Outboxes.{state_or, entries_after}
 
 -- the element at a place within a list
 pub element_at : {X : Type 0} → (xs : List X) (at : ℕ) (x : X) → at < length xs → x ≡ slice_index_or xs at x

@@ -11,7 +11,7 @@ use Rattle.filing_world.specs.World.{Outbox, new_outbox}
 use Rattle.filing_world.specs.Headline.{states_of, states_from, number_in}
 use Rattle.filing_model.specs.Outbox.{State as Kept}
 use Rattle.filing_model.specs.declared.state.State.{State}
-use Rattle.end_processes.specs.Listed.{listed}
+use Rattle.world.specs.OutboxListed.{listed}
 use Rattle.world.specs.Listed.{view_listed}
 
 pub drop_at : {X : Type 0} → (xs : List X) (at : ℕ) (x : X) → slice_get xs at ≡ Some x

@@ -30,9 +30,9 @@ use Rattle.intake_process.specs.declared.process.Answered.{Answered}
 use Rattle.intake_process.specs.Begun.{HoldsAs}
 use Rattle.intake_process.specs.Process.{IsNotOpened, IsLeftBy, KeepsBy, AnswersBy}
 use Rattle.database_places.specs.Places as place
-use Rattle.end_processes.specs.Causes.{register_cause, opening_cause, close_cause}
-use Rattle.end_processes.specs.declared.cause.Cause.TheVariants as cause
-use Rattle.end_processes.proofs.Causes.{of_files}
+use Rattle.world.specs.Causes.{register_cause, opening_cause, close_cause}
+use Rattle.world.specs.declared.ends.cause.Cause.TheVariants as cause
+use Rattle.world.proofs.Causes.{of_files}
 use Rattle.world.specs.Processes.{IsNotStopped, is_asleep}
 
 -- ---- a part of a connection

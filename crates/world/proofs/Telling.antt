@@ -1,7 +1,7 @@
 -- As what fault it is reported that an event was not played.
 use Rattle.std.proofs.Common.{◌≡◌, ℕ, refl}
-use Rattle.end_processes.specs.declared.cause.Cause.{Cause}
-use Rattle.end_processes.specs.declared.cause.Cause.TheVariants as cause
+use Rattle.world.specs.declared.ends.cause.Cause.{Cause}
+use Rattle.world.specs.declared.ends.cause.Cause.TheVariants as cause
 use Rattle.world.specs.declared.fault.Fault.TheVariants.{NoSuch, Store, Reopen}
 use Rattle.world.specs.declared.fault.Unplayed.{Unplayed}
 use Rattle.world.specs.declared.fault.Unplayed.TheVariants as why

@@ -1,7 +1,7 @@
 -- Why an event was not played, once the event is numbered.
 use Rattle.std.specs.Prelude.{ℕ}
-use Rattle.end_processes.specs.declared.cause.Cause.{Cause}
-use Rattle.end_processes.specs.declared.cause.Cause.TheVariants as cause
+use Rattle.world.specs.declared.ends.cause.Cause.{Cause}
+use Rattle.world.specs.declared.ends.cause.Cause.TheVariants as cause
 use Rattle.world.specs.declared.fault.Fault.{Fault}
 use Rattle.world.specs.declared.fault.Fault.TheVariants as fault
 use Rattle.world.specs.declared.fault.Unplayed.{Unplayed}

@@ -17,9 +17,9 @@ use Rattle.intake_core.specs.Held.{store_of, has_stopped}
 use Rattle.intake_process.specs.Process.{KeepsBy, IsNotOpened}
 use Rattle.intake_process.specs.declared.fault.OpeningFault.{OpeningFault}
 use Rattle.intake_process.specs.declared.process.IntakeProcess.{IntakeProcess}
-use Rattle.end_processes.specs.Causes.{opening_cause, close_cause}
-use Rattle.end_processes.specs.OutboxEnd.{lying_in}
-use Rattle.end_processes.specs.declared.cause.Cause.{Cause}
+use Rattle.world.specs.Causes.{opening_cause, close_cause}
+use Rattle.world.specs.OutboxEnd.{lying_in}
+use Rattle.world.specs.declared.ends.cause.Cause.{Cause}
 
 -- The process keeps these requests, none of which is old-style, and no close and no opening failed.
 abbrev pub KeepsSurely : {D : Type 0} {g : Ghosts D} → IntakeProcess D (Drawer D) g → ℕ → List Request → Type 0

@@ -8,10 +8,11 @@ ghost use Rattle.world.specs.Filers.{FilerParts};
 ghost use Rattle.world.specs.Played.{world_of};
 
 use crate::element::{first, index_of};
+use crate::ends::cause::Cause;
+use crate::ends::honest::Honest;
 use crate::fault::Unplayed;
 use crate::lists::{Output, Sent};
 use crate::server::{Delivered, Server};
-use end_processes::{Cause, Honest};
 use event_script::Crash;
 
 pub(crate) fn deliver<D: Honest>(

@@ -11,8 +11,8 @@ ghost use Rattle.filing_model.specs.Text.{completed};
 ghost use Rattle.gateway_server.specs.Stopping.{view_stop};
 ghost use Rattle.world.specs.Processes.{KeepsSurely, ServesPart};
 
+use crate::ends::honest::Honest;
 use database_places::Drawer;
-use end_processes::Honest;
 use filing_model::{Ended, Mark};
 use gateway_server::{Partly, Served, Stop, serve_until};
 use http_wire::{ConnFault, MemoryReader, MemoryWriter, Sink, Source};

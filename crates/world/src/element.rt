@@ -7,10 +7,11 @@ ghost use Rattle.filing_world.specs.Step.{IsAway};
 ghost use Rattle.world.specs.Filers.{FilerParts, boxes};
 ghost use Rattle.world.specs.Played.{IsLent};
 
+use crate::ends::cause::Cause;
+use crate::ends::honest::Honest;
 use crate::fault::Unplayed;
 use crate::filer::Filer;
 use crate::lists::Sent;
-use end_processes::{Cause, Honest};
 use outbox_core::Outbox;
 use sqlite::FileStore;
 

@@ -1,6 +1,6 @@
 //! Why an event was not played.
 
-use end_processes::Cause;
+use crate::ends::cause::Cause;
 use outbox_core::StoreFault;
 use std::alloc::AllocError;
 use thiserror::Error;
@@ -44,7 +44,7 @@ impl From<Cause> for Unplayed {
 
 impl From<StoreFault> for Unplayed {
     ghost use Rattle.std.specs.Prelude.{◌≡◌};
-    ghost use Rattle.end_processes.specs.Causes.{store_cause};
+    ghost use Rattle.world.specs.Causes.{store_cause};
     ghost use Rattle.world.specs.declared.fault.Unplayed.TheVariants.{Refused};
 
     ghost from_gives = { λ fault why. why ≡ Refused (store_cause fault) };
@@ -56,7 +56,7 @@ impl From<StoreFault> for Unplayed {
 
 impl From<AllocError> for Unplayed {
     ghost use Rattle.std.specs.Prelude.{◌≡◌};
-    ghost use Rattle.end_processes.specs.declared.cause.Cause.TheVariants.{Memory};
+    ghost use Rattle.world.specs.declared.ends.cause.Cause.TheVariants.{Memory};
     ghost use Rattle.world.specs.declared.fault.Unplayed.TheVariants.{Refused};
 
     ghost from_gives = { λ _ why. why ≡ Refused Memory };

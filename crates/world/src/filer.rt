@@ -16,10 +16,12 @@ ghost use Rattle.outbox_core.specs.OutboxParts.{HasEntries};
 ghost use Rattle.outbox_core.specs.Entries.{opened};
 ghost use Rattle.event_script.specs.Events.{view_crash};
 ghost use Rattle.filer_client.specs.Exchange.{request_at};
-ghost use Rattle.end_processes.specs.Listed.{listed};
+ghost use Rattle.world.specs.OutboxListed.{listed};
 
+use crate::ends::cause::Cause;
+use crate::ends::honest::Honest;
+use crate::ends::outbox_end::OutboxEnd;
 use crate::report::{Report, set_state};
-use end_processes::{Cause, Honest, OutboxEnd};
 use event_script::Crash;
 use key_string::KeyText;
 use outbox_core::{Outbox, State, StoreFault};
@@ -37,7 +39,7 @@ pub(crate) struct Filer<D: Honest> {
 
 impl<D: Honest> Model for Filer<D> {
     ghost use Rattle.std.specs.Prelude.{string_bytes};
-    ghost use Rattle.end_processes.specs.OutboxEnd.{Keeps, is_up, is_asleep, is_taken};
+    ghost use Rattle.world.specs.OutboxEnd.{Keeps, is_up, is_asleep, is_taken};
     ghost use Rattle.world.specs.Filers.{FilerParts};
 
     ghost Value = { FilerParts };

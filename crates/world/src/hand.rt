@@ -11,10 +11,11 @@ ghost use Rattle.world.specs.Played.{world_of};
 ghost use Rattle.world.specs.Playing.{AsksOutbox};
 
 use crate::element::{first, index_of, sender_of, up_at};
+use crate::ends::cause::Cause;
+use crate::ends::honest::Honest;
 use crate::fault::Unplayed;
 use crate::filer::Filer;
 use crate::lists::{Output, Sent};
-use end_processes::{Cause, Honest};
 use event_script::Crash;
 
 /// If the items that were sent for entries carry these, it is a step of the world.

@@ -3,13 +3,13 @@
 ghost use Rattle.std.specs.Prelude.{◌≡◌, ◌≢◌, ◌<◌, ◌⊎◌, ◌++◌, ◌∷◌, [], suc, length, map, filter_map, slice_get, false};
 ghost use Rattle.std.specs.Prelude.{Some, IfOk, OnOk, Err};
 ghost use Rattle.filing_world.specs.Headline.{states_of, states_from, number_in};
-ghost use Rattle.end_processes.specs.Listed.{listed};
+ghost use Rattle.world.specs.OutboxListed.{listed};
 ghost use Rattle.world.specs.Filers.{FilerParts, boxes, sleepers, takens};
 ghost use Rattle.world.specs.Listed.{view_listed, are_up};
 ghost use Rattle.world.specs.Played.{HasSleeper};
 
+use crate::ends::honest::Honest;
 use crate::filer::Filer;
-use end_processes::Honest;
 use outbox_core::{State, StoreFault};
 use std::alloc::{AllocError, Global};
 

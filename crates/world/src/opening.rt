@@ -3,11 +3,12 @@
 ghost use Rattle.std.specs.Prelude.{◌≡◌, ◌≢◌, ◌≤◌, ◌^◌, ◌↔◌, ℕ, [], List, true, None, is_some, IfOk, IfErr, OnOk, Err};
 ghost use Rattle.filing_model.specs.Request.{Request};
 ghost use Rattle.filing_model.specs.Register.{register};
-ghost use Rattle.end_processes.specs.OutboxEnd.{lying_in};
+ghost use Rattle.world.specs.OutboxEnd.{lying_in};
 ghost use Rattle.world.specs.Processes.{KeepsSurely, IsNotStarted, IsNotStopped, is_asleep};
 
+use crate::ends::cause::Cause;
+use crate::ends::honest::Honest;
 use database_places::{Cache, Drawer, Opening};
-use end_processes::{Cause, Honest};
 use intake_core::Unavailable;
 use intake_process::{Closed, IntakeProcess};
 use register_store::Registered;

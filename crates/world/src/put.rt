@@ -11,9 +11,10 @@ ghost use Rattle.world.specs.Played.{world_of};
 ghost use Rattle.world.specs.Playing.{IsUp};
 
 use crate::element::up_at;
+use crate::ends::cause::Cause;
+use crate::ends::honest::Honest;
 use crate::fault::Unplayed;
 use crate::filer::Filer;
-use end_processes::{Cause, Honest};
 use key_string::KeyText;
 
 pub(crate) fn put<D: Honest>(

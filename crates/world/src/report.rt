@@ -4,7 +4,7 @@ ghost use Rattle.std.specs.Prelude.{◌≡◌, IfOk};
 ghost use Rattle.outbox_core.specs.Entries.{opened, set_state};
 ghost use Rattle.filing_model.specs.Views.{view_state};
 
-use end_processes::copy_key;
+use crate::ends::keys::copy_key;
 use key_string::KeyText;
 use outbox_core::State;
 use std::alloc::{AllocError, Global};

@@ -8,9 +8,10 @@ ghost use Rattle.world.specs.Served.{Served};
 ghost use Rattle.world.specs.Played.{world_of};
 
 use crate::element::index_of;
+use crate::ends::cause::Cause;
+use crate::ends::honest::Honest;
 use crate::fault::Unplayed;
 use crate::filer::Filer;
-use end_processes::{Cause, Honest};
 
 pub(crate) fn restart_outbox<D: Honest>(
     filers: &mut Vec<Filer<D>>,

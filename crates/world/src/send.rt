@@ -9,10 +9,11 @@ ghost use Rattle.world.specs.Played.{world_of};
 ghost use Rattle.world.specs.Playing.{IsUp};
 
 use crate::element::up_at;
+use crate::ends::cause::Cause;
+use crate::ends::honest::Honest;
 use crate::fault::Unplayed;
 use crate::filer::Filer;
 use crate::lists::Sent;
-use end_processes::{Cause, Honest};
 use std::alloc::{AllocError, Global};
 
 pub(crate) fn send<D: Honest>(

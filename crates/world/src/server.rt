@@ -15,9 +15,10 @@ ghost use Rattle.gateway_server.specs.Stopping.{view_stop};
 ghost use Rattle.world.specs.Processes.{KeepsSurely};
 
 use crate::delivery::{Exchange, serve_bytes};
+use crate::ends::cause::Cause;
+use crate::ends::honest::Honest;
 use crate::opening::{close, make, open, registered};
 use database_places::Drawer;
-use end_processes::{Cause, Honest};
 use event_script::Crash;
 use filing_model::{Ended, Mark};
 use gateway_server::{Stop, completed};

@@ -19,6 +19,8 @@ ghost use Rattle.world.specs.Listed.{view_listed, are_up};
 
 use crate::deliver::deliver;
 use crate::element::outbox_at;
+use crate::ends::cause::Cause;
+use crate::ends::honest::Honest;
 use crate::fault::{Fault, Unplayed};
 use crate::filer::Filer;
 use crate::hand::hand;
@@ -28,7 +30,6 @@ use crate::put::put;
 use crate::restart::restart_outbox;
 use crate::send::{send, send_bytes};
 use crate::server::Server;
-use end_processes::{Cause, Honest};
 use event_script::Event;
 use intake_core::{Intake, Unavailable};
 use outbox_core::{Outbox, State, StoreFault};

@@ -1,10 +1,10 @@
 use Rattle.std.proofs.Common.{◌≡◌, ℕ, List, Option, sym, subst}
 use Rattle.sqlite_disk.specs.declared.Disk.{Ghosts}
-use Rattle.intake_tasks.specs.declared.errand.Errand.{Errand}
+use Rattle.intake_process.specs.declared.tasks.errand.Errand.{Errand}
 use Rattle.intake_process.specs.declared.visiting.Visited.{Visited}
 use Rattle.intake_process.specs.Process.{Parts, parts}
 use Rattle.intake_process.specs.Visits.{VisitsRegister, outputs}
-use Rattle.intake_tasks.specs.declared.errand.Errand.TheVariants.{Check, Migrate}
+use Rattle.intake_process.specs.declared.tasks.errand.Errand.TheVariants.{Check, Migrate}
 use Rattle.intake_commands.specs.Tasks.{IsCurrentTold, IsFaultTold}
 use Rattle.intake_commands.proofs.visiting.visit_current.Goals as goal
 

@@ -1,5 +1,5 @@
 use Rattle.std.proofs.Common.{Err, sym, subst}
-use Rattle.intake_tasks.specs.declared.errand.Errand.TheVariants as asked
+use Rattle.intake_process.specs.declared.tasks.errand.Errand.TheVariants as asked
 use Rattle.intake_process.specs.Errands.{RunsErrand}
 use Rattle.intake_process.proofs.Errands.{export_done, export_failed, export_refused}
 use Rattle.intake_process.proofs.errand.export_facts.Goals as goal

@@ -1,5 +1,5 @@
 use Rattle.std.proofs.Common.{sym, ap, subst, ◌∙◌}
-use Rattle.intake_tasks.specs.declared.errand.Errand.TheVariants as asked
+use Rattle.intake_process.specs.declared.tasks.errand.Errand.TheVariants as asked
 use Rattle.intake_process.specs.Errands.{RunsErrand}
 use Rattle.intake_process.specs.Outcomes.{listed_as}
 use Rattle.intake_process.proofs.Errands.{lists, list_refused}

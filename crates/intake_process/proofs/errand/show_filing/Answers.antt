@@ -1,5 +1,5 @@
 use Rattle.std.proofs.Common.{sym, subst}
-use Rattle.intake_tasks.specs.declared.errand.Errand.TheVariants as asked
+use Rattle.intake_process.specs.declared.tasks.errand.Errand.TheVariants as asked
 use Rattle.intake_process.specs.Errands.{RunsErrand}
 use Rattle.intake_process.specs.Outcomes.{shown_as}
 use Rattle.intake_process.proofs.Errands.{shows_filing, show_refused}

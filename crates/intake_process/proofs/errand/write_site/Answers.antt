@@ -1,5 +1,5 @@
 use Rattle.std.proofs.Common.{Err, sym, subst}
-use Rattle.intake_tasks.specs.declared.errand.Errand.TheVariants as asked
+use Rattle.intake_process.specs.declared.tasks.errand.Errand.TheVariants as asked
 use Rattle.intake_process.specs.Errands.{FillsFolder, RunsErrand}
 use Rattle.intake_process.proofs.Errands.{filled, partly_filled, site_done, site_failed, site_refused, unfilled}
 use Rattle.intake_process.proofs.errand.write_site.Goals as goal

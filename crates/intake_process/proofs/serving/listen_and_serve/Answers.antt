@@ -1,7 +1,7 @@
 use Rattle.std.proofs.Common.{None, refl, subst, sym}
 use Rattle.std.specs.Result.{result_ok}
-use Rattle.gateway_ports.specs.Ports.{MayShut}
-use Rattle.gateway_ports.proofs.Turns.{unchanged}
+use Rattle.gateway_server.specs.Ports.{MayShut}
+use Rattle.gateway_server.proofs.Turns.{unchanged}
 use Rattle.intake_process.specs.Process.{parts}
 use Rattle.intake_process.specs.Turns.{AnswersSome}
 use Rattle.intake_process.proofs.Turns.{none}

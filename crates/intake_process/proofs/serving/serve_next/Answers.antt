@@ -1,8 +1,8 @@
 use Rattle.std.proofs.Common.{None, Some, [], refl, sym, ap, subst, ◌∙◌}
 use Rattle.std.specs.Prelude.{option_map}
 use Rattle.http_wire.specs.Wire.{wire}
-use Rattle.gateway_ports.specs.InTurn.{AreCounted}
-use Rattle.gateway_ports.proofs.Turns.{none_told, counted_given_up}
+use Rattle.gateway_server.specs.InTurn.{AreCounted}
+use Rattle.gateway_server.proofs.Turns.{none_told, counted_given_up}
 use Rattle.intake_process.specs.Process.{parts}
 use Rattle.intake_process.specs.Turns.{AnswersSome}
 use Rattle.intake_process.specs.History.{Passes, said_of}

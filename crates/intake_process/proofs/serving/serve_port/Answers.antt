@@ -1,5 +1,5 @@
 use Rattle.std.proofs.Common.{Some, refl, sym, ◌∙◌, subst, true≢false}
-use Rattle.gateway_ports.proofs.Turns.{none_told, counted_none, unchanged}
+use Rattle.gateway_server.proofs.Turns.{none_told, counted_none, unchanged}
 use Rattle.intake_process.specs.Process.{parts}
 use Rattle.intake_process.specs.History.{Passes}
 use Rattle.intake_process.specs.Turns.{AnswersSome}

@@ -1,6 +1,6 @@
 use Rattle.std.proofs.Common.{◌≡◌, take}
 use Rattle.std.specs.List.{flat_map}
-use Rattle.fact_records.specs.Fields.{record_text, view_head}
+use Rattle.register_export.specs.Fields.{record_text, view_head}
 use Rattle.register_export.proofs.records.records_of.Given as goal
 
 abbrev pub invariant-loop-fact : goal.invariant-loop-fact

@@ -2,7 +2,7 @@ use Rattle.std.proofs.Common.{◌≡◌, Some, OnOk, sym, ap, subst, ◌∙◌}
 use Rattle.std.specs.Prelude.{option_map}
 use Rattle.std.specs.Io.KnownBytes.{Appends}
 use Rattle.filing_model.specs.Register.{register}
-use Rattle.register_walk.specs.Filings.{whole}
+use Rattle.register_export.specs.Filings.{whole}
 use Rattle.register_export.specs.Records.{wanted_records}
 use Rattle.register_export.proofs.writing.write_numbered.Goals as goal
 

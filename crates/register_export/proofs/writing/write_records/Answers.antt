@@ -7,7 +7,7 @@ use Rattle.std.specs.List.{flat_map}
 use Rattle.std.specs.Io.KnownBytes.{Appends}
 use Rattle.sqlite.specs.Held.{state}
 use Rattle.sqlite.specs.State.{HasCleanDisk}
-use Rattle.fact_records.specs.Fields.{first_line}
+use Rattle.register_export.specs.Fields.{first_line}
 use Rattle.filing_model.specs.Register.{register}
 use Rattle.filing_model.proofs.Keeping.{register_numbered}
 use Rattle.register_tables.proofs.Calls.{refuses}
@@ -17,7 +17,7 @@ use Rattle.register_export.specs.declared.fault.RecordsFault.TheVariants as reco
 use Rattle.register_export.specs.Exports.{UnlessOutput}
 use Rattle.register_export.specs.Records.{export_begun, filing_records}
 use Rattle.register_export.proofs.Done.{Begun, unless}
-use Rattle.register_walk.proofs.Steps.{next_filing, next_written}
+use Rattle.register_export.proofs.Steps.{next_filing, next_written}
 use Rattle.register_export.proofs.writing.write_records.Goals as goal
 
 pub loop-at-init : goal.loop-at-init

@@ -7,7 +7,7 @@ use Rattle.sqlite.specs.State.{HasCleanDisk}
 use Rattle.table_rows.specs.Leaving.{Leaves}
 use Rattle.table_rows.specs.Leaving.Ending.{Passed}
 use Rattle.table_rows.specs.Standing.{HasCommitted}
-use Rattle.fact_records.specs.Fields.{first_line}
+use Rattle.register_export.specs.Fields.{first_line}
 use Rattle.filing_model.specs.Request.{Request}
 use Rattle.filing_model.specs.Register.{register}
 use Rattle.register_rows.specs.Catalogue.{catalogue_of, view_lines}

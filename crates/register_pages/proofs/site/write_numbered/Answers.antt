@@ -1,7 +1,7 @@
 use Rattle.std.proofs.Common.{◌≡◌, Some, length, sym, ap, subst, ◌∙◌}
 use Rattle.std.specs.Prelude.{option_map}
 use Rattle.filing_model.specs.Register.{register}
-use Rattle.register_walk.specs.Filings.{FilingParts, whole}
+use Rattle.register_export.specs.Filings.{FilingParts, whole}
 use Rattle.register_pages.specs.Pages.{Writes, filing_page, numbered, pages_for}
 use Rattle.register_pages.proofs.site.write_numbered.Goals as goal
 

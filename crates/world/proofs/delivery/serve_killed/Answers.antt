@@ -1,7 +1,7 @@
 use Rattle.std.proofs.Common.{sym, subst}
 use Rattle.http_wire.specs.Wire.{wire}
 use Rattle.intake_process.specs.Process.{KeepsBy}
-use Rattle.end_processes.specs.OutboxEnd.{lying_in}
+use Rattle.world.specs.OutboxEnd.{lying_in}
 use Rattle.world.proofs.Serving.{killed}
 use Rattle.world.proofs.delivery.serve_killed.Goals as goal
 

@@ -3,7 +3,7 @@ use Rattle.http_wire.specs.Wire.{wire}
 use Rattle.filing_model.specs.Serving.{keeping}
 use Rattle.filing_model.specs.Stopping.{No}
 use Rattle.gateway_server.specs.Stopping.{ServesConnectionUntil, IsEndedOrStoppedBy}
-use Rattle.end_processes.specs.OutboxEnd.{lying_in}
+use Rattle.world.specs.OutboxEnd.{lying_in}
 use Rattle.world.proofs.Serving.{answers, still_up}
 use Rattle.world.proofs.delivery.serve_part.Goals as goal
 

@@ -1,6 +1,6 @@
 use Rattle.std.proofs.Common.{◌≡◌, ◌++◌, ◌∙◌, ◌+◌, suc, map, take, ap, sym, subst, arith}
 use Rattle.std.proofs.lemmas.List.{append-nil, take_all}
-use Rattle.end_processes.specs.Listed.{listed}
+use Rattle.world.specs.OutboxListed.{listed}
 use Rattle.world.specs.Listed.{view_listed}
 use Rattle.world.proofs.GoingThrough.{listed_next}
 use Rattle.world.proofs.listing.append.Goals as goal

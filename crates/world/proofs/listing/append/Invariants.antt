@@ -1,5 +1,5 @@
 use Rattle.std.proofs.Common.{◌≡◌, ◌++◌, map, take}
-use Rattle.end_processes.specs.Listed.{listed}
+use Rattle.world.specs.OutboxListed.{listed}
 use Rattle.world.specs.Listed.{view_listed}
 use Rattle.world.proofs.listing.append.Given as goal
 

@@ -1,7 +1,7 @@
 use Rattle.std.proofs.Common.{sym, ◌∙◌, subst}
 use Rattle.table_rows.specs.Causes.{store_fault}
-use Rattle.end_processes.proofs.Causes.{of_closing}
-use Rattle.end_processes.specs.OutboxEnd.{lying_in}
+use Rattle.world.proofs.Causes.{of_closing}
+use Rattle.world.specs.OutboxEnd.{lying_in}
 use Rattle.world.specs.Processes.{IsNotStopped}
 use Rattle.world.proofs.Serving.{not_closed}
 use Rattle.world.proofs.opening.close.Goals as goal

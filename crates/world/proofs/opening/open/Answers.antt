@@ -1,5 +1,5 @@
 use Rattle.std.proofs.Common.{refl, sym, ◌∙◌}
-use Rattle.end_processes.specs.OutboxEnd.{lying_in}
+use Rattle.world.specs.OutboxEnd.{lying_in}
 use Rattle.world.proofs.Serving.{found_not}
 use Rattle.world.proofs.opening.open.Goals as goal
 

@@ -3,7 +3,7 @@ use Rattle.std.specs.Prelude.{◌↔◌, true}
 use Rattle.table_rows.proofs.CleanLemmas.{always_clean}
 use Rattle.intake_core.specs.declared.intake.Unavailable.TheVariants.{Down}
 use Rattle.intake_process.specs.Process.{KeepsBy}
-use Rattle.end_processes.specs.OutboxEnd.{lying_in}
+use Rattle.world.specs.OutboxEnd.{lying_in}
 use Rattle.world.specs.Processes.{is_asleep}
 use Rattle.world.proofs.opening.registered.Goals as goal
 

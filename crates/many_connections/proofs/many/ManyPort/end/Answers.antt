@@ -1,7 +1,7 @@
 use Rattle.std.proofs.Common.{◌≡◌, true, false, Some, length, sym, ap, subst, ◌∙◌, true≢false}
 use Rattle.std.specs.Prelude.{◌≢◌, not}
 use Rattle.std.proofs.Math.Logic.{∥∥₁_map}
-use Rattle.gateway_ports.specs.Ports.{Adds}
+use Rattle.gateway_server.specs.Ports.{Adds}
 use Rattle.many_connections.specs.PieceReader.{bytes_left}
 use Rattle.many_connections.specs.declared.event.Event.TheVariants.{Over}
 use Rattle.many_connections.specs.Events.{Runs, Seen, after_event, seen_after}

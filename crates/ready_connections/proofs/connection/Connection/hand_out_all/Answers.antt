@@ -1,5 +1,5 @@
 use Rattle.std.proofs.Common.{◌≡◌, ◌++◌, ◌∙◌, ℕ, List, [], Bool, true, false, sym, subst, ap}
-use Rattle.request_pieces.specs.Pieces.{IsLast}
+use Rattle.ready_connections.specs.NextPiece.{IsLast}
 use Rattle.ready_connections.specs.Pieces.{IsTold}
 use Rattle.ready_connections.proofs.Told.{told_out, append_nil}
 use Rattle.ready_connections.proofs.connection.Connection.hand_out_all.Goals as goal

@@ -1,6 +1,6 @@
 use Rattle.std.proofs.Common.{◌≡◌, List, ℕ, Bool, subst}
-use Rattle.request_pieces.specs.declared.progress.Progress.{Progress}
-use Rattle.request_pieces.specs.Pieces.{Waits}
+use Rattle.ready_connections.specs.declared.progress.Progress.{Progress}
+use Rattle.ready_connections.specs.NextPiece.{Waits}
 use Rattle.ready_connections.specs.Found.{GoesOn}
 use Rattle.ready_connections.proofs.held.Held.find.Goals as goal
 

@@ -1,7 +1,7 @@
 use Rattle.std.proofs.Common.{◌∙◌, ap, Some, None, refl}
 use Rattle.std.specs.String.{string_bytes}
 use Rattle.filing_world.specs.World.{Outbox}
-use Rattle.end_processes.specs.OutboxEnd.{is_up}
+use Rattle.world.specs.OutboxEnd.{is_up}
 use Rattle.world.specs.Filers.{FilerParts}
 use Rattle.world.proofs.Entries.{box_heard}
 use Rattle.world.proofs.filer.Filer.hear.Goals as goal

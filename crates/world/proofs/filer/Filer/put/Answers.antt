@@ -3,7 +3,7 @@ use Rattle.std.specs.String.{string_bytes}
 use Rattle.filing_world.specs.World.{Outbox}
 use Rattle.filing_world.specs.Step.{takes}
 use Rattle.outbox_core.specs.Entries.{opened}
-use Rattle.end_processes.specs.OutboxEnd.{is_up}
+use Rattle.world.specs.OutboxEnd.{is_up}
 use Rattle.world.proofs.Entries.{box_taken, box_not_taken}
 use Rattle.world.proofs.filer.Filer.put.Goals as goal
 

@@ -1,4 +1,0 @@
-pub mod Cut
-pub mod Pieces
-pub mod Places
-pub mod Seen

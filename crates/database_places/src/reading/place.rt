@@ -1,0 +1,104 @@
+//! A place in the file system that is only read.
+
+ghost use Rattle.std.specs.Prelude.{None};
+ghost use Rattle.database_places.specs.Places.{Leaves};
+
+use crate::place::Place;
+use crate::reading::ReadingFile;
+use crate::reading::fault::fault_of;
+use crate::reading::opening::open_for_reading;
+use crate::system::SystemPlace;
+use command_line::DatabaseFault;
+use sqlite_disk::{Files, Unknown};
+use std::alloc::Global;
+use std::fs::{self, OpenOptions};
+use std::io;
+
+/// The file of this name, and the log beside it, which are read and never written: they may lie where nothing may be
+/// written. What is written to the files that are taken is seen by whoever has them, and ends as they are left: the
+/// name's own files stay as they are, a log with all that is in it too. Nothing is made or removed beside them.
+#[derive(Clone, Copy)]
+pub struct ReadingPlace<'a, 'r> {
+    rt: &'r HostRuntime,
+    name: &'a str,
+    /// The same files, of which only what they are is asked.
+    system: SystemPlace<'a, 'r>,
+}
+
+impl<'a, 'r> ReadingPlace<'a, 'r> {
+    pub fn new(rt: &'r HostRuntime, name: &'a str) -> ReadingPlace<'a, 'r> {
+        ReadingPlace {
+            rt,
+            name,
+            system: SystemPlace::new(rt, name),
+        }
+    }
+}
+
+impl Place<ReadingFile> for ReadingPlace<'_, '_> {
+    ghost lying = { λ _. None };
+
+    fn seed(&self) -> Option<u64> {
+        self.system.seed()
+    }
+
+    fn is_missing(&self) -> bool {
+        self.system.is_missing()
+    }
+
+    fn is_empty(&self) -> bool {
+        self.system.is_empty()
+    }
+
+    fn first_page(&self, alloc: Global) -> Vec<u8> {
+        self.system.first_page(alloc)
+    }
+
+    fn len(&self) -> u64 {
+        self.system.len()
+    }
+
+    fn has_log(&self) -> bool {
+        self.system.has_log()
+    }
+
+    // None was made.
+    fn remove_empty_log(&self) {}
+
+    fn take(&mut self) -> Result<Files<ReadingFile>, DatabaseFault> {
+        match open_for_reading(self.rt, self.name, Unknown) {
+            Ok(files) => Ok(files),
+            Err(error) => Err(fault_of(self.rt, self.name, &error)),
+        }
+    }
+
+    // What was written in memory ends here, and the file is unlocked.
+    fn leave(&mut self, files: Files<ReadingFile>)
+        ensures { Leaves None None files }
+    {
+        drop(files);
+    }
+}
+
+/// Whether a log lies beside the database file of this name, and both may be written: then a command that changes
+/// nothing may copy the log into the file, as a command does that writes.
+pub fn has_writable_log(rt: &HostRuntime, name: &str) -> bool {
+    match log_name(rt, name) {
+        Ok(log) => may_be_written(rt, name) && may_be_written(rt, log.as_str()),
+        Err(_) => false,
+    }
+}
+
+/// The name of the log beside the file of this name, where a link leads.
+fn log_name(rt: &HostRuntime, name: &str) -> io::Result<String> {
+    let real = fs::canonicalize(rt, name)?;
+    Ok(format!(in rt.alloc(); "{}-wal", real.as_str())?)
+}
+
+/// Whether there is a regular file of this name that may be written. It is opened for that and left as it is.
+fn may_be_written(rt: &HostRuntime, name: &str) -> bool {
+    match fs::metadata(rt, name) {
+        Ok(found) => found.is_file() && OpenOptions::new().write(true).open(rt, name).is_ok(),
+        Err(_) => false,
+    }
+}

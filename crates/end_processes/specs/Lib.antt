@@ -1,5 +1,0 @@
-pub mod Causes
-pub mod Durable
-pub mod Listed
-pub mod OutboxEnd
-pub mod Outboxes

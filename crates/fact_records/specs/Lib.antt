@@ -1,2 +1,0 @@
-pub mod Dimensions
-pub mod Fields

@@ -1,5 +1,0 @@
-use Rattle.fronts.proofs.Passing.{heard_through}
-use Rattle.fronts.proofs.an_exchange_is_heard_through_a_front.Goals as goal
-
-pub returns : goal.returns
-returns c = heard_through

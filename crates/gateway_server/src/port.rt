@@ -1,0 +1,54 @@
+//! A port, as a list of connections.
+
+ghost use Rattle.std.specs.Prelude.{◌≡◌, None, true, IfErr, OnOk};
+ghost use Rattle.http_wire.specs.Wire.{wire};
+ghost use Rattle.gateway_server.specs.Progress.{IsReadToEnd};
+ghost use Rattle.gateway_server.specs.Ports.{Traffic, IsShutBy, Comes, Adds};
+
+use crate::serving::Served;
+use http_wire::{Sink, Source};
+use std::alloc::AllocError;
+use std::io;
+
+/// A port on which connections come, one after another.
+pub trait Port {
+    /// What reads the bytes that come on a connection.
+    type Reader: Source + Drop;
+
+    /// What writes on it.
+    type Writer: Sink + Drop;
+
+    // What comes from here on, what came last, and the connections that are over, if that is known; and whether no
+    // connection comes any more.
+    ghost traffic: { Self → Traffic };
+
+    /// Begins to listen. No connection comes on a port that isn't listened on. A port whose connections are known
+    /// doesn't refuse it.
+    fn listen(&mut self) -> io::Result<()>
+        ensures same { traffic self.new ≡ traffic self.old }
+        ensures refused { IfErr result (λ _. (traffic self.old).coming ≡ None) };
+
+    /// Whether no connection comes any more. A port whose connections are known is shut exactly if none is left.
+    fn is_shut(&self) -> bool
+        ensures value { result ≡ (traffic self.now).is_shut }
+        ensures known { IsShutBy (traffic self.now).coming result };
+
+    /// Waits for the next connection; `None` if none came, as when its peer gave it up first. A port that is shut gives
+    /// none.
+    fn accept(&mut self) -> io::Result<Option<(Self::Reader, Self::Writer)>>
+        ensures { Comes (wire Self.Reader.Source Self.Writer.Sink) (traffic self.old) (traffic self.new) result };
+
+    /// Takes back a connection that is over, and what became of it. If its input ended, it was read to its end.
+    fn end(
+        &mut self,
+        reader: Self::Reader,
+        writer: Self::Writer,
+        served: Served,
+    ) -> Result<(), AllocError>
+        requires { IsReadToEnd (Self.Reader.left reader) served.ended }
+        ensures coming { (traffic self.new).coming ≡ (traffic self.old).coming }
+        ensures shut { (traffic self.old).is_shut ≡ true → (traffic self.new).is_shut ≡ true }
+        ensures over { OnOk result (Adds (traffic self.old).over (traffic self.new).over served
+            (traffic self.old).given (Self.Reader.left reader) (Self.Writer.written writer)) }
+        ensures refused { IfErr result (λ _. (traffic self.new).over ≡ (traffic self.old).over) };
+}

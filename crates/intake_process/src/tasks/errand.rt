@@ -1,0 +1,20 @@
+//! What is asked of a register that is there.
+
+use register_export::Form;
+
+/// What is done with a register that is there.
+#[derive(Clone, Copy)]
+pub enum Errand<'a> {
+    /// Show the filings of a filer.
+    List { filer: &'a str },
+    /// Show the facts of a filing.
+    Show { number: u64 },
+    /// Say whether the register is sound.
+    Check,
+    /// Upgrade a register of an earlier version to this version.
+    Migrate,
+    /// Write out all facts, or those of one filer.
+    Export { form: Form, filer: Option<&'a str> },
+    /// Write the register as pages of HTML into a folder.
+    Pages { folder: &'a str },
+}

@@ -1,0 +1,82 @@
+//! Prints the facts of a filing.
+
+ghost use Rattle.std.specs.Prelude.{◌≡◌, string_bytes, IfOk};
+ghost use Rattle.intake_process.specs.Lines.{fact_lines};
+ghost use Rattle.intake_process.specs.Tasks.{ShowsFiling};
+ghost use Rattle.intake_process.specs.declared.tasks.showing.ShowFault.TheVariants as fault;
+ghost use Rattle.intake_process.specs.declared.tasks.text.TextFault.TheVariants as text;
+
+use crate::tasks::text::{TextFault, print};
+use intake_answers::fact_line;
+use register_store::{Store, StoreFault};
+use sqlite::Alter;
+use std::alloc::{AllocError, Global};
+use std::io::Write;
+use terminal_text::OneLine;
+use xbrl_report::Fact;
+
+/// Why the facts of a filing are not shown.
+#[derive(Clone, Copy, Debug, PartialEq, Eq)]
+pub enum ShowFault {
+    /// There is no filing of this number.
+    NoFiling,
+    /// The register could not be read.
+    Store(StoreFault),
+    /// They could not be printed.
+    Text(TextFault),
+}
+
+impl From<StoreFault> for ShowFault {
+    ghost from_gives = { λ why given. given ≡ fault.Store why };
+
+    fn from(fault: StoreFault) -> ShowFault {
+        ShowFault::Store(fault)
+    }
+}
+
+impl From<AllocError> for ShowFault {
+    ghost from_gives = { λ _ given. given ≡ fault.Text text.Memory };
+
+    fn from(_error: AllocError) -> ShowFault {
+        ShowFault::Text(TextFault::Memory)
+    }
+}
+
+impl From<TextFault> for ShowFault {
+    ghost from_gives = { λ why given. given ≡ fault.Text why };
+
+    fn from(fault: TextFault) -> ShowFault {
+        ShowFault::Text(fault)
+    }
+}
+
+/// Prints the facts of the filing of this number, each as a line.
+pub fn show<S: Alter, O: Write>(
+    alloc: Global,
+    register: &mut Store<S>,
+    number: u64,
+    output: &mut O,
+) -> Result<(), ShowFault>
+    ensures { ShowsFiling S.Store number (O.contents output.old) (O.contents output.new) register.old register.new
+        result }
+{
+    let Some(facts) = register.facts(number)? else {
+        return Err(ShowFault::NoFiling);
+    };
+    let text = fact_lines(alloc, &facts)?;
+    print(output, text.as_bytes())?;
+    Ok(())
+}
+
+/// A line for each fact.
+fn fact_lines(alloc: Global, facts: &[Fact]) -> Result<String, AllocError>
+    ensures { IfOk result (λ text. string_bytes text ≡ fact_lines facts.now) }
+{
+    let mut text = String::new(alloc);
+    for fact in facts {
+        let line = fact_line(alloc, fact)?;
+        let shown = format!(in alloc; "{}\n", OneLine(line.as_str()))?;
+        text.push_str(shown.as_str())?;
+    }
+    Ok(text)
+}

@@ -1,6 +1,0 @@
-use Rattle.std.proofs.Common.{◌≡◌, string_bytes, take}
-use Rattle.intake_tasks.specs.Lines.{fact_lines}
-use Rattle.intake_tasks.proofs.showing.fact_lines.Given as goal
-
-abbrev pub invariant-loop-fact : goal.invariant-loop-fact
-invariant-loop-fact l = string_bytes l.text ≡ fact_lines (take l.fact-index l.facts)

@@ -1,0 +1,157 @@
+//! A settled entry is asked about: its request is sent again, and the reply is printed.
+
+ghost use Rattle.std.specs.Prelude.{◌≡◌, IfOk, IfErr};
+ghost use Rattle.http_messages.specs.Replies.{reply_parts};
+ghost use Rattle.filer_client.specs.Exchange.{HearsFrom, IsFaultOf};
+ghost use Rattle.outbox_core.specs.Reading.{view_entry};
+ghost use Rattle.outbox_process.specs.Asking.{FindsQuestion, WritesQuestion, IsReplied, TellsReply, AsksEntry};
+
+use crate::tasks::answering::print_answer;
+use crate::tasks::dial::Dial;
+use crate::tasks::fault::{LineFault, SendFault, TaskFault};
+use crate::tasks::looking::{entry_of, is_open};
+use filer_client::{ExchangeFault, request_bytes};
+use finding_lines::Form;
+use http_wire::{Reply, Sink, Source, read_reply, write_all};
+use outbox_core::{Entry, Outbox, Said, said_of};
+use sqlite::Alter;
+use std::alloc::Global;
+use std::io::Write;
+
+/// A settled entry, and the bytes of its request.
+#[derive(Drop)]
+struct Question {
+    entry: Entry,
+    request: Vec<u8>,
+}
+
+/// What is asked about the entry of this id. An open entry is refused.
+fn question_of<S: Alter>(
+    alloc: Global,
+    outbox: &mut Outbox<S>,
+    id: u64,
+) -> Result<Question, TaskFault>
+    ensures { FindsQuestion S.Store outbox.old outbox.new id result }
+{
+    let entry = entry_of(outbox, id)?;
+    if is_open(entry.state) {
+        return Err(TaskFault::IsOpen { id });
+    }
+    match request_bytes(alloc, outbox, id) {
+        Ok(request) => Ok(Question { entry, request }),
+        Err(fault) => Err(TaskFault::Send {
+            id,
+            fault: SendFault::Exchange(ExchangeFault::Take(fault)),
+        }),
+    }
+}
+
+/// Writes a request, and reads the reply to it.
+fn ask_on<R: Source, W: Sink>(
+    alloc: Global,
+    reader: &mut R,
+    writer: &mut W,
+    request: &[u8],
+) -> Result<Reply, ExchangeFault>
+    ensures written { WritesQuestion request.now (W.written writer.old) (W.written writer.new) result }
+    ensures heard { IfOk result (λ reply.
+        HearsFrom R.Source reader.old reader.new (λ heard. heard ≡ reply_parts reply)) }
+    ensures fault { IfErr result (IsFaultOf R.Source reader.old reader.new (W.write_failures writer.old)
+        (W.write_failures writer.new)) }
+{
+    match write_all(writer, request) {
+        Ok(()) => match read_reply(alloc, reader) {
+            Ok(reply) => Ok(reply),
+            Err(fault) => Err(ExchangeFault::Reply(fault)),
+        },
+        Err(sent) => Err(ExchangeFault::Write { sent }),
+    }
+}
+
+/// Sends this question about the entry of this id on a connection of its own, and answers the reply.
+fn ask_once<N: Dial>(
+    alloc: Global,
+    network: &mut N,
+    id: u64,
+    question: &Question,
+) -> Result<Reply, SendFault>
+    ensures { IsReplied id question.now.entry.state question.now.request.items (N.traffic network.old)
+        (N.traffic network.new) result }
+{
+    match network.connect() {
+        Ok((mut reader, mut writer)) => {
+            let request = question.request.as_slice();
+            match ask_on(alloc, &mut reader, &mut writer, request) {
+                Ok(reply) => {
+                    network.end(reader, writer, id, Ok(question.entry.state));
+                    Ok(reply)
+                }
+                Err(fault) => {
+                    network.end(reader, writer, id, Err(fault));
+                    Err(SendFault::Exchange(fault))
+                }
+            }
+        }
+        Err(error) => Err(SendFault::Connect(error)),
+    }
+}
+
+/// Prints the reply to a question about the entry of this id, which is of this filer, and refuses one that contradicts
+/// the entry.
+fn tell_reply<O: Write>(
+    alloc: Global,
+    form: Form,
+    filer: &str,
+    id: u64,
+    entry: &Entry,
+    reply: &Reply,
+    output: &mut O,
+) -> Result<(), TaskFault>
+    ensures { TellsReply form filer.now id entry.now.state (view_entry entry.now) (reply_parts reply.now)
+        (O.contents output.old) (O.contents output.new) result }
+{
+    let Ok(said) = said_of(alloc, entry.state, reply) else {
+        return Err(TaskFault::Line(LineFault::Memory));
+    };
+    print_answer(alloc, form, filer, entry, reply, output)?;
+    match said {
+        Said::Otherwise(told) => Err(TaskFault::Contradicts {
+            id,
+            state: entry.state,
+            told,
+        }),
+        Said::Nothing | Said::Same => Ok(()),
+    }
+}
+
+/// Sends the request of a settled entry again, on a connection of its own, and prints the reply: its status, its
+/// content, and a line for each finding for which it refuses the report. A reply that contradicts the entry is a fault.
+/// The outbox stays as it is, whatever the reply says. An open entry is refused, since asking about it would be sending
+/// it.
+pub fn ask<S: Alter, N: Dial, O: Write>(
+    alloc: Global,
+    network: &mut N,
+    outbox: &mut Outbox<S>,
+    form: Form,
+    id: u64,
+    output: &mut O,
+) -> Result<(), TaskFault>
+    ensures { AsksEntry S.Store form id (N.traffic network.old) (N.traffic network.new) outbox.old outbox.new
+        (O.contents output.old) (O.contents output.new) result }
+{
+    let question = question_of(alloc, outbox, id)?;
+    match ask_once(alloc, network, id, &question) {
+        Ok(reply) => {
+            tell_reply(
+                alloc,
+                form,
+                outbox.filer(),
+                id,
+                &question.entry,
+                &reply,
+                output,
+            )
+        }
+        Err(fault) => Err(TaskFault::Send { id, fault }),
+    }
+}

@@ -1,7 +1,0 @@
-mod Asked
-mod Looks
-mod Opens
-mod Sendings
-mod Showings
-mod Trying
-mod Turns

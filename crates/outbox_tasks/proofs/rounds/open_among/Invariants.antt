@@ -1,6 +1,0 @@
-use Rattle.std.proofs.Common.{◌≡◌, take, map, filter}
-use Rattle.outbox_tasks.specs.Rounds.{is_open_pair}
-use Rattle.outbox_tasks.proofs.rounds.open_among.Given as goal
-
-abbrev pub invariant-loop-id : goal.invariant-loop-id
-invariant-loop-id l = l.ids.items ≡ map (λ told. told.0) (filter is_open_pair (take l.id-index l.states))

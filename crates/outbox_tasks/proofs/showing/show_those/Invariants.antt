@@ -1,7 +1,0 @@
-use Rattle.outbox_tasks.proofs.Showings.{ShowsFirst}
-use Rattle.outbox_tasks.proofs.showing.show_those.Given as goal
-
-abbrev pub invariant-loop-id : goal.invariant-loop-id
-invariant-loop-id g l =
-    ShowsFirst g.S.Store l.states l.id-index l.fn.outbox l.outbox (g.O.Write.contents l.fn.output)
-    (g.O.Write.contents l.output)

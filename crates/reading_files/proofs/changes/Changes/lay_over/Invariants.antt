@@ -1,7 +1,0 @@
-use Rattle.std.proofs.Common.{◌≡◌, drop}
-use Rattle.reading_files.specs.Changes.{laid_over}
-use Rattle.reading_files.proofs.changes.Changes.lay_over.Given as goal
-
-abbrev pub invariant-loop-change : goal.invariant-loop-change
-invariant-loop-change l =
-    laid_over (drop l.change-index l.self.made.items) l.at l.buf ≡ laid_over l.self.made.items l.at l.initial.buf

@@ -1,4 +1,0 @@
-pub mod Note
-pub mod Changes
-pub mod ReadOnly
-pub mod Files

@@ -1,0 +1,86 @@
+//! A filing with its facts.
+
+ghost use Rattle.std.specs.Prelude.{◌≡◌, option_map, IfOk};
+ghost use Rattle.filing_model.specs.Register.{register};
+ghost use Rattle.table_rows.specs.Leaving.{MayRead};
+ghost use Rattle.register_rows.specs.Catalogue.{catalogue_of, view_lines};
+ghost use Rattle.register_store.specs.Numbered.{filing_numbered};
+ghost use Rattle.register_store.specs.Store.{ForRegister};
+ghost use Rattle.register_export.specs.Filings.{whole};
+
+use crate::walk::sent::{Sent, sent_at};
+use register_rows::Catalogue;
+use sqlite::{Alter, Connection};
+use std::alloc::Global;
+use std::marker::Model;
+use table_rows::StoreFault;
+use xbrl_report::{Fact, Judged, Report, judge};
+
+/// A filing with its facts: its number, who filed it, under which key, which filing it replaces, and which one replaces
+/// it.
+#[derive(Drop)]
+pub struct WholeFiling {
+    pub number: u64,
+    pub filer: String,
+    pub key: String,
+    pub replaces: Option<u64>,
+    pub replaced_by: Option<u64>,
+    report: Report,
+}
+
+impl Model for WholeFiling {
+    ghost use Rattle.std.specs.Prelude.{string_bytes};
+    ghost use Rattle.register_export.specs.Filings.{FilingParts};
+
+    ghost Value = { FilingParts };
+
+    ghost view = { λ f. record {
+      number = f.number;
+      filer = string_bytes f.filer;
+      key = string_bytes f.key;
+      replaces =
+          f.replaces;
+      replaced_by = f.replaced_by;
+      facts = f.report.facts;
+    } };
+}
+
+impl WholeFiling {
+    /// The facts, by identifier in byte order.
+    pub fn facts(&self) -> &[Fact]
+        ensures { result.now ≡ self.now.facts }
+    {
+        self.report.facts()
+    }
+}
+
+/// The filing of this number with its facts, or `None` if there is no such filing. Its facts are read from the report
+/// that was kept. Nothing is written.
+pub fn filing_at<S: Alter>(
+    alloc: Global,
+    conn: &mut Connection<S>,
+    catalogue: &Catalogue,
+    number: u64,
+) -> Result<Option<WholeFiling>, StoreFault>
+    ensures found { ForRegister S.Store conn.old conn.new (λ _ F.
+        view_lines catalogue.now ≡ catalogue_of F
+        → IfOk result (λ filing. filing ≡ option_map (whole (register F)) (filing_numbered number (register F)))) }
+    ensures leaves { MayRead S.Store conn.old conn.new result }
+{
+    let Some(line) = catalogue.line(number) else {
+        return Ok(None);
+    };
+    let Sent { filer, key, body } = sent_at(conn, line.seq())?;
+    match judge(alloc, filer.as_str(), &body)? {
+        Judged::Valid(report) => Ok(Some(WholeFiling {
+            number,
+            filer,
+            key,
+            replaces: line.replaces(),
+            replaced_by: line.replaced_by(),
+            report,
+        })),
+        // A report of a filing is valid.
+        Judged::Refused(_) => Err(StoreFault::Store),
+    }
+}

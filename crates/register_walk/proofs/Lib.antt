@@ -1,3 +1,0 @@
-mod SentTexts
-pub mod Steps
-pub mod Walks

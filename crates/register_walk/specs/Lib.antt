@@ -1,2 +1,0 @@
-pub mod Filings
-pub mod Sent

@@ -1,0 +1,160 @@
+//! Why an end did not do what it was asked.
+
+use command_line::DatabaseFault;
+use outbox_core::OutboxFault;
+use register_store::{CreateFault, OpenFault};
+use sqlite::Error as DatabaseError;
+use std::alloc::AllocError;
+use table_rows::StoreFault;
+
+/// Why an end was not made, opened, asked or closed.
+#[derive(Clone, Copy, Debug, PartialEq, Eq)]
+pub enum Cause {
+    /// No memory was left.
+    Memory,
+    /// A database refused for another cause, or its end is down.
+    Store,
+    /// A database was not given back or not opened, for another cause than memory.
+    Reopen,
+}
+
+impl From<AllocError> for Cause {
+    ghost use Rattle.std.specs.Prelude.{◌≡◌};
+    ghost use Rattle.world.specs.declared.ends.cause.Cause.TheVariants.{Memory};
+
+    ghost from_gives = { λ _ cause. cause ≡ Memory };
+
+    fn from(_error: AllocError) -> Cause {
+        Cause::Memory
+    }
+}
+
+impl From<StoreFault> for Cause {
+    ghost use Rattle.std.specs.Prelude.{◌≡◌};
+    ghost use Rattle.world.specs.Causes.{store_cause};
+
+    ghost from_gives = { λ fault cause. cause ≡ store_cause fault };
+
+    fn from(fault: StoreFault) -> Cause {
+        match fault {
+            StoreFault::Memory => Cause::Memory,
+            StoreFault::Store => Cause::Store,
+        }
+    }
+}
+
+impl From<intake_process::OpeningFault> for Cause {
+    ghost use Rattle.std.specs.Prelude.{◌≡◌};
+    ghost use Rattle.world.specs.Causes.{opening_cause};
+
+    ghost from_gives = { λ fault cause. cause ≡ opening_cause fault };
+
+    fn from(fault: intake_process::OpeningFault) -> Cause {
+        match fault {
+            intake_process::OpeningFault::Files(fault) => Cause::of_files(fault),
+            intake_process::OpeningFault::Taken(_) => Cause::Reopen,
+            intake_process::OpeningFault::Create(fault) => Cause::of_making(fault),
+            intake_process::OpeningFault::Open(fault, _) => Cause::of_register(fault),
+        }
+    }
+}
+
+impl From<outbox_process::OpeningFault> for Cause {
+    ghost use Rattle.std.specs.Prelude.{◌≡◌};
+    ghost use Rattle.world.specs.Causes.{outbox_opening_cause};
+
+    ghost from_gives = { λ fault cause. cause ≡ outbox_opening_cause fault };
+
+    fn from(fault: outbox_process::OpeningFault) -> Cause {
+        match fault {
+            outbox_process::OpeningFault::Files(fault) => Cause::of_files(fault),
+            outbox_process::OpeningFault::Taken(_) => Cause::Reopen,
+            outbox_process::OpeningFault::Create(fault) => Cause::of_making_outbox(fault),
+            outbox_process::OpeningFault::Open(fault, _) => Cause::of_outbox(fault),
+            outbox_process::OpeningFault::IsCurrent => Cause::Reopen,
+            outbox_process::OpeningFault::Migrate(fault, _) => Cause::of_outbox(fault),
+        }
+    }
+}
+
+impl Cause {
+    ghost use Rattle.std.specs.Prelude.{◌≡◌};
+    ghost use Rattle.world.specs.Causes.{files_cause, making_cause, register_cause, outbox_making_cause};
+    ghost use Rattle.world.specs.Causes.{outbox_cause, closing_cause, close_cause};
+
+    /// The cause if a place gave no database.
+    fn of_files(fault: DatabaseFault) -> Cause
+        ensures { result ≡ files_cause fault }
+    {
+        match fault {
+            DatabaseFault::Memory => Cause::Memory,
+            _ => Cause::Reopen,
+        }
+    }
+
+    /// The cause if no register was made.
+    fn of_making(fault: CreateFault) -> Cause
+        ensures { result ≡ making_cause fault }
+    {
+        match fault {
+            CreateFault::Memory => Cause::Memory,
+            CreateFault::Taken => Cause::Store,
+            CreateFault::Disk => Cause::Store,
+        }
+    }
+
+    /// The cause if a database was not closed.
+    pub fn of_close(error: DatabaseError) -> Cause
+        ensures { result ≡ close_cause error }
+    {
+        Cause::of_closing(StoreFault::from(error))
+    }
+
+    /// The cause if a register was not opened.
+    fn of_register(fault: OpenFault) -> Cause
+        ensures { result ≡ register_cause fault }
+    {
+        match fault {
+            OpenFault::Memory => Cause::Memory,
+            OpenFault::NotOurs | OpenFault::Damaged { .. } | OpenFault::Disk => Cause::Reopen,
+        }
+    }
+
+    /// The cause if no outbox was made.
+    fn of_making_outbox(fault: OutboxFault) -> Cause
+        ensures { result ≡ outbox_making_cause fault }
+    {
+        match fault {
+            OutboxFault::Memory => Cause::Memory,
+            OutboxFault::BadFiler
+            | OutboxFault::Taken
+            | OutboxFault::NotOurs
+            | OutboxFault::Damaged { .. }
+            | OutboxFault::Disk => Cause::Store,
+        }
+    }
+
+    /// The cause if an outbox was not opened.
+    fn of_outbox(fault: OutboxFault) -> Cause
+        ensures { result ≡ outbox_cause fault }
+    {
+        match fault {
+            OutboxFault::Memory => Cause::Memory,
+            OutboxFault::BadFiler
+            | OutboxFault::Taken
+            | OutboxFault::NotOurs
+            | OutboxFault::Damaged { .. }
+            | OutboxFault::Disk => Cause::Reopen,
+        }
+    }
+
+    /// The cause if a store did not give its files back.
+    fn of_closing(fault: StoreFault) -> Cause
+        ensures { result ≡ closing_cause fault }
+    {
+        match fault {
+            StoreFault::Memory => Cause::Memory,
+            StoreFault::Store => Cause::Reopen,
+        }
+    }
+}
