@@ -92,6 +92,24 @@ def on_connections(given):
     return least(cost) / len(given)
 
 
+def on_one_connection(given):
+    """What each of these requests costs a server with a register in a file, one after another on a connection that
+    stays open. All are repeats of the first, whose answer is remembered."""
+
+    def cost():
+        with folder() as place:
+            with (CountedServer if counts_instructions() else Server)(place, 1) as server:
+                peer = connect(server.port)
+                exchange(peer, given[0], 1)
+                with server.counting():
+                    for request in given:
+                        exchange(peer, request, 1)
+                peer.close()
+            return server.cost
+
+    return least(cost) / len(given)
+
+
 def fill(place, filings, replaced=0, body=example()):
     """Makes a register in a folder with so many filings, of which so many are replaced."""
     with Server(place, 1) as server:
@@ -129,6 +147,8 @@ def filings():
         yield "393 bytes, new, on file", on_file(thousand, pipelined(range(1_000, 1_100), small), 100)
         yield "393 bytes, repeated and not remembered, on file", on_file(thousand, pipelined(range(100), small), 100)
         yield "100 kB, repeated, on file", on_file(register("large", 1, 0, large), pipelined(10 * [0], large), 10)
+        again = 500 * [pipelined([1], small)]
+        yield "393 bytes, repeated, one after another on one connection", on_one_connection(again)
         for what, body in (("393 bytes", small), ("100 kB", large)):
             yield f"{what}, repeated, each on a connection of its own", on_connections(50 * [pipelined([1], body)])
         yield "list of 10 filings", on_file(ten, 10 * (ASKS % b"ACME"), 10, 200)
