@@ -21,3 +21,4 @@ pub mod BeforeLemmas
 pub mod LeavingLemmas
 pub mod OutcomeLemmas
 pub mod InsideLemmas
+pub mod StatementLemmas

@@ -7,3 +7,4 @@ pub mod Files
 pub mod Picking
 pub mod Queries
 pub mod Leaving
+pub mod Statements

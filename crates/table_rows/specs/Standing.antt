@@ -25,6 +25,12 @@ Keeps old new = IsUnchanged old new ⊎ IsRolledBack old new
 abbrev pub Commits : {X : Type 0} → (X → Database → Type 0) → State → (X → Trees → Type 0) → Trees → Type 0
 Commits {X} Is s After trees = (x : X) → HasCommitted (Is x) s → IsTrue s.is_open → After x trees
 
+-- nothing was written: while the store is open, it is as the last commit left it
+pub record AddsNothing (old new : State) : Type 0 where
+  pub was_open : IsTrue new.is_open → IsTrue old.is_open
+  pub now : IsTrue new.is_open → new.now ≡ old.committed
+  pub committed : IsTrue new.is_open → new.committed ≡ old.committed
+
 -- nothing was committed: a crash inside the call leaves what one before it could leave
 abbrev pub CommitsNothing : State → State → Type 0
 CommitsNothing old new = Survives old new (λ _. ⊥)
