@@ -12,7 +12,7 @@ use Rattle.xbrl_report.specs.declared.judging.Judged.{Judged}
 use Rattle.filing_model.specs.Request.{Request, firsts, has_key}
 use Rattle.filing_model.specs.Register.{Outcome, Kept, is_free, judged, kept, kept_after, register}
 use Rattle.table_rows.specs.Leaving.{Ending, Leaves, OnlyReads}
-use Rattle.table_rows.specs.Standing.{HasCommitted}
+use Rattle.table_rows.specs.Standing.{HasCommitted, AddsNothing}
 use Rattle.table_rows.proofs.LeavingLemmas.{stands}
 use Rattle.register_rows.specs.Outcomes.{outcome_of, filings_by}
 use Rattle.register_rows.specs.Register.{IsCompleted}
@@ -22,7 +22,6 @@ use Rattle.register_store.specs.declared.outcome.NewRow.{NewRow}
 use Rattle.filing_model.specs.declared.outcome.Outcome.{Outcome as Stored}
 use Rattle.table_rows.specs.declared.fault.StoreFault.{StoreFault}
 use Rattle.table_rows.proofs.StepLemmas.{nothing_yet}
-use Rattle.register_tables.specs.Gains.{AddsNothing}
 use Rattle.register_rows.specs.Catalogue.{Entry, catalogue_of}
 use Rattle.register_store.specs.Store.{StoreParts, shows, HasRequests, IsDurableAs}
 use Rattle.register_tables.specs.Registers.{IsRegisterOf, LeavesRegister}

@@ -13,12 +13,12 @@ use Rattle.key_string.specs.Key.{IsKey}
 use Rattle.filing_model.specs.Register.{Outcome, Kept}
 use Rattle.filing_model.specs.Views.{the_request}
 use Rattle.table_rows.specs.Leaving.{OnlyWrites}
-use Rattle.table_rows.specs.Standing.{IsLasting}
+use Rattle.table_rows.specs.Standing.{IsLasting, AddsNothing}
 use Rattle.register_store.specs.declared.outcome.NewRow.{NewRow}
 use Rattle.register_store.specs.Outcomes.{kept_new}
 use Rattle.register_rows.specs.Schema.{IsDeclared}
 use Rattle.register_rows.specs.Register.{HasRows, kept_row, finding_rows, filing_rows, fact_rows, amends_rows}
-use Rattle.register_tables.specs.Gains.{GainsRows, AddsNothing}
+use Rattle.register_tables.specs.Gains.{GainsRows}
 
 -- the tables gain the rows of the kept request at this place, whatever rows they had
 pub record AddsRows (seq : ℕ) (k : Kept) (old new : Database) : Type 0 where

@@ -18,7 +18,6 @@ pub mod ReadTexts
 pub mod RisingLemmas
 pub mod Surveyed
 pub mod Texts
-pub mod Undone
 pub mod WalkEnds
 pub mod WalkLemmas
 pub mod WalkOpens

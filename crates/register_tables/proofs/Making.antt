@@ -1,6 +1,5 @@
 -- The statements that make the tables of a register, in turn.
-use Rattle.std.proofs.Common.{◌≡◌, inl, inr, ℕ, List, [], ◌∷◌, ◌++◌, refl, sym, subst, ◌∙◌, arith}
-use Rattle.sqlite.specs.declared.error.Error.{Error}
+use Rattle.std.proofs.Common.{◌≡◌, [], ◌∷◌, refl, subst, ◌∙◌, arith}
 use Rattle.sqlite.specs.Effect.{Database, IsDatabase}
 use Rattle.sqlite.specs.State.{State}
 use Rattle.sqlite.specs.Store.{Ghosts}
@@ -10,13 +9,14 @@ use Rattle.filing_model.specs.Request.{firsts}
 use Rattle.filing_model.specs.Register.{kept, kept_after, register, filings}
 use Rattle.table_rows.specs.Tables.{no_schema, schema_with}
 use Rattle.table_rows.specs.Rows.{Gains}
+use Rattle.table_rows.specs.Statements.{begun, AreDone, AreTreesOf}
 use Rattle.table_rows.proofs.CreateLemmas.{IsFreshly, creates, none_held}
 use Rattle.table_rows.proofs.GainLemmas.{same_rows, still_declared}
 use Rattle.register_rows.specs.Schema.{register_tables, IsDeclared, meta_table, kept_table, finding_table, filing_table}
 use Rattle.register_rows.specs.Schema.{fact_table, migrated_table, amends_table}
 use Rattle.register_rows.specs.Register.{HasRows, StandsFor, meta_row, migrated_row}
 use Rattle.register_tables.specs.Making.{create_meta, create_kept, create_finding, create_filing, create_fact}
-use Rattle.register_tables.specs.Making.{create_migrated, create_amends, making_texts, AreRun, StopsWith, begun, Makes}
+use Rattle.register_tables.specs.Making.{create_migrated, create_amends, making}
 use Rattle.register_tables.specs.Registers.{IsRegisterOf, LeavesRegister}
 use Rattle.register_tables.proofs.CreateTexts.{creates_meta, creates_kept, creates_finding, creates_filing}
 use Rattle.register_tables.proofs.CreateTexts.{creates_fact, creates_migrated, creates_amends, first_schema}
@@ -60,29 +60,9 @@ has_no_rows old mid new fresh g h =
           ∙ o.1.1.1.1.1.1.0 (λ same. absurd (omega (arith, same))));
     }
 
-module _ {S : Type 0} (g : Ghosts S) where
-  -- statements one after another, and then others
-
-  pub run_then : (texts more : List (List ℕ)) (a b c : Held S) → AreRun g texts a b → AreRun g more b c
-      → AreRun g (texts ++ more) a c
-  run_then [] more a b c same h = subst (λ x. AreRun g more x c) (sym same) h
-  run_then (t ∷ texts) more a b c (mid, ran, rest) h = (mid, ran, run_then texts more mid b c rest h)
-
-  pub stops_first : (error : Error) (texts more : List (List ℕ)) (a b : Held S) → StopsWith g error texts a b
-      → StopsWith g error (texts ++ more) a b
-  stops_first error [] more a b h = absurd h
-  stops_first error (t ∷ texts) more a b (inl h) = inl h
-  stops_first error (t ∷ texts) more a b (inr h) = inr (h.0, h.1, stops_first error texts more h.0 b h.2)
-
-  pub stops_later : (error : Error) (texts more : List (List ℕ)) (a b c : Held S) → AreRun g texts a b
-      → StopsWith g error more b c → StopsWith g error (texts ++ more) a c
-  stops_later error [] more a b c same h = subst (λ x. StopsWith g error more x c) (sym same) h
-  stops_later error (t ∷ texts) more a b c (mid, ran, rest) h =
-      inr (mid, ran, stops_later error texts more mid b c rest h)
-
 module _ {S : Type 0} (g : Ghosts S) (a z : Held S) where
   -- inside one transaction
-  pub makes_all : AreRun g making_texts a z → (state g a).now.schema ≡ no_schema → MakesTables (state g a) (state g z)
+  pub makes_all : AreDone g making a z → (state g a).now.schema ≡ no_schema → MakesTables (state g a) (state g z)
   makes_all (b, p, (c, q, (d, r, (e, s, (f, t, (h, u, (i, v, (j, w, (last, x, end))))))))) none =
       let one =
       creates no_schema create_meta meta_table (state g a) (state g b) p.0 creates_meta refl
@@ -135,12 +115,12 @@ unfolding firsts
 stands_for_none db has = record { distinct = refl; completed = tt; within = omega arith; rows = rw none_kept has }
 
 -- where there was no table before, the statements make an empty register
-pub makes_empty : {S : Type 0} (g : Ghosts S) (a z : Held S) → AreRun g making_texts (begun a) z
+pub makes_empty : {S : Type 0} (g : Ghosts S) (a z : Held S) → AreDone g making (begun a) z
     → (state g a).now.schema ≡ no_schema → IsRegisterOf 0 [] (state g z).now
 makes_empty g a z ran none = let made = makes_all g (begun a) z ran none in
     record { sound = made.sound; rows = stands_for_none _ made.rows }
 
-pub leaves_empty : {S : Type 0} (g : Ghosts S) (a : Held S) (trees : Trees) → Makes g a trees
+pub leaves_empty : {S : Type 0} (g : Ghosts S) (a : Held S) (trees : Trees) → AreTreesOf g making a trees
     → (state g a).now.schema ≡ no_schema → LeavesRegister 0 [] trees
 leaves_empty g a trees m none =
-    record { db = (state g m.last).now; is = m.is; register = makes_empty g a m.last m.ran none }
+    record { db = (state g m.last).now; is = m.is; register = makes_empty g a m.last m.done none }

@@ -11,7 +11,8 @@ use Rattle.register_tables.specs.declared.migrate.earlier.Earlier.{Earlier}
 use Rattle.register_tables.specs.declared.migrate.earlier.Earlier.TheVariants.{Second, Third}
 use Rattle.register_tables.specs.Earlier.{IsAlone, IsEarlierOf}
 use Rattle.register_tables.specs.Making.{create_migrated, create_amends}
-use Rattle.register_tables.specs.Migrating.{migrating, AreDone}
+use Rattle.register_tables.specs.Migrating.{migrating}
+use Rattle.table_rows.specs.Statements.{AreDone}
 use Rattle.register_rows.specs.Register.{form_row, migrated_row}
 use Rattle.register_rows.specs.Schema.{IsDeclared, register_tables, meta_table, kept_table, finding_table, filing_table}
 use Rattle.register_rows.specs.Schema.{fact_table, migrated_table, amends_table}

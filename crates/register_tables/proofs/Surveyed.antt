@@ -36,11 +36,11 @@ use Rattle.table_rows.proofs.TextLemmas.{query_same}
 use Rattle.register_tables.specs.declared.migrate.earlier.Earlier.{Earlier}
 use Rattle.register_tables.specs.declared.migrate.earlier.Earlier.TheVariants.{Second, Third}
 use Rattle.register_tables.specs.declared.opening.Counts.{Counts}
-use Rattle.register_tables.specs.Gains.{AddsNothing}
 use Rattle.register_tables.specs.Earlier.{form_number, tables_of, is_blocked, IsAlone, HasOldStyle, IsEarlierOf}
-use Rattle.register_tables.specs.Making.{begun}
-use Rattle.register_tables.specs.Migrating.{ReadsOldStyle, IsSurveyed, IsMigrated, Migrates, MigratesTo, AreDone}
-use Rattle.register_tables.specs.Migrating.{AreTreesOf, migrating}
+use Rattle.register_tables.specs.Migrating.{ReadsOldStyle, IsSurveyed, IsMigrated, Migrates, MigratesTo}
+use Rattle.register_tables.specs.Migrating.{migrating}
+use Rattle.table_rows.specs.Standing.{AddsNothing}
+use Rattle.table_rows.specs.Statements.{begun, AreDone, AreTreesOf}
 use Rattle.register_tables.specs.Opening.{all_meta, all_migrated, IsRead}
 use Rattle.register_tables.specs.Reads.{every, whole, by_first}
 use Rattle.register_rows.specs.Catalogue.{catalogue_of, view_lines}

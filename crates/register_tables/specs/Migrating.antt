@@ -1,18 +1,18 @@
 -- What a migration reads and writes, and why a database is not migrated.
-use Rattle.std.specs.Prelude.{◌≡◌, ◌≢◌, ◌⊎◌, ◌≤◌, ℕ, pos, false, List, [], ◌∷◌, length, Result, Ok, Err, IsTrue}
+use Rattle.std.specs.Prelude.{◌≡◌, ◌≢◌, ◌⊎◌, ◌≤◌, ℕ, pos, false, List, [], ◌∷◌, length, Result, IsTrue}
 use Rattle.std.specs.Prelude.{IfOk, IfErr, OnOk, OnErr}
 use Rattle.sqlite.specs.Order.{Row}
 use Rattle.sqlite.specs.Store.{Ghosts}
 use Rattle.sqlite.specs.Held.{Held, state}
 use Rattle.sqlite.specs.Tree.{Trees}
-use Rattle.sqlite.specs.Steps.{FailsToCommit}
-use Rattle.sqlite.specs.State.{State, HasCleanDisk, IsUnchanged, Survives, ExecutesInside, IsRolledBack}
+use Rattle.sqlite.specs.State.{State, HasCleanDisk, IsUnchanged, Survives}
 use Rattle.sqlite.specs.declared.error.Error.{Error}
 use Rattle.sqlite.specs.declared.types.Value.TheVariants.{Int}
 use Rattle.filing_model.specs.Request.{Request}
 use Rattle.filing_model.specs.Register.{register}
 use Rattle.table_rows.specs.Causes.{cause_of}
-use Rattle.table_rows.specs.Standing.{HasCommitted}
+use Rattle.table_rows.specs.Standing.{HasCommitted, AddsNothing}
+use Rattle.table_rows.specs.Statements.{Statement, plain, AreCommitted, AreUndone, AreTreesOf}
 use Rattle.table_rows.specs.declared.cause.Cause.{Cause}
 use Rattle.table_rows.specs.declared.cause.Cause.TheVariants as cause
 use Rattle.register_rows.specs.declared.verdict.Verdict.TheVariants as verdict
@@ -25,10 +25,9 @@ use Rattle.register_tables.specs.declared.opening.Counts.{Counts}
 use Rattle.register_tables.specs.declared.opening.walk.Totals.{Totals}
 use Rattle.register_rows.specs.Audit.{OtherRows, IsVerdict}
 use Rattle.register_rows.specs.Catalogue.{catalogue_of, view_lines}
-use Rattle.register_tables.specs.Gains.{AddsNothing}
 use Rattle.register_tables.specs.Earlier.{form_number, is_blocked, ForEarlier, IsAlone, IsEarlierOf}
 use Rattle.register_tables.specs.Faults.{table_fault, IsFailure}
-use Rattle.register_tables.specs.Making.{create_migrated, create_amends, begun}
+use Rattle.register_tables.specs.Making.{create_migrated, create_amends}
 use Rattle.register_tables.specs.Opening as opening
 use Rattle.register_tables.specs.Opening.{all_meta, all_migrated, row_texts, AreWithin, IsRead, AreRead, StopsFor}
 use Rattle.register_rows.specs.Register.{form_row, migrated_row}
@@ -114,53 +113,11 @@ insert_old_style = INSERT_OLD_STYLE.now
 abbrev pub raise_form : List ℕ
 raise_form = RAISE_FORM.now
 
--- a statement, and the values of its parameters
-abbrev pub Statement : Type 0
-Statement = List ℕ × Row
-
 -- the statements that upgrade a register of this form, with so many requests from before there were problem details
 abbrev pub migrating : Earlier → ℕ → List Statement
 migrating Second old_style =
-    (create_migrated, []) ∷ (create_amends, []) ∷ (insert_old_style, Int (pos old_style) ∷ []) ∷ (raise_form, []) ∷ []
-migrating Third old_style = (create_amends, []) ∷ (raise_form, []) ∷ []
-
--- inside a transaction, which goes on, the statements are run, one after another
-abbrev pub AreDone : {S : Type 0} → Ghosts S → List Statement → Held S → Held S → Type 0
-AreDone g [] old new = old ≡ new
-AreDone {S} g (s ∷ more) old new =
-    (mid : Held S) × ((count : ℕ) × ExecutesInside 0 s.0 s.1 (state g old) (state g mid) (Ok count))
-    × AreDone g more mid new
-
--- one of the statements fails with this error, after those before it were run
-abbrev pub StopsAt : {S : Type 0} → Ghosts S → Error → List Statement → Held S → Held S → Type 0
-StopsAt g error [] old new = ⊥
-StopsAt {S} g error (s ∷ more) old new =
-    ExecutesInside 0 s.0 s.1 (state g old) (state g new) (Err error)
-    ⊎ ((mid : Held S) × ((count : ℕ) × ExecutesInside 0 s.0 s.1 (state g old) (state g mid) (Ok count))
-    × StopsAt g error more mid new)
-
--- these statements and no others were run in one transaction, and what they made is committed
-pub record AreCommitted {S : Type 0} (g : Ghosts S) (statements : List Statement) (old new : Held S) : Type 0 where
-  pub last : Held S
-  pub done : AreDone g statements (begun old) last
-  pub is_open : IsTrue (state g new).is_open
-  pub now_is : (state g new).now ≡ (state g last).now
-  pub committed_is : (state g new).committed ≡ (state g last).now
-
--- a statement failed with this error and what the others did was undone, or all were run and could not be committed
-pub record AreUndone {S : Type 0} (g : Ghosts S) (error : Error) (statements : List Statement) (old new : Held S)
-    : Type 0 where
-  pub last : Held S
-  pub counts : (state g last).faults ≤ (state g new).faults
-  pub why : (StopsAt g error statements (begun old) last × IsRolledBack (state g last) (state g new))
-      ⊎ (AreDone g statements (begun old) last × FailsToCommit (state g last) (state g new) error)
-
--- the trees are what all the statements make of the database
-pub record AreTreesOf {S : Type 0} (g : Ghosts S) (statements : List Statement) (old : Held S) (trees
-    : Trees) : Type 0 where
-  pub last : Held S
-  pub done : AreDone g statements (begun old) last
-  pub is : trees ≡ (state g last).now.trees
+    plain create_migrated ∷ plain create_amends ∷ (insert_old_style, Int (pos old_style) ∷ []) ∷ plain raise_form ∷ []
+migrating Third old_style = plain create_amends ∷ plain raise_form ∷ []
 
 -- ---- the whole
 

@@ -5,15 +5,15 @@ use Rattle.sqlite.specs.Held.{Held, state}
 use Rattle.sqlite.specs.State.{HasCleanDisk, Survives}
 use Rattle.sqlite.specs.declared.error.Error.{Error}
 use Rattle.filing_model.specs.Request.{Request}
-use Rattle.table_rows.specs.Standing.{CommitsNothing}
+use Rattle.table_rows.specs.Standing.{AddsNothing, CommitsNothing}
+use Rattle.table_rows.specs.Statements.{AreTreesOf, AreUndone}
 use Rattle.register_tables.specs.declared.fault.CreateFault.{CreateFault}
-use Rattle.register_tables.specs.declared.fault.CreateFault.TheVariants as making
+use Rattle.register_tables.specs.declared.fault.CreateFault.TheVariants as create
 use Rattle.register_tables.specs.declared.fault.OpenFault.{OpenFault}
-use Rattle.register_tables.specs.Gains.{AddsNothing}
 use Rattle.register_tables.specs.Earlier.{IsEarlierOf, is_blocked}
 use Rattle.register_tables.specs.declared.migrate.earlier.Earlier.{Earlier}
 use Rattle.register_tables.specs.Faults.{create_fault, IsFailure}
-use Rattle.register_tables.specs.Making.{Makes, FailsToMake}
+use Rattle.register_tables.specs.Making.{making}
 use Rattle.register_tables.specs.Migrating.{IsNotMigrated, MigratesTo}
 use Rattle.register_tables.specs.Opening.{IsRefused}
 use Rattle.register_tables.specs.Registers.{ForRows}
@@ -27,10 +27,10 @@ pub record GivesBackMaking {S : Type 0} (g : Ghosts S) (conn : Held S) (fault : 
   pub autocommit : back.in_transaction ≡ false
   pub unlimited : back.step_limit ≡ None
   pub same : HasCleanDisk (state g back) → AddsNothing (state g conn) (state g back)
-  pub why : HasCleanDisk (state g back) → fault ≢ making.Taken
-      → (error : Error) × (fault ≡ create_fault error) × FailsToMake g error conn back
+  pub why : HasCleanDisk (state g back) → fault ≢ create.Taken
+      → (error : Error) × (fault ≡ create_fault error) × AreUndone g error making conn back
   -- A crash leaves what it could leave before, or what all the statements make of the database.
-  pub crash : Survives (state g conn) (state g back) (Makes g conn)
+  pub crash : Survives (state g conn) (state g back) (AreTreesOf g making conn)
 
 -- No register was opened, and the connection comes back as one that may be used again: what is written is what was
 -- committed, and the fault says why.

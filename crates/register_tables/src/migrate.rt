@@ -1,14 +1,9 @@
 //! A register in an earlier form is brought into the present one.
 
-ghost use Rattle.std.specs.Prelude.{◌≡◌, ◌<◌, ◌^◌, false, IsTrue, IfErr, OnOk, OnErr};
-ghost use Rattle.sqlite.specs.Held.{state};
-ghost use Rattle.sqlite.specs.State.{HasCleanDisk, Survives};
-ghost use Rattle.table_rows.specs.Leaving.{OnlyWrites};
-ghost use Rattle.table_rows.specs.Standing.{IsAtRest, IsLasting};
-ghost use Rattle.register_tables.specs.Gains.{AddsNothing};
-ghost use Rattle.register_tables.specs.Earlier.{is_blocked};
-ghost use Rattle.register_tables.specs.Migrating.{write_fault, migrating, AreDone, StopsAt, AreCommitted, AreUndone};
-ghost use Rattle.register_tables.specs.Migrating.{AreTreesOf, MigratesRegister};
+ghost use Rattle.std.specs.Prelude.{◌≡◌, ◌<◌, ◌^◌, false};
+ghost use Rattle.table_rows.specs.Standing.{IsAtRest};
+ghost use Rattle.table_rows.specs.Statements.{WritesAll};
+ghost use Rattle.register_tables.specs.Migrating.{write_fault, migrating, MigratesRegister};
 
 pub(crate) mod earlier;
 
@@ -17,9 +12,9 @@ use crate::migrate::earlier::{Earlier, read_earlier};
 use crate::opening::Counts;
 use crate::schema::create::{CREATE_AMENDS, CREATE_MIGRATED};
 use crate::schema::names;
-use sqlite::{Alter, Connection, Error, Transaction, params};
+use sqlite::{Alter, Connection, Error, params};
 use std::alloc::Global;
-use table_rows::{Cause, is_settled, run};
+use table_rows::{Cause, Statement, is_settled, write_all};
 
 fn write_fault(error: Error) -> OpenFault
     ensures { result ≡ write_fault error }
@@ -34,73 +29,33 @@ const INSERT_OLD_STYLE: &str = "INSERT INTO migrated VALUES (1, ?1)";
 
 const RAISE_FORM: &str = "UPDATE intake_meta SET form = 4 WHERE id = 1";
 
-/// Writes what a register of the second form lacks.
-fn write_second<S: Alter>(tx: &mut Transaction<'_, S>, old_style: u64) -> Result<(), Error>
-    requires { old_style < 2 ^ 63 }
-    ensures leaves { OnlyWrites S.Store tx.old.conn tx.new.conn }
-    ensures done { HasCleanDisk (state S.Store tx.new.conn.now)
-        → OnOk result (AreDone S.Store (migrating Earlier.Second old_style) tx.old.conn.now tx.new.conn.now) }
-    ensures stopped { HasCleanDisk (state S.Store tx.new.conn.now)
-        → IsTrue (state S.Store tx.old.conn.now).in_transaction
-        → IfErr result (λ error.
-        StopsAt S.Store error (migrating Earlier.Second old_style) tx.old.conn.now tx.new.conn.now) }
-{
-    run(tx, CREATE_MIGRATED, &[])?;
-    run(tx, CREATE_AMENDS, &[])?;
-    run(tx, INSERT_OLD_STYLE, params![old_style as i64])?;
-    run(tx, RAISE_FORM, &[])
-}
-
-/// Writes what a register of the third form lacks.
-fn write_third<S: Alter>(tx: &mut Transaction<'_, S>) -> Result<(), Error>
-    ensures leaves { OnlyWrites S.Store tx.old.conn tx.new.conn }
-    ensures done { HasCleanDisk (state S.Store tx.new.conn.now)
-        → OnOk result (AreDone S.Store (migrating Earlier.Third 0) tx.old.conn.now tx.new.conn.now) }
-    ensures stopped { HasCleanDisk (state S.Store tx.new.conn.now)
-        → IsTrue (state S.Store tx.old.conn.now).in_transaction
-        → IfErr result (λ error. StopsAt S.Store error (migrating Earlier.Third 0) tx.old.conn.now tx.new.conn.now) }
-{
-    run(tx, CREATE_AMENDS, &[])?;
-    run(tx, RAISE_FORM, &[])
-}
-
-fn write_all<S: Alter>(
-    tx: &mut Transaction<'_, S>,
-    form: Earlier,
-    old_style: u64,
-) -> Result<(), Error>
-    requires { old_style < 2 ^ 63 }
-    ensures leaves { OnlyWrites S.Store tx.old.conn tx.new.conn }
-    ensures done { HasCleanDisk (state S.Store tx.new.conn.now)
-        → OnOk result (AreDone S.Store (migrating form old_style) tx.old.conn.now tx.new.conn.now) }
-    ensures stopped { HasCleanDisk (state S.Store tx.new.conn.now)
-        → IsTrue (state S.Store tx.old.conn.now).in_transaction
-        → IfErr result (λ error. StopsAt S.Store error (migrating form old_style) tx.old.conn.now tx.new.conn.now) }
-{
-    match form {
-        Earlier::Second => write_second(tx, old_style),
-        Earlier::Third => write_third(tx),
-    }
-}
-
 /// Writes what a register of this form lacks, in one transaction.
 fn write<S: Alter>(conn: &mut Connection<S>, form: Earlier, old_style: u64) -> Result<(), Error>
     requires autocommit { conn.old.in_transaction ≡ false }
     requires old_style { old_style < 2 ^ 63 }
-    ensures autocommit { conn.new.in_transaction ≡ false }
-    ensures written { HasCleanDisk (state S.Store conn.new)
-        → OnOk result (AreCommitted S.Store (migrating form old_style) conn.old conn.new) }
-    ensures durable { HasCleanDisk (state S.Store conn.new) → OnOk result (IsLasting (state S.Store conn.new)) }
-    ensures undone { HasCleanDisk (state S.Store conn.new)
-        → IfErr result (λ error. AreUndone S.Store error (migrating form old_style) conn.old conn.new) }
-    ensures neither { HasCleanDisk (state S.Store conn.new)
-        → OnErr result (AddsNothing (state S.Store conn.old) (state S.Store conn.new)) }
-    ensures crash { Survives (state S.Store conn.old) (state S.Store conn.new)
-        (AreTreesOf S.Store (migrating form old_style) conn.old) }
+    ensures { WritesAll S.Store (migrating form old_style) conn.old conn.new result }
 {
-    let mut tx = conn.transaction();
-    write_all(&mut tx, form, old_style)?;
-    tx.commit()
+    match form {
+        Earlier::Second => write_all(
+            conn,
+            &[
+                Statement::plain(CREATE_MIGRATED),
+                Statement::plain(CREATE_AMENDS),
+                Statement {
+                    text: INSERT_OLD_STYLE,
+                    params: params![old_style as i64],
+                },
+                Statement::plain(RAISE_FORM),
+            ],
+        ),
+        Earlier::Third => write_all(
+            conn,
+            &[
+                Statement::plain(CREATE_AMENDS),
+                Statement::plain(RAISE_FORM),
+            ],
+        ),
+    }
 }
 
 /// Brings a register in an earlier form into the present one, in one transaction. What is said of the new rows holds

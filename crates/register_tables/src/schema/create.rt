@@ -1,19 +1,18 @@
 //! Making the tables of a register.
 
-ghost use Rattle.std.specs.Prelude.{◌≡◌, ◌≢◌, ◌↔◌, false, Err, IsTrue, IfErr, OnOk};
+ghost use Rattle.std.specs.Prelude.{◌≡◌, ◌≢◌, ◌↔◌, false, Err, IsTrue, IfErr};
 ghost use Rattle.sqlite.specs.Held.{state};
 ghost use Rattle.sqlite.specs.declared.error.Error.{Error};
 ghost use Rattle.sqlite.specs.State.{HasCleanDisk};
 ghost use Rattle.register_tables.specs.Faults.{create_fault};
-ghost use Rattle.register_tables.specs.Making.{common_texts, later_texts, making_texts, AreRun, StopsWith, FailsToMake};
-ghost use Rattle.register_tables.specs.Making.{MakesRegister};
+ghost use Rattle.register_tables.specs.Making.{making, MakesRegister};
 ghost use Rattle.register_rows.specs.Schema.{is_taken};
-ghost use Rattle.table_rows.specs.Leaving.{OnlyWrites};
+ghost use Rattle.table_rows.specs.Statements.{AreUndone, WritesAll};
 
 use crate::fault::CreateFault;
 use crate::schema::names;
-use sqlite::{Alter, Connection, Error, Transaction};
-use table_rows::{is_settled, run};
+use sqlite::{Alter, Connection, Error};
+use table_rows::{Statement, is_settled, write_all};
 
 const CREATE_META: &str =
     "CREATE TABLE intake_meta (id INTEGER PRIMARY KEY, kind TEXT NOT NULL, form INTEGER NOT NULL) STRICT";
@@ -34,24 +33,6 @@ const CREATE_FACT: &str =
     concept BLOB NOT NULL, dimensions BLOB NOT NULL, value BLOB, decimals INTEGER, \
     PRIMARY KEY (number, pos)) STRICT";
 
-/// Makes the tables of every form.
-fn make_common<S: Alter>(tx: &mut Transaction<'_, S>) -> Result<(), Error>
-    ensures leaves { OnlyWrites S.Store tx.old.conn tx.new.conn }
-    ensures ran { HasCleanDisk (state S.Store tx.new.conn.now)
-        → OnOk result (AreRun S.Store common_texts tx.old.conn.now tx.new.conn.now) }
-    ensures failed { HasCleanDisk (state S.Store tx.new.conn.now)
-        → IsTrue (state S.Store tx.old.conn.now).in_transaction
-        → IfErr result (λ error. StopsWith S.Store error common_texts tx.old.conn.now tx.new.conn.now) }
-    ensures inside { HasCleanDisk (state S.Store tx.new.conn.now)
-        → OnOk result (IsTrue (state S.Store tx.new.conn.now).in_transaction) }
-{
-    run(tx, CREATE_META, &[])?;
-    run(tx, CREATE_KEPT, &[])?;
-    run(tx, CREATE_FINDING, &[])?;
-    run(tx, CREATE_FILING, &[])?;
-    run(tx, CREATE_FACT, &[])
-}
-
 pub(crate) const CREATE_MIGRATED: &str =
     "CREATE TABLE migrated (id INTEGER PRIMARY KEY, last INTEGER NOT NULL) STRICT";
 
@@ -62,47 +43,25 @@ const INSERT_META: &str = "INSERT INTO intake_meta VALUES (1, 'register', 4)";
 
 const INSERT_NO_OLD_STYLE: &str = "INSERT INTO migrated VALUES (1, 0)";
 
-/// Makes the other tables, and the rows that every register has.
-fn make_later<S: Alter>(tx: &mut Transaction<'_, S>) -> Result<(), Error>
-    ensures leaves { OnlyWrites S.Store tx.old.conn tx.new.conn }
-    ensures ran { HasCleanDisk (state S.Store tx.new.conn.now)
-        → OnOk result (AreRun S.Store later_texts tx.old.conn.now tx.new.conn.now) }
-    ensures failed { HasCleanDisk (state S.Store tx.new.conn.now)
-        → IsTrue (state S.Store tx.old.conn.now).in_transaction
-        → IfErr result (λ error. StopsWith S.Store error later_texts tx.old.conn.now tx.new.conn.now) }
-    ensures inside { HasCleanDisk (state S.Store tx.new.conn.now)
-        → OnOk result (IsTrue (state S.Store tx.new.conn.now).in_transaction) }
-{
-    run(tx, CREATE_MIGRATED, &[])?;
-    run(tx, CREATE_AMENDS, &[])?;
-    run(tx, INSERT_META, &[])?;
-    run(tx, INSERT_NO_OLD_STYLE, &[])
-}
-
-fn make_tables<S: Alter>(tx: &mut Transaction<'_, S>) -> Result<(), Error>
-    ensures leaves { OnlyWrites S.Store tx.old.conn tx.new.conn }
-    ensures ran { HasCleanDisk (state S.Store tx.new.conn.now)
-        → OnOk result (AreRun S.Store making_texts tx.old.conn.now tx.new.conn.now) }
-    ensures failed { HasCleanDisk (state S.Store tx.new.conn.now)
-        → IsTrue (state S.Store tx.old.conn.now).in_transaction
-        → IfErr result (λ error. StopsWith S.Store error making_texts tx.old.conn.now tx.new.conn.now) }
-    ensures inside { HasCleanDisk (state S.Store tx.new.conn.now)
-        → OnOk result (IsTrue (state S.Store tx.new.conn.now).in_transaction) }
-{
-    make_common(tx)?;
-    make_later(tx)
-}
-
-/// Runs the statements in one transaction.
+/// Makes the tables, and the rows that every register has, in one transaction.
 fn make<S: Alter>(conn: &mut Connection<S>) -> Result<(), Error>
     requires autocommit { conn.old.in_transaction ≡ false }
-    ensures makes { MakesRegister S.Store conn.old conn.new result }
-    ensures failed { HasCleanDisk (state S.Store conn.new)
-        → IfErr result (λ error. FailsToMake S.Store error conn.old conn.new) }
+    ensures { WritesAll S.Store making conn.old conn.new result }
 {
-    let mut tx = conn.transaction();
-    make_tables(&mut tx)?;
-    tx.commit()
+    write_all(
+        conn,
+        &[
+            Statement::plain(CREATE_META),
+            Statement::plain(CREATE_KEPT),
+            Statement::plain(CREATE_FINDING),
+            Statement::plain(CREATE_FILING),
+            Statement::plain(CREATE_FACT),
+            Statement::plain(CREATE_MIGRATED),
+            Statement::plain(CREATE_AMENDS),
+            Statement::plain(INSERT_META),
+            Statement::plain(INSERT_NO_OLD_STYLE),
+        ],
+    )
 }
 
 /// Makes the tables of a register that has no request, in one transaction. A register's file is its own: if the
@@ -117,7 +76,7 @@ pub fn make_register<S: Alter>(conn: &mut Connection<S>) -> Result<(), CreateFau
     ensures failed { HasCleanDisk (state S.Store conn.new)
         → IfErr result (λ fault.
         fault ≢ CreateFault.Taken
-        → (error : Error) × (fault ≡ create_fault error) × FailsToMake S.Store error conn.old conn.new) }
+        → (error : Error) × (fault ≡ create_fault error) × AreUndone S.Store error making conn.old conn.new) }
 {
     prove!(is_settled(conn));
     if names::is_taken(conn.schema()) {

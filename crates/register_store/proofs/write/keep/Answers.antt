@@ -6,7 +6,7 @@ use Rattle.sqlite.specs.State.{HasCleanDisk}
 use Rattle.sqlite.proofs.StateLemmas.{survives_then}
 use Rattle.sqlite.proofs.Callers.{survives_begin}
 use Rattle.filing_model.specs.Register.{Kept}
-use Rattle.register_tables.proofs.Undone.{undone_adds_nothing, not_committed}
+use Rattle.table_rows.proofs.StatementLemmas.{undone_adds_nothing, not_committed}
 use Rattle.register_store.specs.Outcomes.{kept_new}
 use Rattle.register_store.specs.Changes.{AddsRows, AddsTo, KeepsRequest}
 use Rattle.register_store.proofs.write.keep.Goals as goal

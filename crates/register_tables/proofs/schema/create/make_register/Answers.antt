@@ -1,7 +1,9 @@
-use Rattle.std.proofs.Common.{not, refl, ap, ◌∙◌, IsTrue}
+use Rattle.std.proofs.Common.{not, [], refl, sym, ap, subst, ◌∙◌, IsTrue}
 use Rattle.sqlite.specs.Held.{state}
 use Rattle.sqlite.proofs.StateLemmas.{survives_weaker}
 use Rattle.table_rows.proofs.StepLemmas.{nothing_yet}
+use Rattle.register_tables.specs.Registers.{IsRegisterOf}
+use Rattle.register_tables.proofs.Making.{makes_empty}
 use Rattle.register_tables.proofs.schema.create.make_register.Goals as goal
 
 pub returns-then-is_taken-clause-makes : goal.returns-then-is_taken-clause-makes
@@ -24,24 +26,30 @@ returns-then-is_taken-clause-makes g c =
 
 pub returns-in-Ok-clause-makes : goal.returns-in-Ok-clause-makes
 returns-in-Ok-clause-makes g c =
-    let made = c.in-Ok.ensures.makes in
+    let writes = c.in-Ok.ensures in
     record {
-      autocommit = made.autocommit;
-      made = made.made;
-      durable = made.durable;
+      autocommit = writes.autocommit;
+      made = λ clean none.
+          let all = writes.written clean in
+          let register = makes_empty g.S.Store c.args.conn.now all.last all.done none in (
+            all.is_open,
+            subst (IsRegisterOf 0 []) (sym all.now_is) register,
+            all.committed_is ∙ sym all.now_is,
+          );
+      durable = writes.durable;
       neither = λ clean. tt;
       crash =
-          made.crash;
+          writes.crash;
     }
 
 pub returns-in-Err-clause-makes : goal.returns-in-Err-clause-makes
 returns-in-Err-clause-makes g c =
-    let made = c.in-Err.ensures.makes in
+    let writes = c.in-Err.ensures in
     record {
-      autocommit = made.autocommit;
+      autocommit = writes.autocommit;
       made = λ clean none. tt;
       durable = λ clean. tt;
       neither =
-          made.neither;
-      crash = made.crash;
+          writes.neither;
+      crash = writes.crash;
     }
