@@ -18,6 +18,7 @@ pub mod ReadTexts
 pub mod RisingLemmas
 pub mod Surveyed
 pub mod Texts
+pub mod TotalLemmas
 pub mod WalkEnds
 pub mod WalkLemmas
 pub mod WalkOpens

@@ -21,12 +21,12 @@ use Rattle.register_rows.specs.Audit.{OtherRows, AreRowsOf}
 use Rattle.register_tables.specs.Earlier.{form_number, tables_of, HasOldStyle, IsEarlierOf}
 use Rattle.register_tables.specs.Faults.{table_fault_by}
 use Rattle.register_tables.specs.declared.opening.walk.Totals.{Totals}
-use Rattle.register_tables.specs.Migrating.{AreTotals, SaysNone, HasNoForm, HasNoTotals, HasNoCounts, IsNotSurveyed}
-use Rattle.register_tables.specs.Opening.{all_migrated}
+use Rattle.register_tables.specs.Migrating.{SaysNone, HasNoForm, HasNoCounts, IsNotSurveyed}
+use Rattle.register_tables.specs.Opening.{all_migrated, HasNoTotals}
 use Rattle.register_tables.specs.Reads.{by_first}
 use Rattle.register_rows.specs.Register.{form_row, migrated_row, kept_row}
 use Rattle.register_rows.specs.Schema.{HasCommon}
-use Rattle.register_tables.specs.Walk.{AreAllOf}
+use Rattle.register_tables.specs.Walk.{AreAllOf, AreTotals}
 use Rattle.register_tables.proofs.FailLemmas.{meta_fails}
 use Rattle.register_tables.proofs.OpenLemmas.{Four, got_meta, got_four}
 use Rattle.register_tables.proofs.Opened.{four_stop}
@@ -51,7 +51,7 @@ rows_of F db kept_are others are r none = record {
 
 module _ {S : Type 0} (g : Ghosts S) (e : Held S) (F : List Request) where
   totals_sound : (why : OpenFault) (a : Held S) → HasCommon (state g a).now.schema → a.step_limit ≡ None
-      → AreAllOf F [] (state g a).now → HasNoTotals g why a e → (why ≡ fault.Memory) ⊎ (why ≡ fault.Disk)
+      → AreAllOf F [] (state g a).now → HasNoTotals g [] why a e → (why ≡ fault.Memory) ⊎ (why ≡ fault.Disk)
   totals_sound fault.NotOurs a d unlimited are h = absurd h
   totals_sound (fault.Damaged row) a d unlimited are (inl stops) = absurd (four_stop g a e d unlimited stops.1)
   totals_sound (fault.Damaged row) a d unlimited are (inr found) =
@@ -89,7 +89,7 @@ module _ {S : Type 0} (g : Ghosts S) (e : Held S) (F : List Request) where
       there : AreAllOf F [] (state g h.0).now
       there = subst (AreAllOf F []) (sym same.0.now_is) are
 
-      amount : (totals : Totals) → AreTotals totals (state g h.0) (state g e) → totals.kept ≡ length F
+      amount : (totals : Totals) → AreTotals [] totals (state g h.0) (state g e) → totals.kept ≡ length F
       amount totals t = let it = t.amounts common in
           it.kept_is
           ∙ ap length (only_these it.requests [] (state g h.0).now it.are F there.distinct there.kept_is

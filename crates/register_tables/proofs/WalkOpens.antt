@@ -21,11 +21,8 @@ use Rattle.table_rows.specs.declared.cause.Cause.TheVariants as cause
 use Rattle.table_rows.proofs.OrderLemmas.{same_number, and_true}
 use Rattle.table_rows.proofs.BeforeLemmas.{failed_by, shown_before, fails_before}
 use Rattle.register_tables.specs.declared.opening.Counts.{Counts}
-use Rattle.register_rows.specs.declared.verdict.Verdict.TheVariants.{Sound}
-use Rattle.register_rows.specs.Audit.{OtherRows, AreRowsOf, IsVerdict}
-use Rattle.register_rows.specs.Catalogue.{view_lines}
-use Rattle.register_rows.proofs.CatalogueLemmas.{catalogue_many}
-use Rattle.register_tables.specs.Opening.{all_kept, row_texts, Later, SaysOldStyle, IsRead, AreRead, StopsFor}
+use Rattle.register_rows.specs.Audit.{OtherRows, AreRowsOf}
+use Rattle.register_tables.specs.Opening.{all_kept, row_texts, Later, IsRead, AreRead, StopsFor}
 use Rattle.register_tables.specs.Reads.{by_first}
 use Rattle.table_rows.specs.Picking.{has_number, IsStopped}
 use Rattle.register_rows.specs.Register.{meta_row, kept_row, amends_rows, joined_from}
@@ -33,7 +30,7 @@ use Rattle.register_rows.specs.Schema.{IsDeclared, meta_table, kept_table, findi
 use Rattle.register_rows.specs.Schema.{migrated_table, amends_table}
 use Rattle.register_tables.specs.Registers.{IsRegisterOf}
 use Rattle.register_tables.specs.Walk.{AreCounted, AreAllOf}
-use Rattle.register_tables.proofs.OpenLemmas.{Gets, Four, Two, is_read, rows_many, are_amends, says_old_style}
+use Rattle.register_tables.proofs.OpenLemmas.{Gets, Four, Two, is_read, are_amends, says_old_style}
 use Rattle.register_tables.proofs.OpenLemmas.{same_old_style}
 use Rattle.register_tables.proofs.ReadTexts.{query_kept}
 use Rattle.register_rows.proofs.StepsOfTargets.{same_requests}
@@ -134,19 +131,6 @@ all_of F db kept_are others four are = record {
   filing_is = subst (TableHas db filing_table) are.filing_is four.filing_is.held;
   fact_is = subst (TableHas db fact_table) are.fact_is four.fact_is.held;
   amends_is = are.amends_is;
-}
-
-pub counted_whole : (counts : Counts) (later : Later) (db : Database) (kept_are : List Row) (others : OtherRows)
-    → others.amends ≡ later.amends → Four kept_are others db → counts.kept ≡ length kept_are
-    → SaysOldStyle counts.kept counts.old_style later → IsVerdict kept_are others (Sound counts.catalogue)
-    → counts.filings ≡ length (view_lines counts.catalogue) → AreCounted counts later db
-counted_whole counts later db kept_are others same four many says is size = record {
-  requests = is.0;
-  are = subst (λ l. AreAllOf is.0 l db) same (all_of is.0 db kept_are others four is.1);
-  kept_is = many ∙ rows_many kept_are is.0 is.1.distinct is.1.kept_is;
-  filings_is = size ∙ ap length is.2 ∙ catalogue_many is.0;
-  catalogue_is = is.2;
-  old_style_is = says;
 }
 
 -- it stands for no others

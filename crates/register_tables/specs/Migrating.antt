@@ -5,7 +5,7 @@ use Rattle.sqlite.specs.Order.{Row}
 use Rattle.sqlite.specs.Store.{Ghosts}
 use Rattle.sqlite.specs.Held.{Held, state}
 use Rattle.sqlite.specs.Tree.{Trees}
-use Rattle.sqlite.specs.State.{State, HasCleanDisk, IsUnchanged, Survives}
+use Rattle.sqlite.specs.State.{HasCleanDisk, Survives}
 use Rattle.sqlite.specs.declared.error.Error.{Error}
 use Rattle.sqlite.specs.declared.types.Value.TheVariants.{Int}
 use Rattle.filing_model.specs.Request.{Request}
@@ -15,7 +15,6 @@ use Rattle.table_rows.specs.Standing.{HasCommitted, AddsNothing}
 use Rattle.table_rows.specs.Statements.{Statement, plain, AreCommitted, AreUndone, AreTreesOf}
 use Rattle.table_rows.specs.declared.cause.Cause.{Cause}
 use Rattle.table_rows.specs.declared.cause.Cause.TheVariants as cause
-use Rattle.register_rows.specs.declared.verdict.Verdict.TheVariants as verdict
 use Rattle.register_tables.specs.declared.migrate.TheConstants.{INSERT_OLD_STYLE, RAISE_FORM}
 use Rattle.register_tables.specs.declared.migrate.earlier.Earlier.{Earlier}
 use Rattle.register_tables.specs.declared.migrate.earlier.Earlier.TheVariants.{Second, Third}
@@ -23,24 +22,17 @@ use Rattle.register_tables.specs.declared.fault.OpenFault.{OpenFault}
 use Rattle.register_tables.specs.declared.fault.OpenFault.TheVariants as fault
 use Rattle.register_tables.specs.declared.opening.Counts.{Counts}
 use Rattle.register_tables.specs.declared.opening.walk.Totals.{Totals}
-use Rattle.register_rows.specs.Audit.{OtherRows, IsVerdict}
 use Rattle.register_rows.specs.Catalogue.{catalogue_of, view_lines}
 use Rattle.register_tables.specs.Earlier.{form_number, is_blocked, ForEarlier, IsAlone, IsEarlierOf}
 use Rattle.register_tables.specs.Faults.{table_fault, IsFailure}
 use Rattle.register_tables.specs.Making.{create_migrated, create_amends}
 use Rattle.register_tables.specs.Opening as opening
-use Rattle.register_tables.specs.Opening.{all_meta, all_migrated, row_texts, AreWithin, IsRead, AreRead, StopsFor}
+use Rattle.register_tables.specs.Opening.{all_meta, all_migrated, AreWithin, IsRead, StopsFor, HasNoTotals}
 use Rattle.register_rows.specs.Register.{form_row, migrated_row}
-use Rattle.register_rows.specs.Schema.{HasCommon}
 use Rattle.register_tables.specs.Registers.{IsRegisterOf, LeavesOnly}
-use Rattle.register_tables.specs.Walk.{Amounts}
+use Rattle.register_tables.specs.Walk.{AreTotals}
 
 -- ---- what is read
-
--- the four tables stand for requests, of which so many are kept and registered, and nothing was written
-pub record AreTotals (totals : Totals) (old new : State) : Type 0 where
-  pub same : IsUnchanged old new
-  pub amounts : HasCommon old.now.schema → Amounts totals [] old.now
 
 -- of so many kept requests these were kept before there were problem details: all, or as many as the row of `migrated`
 -- says that was read
@@ -53,7 +45,7 @@ ReadsOldStyle g Third old_style kept old new =
 pub record IsCounted {S : Type 0} (g : Ghosts S) (form : Earlier) (counts : Counts) (old new : Held S) : Type 0 where
   pub mid : Held S
   pub old_style_is : ReadsOldStyle g form counts.old_style counts.kept old mid
-  pub totals_are : AreTotals (record { kept = counts.kept; filings = counts.filings; catalogue = counts.catalogue })
+  pub totals_are : AreTotals [] (record { kept = counts.kept; filings = counts.filings; catalogue = counts.catalogue })
       (state g mid) (state g new)
 
 -- a register in this form was found, and holds so much
@@ -74,30 +66,18 @@ HasNoForm g (fault.Damaged row) old new = ⊥
 HasNoForm g fault.Memory old new = StopsFor g cause.Memory (all_meta ∷ []) old new
 HasNoForm g fault.Disk old new = StopsFor g cause.Disk (all_meta ∷ []) old new
 
--- the four tables cannot be read, or their rows stand for no requests; memory may also be short once they are read
-abbrev pub HasNoTotals : {S : Type 0} → Ghosts S → OpenFault → Held S → Held S → Type 0
-HasNoTotals g fault.NotOurs old new = ⊥
-HasNoTotals g (fault.Damaged row) old new =
-    ((row ≡ 0) × StopsFor g cause.Other row_texts old new)
-    ⊎ ((kept : List Row) × (others : OtherRows)
-    × AreRead g row_texts old new (kept ∷ others.finding ∷ others.filing ∷ others.fact ∷ []) × (others.amends ≡ [])
-    × IsVerdict kept others (verdict.Damaged row))
-HasNoTotals g fault.Memory old new =
-    StopsFor g cause.Memory row_texts old new ⊎ ((rows : List (List Row)) × AreRead g row_texts old new rows)
-HasNoTotals g fault.Disk old new = StopsFor g cause.Disk row_texts old new
-
 -- the rows of `migrated` are not one row with a number that is at most that of the kept requests
 abbrev pub SaysNone : ℕ → List Row → Type 0
 SaysNone kept rows = (old_style : ℕ) → rows ≡ migrated_row old_style ∷ [] → old_style ≤ kept → ⊥
 
 -- the tables of this form beside `intake_meta` cannot be read, or their rows stand for no requests
 abbrev pub HasNoCounts : {S : Type 0} → Ghosts S → Earlier → OpenFault → Held S → Held S → Type 0
-HasNoCounts g Second why old new = HasNoTotals g why old new
+HasNoCounts g Second why old new = HasNoTotals g [] why old new
 HasNoCounts {S} g Third why old new =
     ((error : Error) × (why ≡ table_fault error) × StopsFor g (cause_of error) (all_migrated ∷ []) old new)
     ⊎ ((mid : Held S) × (rows : List Row) × IsRead g all_migrated old mid rows
-    × (HasNoTotals g why mid new ⊎ ((why ≡ fault.Damaged 0) × (totals : Totals)
-    × AreTotals totals (state g mid) (state g new) × SaysNone totals.kept rows)))
+    × (HasNoTotals g [] why mid new ⊎ ((why ≡ fault.Damaged 0) × (totals : Totals)
+    × AreTotals [] totals (state g mid) (state g new) × SaysNone totals.kept rows)))
 
 -- no register in an earlier form was found
 abbrev pub IsNotSurveyed : {S : Type 0} → Ghosts S → OpenFault → Held S → Held S → Type 0

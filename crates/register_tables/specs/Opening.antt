@@ -15,6 +15,7 @@ use Rattle.table_rows.specs.Standing.{HasCommitted, CommitsNothing, StaysOnOk, K
 use Rattle.register_tables.specs.declared.select.reads.TheConstants.{ALL_AMENDS, ALL_FACTS, ALL_FILINGS, ALL_FINDINGS}
 use Rattle.register_tables.specs.declared.select.reads.TheConstants.{ALL_KEPT, ALL_META, ALL_MIGRATED}
 use Rattle.register_tables.specs.declared.opening.Counts.{Counts}
+use Rattle.register_tables.specs.declared.opening.walk.Totals.{Totals}
 use Rattle.register_rows.specs.declared.verdict.Verdict.TheVariants as verdict
 use Rattle.register_tables.specs.declared.fault.OpenFault.{OpenFault}
 use Rattle.register_tables.specs.declared.fault.OpenFault.TheVariants as fault
@@ -79,6 +80,31 @@ StopsFor g why [] old new = ⊥
 StopsFor {S} g why (text ∷ texts) old new =
     ((error : Error) × FailsToQuery text [] (state g old) (state g new) error × (cause_of error ≡ why))
     ⊎ ((mid : Held S) × (rows : List Row) × IsRead g text old mid rows × StopsFor g why texts mid new)
+
+-- ---- the tables with the rows of kept requests, beside these rows of `amends`
+
+-- they are read whole, and their rows stand for requests, of which so many are kept and registered
+pub record AreWhole {S : Type 0} (g : Ghosts S) (amends : List Row) (totals : Totals) (old new : Held S)
+    : Type 0 where
+  pub kept : List Row
+  pub others : OtherRows
+  pub read : AreRead g row_texts old new (kept ∷ others.finding ∷ others.filing ∷ others.fact ∷ [])
+  pub amends_is : others.amends ≡ amends
+  pub kept_is : totals.kept ≡ length kept
+  pub sound : IsVerdict kept others (verdict.Sound totals.catalogue)
+  pub filings_is : totals.filings ≡ length (view_lines totals.catalogue)
+
+-- they cannot be read, or their rows stand for no requests; memory may also be short once they are read
+abbrev pub HasNoTotals : {S : Type 0} → Ghosts S → List Row → OpenFault → Held S → Held S → Type 0
+HasNoTotals g amends fault.NotOurs old new = ⊥
+HasNoTotals g amends (fault.Damaged row) old new =
+    ((row ≡ 0) × StopsFor g cause.Other row_texts old new)
+    ⊎ ((kept : List Row) × (others : OtherRows)
+    × AreRead g row_texts old new (kept ∷ others.finding ∷ others.filing ∷ others.fact ∷ [])
+    × (others.amends ≡ amends) × IsVerdict kept others (verdict.Damaged row))
+HasNoTotals g amends fault.Memory old new =
+    StopsFor g cause.Memory row_texts old new ⊎ ((rows : List (List Row)) × AreRead g row_texts old new rows)
+HasNoTotals g amends fault.Disk old new = StopsFor g cause.Disk row_texts old new
 
 -- ---- the rows beside those of kept requests
 

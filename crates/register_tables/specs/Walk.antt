@@ -3,6 +3,7 @@ use Rattle.std.specs.Prelude.{◌≡◌, ◌≤◌, ℕ, ◌+◌, suc, List, [],
 use Rattle.std.specs.List.{AllByRecursion}
 use Rattle.sqlite.specs.Order.{Row}
 use Rattle.sqlite.specs.Effect.{Database}
+use Rattle.sqlite.specs.State.{State, IsUnchanged}
 use Rattle.table_rows.specs.Picking.{rows_in, Picks, Finds, HasLeft, has_number}
 use Rattle.table_rows.specs.Rows.{TableHas, counted_from}
 use Rattle.filing_model.specs.Request.{Request, firsts}
@@ -16,7 +17,7 @@ use Rattle.register_rows.specs.Catalogue.{catalogue_of, view_lines}
 use Rattle.register_rows.specs.Outcomes.{filings_by}
 use Rattle.register_rows.specs.Register.{IsCompleted, kept_row, finding_rows, filing_rows, fact_rows, amends_rows}
 use Rattle.register_rows.specs.Register.{joined_from}
-use Rattle.register_rows.specs.Schema.{kept_table, finding_table, filing_table, fact_table}
+use Rattle.register_rows.specs.Schema.{HasCommon, kept_table, finding_table, filing_table, fact_table}
 
 -- ---- one kept request
 
@@ -76,6 +77,11 @@ pub record Amounts (counts : Totals) (amends_are : List Row) (db : Database) : T
   pub kept_is : counts.kept ≡ length requests
   pub filings_is : counts.filings ≡ length (register requests)
   pub catalogue_is : view_lines counts.catalogue ≡ catalogue_of requests
+
+-- nothing was written, and the tables have such rows where the tables of every form are declared
+pub record AreTotals (amends_are : List Row) (totals : Totals) (old new : State) : Type 0 where
+  pub same : IsUnchanged old new
+  pub amounts : HasCommon old.now.schema → Amounts totals amends_are old.now
 
 -- the same holds of these counts, and the row of `migrated` says how many requests were kept before there were problem
 -- details

@@ -9,26 +9,26 @@ ghost use Rattle.sqlite.specs.declared.types.Value.TheVariants.{Int};
 ghost use Rattle.sqlite.specs.State.{HasCleanDisk};
 ghost use Rattle.table_rows.specs.Leaving.{OnlyQueries, OnlyReads};
 ghost use Rattle.table_rows.specs.Causes.{cause_of};
-ghost use Rattle.register_rows.specs.Audit.{IsVerdict};
-ghost use Rattle.register_rows.specs.Catalogue.{view_lines};
 ghost use Rattle.register_tables.specs.Faults.{meta_fault, table_fault};
-ghost use Rattle.register_tables.specs.Opening.{all_meta, row_texts, new_texts, IsRead, AreRead, StopsFor};
-ghost use Rattle.register_tables.specs.Opening.{SaysOldStyle, SaysNothing, AreDamaged, IsRefused, IsRefusedAfter};
+ghost use Rattle.register_tables.specs.Opening.{all_meta, new_texts, IsRead, AreRead, StopsFor, HasNoTotals};
+ghost use Rattle.register_tables.specs.Opening.{SaysOldStyle, SaysNothing, IsRefused, IsRefusedAfter};
 ghost use Rattle.register_tables.specs.Opening.{AreWithin, ReadsRegister};
 ghost use Rattle.register_rows.specs.Register.{meta_row, migrated_row};
 ghost use Rattle.register_rows.specs.Schema.{HasCommon};
 ghost use Rattle.register_tables.specs.Walk.{AreCounted};
 ghost use Rattle.table_rows.specs.Standing.{IsAtRest};
 
+pub(crate) mod totals;
 pub(crate) mod walk;
 pub(crate) mod watch;
 
 use crate::fault::OpenFault;
-use crate::opening::walk::{Totals, count_by_walk};
+use crate::opening::totals::{count_walked, count_whole};
+use crate::opening::walk::Totals;
 use crate::opening::watch::Watch;
 use crate::select::reads;
 use register_rows::columns::migrated;
-use register_rows::{Catalogue, Cell, Verdict, audit, is_row, number_at};
+use register_rows::{Catalogue, Cell, is_row, number_at};
 use sqlite::{Alter, Connection, Error, Row};
 use std::alloc::Global;
 use table_rows::{Cause, is_settled};
@@ -90,36 +90,6 @@ fn read_meta<S: Alter>(conn: &mut Connection<S>) -> Result<(), OpenFault>
     }
 }
 
-/// The rows of the four tables beside `intake_meta`, each in the order of its key.
-#[derive(Drop)]
-pub(crate) struct Tables {
-    pub(crate) kept: Vec<Row>,
-    pub(crate) findings: Vec<Row>,
-    pub(crate) filings: Vec<Row>,
-    pub(crate) facts: Vec<Row>,
-}
-
-pub(crate) fn read_tables<S: Alter>(conn: &mut Connection<S>) -> Result<Tables, Error>
-    ensures read { HasCleanDisk (state S.Store conn.new)
-        → IfOk result (λ tables.
-        AreRead S.Store row_texts conn.old conn.new
-        (tables.kept.items ∷ tables.findings.items ∷ tables.filings.items ∷ tables.facts.items ∷ [])) }
-    ensures failed { HasCleanDisk (state S.Store conn.new)
-        → IfErr result (λ error. StopsFor S.Store (cause_of error) row_texts conn.old conn.new) }
-    ensures leaves { OnlyQueries S.Store conn.old conn.new result }
-{
-    let kept = reads::kept_rows(conn)?;
-    let findings = reads::finding_rows(conn)?;
-    let filings = reads::filing_rows(conn)?;
-    let facts = reads::fact_rows(conn)?;
-    Ok(Tables {
-        kept,
-        findings,
-        filings,
-        facts,
-    })
-}
-
 /// The rows of the tables that an earlier form did not have, each in the order of its key.
 #[derive(Drop)]
 pub(crate) struct Later {
@@ -176,61 +146,16 @@ fn old_style_in(kept: u64, later: &Later) -> Option<u64>
     }
 }
 
-/// Counts what the rows stand for, if they stand for a list of requests.
-fn count(
-    alloc: Global,
-    kept: &[Row],
-    findings: &[Row],
-    filings: &[Row],
-    facts: &[Row],
-    later: &Later,
-) -> Result<Counts, OpenFault>
-    ensures counted { IfOk result (λ counts.
-        (counts.kept ≡ length kept.now)
-        × SaysOldStyle counts.kept counts.old_style (record {
-          migrated = later.now.migrated.items;
-          amends = later.now.amends.items;
-        })
-        × IsVerdict kept.now
-        (record { finding = findings.now; filing = filings.now; fact = facts.now; amends = later.now.amends.items })
-        (Verdict.Sound counts.catalogue)
-        × (counts.filings ≡ length (view_lines counts.catalogue))) }
-    ensures few { IfOk result AreWithin }
-    ensures refused { IfErr result (λ fault.
-        (fault ≡ OpenFault.Memory)
-        ⊎ ((row : ℕ) × (fault ≡ OpenFault.Damaged row)
-        × AreDamaged kept.now
-        (record {
-          finding = findings.now;
-          filing = filings.now;
-          fact = facts.now;
-          amends = later.now.amends.items;
-        })
-        (record { migrated = later.now.migrated.items; amends = later.now.amends.items }) row)) }
-{
-    match audit(alloc, kept, findings, filings, facts, &later.amends) {
-        Ok(Verdict::Sound { catalogue }) => match old_style_in(kept.len() as u64, later) {
-            Some(old_style) => Ok(Counts {
-                kept: kept.len() as u64,
-                filings: catalogue.len(),
-                old_style,
-                catalogue,
-            }),
-            None => Err(OpenFault::Damaged { row: 0 }),
-        },
-        Ok(Verdict::Damaged { row }) => Err(OpenFault::Damaged { row }),
-        Err(_) => Err(OpenFault::Memory),
-    }
-}
-
 /// How much a register holds with these totals, if the row of `migrated` fits them.
 fn counts_of(totals: Totals, later: &Later) -> Option<Counts>
-    ensures { IfSome result (λ counts.
+    ensures some { IfSome result (λ counts.
         (counts.kept ≡ totals.kept) × (counts.filings ≡ totals.filings) × (counts.catalogue ≡ totals.catalogue)
         × SaysOldStyle counts.kept counts.old_style (record {
           migrated = later.now.migrated.items;
           amends = later.now.amends.items;
         })) }
+    ensures none { result ≡ None
+        → SaysNothing totals.kept (record { migrated = later.now.migrated.items; amends = later.now.amends.items }) }
 {
     Some(Counts {
         kept: totals.kept,
@@ -255,20 +180,13 @@ fn count_one_by_one<S: Alter, W: Watch>(
         (state S.Store conn.old).now)) }
     ensures few { IfOk result (λ found.
         IfSome found AreWithin) }
-    ensures failed { HasCleanDisk (state S.Store conn.new)
-        → IfErr result (λ fault.
-        (error : Error) × (fault ≡ table_fault error)
-        × StopsFor S.Store (cause_of error) row_texts conn.old conn.new) }
+    ensures refused { HasCleanDisk (state S.Store conn.new)
+        → IfErr result (λ fault. HasNoTotals S.Store later.now.amends.items fault conn.old conn.new) }
     ensures leaves { OnlyReads S.Store conn.old conn.new result }
 {
-    match count_by_walk(alloc, conn, &later.amends, watch) {
-        Ok(Some(totals)) => Ok(counts_of(totals, later)),
-        Ok(None) => Ok(None),
-        Err(error) => match Cause::from(error) {
-            Cause::Memory => Err(OpenFault::Memory),
-            Cause::Disk => Err(OpenFault::Disk),
-            Cause::Other => Ok(None),
-        },
+    match count_walked(alloc, conn, &later.amends, watch)? {
+        Some(totals) => Ok(counts_of(totals, later)),
+        None => Ok(None),
     }
 }
 
@@ -296,16 +214,10 @@ fn count_all<S: Alter, W: Watch>(
     if let Some(counts) = count_one_by_one(alloc, conn, later, watch)? {
         return Ok(counts);
     }
-    match read_tables(conn) {
-        Ok(tables) => count(
-            alloc,
-            &tables.kept,
-            &tables.findings,
-            &tables.filings,
-            &tables.facts,
-            later,
-        ),
-        Err(error) => Err(table_fault(error)),
+    let totals = count_whole(alloc, conn, &later.amends)?;
+    match counts_of(totals, later) {
+        Some(counts) => Ok(counts),
+        None => Err(OpenFault::Damaged { row: 0 }),
     }
 }
 

@@ -1,27 +1,25 @@
 //! What is read of a register in an earlier form.
 
-ghost use Rattle.std.specs.Prelude.{◌≡◌, ◌≢◌, ◌≤◌, ◌^◌, ◌⊎◌, ◌↔◌, ◌∷◌, [], ℕ, pos, length, IsTrue, IfOk, IfErr, IfSome};
+ghost use Rattle.std.specs.Prelude.{◌≡◌, ◌≢◌, ◌≤◌, ◌^◌, ◌↔◌, ◌∷◌, [], pos, IsTrue, IfOk, IfErr, IfSome};
 ghost use Rattle.std.specs.Prelude.{None};
 ghost use Rattle.sqlite.specs.Held.{state};
 ghost use Rattle.sqlite.specs.State.{HasCleanDisk};
-ghost use Rattle.register_rows.specs.Audit.{IsVerdict};
-ghost use Rattle.register_rows.specs.Catalogue.{view_lines};
 ghost use Rattle.register_tables.specs.Earlier.{form_number};
-ghost use Rattle.register_tables.specs.Migrating.{AreTotals, IsCounted, IsSurveyed, IsNotSurveyed, HasNoForm};
-ghost use Rattle.register_tables.specs.Migrating.{HasNoTotals, HasNoCounts, SaysNone};
-ghost use Rattle.register_tables.specs.Opening.{AreWithin, all_meta, IsRead};
+ghost use Rattle.register_tables.specs.Migrating.{IsCounted, IsSurveyed, IsNotSurveyed, HasNoForm, HasNoCounts, SaysNone};
+ghost use Rattle.register_tables.specs.Opening.{AreWithin, all_meta, IsRead, HasNoTotals};
+ghost use Rattle.register_tables.specs.Walk.{AreTotals};
 ghost use Rattle.register_rows.specs.Register.{form_row, migrated_row};
 ghost use Rattle.table_rows.specs.Leaving.{OnlyReads};
 
 use crate::fault::OpenFault;
-use crate::opening::walk::{Totals, count_by_walk};
+use crate::opening::totals::{count_walked, count_whole};
+use crate::opening::walk::Totals;
 use crate::opening::watch::Unwatched;
-use crate::opening::{Counts, meta_fault, number_of, read_tables, table_fault};
+use crate::opening::{Counts, meta_fault, number_of, table_fault};
 use crate::select::reads;
-use register_rows::{Cell, Verdict, audit, is_row};
+use register_rows::{Cell, is_row};
 use sqlite::{Alter, Connection, Row};
 use std::alloc::Global;
-use table_rows::Cause;
 
 /// The forms in which earlier versions kept registers.
 #[derive(Clone, Copy, Debug, PartialEq, Eq)]
@@ -99,96 +97,18 @@ fn read_form<S: Alter>(conn: &mut Connection<S>) -> Result<Earlier, OpenFault>
     }
 }
 
-/// How many requests these rows stand for, and how many of them are registered.
-fn totals_in(
-    alloc: Global,
-    kept: &[Row],
-    findings: &[Row],
-    filings: &[Row],
-    facts: &[Row],
-) -> Result<Totals, OpenFault>
-    ensures counted { IfOk result (λ totals.
-        (totals.kept ≡ length kept.now)
-        × IsVerdict kept.now
-        (record { finding = findings.now; filing = filings.now; fact = facts.now; amends = [] })
-        (Verdict.Sound totals.catalogue)
-        × (totals.filings ≡ length (view_lines totals.catalogue))) }
-    ensures few { IfOk result (λ totals. (totals.kept ≤ 2 ^ 62) × (totals.filings ≤ totals.kept)) }
-    ensures refused { IfErr result (λ fault.
-        (fault ≡ OpenFault.Memory)
-        ⊎ ((row : ℕ) × (fault ≡ OpenFault.Damaged row)
-        × IsVerdict kept.now
-        (record { finding = findings.now; filing = filings.now; fact = facts.now; amends = [] })
-        (Verdict.Damaged row))) }
-{
-    match audit(alloc, kept, findings, filings, facts, &[]) {
-        Ok(Verdict::Sound { catalogue }) => Ok(Totals {
-            kept: kept.len() as u64,
-            filings: catalogue.len(),
-            catalogue,
-        }),
-        Ok(Verdict::Damaged { row }) => Err(OpenFault::Damaged { row }),
-        Err(_) => Err(OpenFault::Memory),
-    }
-}
-
-/// Counts what the four tables stand for, which are read whole.
-fn count_whole<S: Alter>(alloc: Global, conn: &mut Connection<S>) -> Result<Totals, OpenFault>
-    ensures counted { HasCleanDisk (state S.Store conn.new)
-        → IfOk result (λ totals. AreTotals totals (state S.Store conn.old) (state S.Store conn.new)) }
-    ensures few { IfOk result (λ totals. (totals.kept ≤ 2 ^ 62) × (totals.filings ≤ totals.kept)) }
-    ensures refused { HasCleanDisk (state S.Store conn.new)
-        → IfErr result (λ fault. HasNoTotals S.Store fault conn.old conn.new) }
-    ensures leaves { OnlyReads S.Store conn.old conn.new result }
-{
-    match read_tables(conn) {
-        Ok(tables) => totals_in(
-            alloc,
-            &tables.kept,
-            &tables.findings,
-            &tables.filings,
-            &tables.facts,
-        ),
-        Err(error) => Err(table_fault(error)),
-    }
-}
-
-/// Counts what the four tables stand for, with one kept request in memory at a time. `None` says nothing of the rows.
-fn count_walked<S: Alter>(
-    alloc: Global,
-    conn: &mut Connection<S>,
-) -> Result<Option<Totals>, OpenFault>
-    ensures counted { HasCleanDisk (state S.Store conn.new)
-        → IfOk result (λ found.
-        IfSome found (λ totals. AreTotals totals (state S.Store conn.old) (state S.Store conn.new))) }
-    ensures few { IfOk result (λ found.
-        IfSome found (λ totals. (totals.kept ≤ 2 ^ 62) × (totals.filings ≤ totals.kept))) }
-    ensures refused { HasCleanDisk (state S.Store conn.new)
-        → IfErr result (λ fault. HasNoTotals S.Store fault conn.old conn.new) }
-    ensures leaves { OnlyReads S.Store conn.old conn.new result }
-{
-    match count_by_walk(alloc, conn, &[], &mut Unwatched) {
-        Ok(found) => Ok(found),
-        Err(error) => match Cause::from(error) {
-            Cause::Memory => Err(OpenFault::Memory),
-            Cause::Disk => Err(OpenFault::Disk),
-            Cause::Other => Ok(None),
-        },
-    }
-}
-
 /// Counts what the four tables stand for.
 fn count_four<S: Alter>(alloc: Global, conn: &mut Connection<S>) -> Result<Totals, OpenFault>
     ensures counted { HasCleanDisk (state S.Store conn.new)
-        → IfOk result (λ totals. AreTotals totals (state S.Store conn.old) (state S.Store conn.new)) }
+        → IfOk result (λ totals. AreTotals [] totals (state S.Store conn.old) (state S.Store conn.new)) }
     ensures few { IfOk result (λ totals. (totals.kept ≤ 2 ^ 62) × (totals.filings ≤ totals.kept)) }
     ensures refused { HasCleanDisk (state S.Store conn.new)
-        → IfErr result (λ fault. HasNoTotals S.Store fault conn.old conn.new) }
+        → IfErr result (λ fault. HasNoTotals S.Store [] fault conn.old conn.new) }
     ensures leaves { OnlyReads S.Store conn.old conn.new result }
 {
-    match count_walked(alloc, conn)? {
+    match count_walked(alloc, conn, &[], &mut Unwatched)? {
         Some(totals) => Ok(totals),
-        None => count_whole(alloc, conn),
+        None => count_whole(alloc, conn, &[]),
     }
 }
 

@@ -3,7 +3,7 @@ use Rattle.sqlite.specs.Held.{state}
 use Rattle.sqlite.specs.State.{HasCleanDisk}
 use Rattle.register_tables.proofs.OpenLemmas.{is_read}
 use Rattle.table_rows.proofs.LeavingLemmas.{asked_then, clean_before}
-use Rattle.register_tables.proofs.opening.read_tables.Goals as goal
+use Rattle.register_tables.proofs.opening.totals.read_tables.Goals as goal
 
 pub returns-clause-read : goal.returns-clause-read
 returns-clause-read g c clean =

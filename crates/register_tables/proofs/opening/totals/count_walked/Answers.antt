@@ -4,7 +4,7 @@ use Rattle.table_rows.specs.declared.cause.Cause.TheVariants as cause
 use Rattle.register_tables.specs.Opening.{row_texts, StopsFor}
 use Rattle.register_tables.proofs.WalkOpens.{stops_for}
 use Rattle.register_tables.proofs.Calls.{not_run}
-use Rattle.register_tables.proofs.migrate.earlier.count_walked.Goals as goal
+use Rattle.register_tables.proofs.opening.totals.count_walked.Goals as goal
 
 pub returns-in-Memory-clause-refused : goal.returns-in-Memory-clause-refused
 returns-in-Memory-clause-refused g c clean =
