@@ -79,10 +79,11 @@ module _ {S : Type 0} (g : Ghosts S) (conn last : Held S) (unlimited : conn.step
           let one = one_earlier (contents_of (string_bytes it.filer) found.0) outbox (state g conn).now found.1 is in
           holds_same g _ found.0 outbox one (record { stands = found.2; count = found.3 });
       able = refl;
+      ran = h.ran;
       refused = tt;
       crash = h.crash;
       durable = λ clean entries had.
-          let alive = h.«open» clean in (
+          let alive = (h.ran clean).written.is_open in (
             alive,
             λ trees left. record {
               db = (state g last).now;
@@ -108,6 +109,7 @@ module _ {S : Type 0} (g : Ghosts S) (conn last : Held S) (unlimited : conn.step
           migrated = tt;
           only = tt;
           able = tt;
+          ran = tt;
           refused = (last, back);
           crash = tt;
           durable =

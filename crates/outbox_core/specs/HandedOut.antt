@@ -8,6 +8,7 @@ use Rattle.sqlite.specs.State.{Survives}
 use Rattle.filing_model.specs.Outbox.{Entry}
 use Rattle.table_rows.specs.Tables.{no_schema}
 use Rattle.table_rows.specs.Standing.{CommitsNothing}
+use Rattle.table_rows.specs.Statements.{AreCommitted}
 use Rattle.outbox_tables.specs.declared.fault.OutboxFault.{OutboxFault}
 use Rattle.outbox_tables.specs.declared.opening.FoundOutbox.{FoundOutbox}
 use Rattle.outbox_tables.specs.declared.fault.OutboxFault.TheVariants.{BadFiler, Taken}
@@ -17,8 +18,8 @@ use Rattle.outbox_tables.specs.Rows.{IsOutboxOf}
 use Rattle.outbox_tables.specs.Faults.{IsOfMaking, IsOfOpening}
 use Rattle.outbox_core.specs.OutboxParts.{OutboxParts, shows, contents, HandsOut, HasEntries, IsDurableAs}
 use Rattle.outbox_tables.specs.Promises.{ForOutbox}
-use Rattle.outbox_tables.specs.Making.{LeavesMade}
-use Rattle.outbox_tables.specs.Earlier.{ForEarlier, IsAlone, IsEarlierOf, LeavesMigrated}
+use Rattle.outbox_tables.specs.Making.{making, LeavesMade}
+use Rattle.outbox_tables.specs.Earlier.{ForEarlier, IsAlone, IsEarlierOf, IsMigrated, LeavesMigrated}
 use Rattle.outbox_core.specs.Refusals.{GivesBackMaking, GivesBackOpening, GivesBackMigrating, GivesUpMaking}
 use Rattle.outbox_core.specs.Refusals.{GivesUpOpening, GivesUpMigrating}
 
@@ -33,6 +34,8 @@ pub record HandsOutMade {S : Type 0} (g : Ghosts S) (code : List ℕ) (conn : He
   pub bad_filer : (result ≡ Err BadFiler) ↔ (is_filer code ≡ false)
   pub taken : (result ≡ Err Taken) ↔ ((is_filer code ≡ true) × IsTrue (is_taken (state g conn).now.schema))
   pub no_other : IfErr result IsOfMaking
+  -- Whatever tables there were, the four statements, and they alone, were run in one transaction and committed.
+  pub ran : HandsOut g result (λ outbox. AreCommitted g (making code) conn outbox.conn)
   -- Of some last state of the connection, which is given up: `create_or_back` says it of the one that comes back.
   pub refused : IfErr result (GivesUpMaking g code conn)
   -- A crash in the call leaves what one before it could leave, or the outbox with no entry; one after it, that outbox.
@@ -70,10 +73,13 @@ pub record HandsOutMigrated {S : Type 0} (g : Ghosts S) (conn : Held S)
   pub only : HandsOut g result (λ outbox. ForEarlier (state g conn) (λ it. (outbox.filer ≡ it.filer)
       × HasEntries g outbox it.entries))
   pub able : IfOk result (λ outbox. outbox.has_failed ≡ false)
+  -- Whatever tables there were, the filer and the count are those of the rows that were read. Then both statements, and
+  -- they alone, were run in one transaction and committed.
+  pub ran : HandsOut g result (λ outbox. IsMigrated g outbox.filer outbox.count conn outbox.conn)
   -- Of some last state of the connection, which is given up: `migrate_or_back` says it of the one that comes back.
   pub refused : IfErr result (GivesUpMigrating g conn)
   -- A crash in the call leaves what it could leave before, or the migrated rows; one after it, the migrated rows.
-  pub crash : IfOk result (λ outbox. Survives (state g conn) (shows g outbox) (LeavesMigrated (state g conn)))
+  pub crash : IfOk result (λ outbox. Survives (state g conn) (shows g outbox) (LeavesMigrated g conn))
   pub durable : HandsOut g result (λ outbox. (entries : List Entry) → HasEntries g outbox entries
       → IsDurableAs g outbox (contents outbox entries))
 

@@ -1,5 +1,5 @@
 -- What a refusal says of the connection that it gives back, and what is left to say of one that it gives up.
-use Rattle.std.specs.Prelude.{◌≡◌, ◌⊎◌, ℕ, false, List, None, IsTrue}
+use Rattle.std.specs.Prelude.{◌≡◌, ◌≢◌, ◌⊎◌, ℕ, false, List, None, IsTrue}
 use Rattle.sqlite.specs.Store.{Ghosts}
 use Rattle.sqlite.specs.Held.{Held, state}
 use Rattle.sqlite.specs.State.{HasCleanDisk, KeepsCommit, Survives}
@@ -10,7 +10,7 @@ use Rattle.outbox_tables.specs.Audit.{IsRefused}
 use Rattle.outbox_tables.specs.Earlier.{IsEarlierOf, IsNotMigrated, LeavesMigrated, is_blocked}
 use Rattle.outbox_tables.specs.Entries.{Contents}
 use Rattle.outbox_tables.specs.Faults.{IsFailure}
-use Rattle.outbox_tables.specs.Making.{LeavesMade}
+use Rattle.outbox_tables.specs.Making.{LeavesMade, IsNotMade}
 use Rattle.outbox_tables.specs.Promises.{ForOutbox}
 
 -- ---- the connection comes back
@@ -28,6 +28,8 @@ pub record GivesBackMaking {S : Type 0} (g : Ghosts S) (filer : List ℕ) (conn 
   pub unlimited : back.step_limit ≡ None
   pub untouched : (fault ≡ BadFiler) ⊎ (fault ≡ Taken) → back ≡ conn
   pub same : ShowsCommitted g conn back
+  -- Any other refusal has its cause in memory, in a statement or in the commit.
+  pub why : HasCleanDisk (state g back) → fault ≢ BadFiler → fault ≢ Taken → IsNotMade g filer fault conn back
   -- A crash leaves what it could leave before, or what all the statements make of the database.
   pub crash : Survives (state g conn) (state g back) (LeavesMade g filer conn)
 
@@ -54,7 +56,7 @@ pub record GivesBackMigrating {S : Type 0} (g : Ghosts S) (conn : Held S) (fault
   pub sound : HasCleanDisk (state g back) → (it : Contents) → IsEarlierOf it (state g conn).now
       → is_blocked (state g conn).now.schema ≡ false → IsFailure fault
   -- A crash leaves what it could leave before, or the migrated rows.
-  pub crash : Survives (state g conn) (state g back) (LeavesMigrated (state g conn))
+  pub crash : Survives (state g conn) (state g back) (LeavesMigrated g conn)
 
 -- ---- the connection is given up
 

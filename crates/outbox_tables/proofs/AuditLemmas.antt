@@ -1,7 +1,7 @@
 -- The audit of the rows that an opening finds.
 use Rattle.std.proofs.Common.{◌≡◌, ◌<◌, ◌≤◌, ◌^◌, ◌+◌, ℕ, suc, pos, negsuc, Bool, true, false, not, cond, List, [], ◌∷◌}
 use Rattle.std.proofs.Common.{map, filter, length, drop, get_or, nat_eq, le_refl, IsPermutation, nat_le, nat_lt, Option}
-use Rattle.std.proofs.Common.{Some, None, IsSome, refl, sym, ap, ap₂, subst, ◌∙◌, arith, true≢false}
+use Rattle.std.proofs.Common.{Some, None, refl, sym, ap, ap₂, subst, ◌∙◌, arith, true≢false}
 use Rattle.std.specs.Prelude.{◌&&◌, ◌||◌, codes}
 use Rattle.std.specs.List.{AllByRecursion}
 use Rattle.std.proofs.Math.Seq.{drop-cons}
@@ -347,7 +347,3 @@ filer_code form (row ∷ []) filer h =
     go true h = (filer-of (column row 3) filer h).1
     go false h = absurd cc
 filer_code form (row ∷ other ∷ rows) filer h = absurd cc
-
-pub is_some : {X : Type 0} (o : Option X) (x : X) → o ≡ Some x → IsSome o
-is_some None x h = absurd cc
-is_some (Some y) x h = refl

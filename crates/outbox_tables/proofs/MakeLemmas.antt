@@ -1,5 +1,5 @@
 -- The statements that make the tables of an outbox, in turn.
-use Rattle.std.proofs.Common.{◌≡◌, true, ℕ, pos, List, [], ◌∷◌, codes, Ok, refl, ◌∙◌, sym, subst, arith, inl, inr}
+use Rattle.std.proofs.Common.{◌≡◌, true, ℕ, pos, List, [], ◌∷◌, codes, Ok, refl, ◌∙◌, sym, subst, arith}
 use Rattle.std.specs.List.{AllByRecursion}
 use Rattle.key_string.specs.Filer.{is_filer}
 use Rattle.sqlite_tied.specs.Compute.{everything}
@@ -13,16 +13,14 @@ use Rattle.sqlite.specs.Term.{lit, col}
 use Rattle.sqlite.specs.Source.TheVariants.{Values}
 use Rattle.sqlite.specs.Command.TheVariants.{Insert}
 use Rattle.sqlite.specs.Effect.{IsDatabase}
-use Rattle.sqlite.specs.declared.error.Error.{Error}
 use Rattle.sqlite.specs.Store.{Ghosts}
 use Rattle.sqlite.specs.Held.{Held, state}
-use Rattle.sqlite.specs.State.{State, KeepsCommit, IsRolledBack, ExecutesInside}
-use Rattle.sqlite.specs.Steps.{FailsToCommit}
-use Rattle.sqlite.proofs.InsideLemmas.{unchanged_keeps}
-use Rattle.table_rows.proofs.StepLemmas.{keeps_then}
+use Rattle.sqlite.specs.State.{State, KeepsCommit, ExecutesInside}
 use Rattle.sqlite.proofs.Callers.{IsPlain, command_of}
 use Rattle.sqlite_catalog.specs.Listing.{automatic}
 use Rattle.sqlite_schema.specs.declared.schema.Index.{Index}
+use Rattle.table_rows.specs.Standing.{AddsNothing}
+use Rattle.table_rows.specs.Statements.{begun, AreDone, AreTreesOf}
 use Rattle.table_rows.specs.Tables.{no_schema, schema_with, BeginsWith}
 use Rattle.table_rows.specs.Rows.{Gains}
 use Rattle.table_rows.proofs.CreateLemmas.{IsCreation, IsFreshly, creates, none_held}
@@ -30,8 +28,8 @@ use Rattle.table_rows.proofs.GainLemmas.{gained, cast_int}
 use Rattle.table_rows.proofs.InsertLemmas.{inserts}
 use Rattle.outbox_tables.specs.Schema.{outbox_tables, meta_table, entry_table, target_table, IsDeclared}
 use Rattle.outbox_tables.specs.Entries.{IsOutbox, empty}
-use Rattle.outbox_tables.specs.Making.{create_meta, create_entry, create_target, insert_meta, RunsAll, AreMade}
-use Rattle.outbox_tables.specs.Rows.{HasRows, IsOutboxOf, LeavesOutbox, meta_row}
+use Rattle.outbox_tables.specs.Making.{create_meta, create_entry, create_target, insert_meta, making, LeavesMade}
+use Rattle.outbox_tables.specs.Rows.{HasRows, IsOutboxOf, meta_row}
 
 abbrev first_schema : Schema
 first_schema = created no_schema meta_table
@@ -116,28 +114,20 @@ no_entries filer is = record { filer = is; sendable = tt; numbers = tt; distinct
 
 module _ {S : Type 0} (g : Ghosts S) (filer : List ℕ) (old : Held S) (is : is_filer filer ≡ true) where
   -- in a database with no table they are an outbox with no entry
-  pub all_made : (new : Held S) → RunsAll g filer (record old { in_transaction = true }) new
-      → (state g old).now.schema ≡ no_schema → IsOutboxOf (empty filer) (state g new).now
-  all_made new ran none =
+  pub all_made : (last : Held S) → AreDone g (making filer) (begun old) last → (state g old).now.schema ≡ no_schema
+      → IsOutboxOf (empty filer) (state g last).now
+  all_made last (b, p, (c, q, (d, t, (e, r, end)))) none =
       let all =
-      makes_all (state g (record old { in_transaction = true })) (state g ran.first) (state g ran.second)
-      (state g ran.third) (state g new) ran.counts filer ran.meta ran.entry ran.target ran.row none in
-      record { sound = all.1; rows = all.0; list = no_entries filer is }
+      makes_all (state g (begun old)) (state g b) (state g c) (state g d) (state g e) (p.0, q.0, t.0, r.0) filer p.1
+      q.1 t.1 r.1 none in
+      let made : IsOutboxOf (empty filer) (state g e).now =
+      record { sound = all.1; rows = all.0; list = no_entries filer is } in
+      subst (λ h. IsOutboxOf (empty filer) (state g h).now) end made
 
-  pub made_leaves : (trees : Trees) → AreMade g filer old trees → (state g old).now.schema ≡ no_schema
-      → LeavesOutbox (empty filer) trees
-  made_leaves trees made none = record { db = (state g made.0).now; is = made.2; outbox = all_made made.0 made.1 none }
+  pub made_leaves : (trees : Trees) → AreTreesOf g (making filer) old trees → LeavesMade g filer old trees
+  made_leaves trees made =
+      (made, λ none. record { db = (state g made.last).now; is = made.is; outbox = all_made made.last made.done none })
 
--- ---- where they are not made, nothing is committed
-
-pub begun_keeps : {S : Type 0} (g : Ghosts S) (old : Held S) (new : State)
-    → KeepsCommit (state g (record old { in_transaction = true })) new → KeepsCommit (state g old) new
-begun_keeps g old new kept = record { was_open = kept.was_open; committed = kept.committed }
-
-module _ (a b c : State) (kept : KeepsCommit a b) where
-  pub dropped_keeps : IsRolledBack b c → KeepsCommit a c
-  dropped_keeps undone = keeps_then a b c kept (unchanged_keeps b c (inr undone))
-
-  pub commit_keeps : (e : Error) → FailsToCommit b c e → KeepsCommit a c
-  commit_keeps e (inl failed) = dropped_keeps failed.3
-  commit_keeps e (inr late) = keeps_then a b c kept (unchanged_keeps b c (inl late.2))
+-- what adds nothing keeps what was committed
+pub nothing_keeps : {a b : State} → AddsNothing a b → KeepsCommit a b
+nothing_keeps none = record { was_open = none.was_open; committed = none.committed }

@@ -1,5 +1,5 @@
 -- What an opening makes of the rows that it finds.
-use Rattle.std.specs.Prelude.{IsSome, ◌≡◌, ◌≤◌, ◌⊎◌, ⊤, ℕ, suc, pos, ◌^◌, Bool, true, false, not, ◌&&◌, ◌||◌}
+use Rattle.std.specs.Prelude.{◌≡◌, ◌≤◌, ◌⊎◌, ⊤, ℕ, suc, pos, ◌^◌, Bool, true, false, not, ◌&&◌, ◌||◌}
 use Rattle.std.specs.Prelude.{if◌then◌else◌, List, [], ◌∷◌, filter, length, codes, bytes_eq, nat_le, nat_lt, Option}
 use Rattle.std.specs.Prelude.{Some, None}
 use Rattle.std.specs.List.{list_any}
@@ -144,9 +144,13 @@ IsNoOutbox form old new =
     ((rows : List Row) × Shown meta_text [] old new rows × (filer_in form rows ≡ None))
     ⊎ StopsFor Other meta_text old new
 
--- the filer was found in the row of this form
+-- this filer was found in the row of this form
+abbrev pub FindsFiler : ℕ → List ℕ → State → State → Type 0
+FindsFiler form filer old new = (rows : List Row) × Shown meta_text [] old new rows × (filer_in form rows ≡ Some filer)
+
+-- a filer was found in the row of this form
 abbrev pub ReadsFiler : ℕ → State → State → Type 0
-ReadsFiler form old new = (rows : List Row) × Shown meta_text [] old new rows × IsSome (filer_in form rows)
+ReadsFiler form old new = (filer : List ℕ) × FindsFiler form filer old new
 
 -- The row is the first, in the order of the ids and counted from 1, that is not sound or has no sound target. Or it is
 -- 0, and a row of `target` belongs to no entry, or `entry` cannot be read, for another cause than memory or disk.

@@ -1,5 +1,5 @@
 -- What is promised of bringing an outbox from the earlier form into the present one.
-use Rattle.std.specs.Prelude.{◌≡◌, ◌≤◌, ◌^◌, true, false, List, length, Result, IsTrue, IfOk, IfErr, OnOk, string_bytes}
+use Rattle.std.specs.Prelude.{◌≡◌, ◌≤◌, ◌^◌, true, false, List, length, Result, IfOk, IfErr, OnOk, string_bytes}
 use Rattle.key_string.specs.Filer.{is_filer}
 use Rattle.sqlite.specs.Store.{Ghosts}
 use Rattle.sqlite.specs.Held.{Held, state}
@@ -10,7 +10,8 @@ use Rattle.outbox_tables.specs.declared.fault.OutboxFault.{OutboxFault}
 use Rattle.outbox_tables.specs.declared.opening.FoundOutbox.{FoundOutbox}
 use Rattle.outbox_tables.specs.Entries.{Contents, contents_of}
 use Rattle.outbox_tables.specs.Rows.{IsOutboxOf}
-use Rattle.outbox_tables.specs.Earlier.{IsAlone, IsEarlierOf, IsNotMigrated, is_blocked, LeavesMigrated}
+use Rattle.outbox_tables.specs.Earlier.{IsAlone, IsEarlierOf, IsMigrated, IsNotMigrated, is_blocked}
+use Rattle.outbox_tables.specs.Earlier.{LeavesMigrated}
 use Rattle.outbox_tables.specs.Faults.{IsFailure}
 
 -- The outbox that the database held in the earlier form was brought into the present one over a connection, in one
@@ -27,9 +28,12 @@ pub record MigratesOutbox {S : Type 0} (g : Ghosts S) (old new : Held S)
       × IsEarlierOf (contents_of (string_bytes found.filer) entries) (state g old).now
       × HasCommitted (IsOutboxOf (contents_of (string_bytes found.filer) entries)) (state g new)
       × (found.count ≡ length entries))
-  pub «open» : HasCleanDisk (state g new) → OnOk result (IsTrue (state g new).is_open)
   pub code : IfOk result (λ found. is_filer (string_bytes found.filer) ≡ true)
   pub few : IfOk result (λ found. found.count ≤ 2 ^ 62)
+  -- Whatever tables there were, the filer and the count are those of the rows that were read. Then both statements, and
+  -- they alone, were run in one transaction and committed.
+  pub ran : HasCleanDisk (state g new)
+      → IfOk result (λ found. IsMigrated g (string_bytes found.filer) found.count old new)
   -- A refusal says why. If the rows hold an outbox in that form and the name is not in the way, the cause is memory or
   -- the disk. A refusal leaves what was committed.
   pub refused : HasCleanDisk (state g new) → IfErr result (λ fault. IsNotMigrated g fault old new)
@@ -39,5 +43,5 @@ pub record MigratesOutbox {S : Type 0} (g : Ghosts S) (old new : Held S)
       → is_blocked (state g old).now.schema ≡ false → IsFailure fault)
   pub undone : KeepsOnErr (state g old) (state g new) result
   -- A crash in the call leaves what it could leave before, or the migrated rows; one after it, the migrated rows.
-  pub crash : Survives (state g old) (state g new) (LeavesMigrated (state g old))
+  pub crash : Survives (state g old) (state g new) (LeavesMigrated g old)
   pub durable : HasCleanDisk (state g new) → OnOk result (IsLasting (state g new))

@@ -1,28 +1,27 @@
 //! An outbox in the earlier form is brought into the present one.
 
-ghost use Rattle.std.specs.Prelude.{◌≡◌, ◌≤◌, ◌^◌, List, length, true, false, None, IsTrue, IfOk, IfErr, OnOk};
+ghost use Rattle.std.specs.Prelude.{◌≡◌, ◌≤◌, ◌^◌, List, length, true, None, IsTrue, IfOk, IfErr};
 ghost use Rattle.std.specs.Prelude.{string_bytes};
 ghost use Rattle.key_string.specs.Filer.{is_filer};
 ghost use Rattle.filing_model.specs.Outbox.{Entry as Item};
 ghost use Rattle.sqlite.specs.Effect.{IsDatabase};
 ghost use Rattle.sqlite.specs.Held.{state};
-ghost use Rattle.sqlite.specs.State.{HasCleanDisk, Survives};
-ghost use Rattle.table_rows.specs.Leaving.{OnlyReads, OnlyWrites};
-ghost use Rattle.table_rows.specs.Standing.{IsCommitted, IsLasting, KeepsOnErr, IsAtRest};
+ghost use Rattle.sqlite.specs.State.{HasCleanDisk};
+ghost use Rattle.table_rows.specs.Leaving.{OnlyReads};
+ghost use Rattle.table_rows.specs.Standing.{IsAtRest};
 ghost use Rattle.outbox_tables.specs.Schema.{HasCommon};
 ghost use Rattle.outbox_tables.specs.Entries.{Contents, contents_of};
-ghost use Rattle.outbox_tables.specs.Rows.{IsOutboxOf};
-ghost use Rattle.outbox_tables.specs.Earlier.{IsAlone, IsEarlierOf, IsFound, IsNotFound, Raises, LeavesMigrated};
+ghost use Rattle.outbox_tables.specs.Earlier.{IsEarlierOf, IsFound, IsNotFound};
 ghost use Rattle.outbox_tables.specs.Faults.{IsFailure};
 ghost use Rattle.outbox_tables.specs.Migrating.{MigratesOutbox};
 
 use crate::fault::OutboxFault;
 use crate::opening::{FoundOutbox, count_whole, filer_of};
 use crate::schema::create::CREATE_TARGET;
-use sqlite::{Alter, Connection, Error, Transaction};
+use sqlite::{Alter, Connection};
 use sqlite_catalog::layout::is_used;
 use std::alloc::Global;
-use table_rows::{is_settled, run};
+use table_rows::{Statement, is_settled, write_all};
 
 /// Reads the outbox of a database in the earlier form. Nothing is written.
 fn read_earlier<S: Alter>(
@@ -37,7 +36,8 @@ fn read_earlier<S: Alter>(
         × (found.count ≡ length entries)) }
     ensures code { IfOk result (λ found. is_filer (string_bytes found.filer) ≡ true) }
     ensures few { IfOk result (λ found. found.count ≤ 2 ^ 62) }
-    ensures read { HasCleanDisk (state S.Store conn.new) → OnOk result (IsFound S.Store conn.old conn.new) }
+    ensures read { HasCleanDisk (state S.Store conn.new)
+        → IfOk result (λ found. IsFound S.Store (string_bytes found.filer) found.count conn.old conn.new) }
     ensures refused { HasCleanDisk (state S.Store conn.new)
         → IfErr result (λ fault. IsNotFound S.Store fault conn.old conn.new) }
     ensures sound { HasCleanDisk (state S.Store conn.new)
@@ -51,34 +51,6 @@ fn read_earlier<S: Alter>(
 }
 
 const RAISE_FORM: &str = "UPDATE outbox_meta SET form = 2 WHERE id = 1";
-
-/// Makes the table of the targets, and raises the form.
-fn raise<S: Alter>(tx: &mut Transaction<'_, S>) -> Result<(), Error>
-    ensures ran { HasCleanDisk (state S.Store tx.new.conn.now)
-        → OnOk result (Raises S.Store tx.old.conn.now tx.new.conn.now) }
-    ensures leaves { OnlyWrites S.Store tx.old.conn tx.new.conn }
-{
-    run(tx, CREATE_TARGET, &[])?;
-    run(tx, RAISE_FORM, &[])
-}
-
-/// Writes what an outbox in the earlier form lacks, in one transaction.
-fn write<S: Alter>(conn: &mut Connection<S>) -> Result<(), Error>
-    requires autocommit { conn.old.in_transaction ≡ false }
-    ensures autocommit { conn.new.in_transaction ≡ false }
-    ensures migrated { HasCleanDisk (state S.Store conn.new) → (it : Contents)
-        → IsAlone (state S.Store conn.old).now.schema → IsEarlierOf it (state S.Store conn.old).now
-        → OnOk result (IsOutboxOf it (state S.Store conn.new).now) }
-    ensures committed { HasCleanDisk (state S.Store conn.new) → OnOk result (IsCommitted (state S.Store conn.new)) }
-    ensures durable { HasCleanDisk (state S.Store conn.new) → OnOk result (IsLasting (state S.Store conn.new)) }
-    ensures undone { KeepsOnErr (state S.Store conn.old) (state S.Store conn.new) result }
-    ensures crash { Survives (state S.Store conn.old) (state S.Store conn.new)
-        (LeavesMigrated (state S.Store conn.old)) }
-{
-    let mut tx = conn.transaction();
-    raise(&mut tx)?;
-    tx.commit()
-}
 
 /// Brings an outbox from the earlier form into the present one, in one transaction: no entry has a target. What is said
 /// of the new rows holds if the database has no other tables.
@@ -94,6 +66,10 @@ pub fn migrate_outbox<S: Alter>(
     if is_used(conn.schema(), b"target") {
         return Err(OutboxFault::NotOurs);
     }
-    write(conn)?;
+    let statements = [
+        Statement::plain(CREATE_TARGET),
+        Statement::plain(RAISE_FORM),
+    ];
+    write_all(conn, &statements)?;
     Ok(found)
 }

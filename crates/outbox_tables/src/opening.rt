@@ -1,7 +1,7 @@
 //! What an opening finds in a database.
 
 ghost use Rattle.std.specs.Prelude.{◌≡◌, ◌<◌, ◌≤◌, ◌^◌, ◌⊎◌, ◌∷◌, [], ℕ, List, length, IsPermutation, true, None, Err};
-ghost use Rattle.std.specs.Prelude.{IfOk, IfErr, IfSome, OnOk, string_bytes};
+ghost use Rattle.std.specs.Prelude.{IfOk, IfErr, IfSome, string_bytes};
 ghost use Rattle.std.specs.List.{AllByRecursion};
 ghost use Rattle.key_string.specs.Filer.{is_filer};
 ghost use Rattle.filing_model.specs.Outbox.{Entry as Item};
@@ -14,7 +14,7 @@ ghost use Rattle.outbox_tables.specs.Schema.{IsDeclared, HasCommon, meta_table, 
 ghost use Rattle.outbox_tables.specs.Rows.{form_row, entry_rows, target_rows};
 ghost use Rattle.outbox_tables.specs.Faults.{meta_fault, entry_fault, IsFailure, IsDamageOrFailure};
 ghost use Rattle.outbox_tables.specs.Audit.{meta_text, targets_text, entries_text, damaged_row, IsKept, IsPair};
-ghost use Rattle.outbox_tables.specs.Audit.{StopsFor, IsNoOutbox, ReadsFiler, IsDamagedAt, AreDamaged, AreStopped};
+ghost use Rattle.outbox_tables.specs.Audit.{StopsFor, IsNoOutbox, FindsFiler, IsDamagedAt, AreDamaged, AreStopped};
 ghost use Rattle.outbox_tables.specs.Walk.{AreCounted};
 ghost use Rattle.table_rows.specs.declared.cause.Cause.TheVariants as cause;
 ghost use Rattle.outbox_tables.specs.Promises.{ForOutbox};
@@ -66,7 +66,8 @@ pub(crate) fn filer_of<S: Alter>(
         TableHas (state S.Store conn.old).now meta_table (form_row form (string_bytes filer) ∷ [])) }
     ensures code { IfOk result (λ filer. is_filer (string_bytes filer) ≡ true) }
     ensures read { HasCleanDisk (state S.Store conn.new)
-        → OnOk result (ReadsFiler form (state S.Store conn.old) (state S.Store conn.new)) }
+        → IfOk result (λ filer.
+        FindsFiler form (string_bytes filer) (state S.Store conn.old) (state S.Store conn.new)) }
     ensures not_ours { HasCleanDisk (state S.Store conn.new) → result ≡ Err OutboxFault.NotOurs
         → IsNoOutbox form (state S.Store conn.old) (state S.Store conn.new) }
     ensures disk { HasCleanDisk (state S.Store conn.new) → result ≡ Err OutboxFault.Disk
@@ -122,9 +123,9 @@ pub(crate) fn count_whole<S: Alter>(
     ensures damaged { HasCleanDisk (state S.Store conn.new) → (row : _) → result ≡ Err (OutboxFault.Damaged row)
         → IsDamagedAt targets.now row (state S.Store conn.old) (state S.Store conn.new) }
     ensures read { HasCleanDisk (state S.Store conn.new)
-        → OnOk result ((rows : List Stored)
-        × Shown entries_text [] (state S.Store conn.old) (state S.Store conn.new) rows
-        × (damaged_row targets.now rows ≡ None)) }
+        → IfOk result (λ count.
+        (rows : List Stored) × Shown entries_text [] (state S.Store conn.old) (state S.Store conn.new) rows
+        × (damaged_row targets.now rows ≡ None) × (count ≡ length rows)) }
     ensures disk { HasCleanDisk (state S.Store conn.new) → result ≡ Err OutboxFault.Disk
         → StopsFor cause.Disk entries_text (state S.Store conn.old) (state S.Store conn.new) }
     ensures others { IfErr result IsDamageOrFailure }

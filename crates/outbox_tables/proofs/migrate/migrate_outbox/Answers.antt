@@ -1,27 +1,35 @@
-use Rattle.std.proofs.Common.{◌≡◌, inr, true, false, sym, subst, string_bytes, arith, rules}
+use Rattle.std.proofs.Common.{◌≡◌, inl, inr, true, false, refl, sym, subst, ◌∙◌, string_bytes, arith, rules}
 use Rattle.std.proofs.lemmas.Result.{err_from_is_err_and}
 use Rattle.sqlite.specs.Held.{state}
 use Rattle.sqlite.specs.Effect.{Database}
 use Rattle.sqlite.specs.State.{HasCleanDisk}
-use Rattle.sqlite.proofs.StateLemmas.{survives_then}
 use Rattle.table_rows.proofs.LeavingLemmas.{keeps_commit}
-use Rattle.table_rows.specs.Causes.{cause_of}
+use Rattle.table_rows.proofs.StepLemmas.{keeps_then}
+use Rattle.table_rows.specs.Statements.{begun}
 use Rattle.outbox_tables.specs.Entries.{contents_of}
-use Rattle.outbox_tables.specs.Earlier.{IsAlone, IsEarlierOf, is_blocked, LeavesMigrated}
-use Rattle.outbox_tables.proofs.EarlierLemmas.{hindered, alone_common}
+use Rattle.outbox_tables.specs.Rows.{IsOutboxOf}
+use Rattle.outbox_tables.specs.Earlier.{IsAlone, IsEarlierOf, is_blocked}
+use Rattle.outbox_tables.proofs.EarlierLemmas.{alone_common, makes_current, survives_migrating}
+use Rattle.outbox_tables.proofs.MakeLemmas.{nothing_keeps}
 use Rattle.outbox_tables.proofs.migrate.migrate_outbox.Goals as goal
 
 pub returns-then-is_used : goal.returns-then-is_used
 returns-then-is_used g c = record {
   autocommit = c.in_ok-found.ensures.leaves.mode c.requires.autocommit;
   migrated = λ clean alone. tt;
-  «open» = λ clean. tt;
   code = tt;
   few = tt;
+  ran = λ clean. tt;
   refused = λ clean.
       let used : is_blocked (state g.S.Store c.read_earlier.new.conn).now.schema ≡ true = let told =
       rw c.schema.ensures.value at c.if-is_used.ensures in sym told in
-      inr (c.read_earlier.new.conn, c.in_ok-found.ensures.read clean, used);
+      inr (
+        string_bytes c.in_ok-found.found.filer,
+        c.in_ok-found.found.count,
+        c.read_earlier.new.conn,
+        c.in_ok-found.ensures.read clean,
+        inl (refl, used, refl),
+      );
   sound = search rules;
   undone = keeps_commit c.in_ok-found.ensures.leaves;
   crash = search rules;
@@ -29,69 +37,92 @@ returns-then-is_used g c = record {
 }
 
 pub returns : goal.returns
-returns g c = record {
-  autocommit = c.write.ensures.autocommit;
-  migrated = λ clean alone.
-      let was_clean : HasCleanDisk (state g.S.Store c.read_earlier.new.conn) =
-      omega (arith, c.write.ensures.crash.clean) in
-      let found =
-      c.in_ok-found.ensures.found was_clean (alone_common _ alone) (λ alive. (c.is_settled.ensures.live alive).0) in
-      let it = contents_of (string_bytes c.in_ok-found.found.filer) found.0 in
-      let same = sym (c.in_ok-found.ensures.leaves.left was_clean).0.now_is in
-      let still : IsAlone (state g.S.Store c.read_earlier.new.conn).now.schema =
-      subst (λ (d : Database). IsAlone d.schema) same alone in
-      let outbox = c.in_ok-write.ensures.migrated clean it still (subst (IsEarlierOf it) same found.1) in
-      let settled = c.in_ok-write.ensures.committed clean in (
-        found.0,
-        found.1,
-        record {
-          autocommit = c.write.ensures.autocommit;
-          now = λ _. outbox;
-          committed =
-              λ _. settled.1;
-        },
-        found.2,
-      );
-  «open» = λ clean. (c.in_ok-write.ensures.committed clean).0;
-  code = c.in_ok-found.ensures.code;
-  few = c.in_ok-found.ensures.few;
-  refused = λ clean. tt;
-  sound = λ clean. tt;
-  undone = λ clean. tt;
-  crash = search rules;
-  durable = c.in_ok-write.ensures.durable;
-}
+returns g c =
+    let filer = string_bytes c.in_ok-found.found.filer in
+    let count = c.in_ok-found.found.count in
+    let came = c.args.conn.now in
+    let mid = c.read_earlier.new.conn in
+    let end = c.write_all.new.conn in
+    let wrote = rw (c.plain.ensures, c.plain-2.ensures) at c.in_ok-write_all.ensures in
+    let before : HasCleanDisk (state g.S.Store end) → HasCleanDisk (state g.S.Store mid) =
+    λ clean. omega (arith, c.write_all.ensures.crash.clean) in
+    let free : is_blocked (state g.S.Store mid).now.schema ≡ false = let told =
+    rw c.schema.ensures.value at c.if-is_used.ensures in sym told in
+    record {
+      autocommit = c.write_all.ensures.autocommit;
+      migrated = λ clean alone.
+          let done = wrote.written clean in
+          let found =
+          c.in_ok-found.ensures.found (before clean) (alone_common _ alone)
+          (λ alive. (c.is_settled.ensures.live alive).0) in
+          let it = contents_of (string_bytes c.in_ok-found.found.filer) found.0 in
+          let same = sym (c.in_ok-found.ensures.leaves.left (before clean)).0.now_is in
+          let still : IsAlone (state g.S.Store mid).now.schema =
+          subst (λ (d : Database). IsAlone d.schema) same alone in
+          let made =
+          makes_current g.S.Store (begun mid) done.last it done.done still (subst (IsEarlierOf it) same found.1) in
+          let outbox : IsOutboxOf it (state g.S.Store end).now = subst (IsOutboxOf it) (sym done.now_is) made in (
+            found.0,
+            found.1,
+            record {
+              autocommit = c.write_all.ensures.autocommit;
+              now = λ _. outbox;
+              committed = λ _. done.committed_is ∙ sym done.now_is;
+            },
+            found.2,
+          );
+      code = c.in_ok-found.ensures.code;
+      few = c.in_ok-found.ensures.few;
+      ran = λ clean. record {
+        mid = mid;
+        found = c.in_ok-found.ensures.read (before clean);
+        free = free;
+        written = wrote.written clean;
+      };
+      refused = λ clean. tt;
+      sound = λ clean. tt;
+      undone = λ clean. tt;
+      crash =
+          survives_migrating g.S.Store filer count came mid end free
+          (λ clean. (c.in_ok-found.ensures.read clean, (c.in_ok-found.ensures.leaves.left clean).0.now_is))
+          c.in_ok-found.ensures.leaves.survives wrote.crash;
+      durable = wrote.durable;
+    }
 
-pub returns-in_err-write : goal.returns-in_err-write
-returns-in_err-write g c =
-    let told = err_from_is_err_and c.from_residual-in_err-write.result c.from_residual-in_err-write.ensures.1 in
+pub returns-in_err-write_all : goal.returns-in_err-write_all
+returns-in_err-write_all g c =
+    let filer = string_bytes c.in_ok-found.found.filer in
+    let count = c.in_ok-found.found.count in
+    let came = c.args.conn.now in
+    let mid = c.read_earlier.new.conn in
+    let end = c.write_all.new.conn in
+    let wrote = rw (c.plain.ensures, c.plain-2.ensures) at c.in_err-write_all.ensures in
+    let before : HasCleanDisk (state g.S.Store end) → HasCleanDisk (state g.S.Store mid) =
+    λ clean. omega (arith, c.write_all.ensures.crash.clean) in
+    let free : is_blocked (state g.S.Store mid).now.schema ≡ false = let told =
+    rw c.schema.ensures.value at c.if-is_used.ensures in sym told in
+    let told =
+    err_from_is_err_and c.from_residual-in_err-write_all.result c.from_residual-in_err-write_all.ensures.1 in
     rw (told.1, told.2) (record {
-      autocommit = c.write.ensures.autocommit;
+      autocommit = c.write_all.ensures.autocommit;
       migrated = λ clean alone. tt;
-      «open» = λ clean. tt;
       code = tt;
       few = tt;
-      refused = λ clean.
-          let was_clean : HasCleanDisk (state g.S.Store c.read_earlier.new.conn) =
-          omega (arith, c.write.ensures.crash.clean) in
-          let free : is_blocked (state g.S.Store c.read_earlier.new.conn).now.schema ≡ false = let told =
-          rw c.schema.ensures.value at c.if-is_used.ensures in sym told in
-          inr (
-            c.read_earlier.new.conn,
-            c.in_ok-found.ensures.read was_clean,
-            hindered g.S.Store (cause_of c.in_err-write.field-0.0) c.read_earlier.new.conn free,
-          );
+      ran = λ clean. tt;
+      refused = λ clean. inr (
+        filer,
+        count,
+        mid,
+        c.in_ok-found.ensures.read (before clean),
+        inr (free, c.in_err-write_all.field-0.0, refl, wrote.undone clean),
+      );
       sound = search rules;
-      undone = search rules;
+      undone = λ clean.
+          keeps_then (state g.S.Store came) (state g.S.Store mid) (state g.S.Store end)
+          (keeps_commit c.in_ok-found.ensures.leaves (before clean)) (nothing_keeps (wrote.neither clean));
       crash =
-          let old = state g.S.Store c.args.conn.now in
-          let mid = state g.S.Store c.read_earlier.new.conn in
-          let new = state g.S.Store c.write.new.conn in
-          survives_then old mid new (λ _. ⊥) (LeavesMigrated mid) (LeavesMigrated old) (λ clean trees none. absurd none)
-          (λ clean trees left it alone is.
-          let was_clean : HasCleanDisk mid = omega (arith, c.write.ensures.crash.clean) in
-          let same = sym (c.in_ok-found.ensures.leaves.left was_clean).0.now_is in
-          left it (subst (λ (d : Database). IsAlone d.schema) same alone) (subst (IsEarlierOf it) same is))
-          c.in_ok-found.ensures.leaves.survives c.write.ensures.crash;
+          survives_migrating g.S.Store filer count came mid end free
+          (λ clean. (c.in_ok-found.ensures.read clean, (c.in_ok-found.ensures.leaves.left clean).0.now_is))
+          c.in_ok-found.ensures.leaves.survives wrote.crash;
       durable = λ clean. tt;
     })

@@ -43,7 +43,7 @@ pub returns-clause-read : goal.returns-clause-read
 returns-clause-read g c clean =
     let was_clean = clean_before c.count_whole.ensures.leaves clean in
     let two = c.in_ok-count.ensures.read clean in
-    (c.filer_of.new.conn, c.in_ok-filer.ensures.read was_clean, two.0, two.1, two.2)
+    (c.filer_of.new.conn, c.in_ok-filer.ensures.read was_clean, two.0, two.1, two.2, two.3)
 
 pub returns-in_err-count-clause-refused : goal.returns-in_err-count-clause-refused
 returns-in_err-count-clause-refused g c clean =
@@ -51,7 +51,7 @@ returns-in_err-count-clause-refused g c clean =
     let was_clean = clean_before c.count_whole.ensures.leaves clean in
     rw (told.1, told.2)
     (not_found_later g.S.Store c.in_err-count.field-0.0 c.args.conn.now c.filer_of.new.conn c.count_whole.new.conn
-    (c.in_ok-filer.ensures.read was_clean) c.in_err-count.ensures.others
+    (_, c.in_ok-filer.ensures.read was_clean) c.in_err-count.ensures.others
     (λ row is. c.in_err-count.ensures.damaged clean row (ap Err is))
     (λ is. c.in_err-count.ensures.disk clean (ap Err is)))
 

@@ -39,11 +39,13 @@ returns-clause-whole g c clean entries common held kept same unlimited =
     rw c.entry_fault.ensures (unlisted (cause_of c.in-Err.error) readable)
 
 pub returns-in-None-clause-read : goal.returns-in-None-clause-read
-returns-in-None-clause-read g c clean = (
-  c.in-Ok.rows.items,
-  c.in-Ok.ensures.shown clean,
-  rw c.as_slice.ensures.value at (sym c.in_ok-damaged_row-in-Ok.ensures ∙ c.in-None.is),
-)
+returns-in-None-clause-read g c clean =
+    let counted : c.len.result ≡ length c.in-Ok.rows.items = search rules in (
+      c.in-Ok.rows.items,
+      c.in-Ok.ensures.shown clean,
+      rw c.as_slice.ensures.value at (sym c.in_ok-damaged_row-in-Ok.ensures ∙ c.in-None.is),
+      counted,
+    )
 
 pub returns-in-Ok-clause-damaged : goal.returns-in-Ok-clause-damaged
 returns-in-Ok-clause-damaged g c clean row is =

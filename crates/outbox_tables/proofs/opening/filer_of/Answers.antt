@@ -5,7 +5,7 @@ use Rattle.table_rows.specs.Rows.{TableHas}
 use Rattle.outbox_tables.specs.Schema.{meta_table}
 use Rattle.outbox_tables.specs.Rows.{form_row}
 use Rattle.outbox_tables.specs.Audit.{filer_in}
-use Rattle.outbox_tables.proofs.AuditLemmas.{filer_found, filer_code, is_some}
+use Rattle.outbox_tables.proofs.AuditLemmas.{filer_found, filer_code}
 use Rattle.table_rows.specs.Causes.{cause_of}
 use Rattle.outbox_tables.specs.declared.fault.OutboxFault.TheVariants as fault
 use Rattle.table_rows.proofs.LeavingLemmas.{ended}
@@ -36,8 +36,11 @@ returns-in-Some-clause-code g c =
 pub returns-in-Some-clause-read : goal.returns-in-Some-clause-read
 returns-in-Some-clause-read g c clean =
     let some : filer_in c.args.form c.in-Ok.rows.items ≡ Some c.in-Some.filer.now =
-    rw c.as_slice.ensures.value at (sym c.filer_in.ensures ∙ ap (option_map (λ f. f.now)) c.in-Some.is) in
-    (c.in-Ok.rows.items, c.in-Ok.ensures.shown clean, is_some _ _ some)
+    rw c.as_slice.ensures.value at (sym c.filer_in.ensures ∙ ap (option_map (λ f. f.now)) c.in-Some.is) in (
+      c.in-Ok.rows.items,
+      c.in-Ok.ensures.shown clean,
+      subst (λ f. filer_in c.args.form c.in-Ok.rows.items ≡ Some f) (sym c.in_ok-from_str-in-Some.ensures.ok) some,
+    )
 
 pub returns-in-Ok-clause-ours : goal.returns-in-Ok-clause-ours
 returns-in-Ok-clause-ours g c clean filer common held is unlimited =

@@ -71,7 +71,7 @@ returns-in_err-count g c =
       refused = λ clean.
           let was_clean = clean_before c.count_all.ensures.leaves clean in
           refused_later g.S.Store c.in_err-count.field-0.0 c.args.conn.now c.filer_of.new.conn c.count_all.new.conn
-          (c.in_ok-filer.ensures.read was_clean) c.in_err-count.ensures.others
+          (_, c.in_ok-filer.ensures.read was_clean) c.in_err-count.ensures.others
           (λ row is. c.in_err-count.ensures.damaged clean row (ap Err is))
           (λ is. c.in_err-count.ensures.disk clean (ap Err is));
       sound = λ clean it is.

@@ -10,7 +10,7 @@ returns-in-Ok g c = record {
   outcome = record {
     made = λ clean none.
         let made = c.in-Ok.ensures.made clean none in
-        let settled = c.in-Ok.ensures.committed clean in
+        let ran = c.in-Ok.ensures.ran clean in
         let outbox =
         subst (λ filer. IsOutboxOf (empty filer) (state g.S.Store c.make_outbox.new.conn).now)
         (sym c.in-Ok.ensures.code) made in
@@ -19,7 +19,7 @@ returns-in-Ok g c = record {
             autocommit = c.make_outbox.ensures.autocommit;
             now = λ _. outbox;
             committed =
-                λ _. settled.1;
+                λ _. ran.committed_is ∙ sym ran.now_is;
           };
           count = refl;
         };
@@ -27,11 +27,12 @@ returns-in-Ok g c = record {
     bad_filer = search rules;
     taken = search rules;
     no_other = search rules;
+    ran = c.in-Ok.ensures.ran;
     refused = search rules;
     crash = search rules;
     durable =
         λ clean none. (
-          (c.in-Ok.ensures.committed clean).0,
+          (c.in-Ok.ensures.ran clean).is_open,
           λ trees left. record {
             db = _;
             is = c.in-Ok.ensures.durable clean trees left;
@@ -56,6 +57,7 @@ returns-in-Err g c =
           λ which. c.in-Err.ensures.untouched (elim which
           [ inl bad ↦ inl (ap Err bad) | inr taken ↦ inr (ap Err taken) ]);
       same = λ clean. (kept clean, λ alive. settled alive ∙ (kept clean).committed alive);
+      why = c.in-Err.ensures.failed;
       crash = crash;
     } in
     record {
@@ -65,6 +67,7 @@ returns-in-Err g c =
         bad_filer = search rules;
         taken = search rules;
         no_other = search rules;
+        ran = tt;
         refused = (c.make_outbox.new.conn, back);
         crash = search rules;
         durable = search rules;
