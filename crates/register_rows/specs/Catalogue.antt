@@ -1,5 +1,5 @@
 -- The filings of a register: the place of each one's request, and what a list shows of it.
-use Rattle.std.specs.Prelude.{◌≡◌, ◌<◌, ◌+◌, ℕ, zero, suc, List, [], ◌∷◌, ◌++◌, length, map, Option, Some, None}
+use Rattle.std.specs.Prelude.{◌≡◌, ◌≤◌, ◌+◌, ℕ, zero, suc, List, [], ◌∷◌, ◌++◌, length, map, Option, Some, None}
 use Rattle.std.specs.Prelude.{slice_get, vec_len}
 use Rattle.std.specs.Vec.{vec_capacity}
 use Rattle.xbrl_report.specs.ReportParts.{fact_count}
@@ -86,6 +86,6 @@ view_line line =
 abbrev pub view_lines : Catalogue → List Entry
 view_lines catalogue = map view_line catalogue.lines.items
 
--- there is room for one filing more
-abbrev pub HasRoom : Catalogue → Type 0
-HasRoom catalogue = vec_len catalogue.lines < vec_capacity catalogue.lines
+-- there is room for so many filings more
+abbrev pub HasRoom : ℕ → Catalogue → Type 0
+HasRoom count catalogue = vec_len catalogue.lines + count ≤ vec_capacity catalogue.lines

@@ -1,6 +1,6 @@
 //! The filings of a register, by number: the place of each one's request, and what a list shows of it.
 
-ghost use Rattle.std.specs.Prelude.{◌≡◌, ◌++◌, ◌∷◌, [], List, length, option_map, OnOk};
+ghost use Rattle.std.specs.Prelude.{◌≡◌, ◌++◌, ◌∷◌, [], ℕ, suc, List, length, option_map, OnOk};
 ghost use Rattle.filing_model.specs.Request.{Request};
 ghost use Rattle.filing_model.specs.Register.{judged, kept};
 ghost use Rattle.register_rows.specs.Catalogue.{HasRoom, IsRegisteredNext, catalogue_of, entries_among, entry_numbered};
@@ -89,19 +89,20 @@ impl Catalogue {
         self.lines.get((number - 1) as usize)
     }
 
-    /// Makes room for one filing more. Whether there is room or not, the filings stay.
-    pub fn reserve(&mut self) -> Result<(), AllocError>
-        ensures room { OnOk result (HasRoom self.new) }
+    /// Makes room for so many filings more. Whether there is room or not, the filings stay.
+    pub fn reserve(&mut self, count: usize) -> Result<(), AllocError>
+        ensures room { OnOk result (HasRoom count self.new) }
         ensures same { view_lines self.new ≡ view_lines self.old }
     {
-        self.lines.reserve(1)
+        self.lines.reserve(count)
     }
 
     /// Adds the next filing, which has this place and so many facts, and replaces the filing with this number, if it
     /// replaces one.
     pub fn note(&mut self, seq: u64, facts: u64, target: Option<u64>)
-        requires { HasRoom self.old }
-        ensures { (F : List Request) (r : Request) → view_lines self.old ≡ catalogue_of F
+        requires { HasRoom 1 self.old }
+        ensures room { (count : ℕ) → HasRoom (suc count) self.old → HasRoom count self.new }
+        ensures lines { (F : List Request) (r : Request) → view_lines self.old ≡ catalogue_of F
             → IsRegisteredNext (kept F) r seq facts target
             → view_lines self.new ≡ entries_among (kept F ++ judged (kept F) r ∷ []) }
     {

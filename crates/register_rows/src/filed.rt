@@ -69,7 +69,7 @@ impl Filed {
             → IsRegisteredNext (kept F) r seq facts target
             → OnOk result (AreFiled (kept F ++ judged (kept F) r ∷ []) self.new) }
     {
-        self.catalogue.reserve()?;
+        self.catalogue.reserve(1)?;
         let filer = String::from_str(alloc, filer)?;
         self.filers.push(filer)?;
         self.catalogue.note(seq, facts, target);

@@ -1,4 +1,5 @@
 pub mod Adding
+pub mod AddsSeveral
 pub mod CatalogueLemmas
 pub mod FactLemmas
 pub mod FiledRows
@@ -15,5 +16,6 @@ pub mod OwnRows
 pub mod ReadLemmas
 pub mod ReadTexts
 pub mod ReplaceLemmas
+pub mod SeveralLemmas
 pub mod StoreLemmas
 pub mod Texts

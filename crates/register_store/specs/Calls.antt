@@ -1,7 +1,8 @@
 -- What the calls of a store do.
-use Rattle.std.specs.Prelude.{◌≡◌, ◌↔◌, ◌+◌, ◌++◌, ◌∷◌, [], ℕ, List, take, option_map, Option, Result, Err, IsTrue}
-use Rattle.std.specs.Prelude.{IfOk, IfErr, IfSome, OnOk, OnErr}
+use Rattle.std.specs.Prelude.{◌≡◌, ◌↔◌, ◌+◌, ◌++◌, ◌∷◌, [], ℕ, List, take, map, length, option_map, Option, Result, Ok, Err}
+use Rattle.std.specs.Prelude.{Vec, IsTrue, IfOk, IfErr, IfSome, OnOk, OnErr}
 use Rattle.std.specs.Result.{result_map_both}
+use Rattle.std.specs.declared.alloc.Global.{Global}
 use Rattle.sqlite.specs.Store.{Ghosts}
 use Rattle.sqlite.specs.Held.{Held, state}
 use Rattle.sqlite.specs.State.{IsUnchanged, Survives}
@@ -21,12 +22,13 @@ use Rattle.register_store.specs.declared.outcome.KeptRow.{KeptRow}
 use Rattle.register_store.specs.declared.outcome.NewRow.{NewRow}
 use Rattle.filing_model.specs.declared.outcome.Outcome.{Outcome}
 use Rattle.register_tables.specs.Earlier.{IsAlone, IsEarlierOf, ForEarlier}
-use Rattle.register_store.specs.Outcomes.{kept_as}
+use Rattle.register_store.specs.NewRows.{AreNew, request_of}
+use Rattle.register_store.specs.Outcomes.{kept_as, outcomes_behind}
 use Rattle.register_tables.specs.Refusals.{GivesBackMaking, GivesBackMigrating, GivesBackOpening, GivesUpMaking}
 use Rattle.register_tables.specs.Refusals.{GivesUpMigrating, GivesUpOpening}
 use Rattle.register_rows.specs.Schema.{is_taken, IsDeclared}
-use Rattle.register_store.specs.Store.{StoreParts, shows, ForNew, ForRequests, HandsOut, HasRequests, IsDurableAs}
-use Rattle.register_store.specs.Store.{SurvivesAs}
+use Rattle.register_store.specs.Store.{StoreParts, shows, ForNew, ForRequests, HandsOut, HasRequests}
+use Rattle.register_store.specs.Store.{IsDurableAs, SurvivesAs}
 use Rattle.register_tables.specs.Registers.{ForRows, IsRegisterOf, LeavesRegister}
 
 -- ---- a store is handed out
@@ -148,3 +150,43 @@ pub record AddsRequest {S : Type 0} (g : Ghosts S) (row : NewRow) (old new : Sto
   pub durable : ForRequests g old new (λ F. ForNew F (the_request row.filer.now row.key.now row.target row.body.now)
       row.judged.now (λ r.
       OnOk result (IsDurableAs g new old.old_style (F ++ r ∷ []))))
+
+-- What `add_all` does with requests, in one transaction: all are kept, in order, or none. What is said of rows holds if
+-- each request is new after the kept ones and those before it, and was judged after these.
+pub record AddsRequests {S : Type 0} (g : Ghosts S) (rows : List NewRow) (old new : StoreParts S)
+    (result : Result (Vec Outcome Global) StoreFault) : Type 0 where
+  pub added : ForRequests g old new (λ F. AreNew F rows → IfOk result (λ outcomes.
+      (map view_outcome outcomes.items ≡ outcomes_behind F (map request_of rows))
+      × HasRequests g new (F ++ map request_of rows)))
+  -- A refusal changes nothing.
+  pub same : ForRequests g old new (λ F. OnErr result (HasRequests g new F))
+  pub each : IfOk result (λ outcomes. length outcomes.items ≡ length rows)
+  pub count : OnOk result (new.kept ≡ old.kept + length rows)
+  pub counts : OnErr result ((new.kept ≡ old.kept) × (new.filings ≡ old.filings))
+  pub old_style : new.old_style ≡ old.old_style
+  -- A crash in the call leaves what one before it could leave, or the rows with all these requests, and never with some
+  -- of them; one after Ok, these rows.
+  pub crash : SurvivesAs g old new (λ F trees. AreNew F rows
+      → LeavesRegister old.old_style (F ++ map request_of rows) trees)
+  pub durable : ForRequests g old new (λ F. AreNew F rows
+      → OnOk result (IsDurableAs g new old.old_style (F ++ map request_of rows)))
+
+-- the one outcome of several, or the same fault
+abbrev pub IsOnly : Result (Vec Outcome Global) StoreFault → Result Outcome StoreFault → Type 0
+IsOnly (Ok outcomes) (Ok outcome) = outcomes.items ≡ outcome ∷ []
+IsOnly (Ok outcomes) (Err fault) = ⊥
+IsOnly (Err other) (Ok outcome) = ⊥
+IsOnly (Err other) (Err fault) = other ≡ fault
+
+-- What `keep` does for both, whatever their outcomes are: the clauses are those of `AddsRequests`.
+pub record KeepsRows {S : Type 0} (g : Ghosts S) (rows : List NewRow) (old new : StoreParts S)
+    (result : Result (Unit {0}) StoreFault) : Type 0 where
+  pub added : ForRequests g old new (λ F. AreNew F rows → OnOk result (HasRequests g new (F ++ map request_of rows)))
+  pub same : ForRequests g old new (λ F. OnErr result (HasRequests g new F))
+  pub count : OnOk result (new.kept ≡ old.kept + length rows)
+  pub counts : OnErr result ((new.kept ≡ old.kept) × (new.filings ≡ old.filings))
+  pub old_style : new.old_style ≡ old.old_style
+  pub crash : SurvivesAs g old new (λ F trees. AreNew F rows
+      → LeavesRegister old.old_style (F ++ map request_of rows) trees)
+  pub durable : ForRequests g old new (λ F. AreNew F rows
+      → OnOk result (IsDurableAs g new old.old_style (F ++ map request_of rows)))

@@ -1,5 +1,5 @@
--- What is written for a request that is to be kept.
-use Rattle.std.specs.Prelude.{◌≡◌, ℕ, false, Option, List, [], ◌∷◌, ◌++◌, Result, IsTrue, OnOk, OnErr}
+-- What is written for requests that are to be kept.
+use Rattle.std.specs.Prelude.{◌≡◌, ℕ, ◌+◌, false, Option, List, [], ◌∷◌, ◌++◌, Result, IsTrue, IfOk, OnOk, OnErr}
 use Rattle.std.specs.Borrow.{MutBor}
 use Rattle.sqlite.specs.Store.{Ghosts}
 use Rattle.sqlite.specs.Held.{Held, state}
@@ -15,7 +15,7 @@ use Rattle.filing_model.specs.Views.{the_request}
 use Rattle.table_rows.specs.Leaving.{OnlyWrites}
 use Rattle.table_rows.specs.Standing.{IsLasting, AddsNothing}
 use Rattle.register_store.specs.declared.outcome.NewRow.{NewRow}
-use Rattle.register_store.specs.Outcomes.{kept_new}
+use Rattle.register_store.specs.Outcomes.{kept_new, number_after, number_past}
 use Rattle.register_rows.specs.Schema.{IsDeclared}
 use Rattle.register_rows.specs.Register.{HasRows, kept_row, finding_rows, filing_rows, fact_rows, amends_rows}
 use Rattle.register_tables.specs.Gains.{GainsRows}
@@ -44,17 +44,30 @@ AddsAs seq target row outcome old new result =
       outcome = outcome;
     }) old new)
 
--- the tables gained these rows, and that is committed
-pub record Adds (seq : ℕ) (k : Kept) (old new : State) : Type 0 where
+-- the tables gain the rows of these requests, one behind another, from this place and this number on
+abbrev pub AddsAll : ℕ → ℕ → List NewRow → Database → Database → Type 0
+AddsAll seq number [] old new = new ≡ old
+AddsAll seq number (row ∷ rows) old new =
+    (mid : Database) × IsKey row.key.now × AddsRows seq (kept_new number row) old mid
+    × AddsAll (seq + 1) (number_after number row) rows mid new
+
+-- they gain them inside a transaction, which goes on
+pub record AddsAllInside (seq number : ℕ) (rows : List NewRow) (old new : State) : Type 0 where
+  pub adds : AddsAll seq number rows old.now new.now
+  pub inside : IsTrue new.in_transaction
+  pub committed : new.committed ≡ old.committed
+
+-- the tables gained them, and that is committed
+pub record Adds (seq number : ℕ) (rows : List NewRow) (old new : State) : Type 0 where
   pub was_open : IsTrue old.is_open
   pub is_open : IsTrue new.is_open
-  pub adds : AddsRows seq k old.now new.now
+  pub adds : AddsAll seq number rows old.now new.now
   pub committed : new.committed ≡ new.now
 
--- the trees are those of a database to which the request was added
-pub record AddsTo (seq : ℕ) (k : Kept) (old : Database) (trees : Trees) : Type 0 where
+-- the trees are those of a database to which all these requests were added
+pub record AddsTo (seq number : ℕ) (rows : List NewRow) (old : Database) (trees : Trees) : Type 0 where
   pub db : Database
-  pub adds : AddsRows seq k old db
+  pub adds : AddsAll seq number rows old db
   pub is : trees ≡ db.trees
 
 -- What writing one row inside a transaction does.
@@ -66,15 +79,17 @@ pub record InsertsRow {S : Type 0} (g : Ghosts S) (table : Table) (row : Row) (o
   pub gains : HasCleanDisk (state g new.now)
       → OnOk result (GainsRows table (row ∷ []) (state g old.now) (state g new.now))
 
--- What keeping a request at its place does, in one transaction, if the next filing has this number.
-pub record KeepsRequest {S : Type 0} (g : Ghosts S) (seq number : ℕ) (row : NewRow) (old new : Held S)
-    (result : Result (Unit {0}) Error) : Type 0 where
-  pub key : IsKey row.key.now
+-- What keeping requests from this place on does, in one transaction, if the next filing has this number: all are kept,
+-- one behind another, or none.
+pub record KeepsAll {S : Type 0} (g : Ghosts S) (seq number : ℕ) (rows : List NewRow) (old new : Held S)
+    (result : Result ℕ Error) : Type 0 where
+  -- an answer is the number of the next filing after them
+  pub next : IfOk result (λ n. n ≡ number_past number rows)
   pub autocommit : new.in_transaction ≡ false
   -- after an answer the rows are there, and a crash leaves them
-  pub adds : HasCleanDisk (state g new) → OnOk result (Adds seq (kept_new number row) (state g old) (state g new))
+  pub adds : HasCleanDisk (state g new) → OnOk result (Adds seq number rows (state g old) (state g new))
   pub durable : HasCleanDisk (state g new) → OnOk result (IsLasting (state g new))
   -- a refusal wrote nothing
   pub neither : HasCleanDisk (state g new) → OnErr result (AddsNothing (state g old) (state g new))
-  -- a crash leaves what one before the call could leave, or the rows with this request
-  pub crash : Survives (state g old) (state g new) (AddsTo seq (kept_new number row) (state g old).now)
+  -- a crash leaves what one before the call could leave, or the rows with all these requests, and never with some
+  pub crash : Survives (state g old) (state g new) (AddsTo seq number rows (state g old).now)

@@ -7,6 +7,7 @@ mod catalogue;
 mod columns;
 mod decode;
 mod kept_body;
+pub mod laws;
 mod outcome;
 mod rows;
 mod select;

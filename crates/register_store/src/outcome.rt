@@ -1,8 +1,9 @@
 //! What becomes of the first request of a filer and key, and what is kept of it.
 
-ghost use Rattle.std.specs.Prelude.{◌≡◌, IfOk};
+ghost use Rattle.std.specs.Prelude.{◌≡◌, ◌<◌, ◌^◌, ◌+◌, ℕ, length, map, IfOk};
 ghost use Rattle.filing_model.specs.Views.{view_outcome};
 ghost use Rattle.register_rows.specs.Outcomes.{outcome_of, filings_by};
+ghost use Rattle.register_store.specs.Outcomes.{outcomes_from};
 
 use crate::kept_body::KeptBody;
 use filing_model::{Outcome, Style};
@@ -41,12 +42,32 @@ pub(crate) fn outcome_of(alloc: Global, judged: &Judged, number: u64) -> Result<
     }
 }
 
-/// How many filings an outcome is: one, or none.
-pub(crate) fn filings_by(outcome: &Outcome) -> u64
-    ensures { result ≡ filings_by (view_outcome outcome.now) }
+/// How many filings a report is that was judged so: one, or none.
+pub(crate) fn filings_of(judged: &Judged) -> u64
+    ensures count { (number : ℕ) → result ≡ filings_by (outcome_of number judged.now) }
+    ensures few { result < 2 }
 {
-    match outcome {
-        Outcome::Registered(_) => 1,
-        Outcome::Refused(_) => 0,
+    match judged {
+        Judged::Valid(_) => 1,
+        Judged::Refused(_) => 0,
     }
+}
+
+/// What becomes of the reports of these rows, one behind another, if the next filing has this number.
+pub(crate) fn outcomes_of(
+    alloc: Global,
+    rows: &[NewRow<'_>],
+    number: u64,
+) -> Result<Vec<Outcome>, AllocError>
+    requires { number + length rows.now < 2 ^ 63 }
+    ensures { IfOk result (λ outcomes. map view_outcome outcomes.items ≡ outcomes_from number rows.now) }
+{
+    let mut outcomes = Vec::new(alloc);
+    let mut next = number;
+    'each: for row in rows {
+        let outcome = outcome_of(alloc, row.judged, next)?;
+        outcomes.push(outcome)?;
+        next += filings_of(row.judged);
+    }
+    Ok(outcomes)
 }

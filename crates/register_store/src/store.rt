@@ -1,20 +1,21 @@
 //! The store of a register: its connection, and how much it holds.
 
-ghost use Rattle.std.specs.Prelude.{◌≡◌, ◌≤◌, ◌<◌, ◌^◌, true, length, Ok};
+ghost use Rattle.std.specs.Prelude.{◌≡◌, ◌≤◌, ◌<◌, ◌^◌, ◌+◌, All, true, length, Ok};
 ghost use Rattle.key_string.specs.Filer.{is_filer};
 ghost use Rattle.http_messages.specs.Head.{max_body_len};
 ghost use Rattle.http_messages.specs.Posting.{IsTarget};
 ghost use Rattle.xbrl_report.specs.Judgement.{HasFacts};
-ghost use Rattle.register_store.specs.Calls.{AddsRequest, CreatesOrGivesBack, CreatesStore, FindsRow};
+ghost use Rattle.register_store.specs.Calls.{AddsRequest, AddsRequests, CreatesOrGivesBack, CreatesStore, FindsRow, KeepsRows};
 ghost use Rattle.register_store.specs.Calls.{MigratesOrGivesBack, MigratesStore, OpensOrGivesBack, OpensStore};
+ghost use Rattle.register_store.specs.NewRows.{IsKeepable};
 ghost use Rattle.table_rows.specs.Standing.{IsAtRest};
 
 pub(crate) mod files;
 
-use crate::catalogue::note;
-use crate::outcome::{KeptRow, NewRow, filings_by, outcome_of};
+use crate::catalogue::note_all;
+use crate::outcome::{KeptRow, NewRow, outcome_of, outcomes_of};
 use crate::select::found::find_kept;
-use crate::write::keep;
+use crate::write::keep_all;
 use filing_model::Outcome;
 use key_string::KeyText;
 use register_rows::Catalogue;
@@ -24,6 +25,7 @@ use register_tables::{
 use sqlite::{Alter, Connection};
 use std::alloc::Global;
 use std::marker::Model;
+use std::slice::from_ref;
 use table_rows::StoreFault;
 
 /// The register of a connection: the first request of each filer and key with its outcome, for good. The catalogue of
@@ -218,14 +220,38 @@ impl<S: Alter> Store<S> {
         requires few { self.old.kept < 2 ^ 62 }
         ensures { AddsRequest S.Store row.now self.old self.new result }
     {
-        self.catalogue.reserve()?;
-        let number = self.filings + 1;
-        let outcome = outcome_of(self.alloc, row.judged, number)?;
-        keep(&mut self.conn, self.kept + 1, number, row)?;
-        self.kept += 1;
-        self.filings += filings_by(&outcome);
-        note(&mut self.catalogue, self.kept, row);
+        let outcome = outcome_of(self.alloc, row.judged, self.filings + 1)?;
+        self.keep(from_ref(row))?;
         Ok(outcome)
+    }
+
+    /// Keeps requests, in one transaction, and answers their outcomes, in order: all are kept, one behind another, or
+    /// none. What the clauses say of the rows holds if each filer and key are kept neither yet nor by a row before, and
+    /// if each report was judged by whether the filing that it is to replace, if any, is free after the kept requests
+    /// and the rows before it.
+    pub fn add_all(&mut self, rows: &[NewRow<'_>]) -> Result<Vec<Outcome>, StoreFault>
+        requires rows { All IsKeepable rows.now }
+        requires few { self.old.kept + length rows.now ≤ 2 ^ 62 }
+        ensures { AddsRequests S.Store rows.now self.old self.new result }
+    {
+        let outcomes = outcomes_of(self.alloc, rows, self.filings + 1)?;
+        self.keep(rows)?;
+        Ok(outcomes)
+    }
+
+    /// Keeps requests one behind another, in one transaction, and notes their filings. The catalogue gets its room
+    /// before, so that nothing fails after the commit.
+    fn keep(&mut self, rows: &[NewRow<'_>]) -> Result<(), StoreFault>
+        requires rows { All IsKeepable rows.now }
+        requires few { self.old.kept + length rows.now ≤ 2 ^ 62 }
+        ensures { KeepsRows S.Store rows.now self.old self.new result }
+    {
+        self.catalogue.reserve(rows.len())?;
+        let next = keep_all(&mut self.conn, self.kept + 1, self.filings + 1, rows)?;
+        note_all(&mut self.catalogue, self.kept + 1, rows);
+        self.kept += rows.len() as u64;
+        self.filings = next - 1;
+        Ok(())
     }
 
     /// How many requests are kept.

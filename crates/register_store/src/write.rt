@@ -1,7 +1,8 @@
-//! A request is kept: its row, and those of its findings or of its filing and its facts, in one transaction.
+//! Requests are kept, in one transaction: the row of each, and those of its findings or of its filing and its facts.
 
-ghost use Rattle.std.specs.Prelude.{◌≡◌, ◌<◌, ◌^◌, ◌-◌, false, None, Some};
+ghost use Rattle.std.specs.Prelude.{◌≡◌, ◌<◌, ◌^◌, ◌+◌, All, false, length, None, Some, IsTrue, IfOk, OnOk};
 ghost use Rattle.sqlite.specs.Held.{state};
+ghost use Rattle.sqlite.specs.State.{HasCleanDisk};
 ghost use Rattle.key_string.specs.Key.{IsKey};
 ghost use Rattle.http_messages.specs.Posting.{IsTarget};
 ghost use Rattle.xbrl_report.specs.Judgement.{HasFacts};
@@ -9,9 +10,11 @@ ghost use Rattle.xbrl_report.specs.ReportParts.{facts as facts_of};
 ghost use Rattle.filing_model.specs.Register.{Outcome};
 ghost use Rattle.register_rows.specs.Outcomes.{outcome_of};
 ghost use Rattle.table_rows.specs.Leaving.{OnlyWrites};
-ghost use Rattle.register_store.specs.Changes.{AddsAs, KeepsRequest};
+ghost use Rattle.register_store.specs.Changes.{AddsAllInside, AddsAs, KeepsAll};
+ghost use Rattle.register_store.specs.NewRows.{IsKeepable};
+ghost use Rattle.register_store.specs.Outcomes.{number_past};
 
-use crate::outcome::NewRow;
+use crate::outcome::{NewRow, filings_of};
 use crate::rows::{insert_amends, insert_filing, insert_items, insert_kept};
 use sqlite::{Alter, Connection, Error, Transaction};
 use xbrl_report::{Fact, Finding, Judged};
@@ -122,21 +125,49 @@ fn write<S: Alter>(
     }
 }
 
-/// Keeps a request at its place, in one transaction; `number` is that of the next filing.
-pub(crate) fn keep<S: Alter>(
+/// Writes requests one behind another, as they were judged; `number` is that of the next filing. Answers the number of
+/// the next filing after them.
+fn write_all<S: Alter>(
+    tx: &mut Transaction<'_, S>,
+    seq: u64,
+    number: u64,
+    rows: &[NewRow<'_>],
+) -> Result<u64, Error>
+    requires seq { seq + length rows.now < 2 ^ 63 }
+    requires number { number + length rows.now < 2 ^ 63 }
+    requires rows { All IsKeepable rows.now }
+    ensures next { IfOk result (λ n. n ≡ number_past number rows.now) }
+    ensures leaves { OnlyWrites S.Store tx.old.conn tx.new.conn }
+    ensures adds { HasCleanDisk (state S.Store tx.new.conn.now) → IsTrue (state S.Store tx.old.conn.now).in_transaction
+        → OnOk result (AddsAllInside seq number rows.now (state S.Store tx.old.conn.now)
+        (state S.Store tx.new.conn.now)) }
+{
+    let mut place = seq;
+    let mut next = number;
+    'each: for row in rows {
+        write(tx, place, next, row)?;
+        place += 1;
+        next += filings_of(row.judged);
+    }
+    Ok(next)
+}
+
+/// Keeps requests one behind another, in one transaction; `number` is that of the next filing. Answers the number of
+/// the next filing after them.
+pub(crate) fn keep_all<S: Alter>(
     conn: &mut Connection<S>,
     seq: u64,
     number: u64,
-    row: &NewRow<'_>,
-) -> Result<(), Error>
+    rows: &[NewRow<'_>],
+) -> Result<u64, Error>
     requires autocommit { conn.old.in_transaction ≡ false }
-    requires seq { seq < 2 ^ 63 }
-    requires number { number < 2 ^ 63 }
-    requires target { IsTarget row.now.target }
-    requires facts { HasFacts row.now.body.now row.now.judged.now }
-    ensures { KeepsRequest S.Store seq number row.now conn.old conn.new result }
+    requires seq { seq + length rows.now < 2 ^ 63 }
+    requires number { number + length rows.now < 2 ^ 63 }
+    requires rows { All IsKeepable rows.now }
+    ensures { KeepsAll S.Store seq number rows.now conn.old conn.new result }
 {
     let mut tx = conn.transaction();
-    write(&mut tx, seq, number, row)?;
-    tx.commit()
+    let next = write_all(&mut tx, seq, number, rows)?;
+    tx.commit()?;
+    Ok(next)
 }

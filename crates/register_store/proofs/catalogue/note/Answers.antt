@@ -9,14 +9,14 @@ use Rattle.register_rows.proofs.MoreRequests.{judged_as}
 use Rattle.register_store.proofs.OwnLemmas.{as_many}
 use Rattle.register_store.proofs.catalogue.note.Goals as goal
 
-pub returns-in-Valid : goal.returns-in-Valid
-returns-in-Valid c F held place fresh is =
+pub returns-in-Valid-clause-lines : goal.returns-in-Valid-clause-lines
+returns-in-Valid-clause-lines c F held place fresh is =
     let row = c.args.row.now in
     let r : Request = the_request row.filer.now row.key.now row.target row.body.now in
     let n = suc (length (register F)) in
     let facts : length c.facts.result.now ≡ fact_count r.body =
     ap length (c.facts.ensures ∙ (rw c.in-Valid.is at c.requires.facts)) ∙ as_many r.body in
-    c.note.ensures F r held (record {
+    c.note.ensures.lines F r held (record {
       seq_is = place;
       facts_are = facts;
       target_is = refl;
@@ -26,8 +26,8 @@ returns-in-Valid c F held place fresh is =
     })
     ∙ sym (catalogue_new F r fresh)
 
-pub returns-in-Refused : goal.returns-in-Refused
-returns-in-Refused c F held place fresh is =
+pub returns-in-Refused-clause-lines : goal.returns-in-Refused-clause-lines
+returns-in-Refused-clause-lines c F held place fresh is =
     let row = c.args.row.now in
     let r : Request = the_request row.filer.now row.key.now row.target row.body.now in
     held ∙ sym (catalogue_refused F r fresh c.in-Refused.field-0 (judged_as (kept F) r row.judged.now is

@@ -6,8 +6,8 @@ use Rattle.register_rows.proofs.catalogue.Catalogue.note.Goals as goal
 use Rattle.register_rows.proofs.catalogue.Catalogue.note.Goals.{else-number-gt0-via-then-number-gt0+else-number-next}
 use Rattle.register_rows.proofs.catalogue.Catalogue.note.Goals.{else-number-gt0-via-else-number-gt0}
 
-pub returns-then-number-next : goal.returns-then-number-next
-returns-then-number-next c F r held next =
+pub returns-then-number-next-clause-lines : goal.returns-then-number-next-clause-lines
+returns-then-number-next-clause-lines c F r held next =
     let old = c.args.self.now.lines.items in
     let line : Line =
     record { seq = c.args.seq; facts = c.args.facts; replaces = unwrap_or c.args.target 0; replaced_by = 0 } in
@@ -31,8 +31,8 @@ returns-then-number-next c F r held next =
           c.len-next.result;
     })) pushed)
 
-pub returns-else-number-gt0 : goal.returns-else-number-gt0
-returns-else-number-gt0 c F r held next =
+pub returns-else-number-gt0-clause-lines : goal.returns-else-number-gt0-clause-lines
+returns-else-number-gt0-clause-lines c F r held next =
     let old = c.args.self.now.lines.items in
     let told = replaces_earlier F r c.args.seq c.args.facts c.args.target next old held c.in-Some.number c.in-Some.is in
     let many : c.len-next.result ≡ suc (length old) =
@@ -43,8 +43,8 @@ returns-else-number-gt0 c F r held next =
       | else-number-gt0-via-else-number-gt0 w ↦ absurd (omega (arith, told.0, w.if-number-gt0.false))
     ]
 
-pub returns-in_default : goal.returns-in_default
-returns-in_default c F r held next =
+pub returns-in_default-clause-lines : goal.returns-in_default-clause-lines
+returns-in_default-clause-lines c F r held next =
     let old = c.args.self.now.lines.items in
     noted F r c.args.seq c.args.facts c.args.target next old held c.in_default.is _
     (c.push_reserved.ensures.items

@@ -14,5 +14,5 @@ returns c F r are filer next =
           ∙ ap₂ (λ l o. l ++ o ∷ []) are.filers_are copied
           ∙ sym (ap (map whose) (filing_more (kept F) r next.number next.registered)
           ∙ map-append whose (register F) (next_filing (register F) r ∷ []));
-      lines_are = c.note.ensures F r (c.in_ok-reserve.ensures.same ∙ are.lines_are) next;
+      lines_are = c.note.ensures.lines F r (c.in_ok-reserve.ensures.same ∙ are.lines_are) next;
     }
