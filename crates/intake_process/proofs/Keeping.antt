@@ -8,6 +8,7 @@ use Rattle.sqlite_store.specs.declared.store.FileStore.{FileStore}
 use Rattle.sqlite.specs.Held.{Held}
 use Rattle.sqlite.specs.declared.error.Error.{Error}
 use Rattle.sqlite.specs.Files.{file_state, over_files}
+use Rattle.sqlite.specs.Effect.{Database}
 use Rattle.filing_model.specs.Request.{Request}
 use Rattle.register_tables.specs.Registers.{IsRegisterOf}
 use Rattle.intake_core.specs.declared.intake.Intake.{Intake}
@@ -16,8 +17,9 @@ use Rattle.http_wire.specs.Wire.{Wire}
 use Rattle.table_rows.proofs.CleanLemmas.{always_clean, are_clean}
 use Rattle.table_rows.proofs.FileLemmas.{finds}
 use Rattle.command_line.specs.declared.fault.DatabaseFault.{DatabaseFault}
+use Rattle.command_line.specs.declared.fault.DatabaseFault.TheVariants.{Missing}
 use Rattle.database_places.specs.Closing.{IsClosedIn, IsNotClosed, IsGivenUp, LieGivenUp}
-use Rattle.database_places.specs.Opening.{ComesFrom, StaysIn}
+use Rattle.database_places.specs.Opening.{ComesFrom, OpensPlace, StaysIn}
 use Rattle.database_places.specs.Places.{KeepsLying, IsHonest}
 use Rattle.database_places.specs.Places as place
 use Rattle.intake_process.specs.declared.begun.Totals.{Totals}
@@ -67,6 +69,22 @@ keeps_lying None = tt
 keeps_lying (Some None) = tt
 keeps_lying (Some (Some files)) = refl
 
+same_err : {A E : Type 0} (r : Result A E) (a b : E) → r ≡ Err a → r ≡ Err b → a ≡ b
+same_err r a b one other = cc
+
+-- the fault of a database that has to be there where no files lie
+pub missing : {D : Type 0} {g : Ghosts D} (has : Bool) (old new : Option (Option (Files D))) (why : DatabaseFault)
+    → OpensPlace g has old new (Err why) → has ≡ true → old ≡ Some None → Unopened why ≡ Unopened Missing
+missing has old new why opens is none =
+    ap (λ (w : DatabaseFault). Unopened w) (same_err (Err why) why Missing refl (opens.absent is none))
+
+-- a connection that came is no such fault
+pub there : {D X : Type 0} {g : Ghosts D} (has : Bool) (old new : Option (Option (Files D)))
+    (conn : Held (FileStore D g)) → OpensPlace g has old new (Ok conn) → has ≡ true → old ≡ Some None → X
+there has old new conn opens is none =
+    let other : Ok conn ≡ Err Missing = opens.absent is none in
+    absurd (cc)
+
 module _ {D : Type 0} (g : Ghosts D) where
   lie_left : (old new : Option (Option (Files D))) (back : Held (FileStore D g)) → LieGivenUp old new back
       → (there : Files D) → old ≡ Some (Some there) → (files : Files D) × (new ≡ Some (Some files))
@@ -88,14 +106,18 @@ module _ {D : Type 0} {g : Ghosts D} where
   -- a refusal leaves it closed, and nothing is certain
   pub refuses : (has : Bool) (limit : ℕ) (old new : Parts g) (fault : OpeningFault) → new.is_certain ≡ false
       → old.intake ≡ None → new.intake ≡ None → new.refused_calls ≡ old.refused_calls
-      → IsNotOpened g has old.lying new.lying fault → OpensProcess g has limit old new (Err fault)
-  refuses has limit old new fault unsure none closed calls why = record {
+      → IsNotOpened g has old.lying new.lying fault
+      → (has ≡ true → old.lying ≡ Some None → fault ≡ Unopened Missing)
+      → OpensProcess g has limit old new (Err fault)
+  refuses has limit old new fault unsure none closed calls why absent = record {
     leaves = λ honest is. record {
       kept = λ old_style F keeps certain. absurd (true≢false (sym certain ∙ unsure));
       certain = λ certain. absurd (true≢false (sym certain ∙ unsure));
     };
     counted = λ honest is certain old_style F keeps. tt;
     made = λ honest is none known. tt;
+    absent = λ _ is lies. ap (λ (f : OpeningFault). Err f) (absent is lies);
+    fresh = λ honest _ is files lies db held. tt;
     certain = tt;
     is_open = tt;
     limited = λ _. tt;
@@ -104,6 +126,7 @@ module _ {D : Type 0} {g : Ghosts D} where
     calls = calls;
     why = why;
     refused = closed;
+    doubtful = unsure;
     back = back_of g has old.lying new.lying fault why;
   }
 
@@ -114,6 +137,8 @@ module _ {D : Type 0} {g : Ghosts D} where
     leaves = λ honest is. record { kept = λ old_style F keeps. keeps; certain = λ certain. certain };
     counted = λ honest is certain old_style F keeps. tt;
     made = λ honest is none known. absurd (not_some process.intake none some);
+    absent = λ none is lies. absurd (not_some process.intake none some);
+    fresh = λ honest none is files lies db held. absurd (not_some process.intake none some);
     certain = refl;
     is_open = some;
     limited = λ none. absurd (not_some process.intake none some);
@@ -122,6 +147,7 @@ module _ {D : Type 0} {g : Ghosts D} where
     calls = refl;
     why = tt;
     refused = tt;
+    doubtful = tt;
     back = tt;
   }
 
@@ -199,9 +225,9 @@ module _ {D : Type 0} {g : Ghosts D} where
       → new.is_certain ≡ old.is_certain → new.refused_calls ≡ old.refused_calls → has_stopped intake ≡ false
       → ComesFrom old.lying new.lying conn
       → (has ≡ true → FindsIntake over_files conn limit intake totals)
-      → (has ≡ false → MakesIntake over_files limit intake totals) → limit_of intake ≡ limit
-      → OpensProcess g has limit old new (Ok (Some totals))
-  opens has limit old new conn intake totals none up same calls awake comes found made limited = record {
+      → (has ≡ false → MakesIntake over_files conn limit intake totals) → limit_of intake ≡ limit
+      → (has ≡ true → old.lying ≡ Some None → ⊥) → OpensProcess g has limit old new (Ok (Some totals))
+  opens has limit old new conn intake totals none up same calls awake comes found made limited there = record {
     leaves = λ honest is. record {
       kept = λ old_style F keeps certain.
           let held =
@@ -214,7 +240,12 @@ module _ {D : Type 0} {g : Ghosts D} where
         λ honest is certain old_style F keeps. (found_there has limit old new conn intake totals none comes (found is)
         honest old_style F (keeps certain)).0.1;
     made = λ honest is closed known certain. subst (λ i. KeepsBy i new.lying limit 0 []) (sym up)
-        ((made is (always_clean honest intake.store.conn)).0, came_empty old.lying new.lying conn known comes);
+        (((made is).1 (always_clean honest intake.store.conn)).0, came_empty old.lying new.lying conn known comes);
+    absent = λ _ is lies. absurd (there is lies);
+    fresh = λ honest _ is files lies db held.
+        let came = subst (λ l. ComesFrom l new.lying conn) lies comes in
+        let both = came.1 (always_clean honest conn) in
+        sym (ap (λ (d : Database). d.schema) (finds files conn both.0 both.1 db held)) ∙ (made is).0;
     certain = same;
     is_open = subst (λ i. IsSome i) (sym up) refl;
     limited = λ _. subst (λ i. IfSome i (λ intake. limit_of intake ≡ limit)) (sym up) limited;
@@ -223,6 +254,7 @@ module _ {D : Type 0} {g : Ghosts D} where
     calls = calls;
     why = tt;
     refused = tt;
+    doubtful = tt;
     back = tt;
   }
 

@@ -31,9 +31,11 @@ FindsIntake g conn limit intake totals =
     → IsRegisterOf old_style requests (state g conn).now
     → HoldsAs g limit old_style requests intake × AreTotals requests totals
 
--- if the disk is clean, the intake holds no request yet
-abbrev pub MakesIntake : {S : Type 0} → Ghosts S → ℕ → Intake S → Totals → Type 0
-MakesIntake g limit intake totals = IsClean g intake → HoldsAs g limit 0 [] intake × AreTotals [] totals
+-- nothing was declared in the database, and if the disk is clean, the intake holds no request yet
+abbrev pub MakesIntake : {S : Type 0} → Ghosts S → Held S → ℕ → Intake S → Totals → Type 0
+MakesIntake g conn limit intake totals =
+    ((state g conn).now.schema ≡ no_schema) × (IsClean g intake
+    → HoldsAs g limit 0 [] intake × AreTotals [] totals)
 
 -- No intake began over the register that had to be in this database, or had to be made there, and this connection came
 -- back. A register is made only in a database in which nothing is declared.

@@ -1,6 +1,6 @@
 -- What the process keeps that an intake runs in, and what its calls do.
 use Rattle.std.specs.Prelude.{◌≡◌, ◌↔◌, ℕ, ◌+◌, ◌-◌, ◌^◌, ◌<◌, ◌≤◌, ◌⊎◌, Bool, true, false, List, [], length, Option}
-use Rattle.std.specs.Prelude.{Some, None, Result, Ok, Err, IsSome, IfOk, IfErr, IfSome, OnOk}
+use Rattle.std.specs.Prelude.{Some, None, Result, Ok, Err, IsSome, IfOk, IfErr, IfSome, OnOk, OnErr}
 use Rattle.sqlite_disk.specs.declared.Disk.{Ghosts}
 use Rattle.sqlite_disk.specs.declared.Files.{Files}
 use Rattle.sqlite_store.specs.declared.store.FileStore.{FileStore}
@@ -8,6 +8,10 @@ use Rattle.sqlite.specs.Store as database
 use Rattle.sqlite.specs.Held.{Held}
 use Rattle.sqlite.specs.Files.{over_files}
 use Rattle.sqlite.specs.declared.error.Error.{Error}
+use Rattle.sqlite.specs.Effect.{Database}
+use Rattle.command_line.specs.declared.fault.DatabaseFault.TheVariants.{Missing}
+use Rattle.table_rows.specs.Files.{HoldsDatabase}
+use Rattle.table_rows.specs.Tables.{no_schema}
 use Rattle.http_wire.specs.Wire.{Wire}
 use Rattle.filing_model.specs.Request.{Request, firsts}
 use Rattle.register_store.specs.Files.{HoldRegister}
@@ -113,6 +117,11 @@ pub record OpensProcess {D : Type 0} (g : Ghosts D) (has_to_be_there : Bool) (li
   -- a register that is made has no requests
   pub made : IsHonest g → has_to_be_there ≡ false → old.intake ≡ None → IsSome old.lying
       → OnOk result (Keeps new limit 0 [])
+  -- if the register has to be there, and no files lie there, the fault is Missing
+  pub absent : old.intake ≡ None → has_to_be_there ≡ true → old.lying ≡ Some None → result ≡ Err (fault.Files Missing)
+  -- it is made only if no files lie there, or the database in them has no tables
+  pub fresh : IsHonest g → old.intake ≡ None → has_to_be_there ≡ false → (files : Files D)
+      → old.lying ≡ Some (Some files) → (db : Database) → HoldsDatabase g files db → OnOk result (db.schema ≡ no_schema)
   pub certain : OnOk result (new.is_certain ≡ old.is_certain)
   pub is_open : OnOk result (IsSome new.intake)
   -- whatever lay there, it keeps at most `limit` keys from now on
@@ -121,9 +130,10 @@ pub record OpensProcess {D : Type 0} (g : Ghosts D) (has_to_be_there : Bool) (li
   pub already : IsSome old.intake → (new ≡ old) × (result ≡ Ok None)
   pub calls : new.refused_calls ≡ old.refused_calls
   -- a refusal says why; after it the process is closed, and the files that lay in the place still lie there, as the
-  -- opening left them
+  -- opening left them, which may be what a crash leaves
   pub why : IfErr result (IsNotOpened g has_to_be_there old.lying new.lying)
   pub refused : IfErr result (λ _. new.intake ≡ None)
+  pub doubtful : OnErr result (new.is_certain ≡ false)
   pub back : IfErr result (λ _. (there : Files D) → old.lying ≡ Some (Some there)
       → (files : Files D) × (new.lying ≡ Some (Some files)))
 

@@ -74,7 +74,7 @@ fn make_intake<S: Alter + Drop>(
 ) -> Result<(Intake<S>, Totals), (OpeningFault, Connection<S>)>
     requires limit { limit ≤ 2 ^ 62 }
     requires rest { IsAtRest conn }
-    ensures made { IfOk result (λ begun. MakesIntake S.Store limit begun.0 begun.1) }
+    ensures made { IfOk result (λ begun. MakesIntake S.Store conn limit begun.0 begun.1) }
     ensures limited { IfOk result (λ begun. limit_of begun.0 ≡ limit) }
     ensures up { IfOk result (λ begun. has_stopped begun.0 ≡ false) }
     ensures refused { IfErr result (λ refusal. IsNotBegun S.Store false conn refusal.0 refusal.1) }
@@ -104,7 +104,7 @@ pub(crate) fn begin<S: Alter + Drop>(
     requires rest { IsAtRest conn }
     ensures found { is_found opening ≡ true
         → IfOk result (λ begun. FindsIntake S.Store conn limit begun.0 begun.1) }
-    ensures made { is_found opening ≡ false → IfOk result (λ begun. MakesIntake S.Store limit begun.0 begun.1) }
+    ensures made { is_found opening ≡ false → IfOk result (λ begun. MakesIntake S.Store conn limit begun.0 begun.1) }
     ensures limited { IfOk result (λ begun. limit_of begun.0 ≡ limit) }
     ensures up { IfOk result (λ begun. has_stopped begun.0 ≡ false) }
     ensures refused { IfErr result (λ refusal. IsNotBegun S.Store (is_found opening) conn refusal.0 refusal.1) }

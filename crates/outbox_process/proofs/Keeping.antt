@@ -1,7 +1,7 @@
 -- What is kept while an outbox is opened and closed.
 use Rattle.std.proofs.Common.{◌≡◌, true, false, true≢false, Option, Some, None, Result, Ok, Err, IsSome, IfErr, OnOk}
-use Rattle.std.proofs.Common.{refl, sym, ◌∙◌, subst, inl, inr}
-use Rattle.std.specs.Prelude.{is_err, is_some}
+use Rattle.std.proofs.Common.{refl, sym, ◌∙◌, ap, subst, inl, inr}
+use Rattle.std.specs.Prelude.{Bool, is_err, is_some}
 use Rattle.sqlite_disk.specs.declared.Disk.{Ghosts}
 use Rattle.sqlite_disk.specs.declared.Files.{Files}
 use Rattle.sqlite_store.specs.declared.store.FileStore.{FileStore}
@@ -10,6 +10,7 @@ use Rattle.sqlite.specs.Files.{file_state, over_files}
 use Rattle.sqlite.specs.declared.error.Error.{Error}
 use Rattle.sqlite.specs.Effect.{Database}
 use Rattle.table_rows.specs.Files.{HoldsDatabase}
+use Rattle.table_rows.specs.Tables.{no_schema}
 use Rattle.table_rows.proofs.CleanLemmas.{always_clean, are_clean}
 use Rattle.table_rows.proofs.FileLemmas.{finds}
 use Rattle.outbox_tables.specs.Earlier.{IsAlone, IsEarlierOf}
@@ -18,7 +19,8 @@ use Rattle.outbox_tables.specs.Rows.{IsOutboxOf}
 use Rattle.outbox_core.specs.OutboxParts.{OutboxParts}
 use Rattle.database_places.specs.Closing.{IsClosedIn, IsGivenUp, IsNotClosed, LieGivenUp}
 use Rattle.command_line.specs.declared.fault.DatabaseFault.{DatabaseFault}
-use Rattle.database_places.specs.Opening.{ComesFrom, StaysIn}
+use Rattle.command_line.specs.declared.fault.DatabaseFault.TheVariants.{Missing}
+use Rattle.database_places.specs.Opening.{ComesFrom, OpensPlace, StaysIn}
 use Rattle.database_places.specs.Places.{KeepsLying, IsHonest}
 use Rattle.database_places.specs.Places as place
 use Rattle.outbox_process.specs.declared.begun.Beginning.{Beginning}
@@ -27,7 +29,7 @@ use Rattle.outbox_process.specs.declared.fault.OpeningFault.{OpeningFault}
 use Rattle.outbox_process.specs.declared.fault.OpeningFault.TheVariants.{Files as Unopened, Taken, Create, Open}
 use Rattle.outbox_process.specs.declared.fault.OpeningFault.TheVariants.{IsCurrent, Migrate}
 use Rattle.outbox_process.specs.Begun.{HasContents, BeginsOutbox}
-use Rattle.outbox_process.specs.Process.{Parts, KeepsBy, Keeps, BeginsWith, IsNotOpened, IsUp}
+use Rattle.outbox_process.specs.Process.{Parts, KeepsBy, Keeps, BeginsWith, IsNotOpened, IsUp, has_to_be_there}
 use Rattle.outbox_process.specs.Process.{OpensProcess, IsLeftOpen, ClosesProcess}
 use Rattle.outbox_process.specs.Refusals.{RefusesOutbox}
 
@@ -70,15 +72,34 @@ back_of g beginning old new (Open why holding) is there lies = lie_left g old ne
 back_of g beginning old new IsCurrent is there lies = lie_left g old new is.1 is.4 there lies
 back_of g beginning old new (Migrate why holding) is there lies = lie_left g old new is.1 is.4 there lies
 
+same_err : {A E : Type 0} (r : Result A E) (a b : E) → r ≡ Err a → r ≡ Err b → a ≡ b
+same_err r a b one other = cc
+
+-- the fault of a database that has to be there where no files lie
+pub missing : {D : Type 0} {g : Ghosts D} (has : Bool) (old new : Option (Option (Files D))) (why : DatabaseFault)
+    → OpensPlace g has old new (Err why) → has ≡ true → old ≡ Some None → Unopened why ≡ Unopened Missing
+missing has old new why opens is none =
+    ap (λ (w : DatabaseFault). Unopened w) (same_err (Err why) why Missing refl (opens.absent is none))
+
+-- a connection that came is no such fault
+pub there : {D X : Type 0} {g : Ghosts D} (has : Bool) (old new : Option (Option (Files D)))
+    (conn : Held (FileStore D g)) → OpensPlace g has old new (Ok conn) → has ≡ true → old ≡ Some None → X
+there has old new conn opens is none =
+    let other : Ok conn ≡ Err Missing = opens.absent is none in
+    absurd (cc)
+
 module _ {D : Type 0} {g : Ghosts D} where
   -- ---- it is opened
 
   -- a refusal leaves it closed, and nothing is certain
   pub refuses : (beginning : Beginning) (old new : Parts g) (fault : OpeningFault) → new.is_certain ≡ false
       → old.outbox ≡ None → new.outbox ≡ None → IsNotOpened g beginning old.lying new.lying fault
+      → (has_to_be_there beginning ≡ true → old.lying ≡ Some None → fault ≡ Unopened Missing)
       → OpensProcess g beginning old new (Err fault)
-  refuses beginning old new fault unsure none closed why = record {
+  refuses beginning old new fault unsure none closed why absent = record {
     keeps = λ honest it begins. tt;
+    absent = λ _ has lies. ap (λ (f : OpeningFault). Err f) (absent has lies);
+    fresh = λ honest _ has files lies db held. tt;
     current = λ honest is none certain it keeps. tt;
     certain = tt;
     is_open = tt;
@@ -99,6 +120,8 @@ module _ {D : Type 0} {g : Ghosts D} where
       → OpensProcess g beginning process process (Ok tt)
   is_open beginning process some = record {
     keeps = λ honest it begins. keeps_open beginning process it some begins;
+    absent = λ none has lies. not_some process.outbox none some;
+    fresh = λ honest none has files lies db held. not_some process.outbox none some;
     current = λ honest is none certain it keeps. not_some process.outbox none some;
     certain = refl;
     is_open = some;
@@ -199,7 +222,7 @@ module _ {D : Type 0} {g : Ghosts D} where
       let shown = shows_held lie.0 old.lying new.lying conn honest lie.1 comes lie.2.db lie.2.held in
       (begun (always_clean honest outbox.conn) it (subst (IsOutboxOf it) (sym shown.0) lie.2.outbox), shown.1)
   keeps_begun (Made filer) old new conn outbox none same comes begun honest it begins certain = (
-    subst (HasContents over_files outbox) (sym begins.2) (begun (always_clean honest outbox.conn)),
+    subst (HasContents over_files outbox) (sym begins.2) (begun.1 (always_clean honest outbox.conn)),
     came_empty old.lying new.lying conn begins.1 comes,
   )
   keeps_begun Migrated old new conn outbox none same comes begun honest it begins certain =
@@ -210,6 +233,18 @@ module _ {D : Type 0} {g : Ghosts D} where
             (subst (IsEarlierOf it) (sym shown.0) lie.2.earlier),
         shown.1,
       )
+
+  -- an outbox is made where the database has no tables
+  fresh : (beginning : Beginning) (old new : Parts g) (conn : Held (FileStore D g))
+      (outbox : OutboxParts (FileStore D g)) → ComesFrom old.lying new.lying conn
+      → BeginsOutbox over_files beginning conn outbox → IsHonest g → has_to_be_there beginning ≡ false
+      → (files : Files D) → old.lying ≡ Some (Some files) → (db : Database) → HoldsDatabase g files db
+      → db.schema ≡ no_schema
+  fresh Found old new conn outbox comes begun honest has files lies db held = absurd (true≢false has)
+  fresh (Made filer) old new conn outbox comes begun honest has files lies db held =
+      let shown = shows_held files old.lying new.lying conn honest lies comes db held in
+      sym (ap (λ (d : Database). d.schema) shown.0) ∙ begun.0
+  fresh Migrated old new conn outbox comes begun honest has files lies db held = absurd (true≢false has)
 
   not_current : (old new : Parts g) (conn : Held (FileStore D g)) (outbox : OutboxParts (FileStore D g))
       → old.outbox ≡ None → ComesFrom old.lying new.lying conn → BeginsOutbox over_files Migrated conn outbox
@@ -224,10 +259,14 @@ module _ {D : Type 0} {g : Ghosts D} where
       (outbox : OutboxParts (FileStore D g)) → old.outbox ≡ None → new.outbox ≡ Some outbox
       → new.is_certain ≡ old.is_certain → ComesFrom old.lying new.lying conn
       → BeginsOutbox over_files beginning conn outbox → outbox.has_failed ≡ false
+      → (has_to_be_there beginning ≡ true → old.lying ≡ Some None → ⊥)
       → OpensProcess g beginning old new (Ok tt)
-  opens beginning old new conn outbox none up same comes begun able = record {
+  opens beginning old new conn outbox none up same comes begun able there = record {
     keeps = λ honest it begins certain. subst (λ o. KeepsBy o new.lying it) (sym up)
         (keeps_begun beginning old new conn outbox none same comes begun honest it begins certain);
+    absent = λ _ has lies. absurd (there has lies);
+    fresh = λ honest _ has files lies db held. fresh beginning old new conn outbox comes begun honest has files lies db
+        held;
     current =
         λ honest is none certain it keeps. not_current old new conn outbox none comes
         (subst (λ b. BeginsOutbox over_files b conn outbox) is begun) honest it (keeps certain);

@@ -3,6 +3,7 @@ use Rattle.std.specs.Prelude.{◌≡◌, ℕ, List}
 use Rattle.sqlite.specs.Store.{Ghosts}
 use Rattle.sqlite.specs.Held.{Held, state}
 use Rattle.sqlite.specs.State.{HasCleanDisk}
+use Rattle.table_rows.specs.Tables.{no_schema}
 use Rattle.outbox_tables.specs.Earlier.{ForEarlier}
 use Rattle.outbox_tables.specs.Entries.{Contents, empty}
 use Rattle.outbox_tables.specs.Rows.{IsOutboxOf}
@@ -19,9 +20,10 @@ abbrev pub FindsOutbox : {S : Type 0} → Ghosts S → Held S → OutboxParts S 
 FindsOutbox g conn outbox = HasCleanDisk (shows g outbox) → (it : Contents) → IsOutboxOf it (state g conn).now
     → HasContents g outbox it
 
--- the outbox is this filer's, and has no entry yet
-abbrev pub MakesOutbox : {S : Type 0} → Ghosts S → List ℕ → OutboxParts S → Type 0
-MakesOutbox g filer outbox = HasCleanDisk (shows g outbox) → HasContents g outbox (empty filer)
+-- nothing was declared in the database, and the outbox is this filer's, and has no entry yet
+abbrev pub MakesOutbox : {S : Type 0} → Ghosts S → List ℕ → Held S → OutboxParts S → Type 0
+MakesOutbox g filer conn outbox =
+    (conn.schema ≡ no_schema) × (HasCleanDisk (shows g outbox) → HasContents g outbox (empty filer))
 
 -- the outbox has what the rows of the version before had, if their tables were alone in the database
 abbrev pub MigratesEarlier : {S : Type 0} → Ghosts S → Held S → OutboxParts S → Type 0
@@ -36,5 +38,5 @@ MigratesOutbox g conn outbox =
 
 abbrev pub BeginsOutbox : {S : Type 0} → Ghosts S → Beginning → Held S → OutboxParts S → Type 0
 BeginsOutbox g Found conn outbox = FindsOutbox g conn outbox
-BeginsOutbox g (Made filer) conn outbox = MakesOutbox g filer.now outbox
+BeginsOutbox g (Made filer) conn outbox = MakesOutbox g filer.now conn outbox
 BeginsOutbox g Migrated conn outbox = MigratesOutbox g conn outbox

@@ -6,7 +6,9 @@ use Rattle.sqlite_store.specs.declared.store.FileStore.{FileStore}
 use Rattle.sqlite.specs.Files.{over_files}
 use Rattle.sqlite.specs.Held.{Held}
 use Rattle.sqlite.specs.declared.error.Error.{Error}
+use Rattle.command_line.specs.declared.fault.DatabaseFault.TheVariants.{Missing}
 use Rattle.table_rows.specs.Files.{HoldsDatabase, AreUsable}
+use Rattle.table_rows.specs.Tables.{no_schema}
 use Rattle.sqlite.specs.Effect.{Database}
 use Rattle.outbox_tables.specs.Earlier.{IsAlone, IsEarlierOf}
 use Rattle.outbox_tables.specs.Entries.{Contents, empty}
@@ -98,6 +100,12 @@ IsUp None = ⊥
 pub record OpensProcess {D : Type 0} (g : Ghosts D) (beginning : Beginning) (old new : Parts g)
     (result : Result (Unit {0}) OpeningFault) : Type 0 where
   pub keeps : IsHonest g → (it : Contents) → BeginsWith beginning old it → OnOk result (Keeps new it)
+  -- if it has to be there, and no files lie there, the fault is Missing
+  pub absent : old.outbox ≡ None → has_to_be_there beginning ≡ true → old.lying ≡ Some None
+      → result ≡ Err (fault.Files Missing)
+  -- it is made only if no files lie there, or the database in them has no tables
+  pub fresh : IsHonest g → old.outbox ≡ None → has_to_be_there beginning ≡ false → (files : Files D)
+      → old.lying ≡ Some (Some files) → (db : Database) → HoldsDatabase g files db → OnOk result (db.schema ≡ no_schema)
   -- an outbox of this version is not migrated
   pub current : IsHonest g → beginning ≡ Migrated → old.outbox ≡ None → old.is_certain ≡ true → (it : Contents)
       → Keeps old it → OnOk result ⊥

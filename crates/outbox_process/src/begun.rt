@@ -60,7 +60,7 @@ fn make_outbox<S: Alter + Drop>(
     filer: &str,
 ) -> Result<Outbox<S>, (OpeningFault, Connection<S>)>
     requires { IsAtRest conn }
-    ensures made { IfOk result (MakesOutbox S.Store filer.now) }
+    ensures made { IfOk result (MakesOutbox S.Store filer.now conn) }
     ensures up { IfOk result (λ outbox. outbox.has_failed ≡ false) }
     ensures refused { IfErr result (λ refusal. RefusesMaking S.Store filer.now conn refusal.1 refusal.0) }
 {

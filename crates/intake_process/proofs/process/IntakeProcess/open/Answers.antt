@@ -1,7 +1,7 @@
 use Rattle.std.proofs.Common.{sym, ◌∙◌, refl}
 use Rattle.database_places.specs.Opening.{is_found}
 use Rattle.intake_process.specs.Process.{parts}
-use Rattle.intake_process.proofs.Keeping.{none_of, refuses, is_open, not_begun, keeps_lying, opens}
+use Rattle.intake_process.proofs.Keeping.{none_of, missing, there, refuses, is_open, not_begun, keeps_lying, opens}
 use Rattle.intake_process.proofs.process.IntakeProcess.open.Goals as goal
 
 pub returns-then-is_some : goal.returns-then-is_some
@@ -14,6 +14,7 @@ returns-in-Err g c =
     refuses (is_found c.args.opening) c.args.limit _ _ _ refl
     (none_of c.args.self.now.intake (sym c.is_some.ensures ∙ c.if-is_some.false))
     (none_of c.args.self.now.intake (sym c.is_some.ensures ∙ c.if-is_some.false)) refl c.in-Err.ensures.opens
+    (missing (is_found c.args.opening) (g.P.Place.lying c.args.self.now.place) _ c.in-Err.fault c.in-Err.ensures.opens)
 
 pub returns-in-Ok-begin : goal.returns-in-Ok-begin
 returns-in-Ok-begin g c =
@@ -21,6 +22,7 @@ returns-in-Ok-begin g c =
     (none_of c.args.self.now.intake (sym c.is_some.ensures ∙ c.if-is_some.false)) refl refl refl
     c.in-Ok-begin.ensures.up c.in-Ok.ensures.opens.comes c.in-Ok-begin.ensures.found
     c.in-Ok-begin.ensures.made c.in-Ok-begin.ensures.limited
+    (there (is_found c.args.opening) (g.P.Place.lying c.args.self.now.place) _ c.in-Ok.conn c.in-Ok.ensures.opens)
 
 pub returns-then-is_of_others : goal.returns-then-is_of_others
 returns-then-is_of_others g c =
@@ -32,6 +34,7 @@ returns-then-is_of_others g c =
     c.in-Err-begin.back c.give_up.ensures.0 c.in-Err-begin.fault
     c.in-Ok.ensures.opens.comes c.in-Err-begin.ensures.refused c.give_up.ensures.1 c.remove_new_log.ensures
     c.give_up.ensures.2)
+    (there (is_found c.args.opening) (g.P.Place.lying c.args.self.now.place) _ c.in-Ok.conn c.in-Ok.ensures.opens)
 
 pub returns-else-is_of_others : goal.returns-else-is_of_others
 returns-else-is_of_others g c =
@@ -43,3 +46,4 @@ returns-else-is_of_others g c =
     c.give_up.ensures.0 c.in-Err-begin.fault
     c.in-Ok.ensures.opens.comes c.in-Err-begin.ensures.refused c.give_up.ensures.1
     (keeps_lying (g.P.Place.lying c.give_up.new.place)) c.give_up.ensures.2)
+    (there (is_found c.args.opening) (g.P.Place.lying c.args.self.now.place) _ c.in-Ok.conn c.in-Ok.ensures.opens)

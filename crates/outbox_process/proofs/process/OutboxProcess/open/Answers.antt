@@ -1,6 +1,7 @@
 use Rattle.std.proofs.Common.{sym, ◌∙◌, refl}
 use Rattle.outbox_process.specs.Process.{parts}
-use Rattle.outbox_process.proofs.Keeping.{none_of, refuses, is_open, not_begun, keeps_lying, opens}
+use Rattle.outbox_process.specs.Process.{has_to_be_there}
+use Rattle.outbox_process.proofs.Keeping.{none_of, missing, there, refuses, is_open, not_begun, keeps_lying, opens}
 use Rattle.outbox_process.proofs.process.OutboxProcess.open.Goals as goal
 
 pub returns-then-is_some : goal.returns-then-is_some
@@ -10,13 +11,17 @@ returns-then-is_some g c =
 pub returns-in-Err : goal.returns-in-Err
 returns-in-Err g c =
     let closed = none_of c.args.self.now.outbox (sym c.is_some.ensures ∙ c.if-is_some.false) in
-    refuses c.args.beginning _ _ _ refl closed closed (rw c.opening_of.ensures at c.in-Err.ensures.opens)
+    let opens = rw c.opening_of.ensures at c.in-Err.ensures.opens in
+    refuses c.args.beginning _ _ _ refl closed closed opens
+    (missing (has_to_be_there c.args.beginning) (g.P.Place.lying c.args.self.now.place) _ c.in-Err.fault opens)
 
 pub returns-in-Ok-begin : goal.returns-in-Ok-begin
 returns-in-Ok-begin g c =
     opens c.args.beginning _ _ c.in-Ok.conn c.in-Ok-begin.outbox
     (none_of c.args.self.now.outbox (sym c.is_some.ensures ∙ c.if-is_some.false)) refl refl
     c.in-Ok.ensures.opens.comes c.in-Ok-begin.ensures.begins c.in-Ok-begin.ensures.up
+    (there (has_to_be_there c.args.beginning) (g.P.Place.lying c.args.self.now.place) _ c.in-Ok.conn
+    (rw c.opening_of.ensures at c.in-Ok.ensures.opens))
 
 pub returns-then-is_of_others : goal.returns-then-is_of_others
 returns-then-is_of_others g c =
@@ -27,6 +32,8 @@ returns-then-is_of_others g c =
     c.in-Err-begin.back
     c.give_up.ensures.0 c.in-Err-begin.fault c.in-Ok.ensures.opens.comes c.in-Err-begin.ensures.refused
     c.give_up.ensures.1 c.remove_new_log.ensures c.give_up.ensures.2)
+    (there (has_to_be_there c.args.beginning) (g.P.Place.lying c.args.self.now.place) _ c.in-Ok.conn
+    (rw c.opening_of.ensures at c.in-Ok.ensures.opens))
 
 pub returns-else-is_of_others : goal.returns-else-is_of_others
 returns-else-is_of_others g c =
@@ -36,3 +43,5 @@ returns-else-is_of_others g c =
     (g.P.Place.lying c.give_up.new.place) (g.P.Place.lying c.give_up.new.place) c.in-Ok.conn c.in-Err-begin.back
     c.give_up.ensures.0 c.in-Err-begin.fault c.in-Ok.ensures.opens.comes c.in-Err-begin.ensures.refused
     c.give_up.ensures.1 (keeps_lying (g.P.Place.lying c.give_up.new.place)) c.give_up.ensures.2)
+    (there (has_to_be_there c.args.beginning) (g.P.Place.lying c.args.self.now.place) _ c.in-Ok.conn
+    (rw c.opening_of.ensures at c.in-Ok.ensures.opens))
