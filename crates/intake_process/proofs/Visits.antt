@@ -175,6 +175,7 @@ module _ {D : Type 0} {g : Ghosts D} where
     visits = visits;
     certain = λ certain. sym same ∙ certain;
     stays = λ sure. same;
+    doubtful = λ doubtful. absurd (true≢false (sym doubtful ∙ sure));
     calls = calls;
     is_closed = closed;
   }
@@ -192,6 +193,7 @@ module _ {D : Type 0} {g : Ghosts D} where
     visits = visits;
     certain = λ certain. absurd (true≢false (sym certain ∙ unsure));
     stays = λ sure. absurd (true≢false (sym doubtful ∙ sure));
+    doubtful = λ _. unsure;
     calls = calls;
     is_closed = closed;
   }

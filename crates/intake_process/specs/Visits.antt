@@ -96,5 +96,6 @@ pub record VisitsRegister {D : Type 0} {g : Ghosts D} (errand : Errand) (out out
   pub visits : VisitsPlace g errand out out' old.lying new.lying visited
   pub certain : new.is_certain ≡ true → old.is_certain ≡ true
   pub stays : is_doubtful visited ≡ false → new.is_certain ≡ old.is_certain
+  pub doubtful : is_doubtful visited ≡ true → new.is_certain ≡ false
   pub calls : new.refused_calls ≡ old.refused_calls
   pub is_closed : new.intake ≡ None
