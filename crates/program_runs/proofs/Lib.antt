@@ -1,4 +1,5 @@
 mod Results
+mod Statuses
 mod Lies
 mod Puts
 mod Sends

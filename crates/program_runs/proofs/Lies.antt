@@ -1,15 +1,17 @@
 -- What lies in a place after a visit of `outbox`.
-use Rattle.std.proofs.Common.{◌≡◌, ◌∙◌, ℕ, true, List, Option, None, Result, Ok, sym, subst}
+use Rattle.std.proofs.Common.{◌≡◌, ◌∙◌, ℕ, true, List, Option, Some, None, Result, Ok, refl, sym, subst, inl, inr}
 use Rattle.sqlite_disk.specs.declared.Disk.{Ghosts}
+use Rattle.sqlite_disk.specs.declared.Files.{Files}
 use Rattle.sqlite_store.specs.declared.store.FileStore.{FileStore}
 use Rattle.sqlite.specs.Files.{over_files}
 use Rattle.sqlite.specs.declared.error.Error.{Error}
 use Rattle.filing_model.specs.Outbox.{Entry}
 use Rattle.outbox_tables.specs.Entries.{Contents, contents_of}
+use Rattle.outbox_core.specs.Files.{HoldOutbox}
 use Rattle.outbox_core.specs.OutboxParts.{OutboxParts, HasEntries}
 use Rattle.outbox_process.specs.Dials.{Traffic}
 use Rattle.outbox_process.specs.declared.tasks.fault.TaskFault.{TaskFault}
-use Rattle.database_places.specs.Places.{IsHonest}
+use Rattle.database_places.specs.Places.{IsHonest, Lie}
 use Rattle.outbox_process.specs.declared.begun.Beginning.TheVariants.{Found}
 use Rattle.outbox_process.specs.declared.errand.Done.{Done}
 use Rattle.outbox_process.specs.declared.errand.Errand.{Errand}
@@ -17,18 +19,38 @@ use Rattle.outbox_process.specs.Begun.{HasContents}
 use Rattle.outbox_process.specs.Process.{Parts, Keeps, KeepsBy, OpensProcess, PerformsErrand, ClosesProcess}
 use Rattle.program_runs.specs.Deeds.{Deed, AreDone}
 use Rattle.program_runs.specs.Runs.{LiesClosed, IsRunBy}
+use Rattle.program_runs.proofs.Results.{not_err}
+
+-- where files lie, there are some
+pub some_lie : {D X : Type 0} (lying : Option (Option (Files D))) (Are : Files D → Type 0) → Lie lying Are
+    → lying ≡ Some None → X
+some_lie lying Are lies none =
+    let no : Some (Some lies.0) ≡ Some None = sym lies.1 ∙ none in
+    absurd (cc)
 
 module _ {D : Type 0} {g : Ghosts D} where
-  pub keeps_of : (process : Parts g) (it : Contents) → LiesClosed process it → Keeps process it
-  keeps_of process it lies = λ certain. subst (λ o. KeepsBy {g = g} o process.lying it) (sym lies.closed) lies.there
+  pub keeps_of : (process : Parts g) (it : Contents) → process.outbox ≡ None
+      → Lie process.lying (λ files. HoldOutbox g files it) → Keeps process it
+  keeps_of process it closed lies = λ certain. subst (λ o. KeepsBy {g = g} o process.lying it) (sym closed) lies
 
-  pub lies_of : (process : Parts g) (it : Contents) → process.outbox ≡ None → process.is_certain ≡ true
-      → Keeps process it → LiesClosed process it
-  lies_of process it shut certain keeps = record {
-    closed = shut;
-    certain = certain;
-    there = subst (λ o. KeepsBy {g = g} o process.lying it) shut (keeps certain);
-  }
+  -- what is kept by a process that is closed lies there
+  pub kept_lies : (process : Parts g) (it : Contents) → process.outbox ≡ None → process.is_certain ≡ true
+      → Keeps process it → Lie process.lying (λ files. HoldOutbox g files it)
+  kept_lies process it closed certain keeps = subst (λ o. KeepsBy {g = g} o process.lying it) closed (keeps certain)
+
+  -- deeds lead to an outbox that lies there
+  pub run_by : (it after : Contents) (old new : Parts g) (Are : List Deed → Type 0) (deeds : List Deed) → Are deeds
+      → AreDone it deeds after → new.outbox ≡ None → new.is_certain ≡ true → Keeps new after → IsRunBy it old new Are
+  run_by it after old new Are deeds are done closed certain keeps =
+      let lie = kept_lies new after closed certain keeps in
+      record {
+        deeds = deeds;
+        are = are;
+        after = after;
+        done = done;
+        lies = record { closed = closed; certain = certain; there = inl lie };
+        stays = λ none. some_lie new.lying (λ files. HoldOutbox g files after) lie none;
+      }
 
   -- what an errand makes of the entries of an outbox, if it had these before it
   pub record Brings (before after : OutboxParts (FileStore D g)) (it : Contents) (Are : List Deed
@@ -72,14 +94,11 @@ module _ {D : Type 0} {g : Ghosts D} where
   pub visited : (old opened done new : Parts g) (closed : Result (Unit {0}) Error) (it : Contents)
       (Are : List Deed → Type 0) → IsHonest g → LiesClosed old it → OpensProcess g Found old opened (Ok tt)
       → ClosesProcess g done new closed → new.is_certain ≡ true
-      → (Keeps opened it → done.is_certain ≡ true → Goes opened done it Are) → IsRunBy it new Are
-  visited old opened done new closed it Are honest lies opens closes certain goes =
-      let leaves = closes.leaves honest in
-      let by = goes (opens.keeps honest it (keeps_of old it lies)) (leaves.certain certain) in
-      record {
-        deeds = by.deeds;
-        are = by.are;
-        after = by.after;
-        done = by.done;
-        lies = lies_of new by.after closes.is_closed certain (leaves.kept by.after by.keeps);
-      }
+      → (Keeps opened it → done.is_certain ≡ true → Goes opened done it Are) → IsRunBy it old new Are
+  visited old opened done new closed it Are honest lies opens closes certain goes = elim lies.there [
+    | inl there ↦
+        let leaves = closes.leaves honest in
+        let by = goes (opens.keeps honest it (keeps_of old it lies.closed there)) (leaves.certain certain) in
+        run_by it by.after old new Are by.deeds by.are by.done closes.is_closed certain (leaves.kept by.after by.keeps)
+    | inr none ↦ absurd (not_err tt _ (opens.absent lies.closed refl none.0))
+  ]

@@ -1,16 +1,18 @@
 -- A run of `intake serve`.
-use Rattle.std.proofs.Common.{◌≡◌, ◌∙◌, ℕ, ◌≤◌, true, false, List, [], ◌∷◌, ◌++◌, Option, Some, None, Result, Ok, Err}
+use Rattle.std.proofs.Common.{◌≡◌, ◌≢◌, ◌∙◌, ℕ, ◌≤◌, true, false, List, [], ◌∷◌, ◌++◌, Option, Some, None, Result, Ok, Err}
 use Rattle.std.proofs.Common.{refl, sym, ap, subst, inl, inr, true≢false}
-use Rattle.std.specs.Prelude.{not, IsSome}
-use Rattle.std.specs.Result.{result_ok}
+use Rattle.std.specs.Prelude.{not, is_err, IsSome, ◌||◌}
 use Rattle.sqlite_disk.specs.declared.Disk.{Ghosts}
-use Rattle.filing_model.specs.Request.{Request}
+use Rattle.filing_model.specs.Request.{Request, firsts}
 use Rattle.filing_model.specs.Serving.{keeping}
-use Rattle.database_places.specs.Places.{IsHonest}
+use Rattle.database_places.specs.Places.{IsHonest, Lie}
+use Rattle.command_line.specs.declared.fault.DatabaseFault.{DatabaseFault}
+use Rattle.command_line.specs.declared.fault.DatabaseFault.TheVariants.{Missing}
 use Rattle.gateway_server.specs.InTurn.{ServeInTurn}
 use Rattle.gateway_server.specs.Ports.{Traffic}
 use Rattle.intake_process.specs.Process.{Parts, Keeps, KeepsBy}
-use Rattle.intake_process.specs.Turns.{Turn, Served, TurnedAway, served_in, AreTurnedAway, AnswersSome, ServesRegister}
+use Rattle.intake_process.specs.Turns.{Turn, Served, TurnedAway, served_in, AreTurnedAway, IsServed}
+use Rattle.intake_process.specs.Turns.{IsServedOrRefused}
 use Rattle.gateway_server.specs.declared.port_fault.PortFault.TheVariants.{Network, Memory}
 use Rattle.intake_process.specs.declared.errand.ErrandFault.{ErrandFault}
 use Rattle.intake_process.specs.declared.serving.ServingFault.{ServingFault}
@@ -24,15 +26,24 @@ use Rattle.std.specs.Prelude.{MatchBool, Bool}
 use Rattle.std.specs.Borrow.{Bor}
 use Rattle.intake_process.specs.declared.tasks.errand.Errand.{Errand}
 use Rattle.intake_process.specs.declared.tasks.errand.Errand.TheVariants as asked
-use Rattle.intake_process.specs.Visits.{Outputs, outputs, LiesFor, VisitsRegister}
-use Rattle.intake_process.specs.Errands.{IsRegisterFor}
+use Rattle.intake_process.specs.Visits.{Outputs, outputs, GoesOn, LiesFor, VisitsRegister, is_doubtful}
+use Rattle.intake_process.specs.Errands.{IsRegisterFor, is_refused}
 use Rattle.intake_commands.specs.Tasks.{Means, Does, Performs, Visits, IsNoFiler, is_wanted}
 use Rattle.intake_commands.specs.Tasks.{IsVisitTold, IsFaultTold, VisitsCurrent, is_not_earlier}
 use Rattle.intake_commands.specs.declared.options.Task.{Task}
 use Rattle.intake_commands.specs.declared.options.Task.TheVariants as task
 use Rattle.register_tables.specs.Registers.{IsRegisterOf}
 use Rattle.sqlite.specs.Effect.{Database}
+use Rattle.sqlite.specs.Held.{Held}
+use Rattle.sqlite.specs.Schema.{Schema}
+use Rattle.sqlite_disk.specs.declared.Files.{Files}
+use Rattle.sqlite_store.specs.declared.store.FileStore.{FileStore}
+use Rattle.register_rows.specs.Schema.{register_tables}
+use Rattle.register_store.specs.Files.{HoldRegister}
+use Rattle.table_rows.specs.Tables.{no_schema}
 use Rattle.program_runs.specs.Registers.{LiesRegister, IsServiceBy, IsNoMigration, IsCovered}
+use Rattle.program_runs.specs.Runs.{AreNotGone}
+use Rattle.program_runs.proofs.Lies.{some_lie}
 use Rattle.program_runs.proofs.Results.{not_err}
 
 service_of : Turn → Service
@@ -80,60 +91,112 @@ by_wanted : {A B X : Type 0} (wanted : Bool) → MatchBool wanted A B → (A →
 by_wanted true is first second = first is
 by_wanted false is first second = second is
 
-module _ {D : Type 0} {g : Ghosts D} where
-  keeps_of : (process : Parts g) (keys : ℕ) (requests : List Request) → LiesRegister process requests
-      → Keeps process keys 0 requests
-  keeps_of process keys requests lies = λ certain.
-      subst (λ o. KeepsBy {g = g} o process.lying keys 0 requests) (sym lies.closed) (lies.firsts_are, lies.there)
+-- a database with the tables of a register has some
+not_bare : {X : Type 0} (requests : List Request) (db : Database) → IsRegisterOf 0 requests db → db.schema ≡ no_schema
+    → X
+not_bare requests db is none =
+    let begins = is.rows.rows.declared in
+    let tables : [] ≡ register_tables ++ begins.tables = ap (λ (s : Schema). s.tables) (sym none ∙ begins.is) in
+    absurd (cc)
 
-  lies_of : (process : Parts g) (keys : ℕ) (requests : List Request) → process.intake ≡ None
-      → process.is_certain ≡ true → KeepsBy process.intake process.lying keys 0 requests
-      → LiesRegister process requests
-  lies_of process keys requests shut certain keeps =
-      let is = subst (λ o. KeepsBy {g = g} o process.lying keys 0 requests) shut keeps in
-      record { closed = shut; certain = certain; firsts_are = is.0; there = is.1 }
+or_first : (a b : Bool) → a ≡ true → (a || b) ≡ true
+or_first a b is = rw is refl
+
+module _ {D : Type 0} {g : Ghosts D} where
+  -- what lay there is kept by a process that is closed
+  keeps_of : (process : Parts g) (keys : ℕ) (requests : List Request) → process.intake ≡ None
+      → firsts requests ≡ requests → Lie process.lying (λ files. HoldRegister g files 0 requests)
+      → Keeps process keys 0 requests
+  keeps_of process keys requests closed are there = λ certain.
+      subst (λ o. KeepsBy {g = g} o process.lying keys 0 requests) (sym closed) (are, there)
+
+  -- what is kept by one that is closed lies there
+  kept_lies : (process : Parts g) (keys : ℕ) (requests : List Request) → process.intake ≡ None
+      → process.is_certain ≡ true → Keeps process keys 0 requests
+      → (firsts requests ≡ requests) × Lie process.lying (λ files. HoldRegister g files 0 requests)
+  kept_lies process keys requests closed certain keeps =
+      subst (λ o. KeepsBy {g = g} o process.lying keys 0 requests) closed (keeps certain)
 
   -- nothing was done with the register
   stayed : (limit : ℕ) (old new : Parts g) (requests : List Request) → LiesRegister old requests → new ≡ old
-      → IsServiceBy limit requests new
+      → IsServiceBy limit requests old new
   stayed limit old new requests lies same =
       record {
         services = [];
         after = requests;
         in_turn = refl;
         lies = subst (λ p. LiesRegister p requests) (sym same) lies;
+        stays = λ gone. sym (ap (λ (p : Parts g). p.lying) same) ∙ gone;
       }
 
-  same_lies : (old new : Parts g) (requests : List Request) → new ≡ old
-      → (old.is_certain ≡ true → LiesRegister old requests) → new.is_certain ≡ true → LiesRegister new requests
-  same_lies old new requests same lies certain =
-      subst (λ p. LiesRegister p requests) (sym same) (lies (sym (ap (λ (p : Parts g). p.is_certain) same) ∙ certain))
+  -- ---- it was served
 
-  answered : (limit keys : ℕ) (port port' : Traffic) (old new : Parts g) (taken : Option ℕ) (requests : List Request)
-      → keys ≤ limit → Keeps old keys 0 requests → new.intake ≡ None → new.is_certain ≡ true
-      → AnswersSome keys port port' old new taken → IsServiceBy limit requests new
-  answered limit keys port port' old new taken requests few keeps shut certain answers =
-      let is = answers.answers 0 requests keeps certain in
+  answered : (limit keys most : ℕ) (has : Bool) (port port' : Traffic) (noted noted' : Option (List Bool))
+      (old new : Parts g) (taken : Option ℕ) (requests : List Request) → IsHonest g → keys ≤ limit
+      → (served : IsServed has keys most port port' noted noted' old new taken) → Keeps served.opened keys 0 requests
+      → new.is_certain ≡ true → IsServiceBy limit requests old new × (new.lying ≢ Some None)
+  answered limit keys most has port port' noted noted' old new taken requests honest few served keeps certain =
+      let leaves = served.closes.leaves honest keys in
+      let is = (served.answers honest).answers 0 requests keeps (leaves.certain certain) in
       let by = services limit keys few is.3 requests is.0 is.4.in_turn is.4.away in
-      record {
-        services = by.services;
-        after = is.0;
-        in_turn = by.in_turn;
-        lies = lies_of new keys is.0 shut certain is.1;
-      }
+      let lies =
+      kept_lies new keys is.0 served.closes.is_closed certain (leaves.kept 0 is.0 (λ _. is.1)) in
+      let some : new.lying ≢ Some None =
+      λ gone. some_lie new.lying (λ files. HoldRegister g files 0 is.0) lies.1 gone in (
+        record {
+          services = by.services;
+          after = is.0;
+          in_turn = by.in_turn;
+          lies = record {
+            closed = served.closes.is_closed;
+            certain = certain;
+            there = (lies.0, inl lies.1);
+          };
+          stays = λ gone. absurd (some gone);
+        },
+        some,
+      )
+
+  -- the register that lay there was opened, or one was made where no files lay
+  opened : (keys most : ℕ) (has : Bool) (port port' : Traffic) (noted noted' : Option (List Bool)) (old new : Parts g)
+      (taken : Option ℕ) (requests : List Request) → IsHonest g → LiesRegister old requests
+      → (served : IsServed has keys most port port' noted noted' old new taken) → Keeps served.opened keys 0 requests
+  opened keys most true port port' noted noted' old new taken requests honest lies served = elim lies.there.1 [
+    | inl there ↦ (served.opens.leaves honest refl).kept 0 requests
+        (keeps_of old keys requests lies.closed lies.there.0 there)
+    | inr none ↦ absurd (not_err served.totals _ (served.opens.absent lies.closed refl none.0))
+  ]
+  opened keys most false port port' noted noted' old new taken requests honest lies served = elim lies.there.1 [
+    | inl there ↦
+        let hold = there.2 in
+        not_bare requests hold.db hold.register
+        (served.opens.fresh honest lies.closed refl there.0 there.1 hold.db hold.held)
+    | inr none ↦ subst (λ (rs : List Request). Keeps served.opened keys 0 rs) (sym none.1)
+        (served.opens.made honest refl lies.closed (subst (λ l. IsSome l) (sym none.0) refl))
+  ]
+
+  by_steps : (limit keys most : ℕ) (has : Bool) (port port' : Traffic) (noted noted' : Option (List Bool))
+      (old new : Parts g) (served : Result ℕ ServingFault) (requests : List Request) → IsHonest g → keys ≤ limit
+      → LiesRegister old requests → IsServedOrRefused has keys most port port' noted noted' old new served
+      → new.is_certain ≡ true → IsServiceBy limit requests old new
+  by_steps limit keys most has port port' noted noted' old new (Ok taken) requests honest few lies is certain =
+      (answered limit keys most has port port' noted noted' old new (Some taken) requests honest few is
+      (opened keys most has port port' noted noted' old new (Some taken) requests honest lies is) certain).0
+  by_steps limit keys most has port port' noted noted' old new (Err (Port why)) requests honest few lies is certain =
+      (answered limit keys most has port port' noted noted' old new None requests honest few is
+      (opened keys most has port port' noted noted' old new None requests honest lies is) certain).0
+  by_steps limit keys most has port port' noted noted' old new (Err (Register why)) requests honest few lies is certain
+      = absurd (true≢false (sym certain ∙ is.0.doubtful))
 
   serve_task : (limit : ℕ) (task : Serving) (port port' : Traffic) (old new : Parts g) (result : Result ℕ Fault)
-      (requests : List Request) → IsHonest g → task.limit ≤ limit → LiesRegister old requests → task.new ≡ false
-      → Serves task port port' old new result → new.is_certain ≡ true → IsServiceBy limit requests new
-  serve_task limit task port port' old new result requests honest few lies found serves certain = elim serves [
+      (requests : List Request) → IsHonest g → task.limit ≤ limit → LiesRegister old requests
+      → Serves task port port' old new result → new.is_certain ≡ true → IsServiceBy limit requests old new
+  serve_task limit task port port' old new result requests honest few lies serves certain = elim serves [
     | inl none ↦ stayed limit old new requests lies none.2
     | inr more ↦ elim more [
-      | inl without ↦ absurd (true≢false (sym without.new_one ∙ found))
-      | inr is ↦
-          let by =
-          subst (λ b. ServesRegister (not b) task.limit most_asked port port' None None old new is.1) found is.2 in
-          answered limit task.limit port port' old new (result_ok is.1) requests few
-          (keeps_of old task.limit requests lies) by.closed certain (by.found honest refl)
+      | inl without ↦ stayed limit old new requests lies without.kept
+      | inr is ↦ by_steps limit task.limit most_asked (not task.new) port port' None None old new is.1 requests honest
+          few lies is.2.steps certain
     ]
   ]
 
@@ -141,93 +204,119 @@ module _ {D : Type 0} {g : Ghosts D} where
 
   by_made : (limit : ℕ) (task : Serving) (port port' : Traffic) (old new : Parts g) (status : ℕ)
       (served : Result ℕ ServingFault) → IsHonest g → task.limit ≤ limit → old.intake ≡ None → IsSome old.lying
-      → ServesRegister false task.limit most_asked port port' None None old new served
-      → IsServingTold task served (Ok status) → new.is_certain ≡ true → IsServiceBy limit [] new
-  by_made limit task port port' old new status (Ok taken) honest few closed there serves told certain =
-      let made = serves.made honest refl closed there in
-      answered limit task.limit port port' made.0 new (Some taken) [] few made.1 serves.closed certain made.2
-  by_made limit task port port' old new status (Err (Register why)) honest few closed there serves told certain =
+      → IsServedOrRefused false task.limit most_asked port port' None None old new served
+      → IsServingTold task served (Ok status) → new.is_certain ≡ true
+      → IsServiceBy limit [] old new × (new.lying ≢ Some None)
+  by_made limit task port port' old new status (Ok taken) honest few closed there is told certain =
+      answered limit task.limit most_asked false port port' None None old new (Some taken) [] honest few is
+      (is.opens.made honest refl closed there) certain
+  by_made limit task port port' old new status (Err (Register why)) honest few closed there is told certain =
       absurd (not_err status told.0 told.2)
-  by_made limit task port port' old new status (Err (Port (Network error))) honest few closed there serves told certain
-      = absurd (not_err status _ told)
-  by_made limit task port port' old new status (Err (Port Memory)) honest few closed there serves told certain =
+  by_made limit task port port' old new status (Err (Port (Network error))) honest few closed there is told certain =
+      absurd (not_err status _ told)
+  by_made limit task port port' old new status (Err (Port Memory)) honest few closed there is told certain =
       absurd (not_err status _ told)
 
   pub makes : (limit : ℕ) (task : Serving) (port port' : Traffic) (old new : Parts g) (status : ℕ) → IsHonest g
       → task.limit ≤ limit → task.new ≡ true → old.intake ≡ None → IsSome old.lying
-      → Serves task port port' old new (Ok status) → new.is_certain ≡ true → IsServiceBy limit [] new
+      → Serves task port port' old new (Ok status) → new.is_certain ≡ true
+      → IsServiceBy limit [] old new × (new.lying ≢ Some None)
   makes limit task port port' old new status honest few new_one closed there serves certain = elim serves [
     | inl none ↦ absurd (not_err status _ none.3)
     | inr more ↦ elim more [
       | inl without ↦ absurd without.told
       | inr is ↦
           by_made limit task port port' old new status is.1 honest few closed there
-          (subst (λ b. ServesRegister (not b) task.limit most_asked port port' None None old new is.1) new_one is.2)
-          is.3 certain
+          (subst (λ b. IsServedOrRefused (not b) task.limit most_asked port port' None None old new is.1) new_one
+          is.2.steps) is.3 certain
     ]
   ]
 
   -- ---- visits
 
+  -- no register is visited where no files lie
+  not_visited : {X : Type 0} (errand : Errand) (out out' : Outputs) (between new : Option (Option (Files D)))
+      (came : Visited) (opened : Result (Held (FileStore D g)) DatabaseFault) → opened ≡ Err Missing
+      → GoesOn errand out out' between new opened came → (is_doubtful came ≡ true → X) → X
+  not_visited errand out out' between new came (Ok conn) missing goes doubtful = absurd (not_err conn _ missing)
+  not_visited errand out out' between new came (Err why) missing goes doubtful =
+      doubtful (or_first (is_refused came.done) (is_err came.closed) (ap is_refused goes.0))
+
   -- the register was opened, an errand to it was done, and it was closed
   visited : (errand : Errand) (out out' : Outputs) (old new : Parts g) (came : Visited)
       (requests : List Request) → IsHonest g → IsNoMigration errand → LiesRegister old requests
-      → VisitsRegister errand out out' old new came → new.is_certain ≡ true → LiesRegister new requests
-  visited errand out out' old new came requests honest allowed lies visits certain =
-      let hold = lies.there.2 in
-      let there : LiesFor g errand old.lying 0 requests = (
-        lies.firsts_are,
-        (
+      → VisitsRegister errand out out' old new came → new.is_certain ≡ true
+      → LiesRegister new requests × AreNotGone old.lying new.lying
+  visited errand out out' old new came requests honest allowed lies visits certain = elim lies.there.1 [
+    | inl is ↦
+        let hold = is.2 in
+        let there : LiesFor g errand old.lying 0 requests = (
           lies.there.0,
-          lies.there.1,
-          record {
-            db = hold.db;
-            register = for_errand errand requests hold.db allowed hold.register;
-            held = hold.held;
-            usable = hold.usable;
-          },
-        ),
-      ) in
-      let kept = visits.kept honest certain 0 requests there in
-      record { closed = visits.is_closed; certain = certain; firsts_are = kept.0; there = kept.1 }
+          (
+            is.0,
+            is.1,
+            record {
+              db = hold.db;
+              register = for_errand errand requests hold.db allowed hold.register;
+              held = hold.held;
+              usable = hold.usable;
+            },
+          ),
+        ) in
+        let kept = visits.kept honest certain 0 requests there in (
+          record { closed = visits.is_closed; certain = certain; there = (kept.0, inl kept.1) },
+          λ gone. some_lie new.lying (λ files. HoldRegister g files 0 requests) kept.1 gone,
+        )
+    | inr none ↦ not_visited errand out out' visits.visits.between new.lying came visits.visits.opened
+        (visits.visits.opens.absent refl none.0) visits.visits.goes
+        (λ doubtful. absurd (true≢false (sym certain ∙ visits.doubtful doubtful)))
+  ]
+
+  -- what lay in a place lies there after nothing was done
+  same_lies : (old mid new : Parts g) (requests : List Request) → new ≡ mid
+      → (mid.is_certain ≡ true → LiesRegister mid requests × AreNotGone old.lying mid.lying) → new.is_certain ≡ true
+      → LiesRegister new requests × AreNotGone old.lying new.lying
+  same_lies old mid new requests same lies certain =
+      subst (λ p. LiesRegister p requests × AreNotGone old.lying p.lying) (sym same)
+      (lies (sym (ap (λ (p : Parts g). p.is_certain) same) ∙ certain))
 
   by_told : (name : Bor (List ℕ)) (errand : Errand) (done : Result (Unit {0}) ErrandFault)
-      (out out' : Outputs) (mid new : Parts g) (result : Result ℕ Fault) (requests : List Request) → IsHonest g
-      → (mid.is_certain ≡ true → LiesRegister mid requests) → IsVisitTold name errand done out out' mid new result
-      → new.is_certain ≡ true → LiesRegister new requests
-  by_told name errand (Ok done) out out' mid new result requests honest lies told certain =
-      same_lies mid new requests told.2 lies certain
-  by_told name errand (Err why) out out' mid new result requests honest lies told certain =
+      (out out' : Outputs) (old mid new : Parts g) (result : Result ℕ Fault) (requests : List Request) → IsHonest g
+      → (mid.is_certain ≡ true → LiesRegister mid requests × AreNotGone old.lying mid.lying)
+      → IsVisitTold name errand done out out' mid new result → new.is_certain ≡ true
+      → LiesRegister new requests × AreNotGone old.lying new.lying
+  by_told name errand (Ok done) out out' old mid new result requests honest lies told certain =
+      same_lies old mid new requests told.2 lies certain
+  by_told name errand (Err why) out out' old mid new result requests honest lies told certain =
       by_wanted (is_not_earlier why) told
       (λ (current : VisitsCurrent name why out out' mid new result).
       let visits = current.3 in
+      let before = lies (visits.certain certain) in
+      let is =
       visited asked.Check (outputs current.0 out.pages) (outputs current.1 out'.pages) mid new current.2
-      requests honest tt (lies (visits.certain certain)) visits certain)
+      requests honest tt before.0 visits certain in
+      (is.0, λ gone. before.1 (is.1 gone)))
       (λ (fault : IsFaultTold name errand why out.text out'.text result × (out'.pages ≡ out.pages) × (new ≡ mid)).
-      same_lies mid new requests fault.2 lies certain)
+      same_lies old mid new requests fault.2 lies certain)
 
   visit : {name : Bor (List ℕ)} (limit : ℕ) (errand : Errand) (out out' : Outputs) (old new : Parts g)
       (result : Result ℕ Fault) (requests : List Request) → IsHonest g → IsNoMigration errand
       → LiesRegister old requests → Visits name errand out out' old new result → new.is_certain ≡ true
-      → IsServiceBy limit requests new
+      → IsServiceBy limit requests old new
   visit {name} limit errand out out' old new result requests honest allowed lies is certain =
       let visits = is.3 in
-      record {
-        services = [];
-        after = requests;
-        in_turn = refl;
-        lies = by_told name errand is.2.done is.0 out' is.1 new result requests honest
-            (visited errand out is.0 old is.1 is.2 requests honest allowed lies visits) is.4 certain;
-      }
+      let left =
+      by_told name errand is.2.done is.0 out' old is.1 new result requests honest
+      (visited errand out is.0 old is.1 is.2 requests honest allowed lies visits) is.4 certain in
+      record { services = []; after = requests; in_turn = refl; lies = left.0; stays = left.1 }
 
   does : (limit : ℕ) (what : Task) (old new : Means g) (result : Result ℕ Fault) (requests : List Request)
       → IsHonest g → IsCovered limit what → LiesRegister old.process requests → Does what old new result
-      → new.process.is_certain ≡ true → IsServiceBy limit requests new.process
+      → new.process.is_certain ≡ true → IsServiceBy limit requests old.process new.process
   does limit (task.Run most) old new result requests honest covered lies is certain =
       stayed limit old.process new.process requests lies (ap (λ (m : Means g). m.process) is.0)
   does limit (task.Serve serving) old new result requests honest covered lies is certain =
-      serve_task limit serving old.port new.port old.process new.process result requests honest covered.0 lies
-      covered.1 is.1 certain
+      serve_task limit serving old.port new.port old.process new.process result requests honest covered lies is.1 certain
   does limit (task.Visit name errand) old new result requests honest covered lies is certain =
       by_wanted (is_wanted errand) is
       (λ (v : (new ≡ record old { out = new.out; pages = new.pages; process = new.process })
@@ -241,6 +330,6 @@ module _ {D : Type 0} {g : Ghosts D} where
 
   pub performs : (limit : ℕ) (what : Task) (old new : Means g) (status : ℕ) (requests : List Request)
       → IsHonest g → IsCovered limit what → LiesRegister old.process requests → Performs what old new status
-      → new.process.is_certain ≡ true → IsServiceBy limit requests new.process
+      → new.process.is_certain ≡ true → IsServiceBy limit requests old.process new.process
   performs limit what old new status requests honest covered lies is certain =
       does limit what old new is.0 requests honest covered lies is.1 certain

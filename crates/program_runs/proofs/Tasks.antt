@@ -1,5 +1,5 @@
 -- What a task of `outbox` is among deeds, by the errands that it does.
-use Rattle.std.proofs.Common.{◌≡◌, ◌∙◌, ℕ, Bool, true, false, List, [], ◌∷◌, ◌++◌, map, Option, Some, None, Result}
+use Rattle.std.proofs.Common.{◌≡◌, ◌≢◌, ◌∙◌, ℕ, Bool, true, false, List, [], ◌∷◌, ◌++◌, map, Option, Some, None, Result}
 use Rattle.std.proofs.Common.{Ok, Err, refl, sym, ap, subst, inl, inr, true≢false}
 use Rattle.std.specs.Borrow.{Bor}
 use Rattle.std.specs.Prelude.{◌==◌, IsSome}
@@ -7,8 +7,15 @@ use Rattle.sqlite_disk.specs.declared.Disk.{Ghosts}
 use Rattle.sqlite.specs.Files.{over_files}
 use Rattle.sqlite_store.specs.declared.store.FileStore.{FileStore}
 use Rattle.filing_model.specs.Prefix.{IsPrefixOf}
+use Rattle.sqlite.specs.Effect.{Database}
+use Rattle.sqlite.specs.Schema.{Schema}
+use Rattle.sqlite.specs.declared.error.Error.{Error}
+use Rattle.table_rows.specs.Tables.{no_schema}
 use Rattle.outbox_tables.specs.Entries.{Contents, empty}
+use Rattle.outbox_tables.specs.Rows.{IsOutboxOf}
+use Rattle.outbox_tables.specs.Schema.{outbox_tables}
 use Rattle.outbox_core.specs.declared.fault.PutFault.{PutFault}
+use Rattle.outbox_core.specs.Files.{HoldOutbox}
 use Rattle.outbox_core.specs.OutboxParts.{OutboxParts, HasEntries}
 use Rattle.database_places.specs.Places.{IsHonest}
 use Rattle.outbox_process.specs.Dials.{Traffic}
@@ -16,6 +23,7 @@ use Rattle.outbox_process.specs.Putting.{IsPutTold}
 use Rattle.outbox_process.specs.declared.tasks.fault.TaskFault.{TaskFault}
 use Rattle.outbox_process.specs.declared.tasks.fault.TaskFault.TheVariants as failed
 use Rattle.outbox_process.specs.declared.begun.Beginning.{Beginning}
+use Rattle.outbox_process.specs.declared.begun.Beginning.TheVariants.{Made}
 use Rattle.outbox_process.specs.declared.errand.Done.{Done}
 use Rattle.outbox_process.specs.declared.errand.Done.TheVariants as outcome
 use Rattle.outbox_process.specs.declared.errand.Errand.{Errand}
@@ -24,36 +32,43 @@ use Rattle.outbox_process.specs.declared.errand.Which.{Which}
 use Rattle.outbox_process.specs.declared.errand.Which.TheVariants.{Next, Entry, All}
 use Rattle.outbox_process.specs.declared.target.Target.{Target}
 use Rattle.outbox_process.specs.Errands.{DoesErrand, Sends, answer}
-use Rattle.outbox_process.specs.Process.{Parts, Keeps}
+use Rattle.outbox_process.specs.Process.{Parts, Keeps, OpensProcess, ClosesProcess}
 use Rattle.outbox_commands.specs.Puts.{PutsInTurn, PutsOne, PutsReports, PutsThem, ended_as, put_of}
 use Rattle.outbox_commands.specs.Status.{status_by}
 use Rattle.outbox_commands.specs.Tasks.{Does, MakesOutbox, MigratesOutbox}
 use Rattle.outbox_commands.specs.Visits.{IsRefused, VisitsOutbox}
 use Rattle.outbox_commands.specs.declared.fault.Fault.{Fault}
+use Rattle.outbox_commands.specs.declared.fault.Fault.TheVariants as fault
 use Rattle.outbox_commands.specs.declared.options.Task.{Task}
 use Rattle.outbox_commands.specs.declared.options.Task.TheVariants.{Init, Put, Migrate, Send, Ask, Status, Show}
 use Rattle.outbox_commands.specs.declared.putting.Report.{Report}
 use Rattle.program_runs.specs.Deeds.{Deed, Added}
-use Rattle.program_runs.specs.Runs.{LiesClosed, IsRunBy, AreOfReports, AreOfPutting, AreOfSend, AreOfAsk, AreOfTask}
-use Rattle.program_runs.specs.Runs.{IsNoInit}
+use Rattle.program_runs.specs.Runs.{LiesClosed, IsRunBy, putting, AreOfPutting, AreOfSend, AreOfAsk, AreOfTask, IsFor}
 use Rattle.program_runs.proofs.Joining.{done_join}
-use Rattle.program_runs.proofs.Lies.{Brings, Goes, performed, visited, keeps_of, lies_of}
+use Rattle.program_runs.proofs.Lies.{Brings, Goes, performed, visited, keeps_of, kept_lies, run_by, some_lie}
 use Rattle.program_runs.proofs.Looks.{looks, ask_brings}
 use Rattle.program_runs.proofs.Puts.{AreBy, put_brings}
 use Rattle.program_runs.proofs.Results.{not_err}
 use Rattle.program_runs.proofs.Sends.{send_entry_brings, send_next_brings, send_all_brings}
+use Rattle.program_runs.proofs.Statuses.{failed_by, all_put}
 
 abbrev deed_of : Target → Report → Deed
 deed_of target report = Added report.key target.number report.body.items
 
 -- ---- the first of the deeds of some reports
 
+-- these are the first of all, or all if it ended so
+abbrev AreAsEnded : List Deed → Result (Unit {0}) TaskFault → List Deed → Type 0
+AreAsEnded all ended deeds = IsPrefixOf deeds all × (ended ≡ Ok tt → deeds ≡ all)
+
 -- one more report was put in, and then the first of others
-goes_on : (deed : Deed) (others first rest : List Deed) → first ≡ deed ∷ [] → IsPrefixOf rest others
-    → IsPrefixOf (first ++ rest) (deed ∷ others)
-goes_on deed others first rest is are =
-    subst (λ (front : List Deed). IsPrefixOf (front ++ rest) (deed ∷ others)) (sym is)
-    (are.0, ap (λ (deeds : List Deed). deed ∷ deeds) are.1)
+goes_on : (deed : Deed) (others first rest : List Deed) (ended : Result (Unit {0}) TaskFault) → first ≡ deed ∷ []
+    → AreAsEnded others ended rest → AreAsEnded (deed ∷ others) ended (first ++ rest)
+goes_on deed others first rest ended is are =
+    subst (λ (front : List Deed). AreAsEnded (deed ∷ others) ended (front ++ rest)) (sym is) (
+      (are.0.0, ap (λ (deeds : List Deed). deed ∷ deeds) are.0.1),
+      λ ok. ap (λ (deeds : List Deed). deed ∷ deeds) (are.1 ok),
+    )
 
 -- one was put in or not, and none after it
 begins : (deed : Deed) (others : List Deed) (came : Result ℕ PutFault) (deeds : List Deed) → AreBy came deed deeds
@@ -72,6 +87,13 @@ answered deed deeds (Err why) out out' told came is by ends are =
     absurd (not_err tt (failed.Put why)
     (ends ∙ ap ended_as by ∙ ap (λ (t : Result ℕ TaskFault). ended_as (answer outcome.Put t)) is.0))
 
+-- the database of an outbox has tables
+not_bare : {X : Type 0} (it : Contents) (db : Database) → IsOutboxOf it db → db.schema ≡ no_schema → X
+not_bare it db is none =
+    let begins = is.rows.declared.begins in
+    let tables : [] ≡ outbox_tables ++ begins.tables = ap (λ (s : Schema). s.tables) (sym none ∙ begins.is) in
+    absurd (cc)
+
 module _ {D : Type 0} {g : Ghosts D} where
   was_put : (target : Target) (report : Report) (net : Traffic) (out out' : Option (List ℕ)) (old new : Parts g)
       → (puts : PutsOne (put_of target report) net out out' old new (Ok tt)) → (deeds : List Deed)
@@ -82,9 +104,15 @@ module _ {D : Type 0} {g : Ghosts D} where
 
   -- nothing was done
   stayed : (old new : Parts g) (it : Contents) (Are : List Deed → Type 0) → Are [] → LiesClosed old it → new ≡ old
-      → IsRunBy it new Are
-  stayed old new it Are none lies same =
-      record { deeds = []; are = none; after = it; done = refl; lies = subst (λ p. LiesClosed p it) (sym same) lies }
+      → IsRunBy it old new Are
+  stayed old new it Are none lies same = record {
+    deeds = [];
+    are = none;
+    after = it;
+    done = refl;
+    lies = subst (λ p. LiesClosed p it) (sym same) lies;
+    stays = λ gone. sym (ap (λ (p : Parts g). p.lying) same) ∙ gone;
+  }
 
   -- an outbox that was not opened is uncertain
   not_refused : {X : Type 0} (beginning : Beginning) (old new : Parts g) (status : ℕ)
@@ -100,7 +128,7 @@ module _ {D : Type 0} {g : Ghosts D} where
       → ((before after : OutboxParts (FileStore D g)) (came : Result Done TaskFault)
       → HasEntries over_files before it.entries → before.filer ≡ it.filer
       → DoesErrand over_files what net net' before after out out' came → Brings before after it Are)
-      → IsRunBy it new Are
+      → IsRunBy it old new Are
   visits what strict net net' out out' old new status it Are honest lies visit certain brings = elim visit [
     | inl does ↦ visited old does.opened does.done new does.closed it Are honest lies does.opens does.closes certain
         (λ keeps sure. performed what net net' out out' does.opened does.done does.came it Are does.performs keeps sure
@@ -164,10 +192,10 @@ module _ {D : Type 0} {g : Ghosts D} where
   turns : (target : Target) (reports : List Report) (net : Traffic) (out out' : Option (List ℕ)) (old new : Parts g)
       (ended : Result (Unit {0}) TaskFault) (it : Contents) → IsHonest g
       → PutsInTurn (map (put_of target) reports) net out out' old new ended → Keeps old it → new.is_certain ≡ true
-      → Goes old new it (AreOfReports target reports)
+      → Goes old new it (AreAsEnded (putting target reports) ended)
   turns target [] net out out' old new ended it honest is keeps sure = record {
     deeds = [];
-    are = ([], refl);
+    are = (([], refl), λ _. refl);
     after = it;
     done = refl;
     keeps = subst (λ p. Keeps p it) (sym is.1) keeps;
@@ -179,7 +207,7 @@ module _ {D : Type 0} {g : Ghosts D} where
         let rest = turns target reports net one.0 out' one.1 new ended first.after honest one.3 first.keeps sure in
         record {
           deeds = first.deeds ++ rest.deeds;
-          are = goes_on (deed_of target report) (map (deed_of target) reports) first.deeds rest.deeds
+          are = goes_on (deed_of target report) (putting target reports) first.deeds rest.deeds ended
               (was_put target report net out one.0 old one.1 one.2 first.deeds first.are) rest.are;
           after = rest.after;
           done = done_join it first.after rest.after first.deeds rest.deeds first.done rest.done;
@@ -189,8 +217,10 @@ module _ {D : Type 0} {g : Ghosts D} where
         let one = put_one target report net out out' old new (Err last.0) it honest last.1 keeps sure in
         record {
           deeds = one.deeds;
-          are = begins (deed_of target report) (map (deed_of target) reports) last.1.performs.does.0.1.came one.deeds
-              one.are;
+          are = (
+            begins (deed_of target report) (putting target reports) last.1.performs.does.0.1.came one.deeds one.are,
+            λ ok. absurd (not_err tt last.0 (sym ok ∙ last.2)),
+          );
           after = one.after;
           done = one.done;
           keeps = one.keeps;
@@ -199,47 +229,86 @@ module _ {D : Type 0} {g : Ghosts D} where
 
   puts_them : (target : Target) (reports : List Report) (net : Traffic) (out out' : Option (List ℕ))
       (old new : Parts g) (status : ℕ) (it : Contents) → IsHonest g → LiesClosed old it
-      → PutsThem g (map (put_of target) reports) net out out' old new status → new.is_certain ≡ true
-      → IsRunBy it new (AreOfReports target reports)
+      → (puts : PutsThem g (map (put_of target) reports) net out out' old new status) → new.is_certain ≡ true
+      → IsRunBy it old new (AreAsEnded (putting target reports) puts.turns.0)
   puts_them target reports net out out' old new status it honest lies puts certain =
-      visited old puts.opened puts.done new puts.closed it (AreOfReports target reports) honest lies puts.opens
-      puts.closes certain (λ keeps sure.
+      visited old puts.opened puts.done new puts.closed it (AreAsEnded (putting target reports) puts.turns.0) honest
+      lies puts.opens puts.closes certain (λ keeps sure.
       turns target reports net out out' puts.opened puts.done puts.turns.0 it honest puts.turns.1 keeps sure)
 
   put : {X : Type 0} (files : List (Bor (List ℕ))) (text : Option (Bor (List ℕ))) (target : Target)
       (net net' : Traffic) (out out' : Option (List ℕ)) (old new : Parts g) (result : Result X Fault) (it : Contents)
       → IsHonest g → LiesClosed old it → PutsReports g files text target net net' out out' old new result
-      → new.is_certain ≡ true → IsRunBy it new (AreOfPutting files text target)
+      → new.is_certain ≡ true → IsRunBy it old new (AreOfPutting files text target (status_by result))
   put files text target net net' out out' old new result it honest lies puts certain = elim puts [
-    | inl two ↦ stayed old new it (AreOfPutting files text target) (inl refl) lies two.2.0
+    | inl two ↦ stayed old new it (AreOfPutting files text target (status_by result))
+        (inl (failed_by result fault.ForOne two.1, refl)) lies two.2.0
     | inr read ↦ elim read.1 [
       | inl all ↦ elim all.3 [
         | inl them ↦
             let is = puts_them target all.0 net out out' old new (status_by result) it honest lies them certain in
             record {
               deeds = is.deeds;
-              are = inr (all.0, all.1, is.are);
+              are = inr (all.0, all.1, is.are.0, λ done. is.are.1 (all_put them.turns.0 (sym them.turns.2 ∙ done)));
               after = is.after;
               done = is.done;
               lies = is.lies;
+              stays = is.stays;
             }
         | inr refused ↦ not_refused _ old new (status_by result) refused.0 certain
       ]
-      | inr none ↦ stayed old new it (AreOfPutting files text target) (inl refl) lies none.3.0
+      | inr none ↦ stayed old new it (AreOfPutting files text target (status_by result))
+          (inl (failed_by result none.0 none.1, refl)) lies none.3.0
     ]
   ]
 
   -- ---- an outbox is made
 
+  -- one without entries
+  made : (filer : Bor (List ℕ)) (old between new : Parts g) (closed : Result (Unit {0}) Error) → IsHonest g
+      → old.outbox ≡ None → IsSome old.lying → OpensProcess g (Made filer) old between (Ok tt)
+      → ClosesProcess g between new closed → Keeps new (empty filer.now)
+  made filer old between new closed honest shut there opens closes =
+      (closes.leaves honest).kept (empty filer.now) (opens.keeps honest (empty filer.now) (shut, there, refl))
+
   pub makes : (filer : Bor (List ℕ)) (old new : Parts g) → IsHonest g → old.outbox ≡ None → IsSome old.lying
-      → MakesOutbox g filer old new 0 → new.is_certain ≡ true → LiesClosed new (empty filer.now)
+      → MakesOutbox g filer old new 0 → new.is_certain ≡ true
+      → LiesClosed new (empty filer.now) × (new.lying ≢ Some None)
   makes filer old new honest closed there is certain = elim is [
     | inl no_filer ↦ absurd (true≢false (ap (λ (status : ℕ). status == 0) no_filer.2))
     | inr others ↦ elim others [
       | inl done ↦
-          let keeps = done.2.keeps honest (empty filer.now) (closed, there, refl) in
-          lies_of new (empty filer.now) done.3.is_closed certain ((done.3.leaves honest).kept (empty filer.now) keeps)
+          let it = empty filer.now in
+          let keeps = made filer old done.0 new done.1 honest closed there done.2 done.3 in
+          let lie = kept_lies new it done.3.is_closed certain keeps in (
+            record { closed = done.3.is_closed; certain = certain; there = inl lie },
+            λ none. some_lie new.lying (λ files. HoldOutbox g files it) lie none,
+          )
       | inr refused ↦ not_refused _ old new 0 refused certain
+    ]
+  ]
+
+  -- it is not made over one that lies there
+  inits : (filer : Bor (List ℕ)) (old new : Parts g) (status : ℕ) (it : Contents) → IsHonest g → LiesClosed old it
+      → filer.now ≡ it.filer → MakesOutbox g filer old new status → new.is_certain ≡ true
+      → IsRunBy it old new (λ deeds. deeds ≡ [])
+  inits filer old new status it honest lies is_for is certain = elim is [
+    | inl no_filer ↦ stayed old new it (λ deeds. deeds ≡ []) refl lies no_filer.1
+    | inr others ↦ elim others [
+      | inl done ↦ elim lies.there [
+        | inl there ↦
+            let hold = there.2 in
+            not_bare it hold.db hold.outbox
+            (done.2.fresh honest lies.closed refl there.0 there.1 hold.db hold.held)
+        | inr none ↦
+            let same : empty filer.now ≡ it = λ i. record { filer = is_for i; entries = sym none.1 i } in
+            let keeps =
+            made filer old done.0 new done.1 honest lies.closed (subst (λ l. IsSome l) (sym none.0) refl) done.2 done.3
+            in
+            run_by it it old new (λ deeds. deeds ≡ []) [] refl refl done.3.is_closed certain
+            (subst (Keeps new) same keeps)
+      ]
+      | inr refused ↦ not_refused _ old new status refused certain
     ]
   ]
 
@@ -248,16 +317,22 @@ module _ {D : Type 0} {g : Ghosts D} where
   -- an outbox of this version is not migrated
   migrates : (out out' : Option (List ℕ)) (old new : Parts g) (status : ℕ) (it : Contents) → IsHonest g
       → LiesClosed old it → MigratesOutbox g out out' old new status → new.is_certain ≡ true
-      → IsRunBy it new (λ deeds. deeds ≡ [])
+      → IsRunBy it old new (λ deeds. deeds ≡ [])
   migrates out out' old new status it honest lies is certain = elim is [
-    | inl done ↦ absurd (done.2.current honest refl lies.closed lies.certain it (keeps_of old it lies))
+    | inl done ↦ elim lies.there [
+      | inl there ↦
+          absurd (done.2.current honest refl lies.closed lies.certain it (keeps_of old it lies.closed there))
+      | inr none ↦ absurd (not_err tt _ (done.2.absent lies.closed refl none.0))
+    ]
     | inr refused ↦ absurd (true≢false (sym certain ∙ refused.2.refused.2))
   ]
 
   pub run : {X : Type 0} (task : Task) (net net' : Traffic) (out out' : Option (List ℕ)) (old new : Parts g)
-      (result : Result X Fault) (it : Contents) → IsHonest g → LiesClosed old it → IsNoInit task
-      → Does g task net net' out out' old new result → new.is_certain ≡ true → IsRunBy it new (AreOfTask task)
-  run (Init database filer) net net' out out' old new result it honest lies made does certain = absurd made
+      (result : Result X Fault) (it : Contents) → IsHonest g → LiesClosed old it → IsFor it.filer task
+      → Does g task net net' out out' old new result → new.is_certain ≡ true
+      → IsRunBy it old new (AreOfTask task (status_by result))
+  run (Init database filer) net net' out out' old new result it honest lies made does certain =
+      inits filer old new (status_by result) it honest lies made does.0 certain
   run (Put database files key target) net net' out out' old new result it honest lies made does certain =
       put files.items key target net net' out out' old new result it honest lies does certain
   run (Migrate database) net net' out out' old new result it honest lies made does certain =

@@ -3,16 +3,14 @@
 use Rattle.std.specs.Prelude.{◌≡◌, ◌++◌, ◌≤◌, ◌^◌, ℕ, true, List, [], ◌∷◌, Option, Some, None, Result}
 use Rattle.sqlite_disk.specs.declared.Disk.{Ghosts}
 use Rattle.sqlite_disk.specs.declared.Files.{Files}
-use Rattle.filing_model.specs.Request.{Request, firsts}
+use Rattle.filing_model.specs.Request.{Request}
 use Rattle.filing_world.specs.World.{numbered}
 use Rattle.filing_world.specs.Headline.{AreFilers}
-use Rattle.register_store.specs.Files.{HoldRegister}
 use Rattle.outbox_tables.specs.Entries.{Contents}
-use Rattle.outbox_core.specs.Files.{HoldOutbox}
-use Rattle.database_places.specs.Places.{Lie}
 use Rattle.outbox_process.specs.Dials.{Traffic}
 use Rattle.outbox_process.specs.Process.{Parts}
 use Rattle.outbox_commands.specs.Tasks.{Does}
+use Rattle.outbox_commands.specs.Status.{status_by}
 use Rattle.outbox_commands.specs.declared.fault.Fault.{Fault}
 use Rattle.outbox_commands.specs.declared.options.Task.{Task}
 use Rattle.intake_commands.specs.Tasks.{Means, Performs}
@@ -21,8 +19,8 @@ use Rattle.programs.specs.Happenings.{Situation, at_first, AreRegistered}
 use Rattle.programs.specs.Fronts.{Passing, HappenBehind, IsReachedBehind}
 use Rattle.program_runs.specs.Beside.{Act, Service, InTurn, deeds_of, services_of, network_of, AreCarried}
 use Rattle.program_runs.specs.Deeds.{Deed, AreDone}
-use Rattle.program_runs.specs.Registers.{IsCovered}
-use Rattle.program_runs.specs.Runs.{AreOfTask, IsNoInit}
+use Rattle.program_runs.specs.Registers.{LieRequests, IsCovered}
+use Rattle.program_runs.specs.Runs.{LieOutbox, AreNotGone, AreOfTask, IsFor}
 
 module _ {D : Type 0} (g : Ghosts D) where
   -- ---- one outbox
@@ -44,34 +42,35 @@ module _ {D : Type 0} (g : Ghosts D) where
     Killed : List Deed → OutboxTurn
 
   -- It found these files in its place, closed, did its task, as its contract says, no close and no opening failed, and
-  -- it left those files.
-  pub record IsOutboxRun (run : OutboxRun) (lying lying' : Option (Option (Files D))) : Type 0 where
+  -- it left those files. If it made an outbox, that is this filer's.
+  pub record IsOutboxRun (filer : List ℕ) (run : OutboxRun) (lying lying' : Option (Option (Files D))) : Type 0 where
     pub closed : run.old.outbox ≡ None
     pub began : run.old.is_certain ≡ true
     pub found : run.old.lying ≡ lying
-    pub no_init : IsNoInit run.task
+    pub is_for : IsFor filer run.task
     pub does : Does g run.task run.net run.net' run.out run.out' run.old run.new run.result
     pub certain : run.new.is_certain ≡ true
     pub left : run.new.lying ≡ lying'
 
-  -- what a run left that was killed after these deeds is an outbox to which they lead
-  abbrev pub LeavesDone : List Deed → Option (Option (Files D)) → Option (Option (Files D)) → Type 0
-  LeavesDone deeds lying lying' = (it : Contents) → Lie lying (λ files. HoldOutbox g files it)
-      → (after : Contents) × AreDone it deeds after × Lie lying' (λ files. HoldOutbox g files after)
+  -- what a run left that was killed after these deeds is this filer's outbox to which they lead, if it was made
+  abbrev pub LeavesDone : List ℕ → List Deed → Option (Option (Files D)) → Option (Option (Files D)) → Type 0
+  LeavesDone filer deeds lying lying' = (it : Contents) → it.filer ≡ filer → LieOutbox g lying it
+      → (after : Contents) × AreDone it deeds after × LieOutbox g lying' after × AreNotGone lying lying'
 
-  abbrev pub IsOutboxTurn : OutboxTurn → Option (Option (Files D)) → Option (Option (Files D)) → Type 0
-  IsOutboxTurn (Whole run) lying lying' = IsOutboxRun run lying lying'
-  IsOutboxTurn (Killed deeds) lying lying' = LeavesDone deeds lying lying'
+  abbrev pub IsOutboxTurn : List ℕ → OutboxTurn → Option (Option (Files D)) → Option (Option (Files D)) → Type 0
+  IsOutboxTurn filer (Whole run) lying lying' = IsOutboxRun filer run lying lying'
+  IsOutboxTurn filer (Killed deeds) lying lying' = LeavesDone filer deeds lying lying'
 
   -- each begins with what the one before it left
-  abbrev pub AreOutboxTurns : List OutboxTurn → Option (Option (Files D)) → Option (Option (Files D)) → Type 0
-  AreOutboxTurns [] lying lying' = lying' ≡ lying
-  AreOutboxTurns (turn ∷ turns) lying lying' =
-      (between : Option (Option (Files D))) × IsOutboxTurn turn lying between × AreOutboxTurns turns between lying'
+  abbrev pub AreOutboxTurns : List ℕ → List OutboxTurn → Option (Option (Files D)) → Option (Option (Files D)) → Type 0
+  AreOutboxTurns filer [] lying lying' = lying' ≡ lying
+  AreOutboxTurns filer (turn ∷ turns) lying lying' =
+      (between : Option (Option (Files D))) × IsOutboxTurn filer turn lying between
+      × AreOutboxTurns filer turns between lying'
 
   -- the deeds are those of the tasks of these runs, one after another
   abbrev pub AreOfTurn : OutboxTurn → List Deed → Type 0
-  AreOfTurn (Whole run) deeds = AreOfTask run.task deeds
+  AreOfTurn (Whole run) deeds = AreOfTask run.task (status_by run.result) deeds
   AreOfTurn (Killed some) deeds = deeds ≡ some
 
   abbrev pub AreOfAll : List OutboxTurn → List Deed → Type 0
@@ -102,14 +101,11 @@ module _ {D : Type 0} (g : Ghosts D) where
     pub certain : run.new.process.is_certain ≡ true
     pub left : run.new.process.lying ≡ lying'
 
-  -- the register of these requests lies there, none of which is old-style
-  abbrev pub LieRequests : Option (Option (Files D)) → List Request → Type 0
-  LieRequests lying requests = (firsts requests ≡ requests) × Lie lying (λ files. HoldRegister g files 0 requests)
-
   abbrev pub IsIntakeTurn : ℕ → IntakeTurn → Option (Option (Files D)) → Option (Option (Files D)) → Type 0
   IsIntakeTurn limit (Done run) lying lying' = IsIntakeRun limit run lying lying'
-  IsIntakeTurn limit (Stopped services) lying lying' = (requests : List Request) → LieRequests lying requests
-      → (after : List Request) × InTurn limit requests services after × LieRequests lying' after
+  IsIntakeTurn limit (Stopped services) lying lying' = (requests : List Request) → LieRequests g lying requests
+      → (after : List Request) × InTurn limit requests services after × LieRequests g lying' after
+      × AreNotGone lying lying'
 
   abbrev pub AreIntakeTurns : ℕ → List IntakeTurn → Option (Option (Files D)) → Option (Option (Files D)) → Type 0
   AreIntakeTurns limit [] lying lying' = lying' ≡ lying
@@ -124,11 +120,15 @@ module _ {D : Type 0} (g : Ghosts D) where
     pub register : Option (Option (Files D))
     pub boxes : ℕ → Option (Option (Files D))
 
-  -- the files hold what the situation has
+  -- no files lie in any place
+  abbrev pub bare : Deployment
+  bare = record { register = Some None; boxes = λ outbox. Some None }
+
+  -- the files hold what the situation has; what is not made yet has no files
   pub record HoldSituation (deployment : Deployment) (situation : Situation) : Type 0 where
-    pub register : LieRequests deployment.register situation.requests
+    pub register : LieRequests g deployment.register situation.requests
     pub boxes : (outbox : ℕ) (it : Contents) → numbered situation.outboxes outbox ≡ Some it
-        → Lie (deployment.boxes outbox) (λ files. HoldOutbox g files it)
+        → LieOutbox g (deployment.boxes outbox) it
 
   -- What happened, behind fronts or without, in one order that keeps each program's own. The files hold what is kept
   -- then, the headline holds of it, and each confirmed entry is in the register once.
@@ -144,21 +144,37 @@ module _ {D : Type 0} (g : Ghosts D) where
   -- came, with what others wrote between them, they happen, if what each read was written to it or given back by a
   -- front.
   pub record RunsHappen (limit : ℕ) (filers : List (List ℕ)) (outboxes : ℕ → List OutboxTurn) (old : Situation)
-      (deployment : Deployment) : Type 0 where
+      (before deployment : Deployment) : Type 0 where
     pub deeds : ℕ → List Deed
     pub are : (outbox : ℕ) (it : Contents) → numbered old.outboxes outbox ≡ Some it
         → AreOfAll (outboxes outbox) (deeds outbox)
     pub services : List Service
+    -- what was made is not gone
+    pub register_stays : AreNotGone before.register deployment.register
+    pub boxes_stay : (outbox : ℕ) (it : Contents) → numbered old.outboxes outbox ≡ Some it
+        → AreNotGone (before.boxes outbox) (deployment.boxes outbox)
     pub happen : (acts : List Act) → ((outbox : ℕ) → deeds_of outbox acts ≡ deeds outbox)
         → services_of acts ≡ services → AreCarried (network_of old) acts
         → IsOutcome limit filers old deployment
 
-  -- Whatever runs there are of both programs, on files that hold a situation to which such happenings led.
+  -- Whatever runs there are of both programs, on files that hold a situation to which such happenings led. What is not
+  -- there yet may be made, each outbox for its filer.
   abbrev pub AnyRuns : Type 0
   AnyRuns =
       (limit : ℕ) (filers : List (List ℕ)) (before : List Passing) (situation : Situation) (old new : Deployment)
       (intake : List IntakeTurn) (outboxes : ℕ → List OutboxTurn) → AreFilers filers → limit ≤ 2 ^ 62
       → HappenBehind limit (at_first filers) before situation → HoldSituation old situation
       → AreIntakeTurns limit intake old.register new.register
-      → ((outbox : ℕ) → AreOutboxTurns (outboxes outbox) (old.boxes outbox) (new.boxes outbox))
-      → RunsHappen limit filers outboxes situation new
+      → ((outbox : ℕ) (it : Contents) → numbered situation.outboxes outbox ≡ Some it
+      → AreOutboxTurns it.filer (outboxes outbox) (old.boxes outbox) (new.boxes outbox))
+      → RunsHappen limit filers outboxes situation old new
+
+  -- Whatever runs there are of both programs from the first on, each outbox for its filer.
+  abbrev pub AnyDeployment : Type 0
+  AnyDeployment =
+      (limit : ℕ) (filers : List (List ℕ)) (new : Deployment) (intake : List IntakeTurn)
+      (outboxes : ℕ → List OutboxTurn) → AreFilers filers → limit ≤ 2 ^ 62
+      → AreIntakeTurns limit intake bare.register new.register
+      → ((outbox : ℕ) (filer : List ℕ) → numbered filers outbox ≡ Some filer
+      → AreOutboxTurns filer (outboxes outbox) (bare.boxes outbox) (new.boxes outbox))
+      → RunsHappen limit filers outboxes (at_first filers) bare new

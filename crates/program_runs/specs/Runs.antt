@@ -1,7 +1,8 @@
 -- What a run of `outbox` makes of what lies in its place.
-use Rattle.std.specs.Prelude.{◌≡◌, ◌⊎◌, ℕ, true, List, [], ◌∷◌, ◌++◌, map, Option, None}
+use Rattle.std.specs.Prelude.{◌≡◌, ◌≢◌, ◌⊎◌, ℕ, true, List, [], ◌∷◌, ◌++◌, map, Option, Some, None}
 use Rattle.std.specs.Borrow.{Bor}
 use Rattle.sqlite_disk.specs.declared.Disk.{Ghosts}
+use Rattle.sqlite_disk.specs.declared.Files.{Files}
 use Rattle.filing_model.specs.Prefix.{IsPrefixOf}
 use Rattle.outbox_core.specs.Files.{HoldOutbox}
 use Rattle.outbox_tables.specs.Entries.{Contents}
@@ -16,33 +17,44 @@ use Rattle.outbox_commands.specs.declared.options.Task.{Task}
 use Rattle.outbox_commands.specs.declared.options.Task.TheVariants.{Init, Put, Migrate, Send, Ask, Status, Show}
 use Rattle.program_runs.specs.Deeds.{Deed, Added, Wrote, Heard, Asked, AreDone}
 
--- The process is closed, no close and no opening failed, and the outbox of these contents lies in its place.
+-- the outbox of these contents lies there; or no files do, as before an outbox is made, and there are no entries
+abbrev pub LieOutbox : {D : Type 0} → Ghosts D → Option (Option (Files D)) → Contents → Type 0
+LieOutbox g lying it = Lie lying (λ files. HoldOutbox g files it) ⊎ ((lying ≡ Some None) × (it.entries ≡ []))
+
+-- no files lie there only if none lay there before
+abbrev pub AreNotGone : {D : Type 0} → Option (Option (Files D)) → Option (Option (Files D)) → Type 0
+AreNotGone old new = new ≡ Some None → old ≡ Some None
+
+-- The process is closed, no close and no opening failed, and the outbox of these contents lies in its place, or is not
+-- made yet.
 pub record LiesClosed {D : Type 0} {g : Ghosts D} (process : Parts g) (it : Contents) : Type 0 where
   pub closed : process.outbox ≡ None
   pub certain : process.is_certain ≡ true
-  pub there : Lie process.lying (λ files. HoldOutbox g files it)
+  pub there : LieOutbox g process.lying it
 
 -- From what lay in the place these deeds lead to what lies there now.
-pub record IsRunBy {D : Type 0} {g : Ghosts D} (it : Contents) (new : Parts g) (Are : List Deed → Type 0)
+pub record IsRunBy {D : Type 0} {g : Ghosts D} (it : Contents) (old new : Parts g) (Are : List Deed → Type 0)
     : Type 0 where
   pub deeds : List Deed
   pub are : Are deeds
   pub after : Contents
   pub done : AreDone it deeds after
   pub lies : LiesClosed new after
+  pub stays : AreNotGone old.lying new.lying
 
 -- ---- which deeds
 
--- the first of these reports were put in, one after another
-abbrev pub AreOfReports : Target → List Report → List Deed → Type 0
-AreOfReports target reports deeds =
-    IsPrefixOf deeds (map (λ report. Added report.key target.number report.body.items) reports)
+-- these reports are put in, one after another
+abbrev pub putting : Target → List Report → List Deed
+putting target reports = map (λ report. Added report.key target.number report.body.items) reports
 
--- reports of these files were put in, under the key that was given, or each under one at random, to replace the filing
--- that was named, or none; or nothing was
-abbrev pub AreOfPutting : List (Bor (List ℕ)) → Option (Bor (List ℕ)) → Target → List Deed → Type 0
-AreOfPutting files text target deeds =
-    (deeds ≡ []) ⊎ ((reports : List Report) × AreReadFor text files reports × AreOfReports target reports deeds)
+-- Reports of these files were put in, under the key that was given, or each under one at random, to replace the filing
+-- that was named, or none: the first of them, and all if the status is 0. Or nothing was, and the status is another.
+abbrev pub AreOfPutting : List (Bor (List ℕ)) → Option (Bor (List ℕ)) → Target → ℕ → List Deed → Type 0
+AreOfPutting files text target status deeds =
+    ((status ≢ 0) × (deeds ≡ []))
+    ⊎ ((reports : List Report) × AreReadFor text files reports × IsPrefixOf deeds (putting target reports)
+    × (status ≡ 0 → deeds ≡ putting target reports))
 
 -- what was written for one entry and what was read for it, if it was read
 abbrev pub AreOfOne : ℕ → List Deed → Type 0
@@ -67,17 +79,17 @@ AreOfSend All deeds = (ids : List ℕ) × AreOfTurns ids deeds
 abbrev pub AreOfAsk : List Deed → Type 0
 AreOfAsk deeds = (deeds ≡ []) ⊎ ((written : List ℕ) × (deeds ≡ Asked written ∷ []))
 
--- what a task does with an outbox that lies there
-abbrev pub AreOfTask : Task → List Deed → Type 0
-AreOfTask (Init database filer) deeds = deeds ≡ []
-AreOfTask (Put database files key target) deeds = AreOfPutting files.items key target deeds
-AreOfTask (Migrate database) deeds = deeds ≡ []
-AreOfTask (Send database peer which strict) deeds = AreOfSend which deeds
-AreOfTask (Ask database peer id form) deeds = AreOfAsk deeds
-AreOfTask (Status database) deeds = deeds ≡ []
-AreOfTask (Show database entry) deeds = deeds ≡ []
+-- what a task that ends with this status does with an outbox
+abbrev pub AreOfTask : Task → ℕ → List Deed → Type 0
+AreOfTask (Init database filer) status deeds = deeds ≡ []
+AreOfTask (Put database files key target) status deeds = AreOfPutting files.items key target status deeds
+AreOfTask (Migrate database) status deeds = deeds ≡ []
+AreOfTask (Send database peer which strict) status deeds = AreOfSend which deeds
+AreOfTask (Ask database peer id form) status deeds = AreOfAsk deeds
+AreOfTask (Status database) status deeds = deeds ≡ []
+AreOfTask (Show database entry) status deeds = deeds ≡ []
 
--- the task is not to make an outbox
-abbrev pub IsNoInit : Task → Type 0
-IsNoInit (Init database filer) = ⊥
-IsNoInit task = Unit {0}
+-- if the task is to make an outbox, it is to be this filer's
+abbrev pub IsFor : List ℕ → Task → Type 0
+IsFor filer (Init database other) = other.now ≡ filer
+IsFor filer task = Unit {0}

@@ -3,7 +3,7 @@
 //! such deployment. There is no code.
 #![tactic(auto)]
 
-ghost use Rattle.std.specs.Prelude.{◌≡◌, ◌≤◌, ℕ, true, List, [], Option, None, Result, Ok, IsSome};
+ghost use Rattle.std.specs.Prelude.{◌≡◌, ◌≢◌, ◌≤◌, ℕ, true, List, [], Option, Some, None, Result, Ok, IsSome};
 ghost use Rattle.std.specs.Borrow.{Bor};
 ghost use Rattle.database_places.specs.Places.{IsHonest};
 ghost use Rattle.outbox_tables.specs.Entries.{Contents, empty};
@@ -13,7 +13,8 @@ ghost use Rattle.outbox_commands.specs.declared.fault.Fault.{Fault};
 ghost use Rattle.outbox_commands.specs.declared.options.Task.{Task};
 ghost use Rattle.outbox_commands.specs.declared.options.Task.TheVariants.{Init};
 ghost use Rattle.outbox_commands.specs.Tasks.{Does};
-ghost use Rattle.program_runs.specs.Runs.{LiesClosed, IsRunBy, AreOfTask, IsNoInit};
+ghost use Rattle.outbox_commands.specs.Status.{status_by};
+ghost use Rattle.program_runs.specs.Runs.{LiesClosed, IsRunBy, AreOfTask, IsFor};
 ghost use Rattle.filing_model.specs.Request.{Request};
 ghost use Rattle.programs.specs.Happenings.{Situation};
 ghost use Rattle.program_runs.specs.Beside.{Act, network_of, AreCarried, DoTogether, TogetherHappen};
@@ -22,17 +23,18 @@ ghost use Rattle.intake_commands.specs.declared.options.Serving.{Serving};
 ghost use Rattle.intake_commands.specs.declared.options.Task.{Task as IntakeTask};
 ghost use Rattle.intake_commands.specs.declared.options.Task.TheVariants.{Serve};
 ghost use Rattle.program_runs.specs.Registers.{LiesRegister, IsServiceBy, IsCovered};
-ghost use Rattle.program_runs.specs.Deployment.{AnyRuns};
+ghost use Rattle.program_runs.specs.Deployment.{AnyRuns, AnyDeployment};
 
 use programs::fronts::any_fronts;
 use sqlite_disk::Disk;
 
-/// A run of `outbox` on an outbox that lies there does deeds of its task, if its process is certain at the end.
+/// A run of `outbox` on an outbox that lies there, or is not made yet, does deeds of its task, if its process is
+/// certain at the end. If it makes an outbox, that is this filer's.
 pub fn a_run_of_outbox_is_deeds<D: Disk>()
     ensures { (task : Task) (net net' : Traffic) (out out' : Option (List ℕ)) (old new : Parts D.Disk)
-        (result : Result (Unit {0}) Fault) (it : Contents) → IsHonest D.Disk → LiesClosed old it → IsNoInit task
+        (result : Result (Unit {0}) Fault) (it : Contents) → IsHonest D.Disk → LiesClosed old it → IsFor it.filer task
         → Does D.Disk task net net' out out' old new result → new.is_certain ≡ true
-        → IsRunBy it new (AreOfTask task) }
+        → IsRunBy it old new (AreOfTask task (status_by result)) }
 {}
 
 /// A run of `outbox init` that is done makes an outbox of its filer without entries, if its process is certain at the
@@ -41,7 +43,7 @@ pub fn a_run_of_init_makes_an_outbox<D: Disk>()
     ensures { (database filer : Bor (List ℕ)) (net net' : Traffic) (out out' : Option (List ℕ))
         (old new : Parts D.Disk) → IsHonest D.Disk → old.outbox ≡ None → IsSome old.lying
         → Does {X = Unit {0}} D.Disk (Init database filer) net net' out out' old new (Ok tt)
-        → new.is_certain ≡ true → LiesClosed new (empty filer.now) }
+        → new.is_certain ≡ true → LiesClosed new (empty filer.now) × (new.lying ≢ Some None) }
 {}
 
 /// Whatever programs do beside each other, in any order that keeps each one's own, happens one thing after another,
@@ -52,12 +54,12 @@ pub fn programs_happen_together()
         → TogetherHappen limit old last after }
 {}
 
-/// A run of `intake` on a register that lies there answers connections in turn, or does nothing with it, if its process
-/// is certain at the end.
+/// A run of `intake` on a register that lies there, or is not made yet, answers connections in turn, or does nothing
+/// with it, if its process is certain at the end.
 pub fn a_run_of_intake_is_services<D: Disk>()
     ensures { (limit : ℕ) (task : IntakeTask) (old new : Means D.Disk) (status : ℕ) (requests : List Request)
         → IsHonest D.Disk → IsCovered limit task → LiesRegister old.process requests → Performs task old new status
-        → new.process.is_certain ≡ true → IsServiceBy limit requests new.process }
+        → new.process.is_certain ≡ true → IsServiceBy limit requests old.process new.process }
 {}
 
 /// A run of `intake serve --new` that is done answers connections in turn, on a register that begins without requests,
@@ -66,7 +68,7 @@ pub fn a_run_that_makes_a_register_is_services<D: Disk>()
     ensures { (limit status : ℕ) (serving : Serving) (old new : Means D.Disk) → IsHonest D.Disk
         → serving.limit ≤ limit → serving.new ≡ true → old.process.intake ≡ None → IsSome old.process.lying
         → IntakeDoes (Serve serving) old new (Ok status) → new.process.is_certain ≡ true
-        → IsServiceBy limit [] new.process }
+        → IsServiceBy limit [] old.process new.process × (new.process.lying ≢ Some None) }
 {}
 
 /// Whatever runs there are of both programs, one after another on each file and beside each other on different ones,
@@ -74,6 +76,15 @@ pub fn a_run_that_makes_a_register_is_services<D: Disk>()
 /// headline holds of it, and each confirmed entry is in the register once.
 pub fn any_runs<D: Disk>()
     ensures { IsHonest D.Disk → AnyRuns D.Disk }
+{
+    any_fronts();
+}
+
+/// Whatever runs there are of both programs from the first on, where no files lie before: each outbox is made for its
+/// filer, and the register is made, at any time. What lies in the files then is what such happenings keep, the headline
+/// holds of it, and each confirmed entry is in the register once.
+pub fn any_deployment<D: Disk>()
+    ensures { IsHonest D.Disk → AnyDeployment D.Disk }
 {
     any_fronts();
 }
