@@ -4,19 +4,21 @@ use Rattle.std.proofs.Common.{None, refl, sym, ap, ◌∙◌, subst, inl, arith}
 use Rattle.std.proofs.lemmas.Bool.{both_ways, le-leb}
 use Rattle.std.proofs.lemmas.Grind.{common_steps}
 use Rattle.http_messages.specs.Head.{closes, max_body_len}
-use Rattle.http_messages.specs.Message.{Read, Ending, Rest, HasArrivals, awaits}
+use Rattle.http_messages.specs.Message.{Arrival, Read, Ending, Rest, HasArrivals, awaits}
 use Rattle.http_messages.specs.Reply.{ReplyParts, render}
 use Rattle.http_messages.specs.Response.{BeginsReply, SpellsReply, GivesReply, IsReadable}
 use Rattle.http_messages.proofs.ReplyRead.{reply-spells}
 use Rattle.http_messages.proofs.UniqueReply.{BeginsReply-more, BeginsReply-unique}
+use Rattle.filing_model.specs.declared.served.Mark.{Mark}
 use Rattle.filing_model.specs.declared.served.Mark.TheVariants.{Done}
+use Rattle.filing_model.specs.declared.served.Ended.{Ended}
 use Rattle.filing_model.specs.declared.served.Ended.TheVariants.{Closed, InputEnded}
 use Rattle.filing_model.specs.Prefix.{IsPrefixOf}
 use Rattle.filing_model.specs.Request.{Request, has_key, firsts}
 use Rattle.filing_model.specs.Answer.{answer}
 use Rattle.filing_model.specs.Reply.{reply_of}
 use Rattle.filing_model.specs.Outbox.{State, Open, moved, bytes_of, IsSendable}
-use Rattle.filing_model.specs.Stopping.{No, Before, After, ServesUntil}
+use Rattle.filing_model.specs.Stopping.{Crash, No, Before, After, ServesUntil}
 use Rattle.filing_model.specs.Text.{RouteFits, requests_of_route, completed, MarksFit, interim_of, reply_text_with}
 use Rattle.filing_model.specs.Text.{text, text_with}
 use Rattle.filing_model.proofs.Lists.{append_nil, prefix_trans, take_within}
@@ -24,7 +26,7 @@ use Rattle.filing_model.proofs.Stopping.{HasArrivals-begins}
 use Rattle.filing_world.specs.World.{Output, World, Put, Send, Deliver, Hand, RestartOutbox, numbered, renewed}
 use Rattle.filing_world.specs.World.{new_outbox}
 use Rattle.filing_world.proofs.Single.{entry_with, outbox_with, sent_by, item_of}
-use Rattle.filing_world.specs.Step.{Step}
+use Rattle.filing_world.specs.Step.{is_no, Hears, heard_by, Step}
 use Rattle.filing_world.proofs.Posting.{posted, head_is, never_refused, never_whole, IsPosted}
 
 -- ---- the ends
@@ -190,196 +192,113 @@ all_of n xs enough = grind (arith, common_steps)
 part_of : (n : ℕ) (xs : List ℕ) → n < length xs → n ≡ length (take n xs)
 part_of n xs short = grind (arith, common_steps)
 
--- the request is completed and answered
-abbrev pub after_done : World → ℕ → Request → World
-after_done old item r = record old {
-  done = old.done ++ r ∷ [];
+-- what a delivery leaves: these completed requests, an output of these parts, and an intake that is up or not
+abbrev after_delivery : World → ℕ → ℕ → List Request → List Mark → Option Ended → List ℕ → Bool → World
+after_delivery old item given done marks ended out up = record old {
+  done = done;
   outputs =
       old.outputs ++ record {
         item = item;
-        given = length (bytes_of r);
+        given = given;
         before = length old.done;
-        marks =
-            Done ∷ [];
-        ended = Some Closed;
-        bytes = render (reply_of (answer old.done r)) true;
+        marks = marks;
+        ended = ended;
+        bytes = out;
       } ∷ [];
-  up = true;
+  up = up;
 }
+
+-- the request is completed and answered
+abbrev pub after_done : World → ℕ → Request → World
+after_done old item r =
+    after_delivery old item (length (bytes_of r)) (old.done ++ r ∷ []) (Done ∷ []) (Some Closed)
+    (render (reply_of (answer old.done r)) true) true
 
 -- completed, and the intake stopped before the first byte of the reply
 abbrev pub after_commit : World → ℕ → Request → World
-after_commit old item r = record old {
-  done = old.done ++ r ∷ [];
-  outputs =
-      old.outputs ++ record {
-        item = item;
-        given = length (bytes_of r);
-        before = length old.done;
-        marks =
-            Done ∷ [];
-        ended = None;
-        bytes = [];
-      } ∷ [];
-  up = false;
-}
+after_commit old item r =
+    after_delivery old item (length (bytes_of r)) (old.done ++ r ∷ []) (Done ∷ []) None [] false
 
 -- not completed, since the intake stopped before it
 abbrev pub after_stop : World → ℕ → Request → World
-after_stop old item r = record old {
-  outputs =
-      old.outputs ++ record {
-        item = item;
-        given = length (bytes_of r);
-        before = length old.done;
-        marks = [];
-        ended =
-            None;
-        bytes = [];
-      } ∷ [];
-  up = false;
-}
+after_stop old item r = after_delivery old item (length (bytes_of r)) old.done [] None [] false
 
 -- a part of the request came
 abbrev pub after_part : World → ℕ → ℕ → World
-after_part old item n = record old {
-  outputs =
-      old.outputs ++ record {
-        item = item;
-        given = n;
-        before = length old.done;
-        marks = [];
-        ended =
-            Some InputEnded;
-        bytes = [];
-      } ∷ [];
-  up = true;
-}
+after_part old item n = after_delivery old item n old.done [] (Some InputEnded) [] true
 
 module _ (old : World) (item : ℕ) (sender : Option (ℕ × ℕ)) (all : ℕ) (r : Request) (sendable : IsSendable r)
     (up : old.up ≡ true) (here : numbered old.sent item ≡ Some (sent_by sender r)) where
-  pub plays_done : length (bytes_of r) ≤ all → (has_key old.done r ≡ true) ⊎ (length (firsts old.done) < old.limit)
-      → Step old (Deliver item all No) (after_done old item r)
-  plays_done enough room = record {
+  abbrev came : List Arrival
+  came = Read (is r sendable).message ∷ []
+
+  delivered : (n given : ℕ) (crash : Crash) (arrivals : List Arrival) (marks : List Mark) (ended : Option Ended)
+      (out : List ℕ) (done : List Request)
+      → ServesUntil old.limit old.done (take n (bytes_of r)) crash arrivals marks ended out
+      → length (take n (bytes_of r)) ≡ given → old.done ++ completed arrivals marks ≡ done
+      → Step old (Deliver item n crash) (after_delivery old item given done marks ended out (is_no crash))
+  delivered n given crash arrivals marks ended out done serves size completes = record {
     up = up;
     from = sent_by sender r;
     here = here;
-    arrivals = Read (is r sendable).message ∷ [];
-    marks = Done ∷ [];
-    ended = Some Closed;
-    out = render (reply_of (answer old.done r)) true;
-    serves = subst (λ bs. ServesUntil old.limit old.done bs No (Read (is r sendable).message ∷ []) (Done ∷ [])
-        (Some Closed) (render (reply_of (answer old.done r)) true)) (all_of all (bytes_of r) enough)
-        (serves_done r sendable old.limit old.done room);
-    becomes = λ i. record old {
-      done = old.done ++ sym (completed_one r sendable) i;
-      outputs =
-          old.outputs ++ record {
-            item = item;
-            given = length (all_of all (bytes_of r) enough i);
-            before =
-                length old.done;
-            marks = Done ∷ [];
-            ended = Some Closed;
-            bytes =
-                render (reply_of (answer old.done r)) true;
-          } ∷ [];
-      up = true;
-    };
+    arrivals = arrivals;
+    marks = marks;
+    ended = ended;
+    out = out;
+    serves = serves;
+    becomes = λ i. after_delivery old item (sym size i) (sym completes i) marks ended out (is_no crash);
   }
+
+  -- all of the bytes came
+  delivered_all : (crash : Crash) (arrivals : List Arrival) (marks : List Mark) (ended : Option Ended)
+      (out : List ℕ) (done : List Request) → length (bytes_of r) ≤ all
+      → ServesUntil old.limit old.done (bytes_of r) crash arrivals marks ended out
+      → old.done ++ completed arrivals marks ≡ done
+      → Step old (Deliver item all crash)
+      (after_delivery old item (length (bytes_of r)) done marks ended out (is_no crash))
+  delivered_all crash arrivals marks ended out done enough serves =
+      let whole = all_of all (bytes_of r) enough in
+      delivered all (length (bytes_of r)) crash arrivals marks ended out done
+      (subst (λ bs. ServesUntil old.limit old.done bs crash arrivals marks ended out) whole serves)
+      (ap length (sym whole))
+
+  completes_it : old.done ++ completed came (Done ∷ []) ≡ old.done ++ r ∷ []
+  completes_it = ap (λ more. old.done ++ more) (completed_one r sendable)
+
+  pub plays_done : length (bytes_of r) ≤ all → (has_key old.done r ≡ true) ⊎ (length (firsts old.done) < old.limit)
+      → Step old (Deliver item all No) (after_done old item r)
+  plays_done enough room =
+      delivered_all No came (Done ∷ []) (Some Closed) _ _ enough (serves_done r sendable old.limit old.done room)
+      completes_it
 
   pub plays_commit : length (bytes_of r) ≤ all → (has_key old.done r ≡ true) ⊎ (length (firsts old.done) < old.limit)
       → Step old (Deliver item all (After 1)) (after_commit old item r)
-  plays_commit enough room = record {
-    up = up;
-    from = sent_by sender r;
-    here = here;
-    arrivals = Read (is r sendable).message ∷ [];
-    marks = Done ∷ [];
-    ended = None;
-    out = [];
-    serves = subst (λ bs. ServesUntil old.limit old.done bs (After 1) (Read (is r sendable).message ∷ []) (Done ∷ [])
-        None []) (all_of all (bytes_of r) enough) (serves_after r sendable old.limit old.done room);
-    becomes = λ i. record old {
-      done = old.done ++ sym (completed_one r sendable) i;
-      outputs =
-          old.outputs ++ record {
-            item = item;
-            given = length (all_of all (bytes_of r) enough i);
-            before =
-                length old.done;
-            marks = Done ∷ [];
-            ended = None;
-            bytes = [];
-          } ∷ [];
-      up = false;
-    };
-  }
+  plays_commit enough room =
+      delivered_all (After 1) came (Done ∷ []) None [] _ enough (serves_after r sendable old.limit old.done room)
+      completes_it
 
   pub plays_stop : length (bytes_of r) ≤ all → Step old (Deliver item all (Before 1)) (after_stop old item r)
   unfolding completed
-  plays_stop enough = record {
-    up = up;
-    from = sent_by sender r;
-    here = here;
-    arrivals = Read (is r sendable).message ∷ [];
-    marks = [];
-    ended = None;
-    out = [];
-    serves = subst (λ bs. ServesUntil old.limit old.done bs (Before 1) (Read (is r sendable).message ∷ []) [] None [])
-        (all_of all (bytes_of r) enough) (serves_before r sendable old.limit old.done);
-    becomes = λ i. record old {
-      done = sym (append_nil old.done) i;
-      outputs =
-          old.outputs ++ record {
-            item = item;
-            given = length (all_of all (bytes_of r) enough i);
-            before =
-                length old.done;
-            marks = [];
-            ended = None;
-            bytes = [];
-          } ∷ [];
-      up = false;
-    };
-  }
+  plays_stop enough =
+      delivered_all (Before 1) came [] None [] _ enough (serves_before r sendable old.limit old.done)
+      (append_nil old.done)
 
   pub plays_part : (n : ℕ) → n < length (bytes_of r) → Step old (Deliver item n No) (after_part old item n)
   unfolding completed
-  plays_part n short = record {
-    up = up;
-    from = sent_by sender r;
-    here = here;
-    arrivals = [];
-    marks = [];
-    ended = Some InputEnded;
-    out = [];
-    serves = serves_part r sendable old.limit old.done n short;
-    becomes = λ i. record old {
-      done = sym (append_nil old.done) i;
-      outputs =
-          old.outputs ++ record {
-            item = item;
-            given = part_of n (bytes_of r) short i;
-            before = length old.done;
-            marks =
-                [];
-            ended = Some InputEnded;
-            bytes = [];
-          } ∷ [];
-      up = true;
-    };
-  }
+  plays_part n short =
+      delivered n n No [] [] (Some InputEnded) [] _ (serves_part r sendable old.limit old.done n short)
+      (sym (part_of n (bytes_of r) short)) (append_nil old.done)
 
 -- ---- a reply
 
 module _ (old : World) (output outbox given : ℕ) (r : Request) (state : State) (from : Output)
     (here : numbered old.outputs output ≡ Some from) (item_here : numbered old.sent from.item ≡ Some (item_of outbox r))
     (box_here : numbered old.outboxes outbox ≡ Some (outbox_with r state)) where
-  -- a reply is heard, and moves the entry
-  pub plays_hand : (reply : ReplyParts) (to : State) → GivesReply (take given from.bytes) reply → moved state reply ≡ to
-      → Step old (Hand output given No) (after_outbox old outbox r to)
-  plays_hand reply to gives moves = record {
+  handed : (crash : Crash) (heard : Option ReplyParts) (to : State) → Hears (take given from.bytes) crash heard
+      → heard_by state heard ≡ to → Step old (Hand output given crash) (record old {
+        outboxes = renewed old.outboxes outbox (record (outbox_with r to) { up = is_no crash });
+      })
+  handed crash heard to hears moves = record {
     from = from;
     here = here;
     item = item_of outbox r;
@@ -392,72 +311,31 @@ module _ (old : World) (output outbox given : ℕ) (r : Request) (state : State)
     up = refl;
     entry = entry_with r state;
     entry_here = refl;
-    heard = Some reply;
-    hears = gives;
-    becomes = ap (after_outbox old outbox r) (sym moves);
+    heard = heard;
+    hears = hears;
+    becomes =
+        ap (λ s. record old { outboxes = renewed old.outboxes outbox (record (outbox_with r s) { up = is_no crash }) })
+        (sym moves);
   }
+
+  -- a reply is heard, and moves the entry
+  pub plays_hand : (reply : ReplyParts) (to : State) → GivesReply (take given from.bytes) reply → moved state reply ≡ to
+      → Step old (Hand output given No) (after_outbox old outbox r to)
+  plays_hand reply to gives moves = handed No (Some reply) to gives moves
 
   -- it is heard, and the outbox stops
   pub plays_heard : (reply : ReplyParts) (to : State) → GivesReply (take given from.bytes) reply
       → moved state reply ≡ to → Step old (Hand output given (After 1)) (after_fall old outbox r to)
-  plays_heard reply to gives moves = record {
-    from = from;
-    here = here;
-    item = item_of outbox r;
-    item_here = item_here;
-    outbox = outbox;
-    number = 1;
-    sender = refl;
-    box = outbox_with r state;
-    box_here = box_here;
-    up = refl;
-    entry = entry_with r state;
-    entry_here = refl;
-    heard = Some reply;
-    hears = gives;
-    becomes = ap (after_fall old outbox r) (sym moves);
-  }
+  plays_heard reply to gives moves = handed (After 1) (Some reply) to gives moves
 
   -- the outbox stops before
   pub plays_unheard : Step old (Hand output given (Before 1)) (after_fall old outbox r state)
-  plays_unheard = record {
-    from = from;
-    here = here;
-    item = item_of outbox r;
-    item_here = item_here;
-    outbox = outbox;
-    number = 1;
-    sender = refl;
-    box = outbox_with r state;
-    box_here = box_here;
-    up = refl;
-    entry = entry_with r state;
-    entry_here = refl;
-    heard = None;
-    hears = tt;
-    becomes = refl;
-  }
+  plays_unheard = handed (Before 1) None state tt refl
 
   -- none is heard
   pub plays_deaf : ((reply : ReplyParts) → ¬ (GivesReply (take given from.bytes) reply))
       → Step old (Hand output given No) (after_outbox old outbox r state)
-  plays_deaf silent = record {
-    from = from;
-    here = here;
-    item = item_of outbox r;
-    item_here = item_here;
-    outbox = outbox;
-    number = 1;
-    sender = refl;
-    box = outbox_with r state;
-    box_here = box_here;
-    up = refl;
-    entry = entry_with r state;
-    entry_here = refl;
-    heard = None;
-    hears = inl silent;
-    becomes = refl;
-  }
+  plays_deaf silent = handed No None state (inl silent) refl
 
 -- the whole of a written reply gives it
 pub gives_whole : (reply : ReplyParts) (close : Bool) (all : ℕ) → IsReadable reply → length (render reply close) ≤ all

@@ -262,6 +262,10 @@ up_unless No = (λ _. refl, λ _. refl)
 up_unless (Before j) = (λ (e : false ≡ true). absurd (cc), λ (e : Before j ≡ No). absurd (cc))
 up_unless (After j) = (λ (e : false ≡ true). absurd (cc), λ (e : After j ≡ No). absurd (cc))
 
+down_if : (crash : Crash) → crash ≢ No → (up : Bool) → (up ≡ true) ↔ (crash ≡ No) → up ≡ false
+down_if crash stops true is = absurd (stops (is.0 refl))
+down_if crash stops false is = refl
+
 pub intake_up : (old new : World) (item given : ℕ) (crash : Crash) → Step old (Deliver item given crash) new
     → (new.up ≡ true) ↔ (crash ≡ No)
 intake_up old new item given crash step =
@@ -270,11 +274,7 @@ intake_up old new item given crash step =
 pub intake_down : (old new : World) (item given : ℕ) (crash : Crash) → Step old (Deliver item given crash) new
     → crash ≢ No → (another more : ℕ) (again : Crash) → CannotPlay new (Deliver another more again)
 intake_down old new item given crash step stops another more again =
-    inl (down_at new.up (intake_up old new item given crash step))
-  where
-    down_at : (b : Bool) → (b ≡ true) ↔ (crash ≡ No) → b ≡ false
-    down_at true up = absurd (stops (up.0 refl))
-    down_at false up = refl
+    inl (down_if crash stops new.up (intake_up old new item given crash step))
 
 -- ---- what an output tells
 
@@ -431,8 +431,4 @@ module _ (old new : World) (output given outbox number : ℕ) (crash : Crash) (f
   }
     where
       away : IsAway new.outboxes outbox
-      away box here = down_at box.up (outbox_up box here)
-        where
-          down_at : (b : Bool) → (b ≡ true) ↔ (crash ≡ No) → b ≡ false
-          down_at true up = absurd (stops (up.0 refl))
-          down_at false up = refl
+      away box here = down_if crash stops box.up (outbox_up box here)
