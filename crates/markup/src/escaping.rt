@@ -1,21 +1,10 @@
 //! How a text is written in HTML (HTML living standard, section 13.1.4).
 
-ghost use Rattle.std.specs.Prelude.{◌≡◌, ◌∷◌, [], ◌++◌, false, true, IfOk, OnOk, MatchOption};
-ghost use Rattle.markup.specs.Reading.{AddsText, Reads, Refers, is_markup};
+ghost use Rattle.std.specs.Prelude.{◌≡◌, ◌∷◌, [], ◌++◌, false, true, OnOk, MatchOption};
+ghost use Rattle.markup.specs.Reading.{AddsText, Refers, is_markup};
 ghost use Rattle.markup.specs.Visible.{is_control, symbol as symbol_lem, visible, visible_byte};
 
-use crate::piece::Markup;
-use std::alloc::{AllocError, Global};
-
-/// The text as HTML: `<`, `>`, `&` and the two quotes are written as character references, so that HTML reads this text
-/// alone, between tags and in a quoted value of an attribute alike. Of a control character HTML reads its symbol.
-pub fn escape(alloc: Global, text: &str) -> Result<Markup, AllocError>
-    ensures { IfOk result (λ written. Reads written (visible text.now)) }
-{
-    let mut written = Markup::new(alloc);
-    written.text(text)?;
-    Ok(written)
-}
+use std::alloc::AllocError;
 
 /// The reference that stands for a byte, if it is one of the five that markup is made of.
 fn reference(byte: u8) -> Option<&'static str>

@@ -6,5 +6,4 @@ mod escaping;
 mod piece;
 mod short;
 
-pub use escaping::escape;
 pub use piece::Markup;

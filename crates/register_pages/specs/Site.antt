@@ -1,5 +1,5 @@
 -- What the writing of a register's pages does. What is written is HTML, in which each text of a report was escaped: a
--- folder takes nothing else, and a text becomes HTML by `escape` alone. `pages` and `pages'` are the pages that were
+-- folder takes nothing else, and a text becomes HTML by `text` alone. `pages` and `pages'` are the pages that were
 -- written into the folder before and after it, if these are known.
 use Rattle.std.specs.Prelude.{◌≡◌, ℕ, false, List, Option, Result, Ok, Err, IfErr, OnOk}
 use Rattle.sqlite.specs.Store.{Ghosts}

@@ -11,7 +11,7 @@ use std::alloc::AllocError;
 #[derive(Clone, Copy, Debug, PartialEq, Eq)]
 pub struct NotWritten;
 
-/// A folder. What is written into it is HTML: a text of a report becomes that by `markup::escape` alone.
+/// A folder. What is written into it is HTML: a text of a report becomes that by `Markup::text` alone.
 pub trait Folder {
     // The names of the pages that were written into the folder, in that order, if they are known.
     ghost pages: { Self → Option (List (List ℕ)) };
