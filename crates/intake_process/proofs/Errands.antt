@@ -43,18 +43,17 @@ use Rattle.intake_process.specs.declared.tasks.errand.Errand.TheVariants as aske
 use Rattle.intake_process.specs.declared.tasks.checking.CheckFault.TheVariants as checking
 use Rattle.intake_process.specs.declared.tasks.listing.ListFault.{ListFault}
 use Rattle.intake_process.specs.declared.tasks.listing.ListFault.TheVariants as listing
-use Rattle.intake_process.specs.declared.tasks.migrating.Migrated.{Migrated}
 use Rattle.intake_process.specs.declared.tasks.showing.ShowFault.{ShowFault}
 use Rattle.intake_process.specs.declared.tasks.showing.ShowFault.TheVariants as showing
 use Rattle.intake_process.specs.declared.tasks.text.TextFault.{TextFault}
 use Rattle.intake_process.specs.declared.tasks.text.TextFault.TheVariants.{Memory, Output}
-use Rattle.intake_process.specs.Lines.{list_line, fact_lines, sound_line, migrated_line}
+use Rattle.intake_process.specs.Lines.{list_line, fact_lines, sound_line}
 use Rattle.intake_process.specs.Tasks.{PrintsNothing, ListsFilings, ShowsFiling, ChecksRegister, MigratesRegister}
 use Rattle.intake_process.specs.declared.errand.ErrandFault.{ErrandFault}
 use Rattle.intake_process.specs.declared.errand.ErrandFault.TheVariants as fault
 use Rattle.intake_process.specs.Errands.{text_of, IsRegisterFor, MayFail, Tells, Says, RunsErrand, FillsFolder, IsQuiet}
 use Rattle.intake_process.specs.Errands.{IsBegun, is_broken_off, is_for_pages, is_refusal}
-use Rattle.intake_process.specs.Outcomes.{listed_as, records_fault, shown_as, printed_as, writing_fault}
+use Rattle.intake_process.specs.Outcomes.{listed_as, records_fault, shown_as, writing_fault}
 
 -- a disk that is clean after a call was clean before it
 clean_before : (old new : State) {Commits : Trees → Type 0} → Survives old new Commits → HasCleanDisk new
@@ -342,35 +341,6 @@ not_blocked Second schema alone = subst (λ s. is_blocked s Second ≡ false) (s
 not_blocked Third schema alone = subst (λ s. is_blocked s Third ≡ false) (sym alone) refl
 
 module _ {S : Type 0} (g : Ghosts S) (out out' : Option (List ℕ)) (conn : Held S) where
-  migrated_told : (requests : List Request) (printed : Result (Unit {0}) TextFault)
-      → OnOk printed (Appends out out' migrated_line) → IfErr printed (λ why. why ≡ Output)
-      → Tells asked.Migrate requests out out' (printed_as printed)
-  migrated_told requests (Ok done) printed failed = (migrated_line, refl, printed)
-  migrated_told requests (Err why) printed failed = (refl, inl (ap fault.Text failed), tt)
-
-  migrated_quiet : (printed : Result (Unit {0}) TextFault) → IfErr printed (λ why. why ≡ Output)
-      → IfErr (printed_as printed) (PrintsNothing (fault.Text Output) out out')
-  migrated_quiet (Ok done) failed = tt
-  migrated_quiet (Err why) failed = inl (ap fault.Text failed)
-
-  migrated_says : (new : Held S) (printed : Result (Unit {0}) TextFault)
-      → IfErr (printed_as printed) (Says g asked.Migrate conn new)
-  migrated_says new (Ok done) = tt
-  migrated_says new (Err why) = tt
-
-  pub migrate_done : (migrated : Migrated S) → MigratesRegister g out out' conn (Ok migrated)
-      → RunsErrand g asked.Migrate out out' conn migrated.register.conn (printed_as migrated.printed)
-  migrate_done migrated does = record {
-    told = λ clean old_style requests firsts_are rows. migrated_told requests migrated.printed does.printed does.failed;
-    kept = λ clean not old_style requests firsts_are rows.
-        let only = does.migrates.outcome.only clean rows.0 old_style requests rows.1 rows.2 in
-        subst (λ n. HasCommitted (IsRegisterOf n requests) (shows g migrated.register)) only.0 only.1.stands;
-    found = λ clean not tables. let found = does.migrates.outcome.migrated clean tables.0 tables.1 in
-        (migrated.register.old_style, found.0, (tables.0, tables.1, found.1));
-    refused = migrated_says migrated.register.conn migrated.printed;
-    quiet = migrated_quiet migrated.printed does.failed;
-  }
-
   pub migrate_refused : {X : Type 0} (why : OpenFault) (holding : Holding) (back : Held S)
       → MigratesRegister g out out' conn (Err (why, back))
       → RunsErrand {S = S} {X = X} g asked.Migrate out out' conn back (Err (fault.Migrate why holding))

@@ -1,20 +1,15 @@
 -- What becomes of a process, connection by connection.
 use Rattle.std.proofs.Common.{◌≡◌, ◌++◌, ◌+◌, ℕ, Bool, List, [], ◌∷◌, Option, Some, None, refl, sym, ◌∙◌, ap, subst}
-use Rattle.std.proofs.Common.{◌⊎◌, true, false, inl, inr, Result, Ok, Err, OnOk}
+use Rattle.std.proofs.Common.{inl, inr}
 use Rattle.std.specs.Prelude.{option_map}
 use Rattle.std.proofs.lemmas.List.{append-nil, append_assoc}
 use Rattle.sqlite_disk.specs.declared.Disk.{Ghosts}
-use Rattle.sqlite.specs.declared.error.Error.{Error}
 use Rattle.http_wire.specs.Wire.{Wire}
-use Rattle.intake_process.specs.declared.begun.Totals.{Totals}
-use Rattle.intake_process.specs.declared.fault.OpeningFault.{OpeningFault}
 use Rattle.intake_process.specs.declared.process.Answered.{Answered}
-use Rattle.intake_process.specs.declared.process.Closed.{Closed}
-use Rattle.intake_process.specs.declared.process.Outcome.{Outcome}
 use Rattle.intake_process.specs.declared.process.Outcome.TheVariants as outcome
-use Rattle.intake_process.specs.Process.{Parts, AnswersWire, OpensProcess, ClosesProcess}
+use Rattle.intake_process.specs.Process.{Parts, AnswersWire}
 use Rattle.intake_process.specs.Observing.{Notes}
-use Rattle.intake_process.specs.History.{Step, said_of, IsReady, IsOver, AreSteps, said_in, EndsIn, Passes, HasFailed}
+use Rattle.intake_process.specs.History.{Step, said_of, IsReady, IsOver, AreSteps, said_in, EndsIn, Passes}
 
 -- ---- what an observer answered
 
@@ -131,49 +126,3 @@ module _ {D : Type 0} {g : Ghosts D} (limit : ℕ) where
       some_or_none : (taken : Option ℕ) → EndsIn limit taken p.before p.said new → EndsIn limit None p.before p.said new
       some_or_none None ends = ends
       some_or_none (Some n) ends = inl ends
-
-  -- ---- what falls only by a failure
-
-  by_opening : (old ready : Parts g) (result : Result (Option Totals) OpeningFault)
-      → OpensProcess g true limit old ready result
-      → (ready.is_certain ≡ old.is_certain) ⊎ ((why : OpeningFault) × OpensProcess g true limit old ready (Err why))
-  by_opening old ready (Ok totals) opens = inl opens.certain
-  by_opening old ready (Err why) opens = inr (why, opens)
-
-  by_ready : (asked : Option Bool) (old ready : Parts g) → IsReady limit asked old ready
-      → (ready.is_certain ≡ old.is_certain) ⊎ ((why : OpeningFault) × OpensProcess g true limit old ready (Err why))
-  by_ready None old ready is = inl (ap (λ (p : Parts g). p.is_certain) is.1)
-  by_ready (Some false) old ready is = inl (ap (λ (p : Parts g). p.is_certain) is.1)
-  by_ready (Some true) old ready is = by_opening old ready is.1.0 is.1.1
-
-  abbrev Unclosed : (last after : Parts g) → Type 0
-  Unclosed last after =
-      (closed : Closed) × (error : Error) × ClosesProcess g last after closed × (closed.outcome ≡ Err error)
-
-  by_outcome : (last after : Parts g) (closed : Closed) (came : Result (Unit {0}) Error) → closed.outcome ≡ came
-      → ClosesProcess g last after closed → (after.is_certain ≡ last.is_certain) ⊎ Unclosed last after
-  by_outcome last after closed (Ok done) is closes =
-      inl (subst (λ o. OnOk o (after.is_certain ≡ last.is_certain)) is closes.certain)
-  by_outcome last after closed (Err error) is closes = inr (closed, error, closes, is)
-
-  by_over : (o : Outcome) (last after : Parts g) → IsOver o last after
-      → (after.is_certain ≡ last.is_certain) ⊎ Unclosed last after
-  by_over outcome.Failed last after over = by_outcome last after over.0 over.0.outcome refl over.1
-  by_over outcome.Served last after over = inl (ap (λ (p : Parts g). p.is_certain) over)
-  by_over outcome.TurnedAway last after over = inl (ap (λ (p : Parts g). p.is_certain) over)
-
-  -- Whether a process is certain stays as it is, or an opening or a close failed.
-  pub falls : (old new : Parts g) (steps : List (Step g)) → AreSteps limit old steps new
-      → (new.is_certain ≡ old.is_certain) ⊎ HasFailed limit old steps
-  falls old new [] same = inl (ap (λ (p : Parts g). p.is_certain) same)
-  falls old new (step ∷ steps) are =
-      elim (by_ready step.asked old step.ready are.0.0) [
-        | inl first ↦ elim (by_over step.answered.outcome step.last step.after are.1) [
-          | inl second ↦ elim (falls step.after new steps are.2) [
-            | inl third ↦ inl (third ∙ second ∙ are.0.1.2.2 ∙ first)
-            | inr failed ↦ inr (inr (inr failed))
-          ]
-          | inr failed ↦ inr (inr (inl failed))
-        ]
-        | inr failed ↦ inr (inl failed)
-      ]

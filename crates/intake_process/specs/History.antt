@@ -1,8 +1,7 @@
 -- What becomes of a process while the connections of a port are answered, one after another; own rules.
 use Rattle.std.specs.Prelude.{◌≡◌, ◌⊎◌, ◌++◌, ℕ, Bool, true, false, List, [], ◌∷◌, Option, Some, None, IsSome}
-use Rattle.std.specs.Prelude.{Result, Err}
+use Rattle.std.specs.Prelude.{Result}
 use Rattle.sqlite_disk.specs.declared.Disk.{Ghosts}
-use Rattle.sqlite.specs.declared.error.Error.{Error}
 use Rattle.http_wire.specs.Wire.{Wire}
 use Rattle.intake_process.specs.declared.begun.Totals.{Totals}
 use Rattle.intake_process.specs.declared.fault.OpeningFault.{OpeningFault}
@@ -67,14 +66,6 @@ IsCutOff {D} {g} limit old said new =
 abbrev pub EndsIn : {D : Type 0} {g : Ghosts D} → ℕ → Option ℕ → Parts g → List Bool → Parts g → Type 0
 EndsIn limit (Some taken) old said new = (said ≡ []) × (new ≡ old)
 EndsIn limit None old said new = IsCutOff limit old said new
-
--- an opening or a close failed among these
-abbrev pub HasFailed : {D : Type 0} {g : Ghosts D} → ℕ → Parts g → List (Step g) → Type 0
-HasFailed limit old [] = ⊥
-HasFailed {D} {g} limit old (step ∷ steps) =
-    ((why : OpeningFault) × OpensProcess g true limit old step.ready (Err why))
-    ⊎ ((closed : Closed) × (error : Error) × ClosesProcess g step.last step.after closed
-    × (closed.outcome ≡ Err error)) ⊎ HasFailed limit step.after steps
 
 -- What becomes of a process while connections are answered. So whether it is certain changes only by an opening or a
 -- close that failed, each opening has this limit, and a register that is closed is opened for the next connection for

@@ -1,5 +1,4 @@
 mod Current
-mod Keyless
 mod Looks
 mod Opened
 mod Telling

@@ -1,11 +1,8 @@
 -- Reports are put in, one after another.
 use Rattle.std.proofs.Common.{◌≡◌, ◌∙◌, ℕ, suc, ◌+◌, ◌<◌, List, [], ◌∷◌, ◌++◌, map, take, drop, length, get_or, Option}
-use Rattle.std.proofs.Common.{Some, IsSome, Result, Ok, Err, refl, sym, ap, subst, inl, inr, arith}
+use Rattle.std.proofs.Common.{Some, IsSome, Result, Ok, Err, refl, sym, ap, subst, inl, inr}
 use Rattle.std.proofs.Math.Seq.{drop-cons}
-use Rattle.std.proofs.lemmas.List.{map-append, take_more, take-append-drop, map-id}
-use Rattle.std.proofs.lemmas.List.Elements.{All-push}
-use Rattle.std.specs.Borrow.{Bor}
-use Rattle.std.specs.List.{All}
+use Rattle.std.proofs.lemmas.List.{map-append, take-append-drop, map-id}
 use Rattle.sqlite_disk.specs.declared.Disk.{Ghosts}
 use Rattle.outbox_process.specs.Dials.{Traffic}
 use Rattle.outbox_process.specs.declared.tasks.fault.TaskFault.{TaskFault}
@@ -15,20 +12,7 @@ use Rattle.outbox_process.specs.declared.errand.Errand.{Errand}
 use Rattle.outbox_process.specs.declared.errand.Errand.TheVariants.{Put}
 use Rattle.outbox_process.specs.declared.target.Target.{Target}
 use Rattle.outbox_process.specs.Process.{Parts, Leaves, PerformsErrand}
-use Rattle.outbox_commands.specs.declared.putting.Report.{Report}
-use Rattle.outbox_commands.specs.Puts.{IsKeyFor, IsReadFor, AreReadFor, PutsOne, PutsInTurn, ended_as}
-
--- ---- they are read
-
-pub one_more_read : (text : Option (Bor (List ℕ))) (files : List (Bor (List ℕ))) (count : ℕ) (d : Bor (List ℕ))
-    (reports : List Report) (report : Report) → count < length files → AreReadFor text (take count files) reports
-    → IsReadFor text (get_or files count d) report
-    → AreReadFor text (take (count + 1) files) (reports ++ report ∷ [])
-one_more_read text files count d reports report within were is = (
-  map-append (λ (r : Report). r.file) reports (report ∷ []) ∙ ap (λ l. l ++ report.file ∷ []) were.0
-      ∙ ap (λ f. take count files ++ f ∷ []) is.0 ∙ sym (take_more files count d within),
-  All-push (λ (r : Report). IsKeyFor text r.key) reports report were.1 is.1,
-)
+use Rattle.outbox_commands.specs.Puts.{PutsOne, PutsInTurn, ended_as}
 
 -- ---- they are put in
 

@@ -16,7 +16,7 @@ use Rattle.filer_client.specs.declared.fault.ExchangeFault.TheVariants.{Write, R
 use Rattle.filer_client.specs.Exchange.{IsSettled, WritesBefore}
 use Rattle.filer_client.specs.Calls.{Exchanges}
 use Rattle.outbox_process.specs.declared.tasks.fault.SendFault.{SendFault}
-use Rattle.outbox_process.specs.declared.tasks.fault.SendFault.TheVariants.{Connect, Exchange}
+use Rattle.outbox_process.specs.declared.tasks.fault.SendFault.TheVariants.{Exchange}
 use Rattle.outbox_process.specs.Dials.{Output, Traffic, Takes, IsUnwritten, Grows, Adds}
 use Rattle.outbox_process.specs.Sending.{IsOneConnection, IsOpenAt, Tries}
 
@@ -72,12 +72,6 @@ as_sent (Ok to) = Ok to
 as_sent (Err fault) = Err (Exchange fault)
 
 module _ {S : Type 0} (g : Ghosts S) where
-  -- no connection was made
-  pub not_connected : (old new : Traffic) (box : OutboxParts S) (id : ℕ) (error : _) → new ≡ old
-      → Tries g (λ entries. IsOpenAt entries id) id old new box box (Err (Connect error))
-  not_connected old new box id error same =
-      record { tried = λ clean entries had opened. ((opened, same), had); filer = refl; clean = λ clean. clean }
-
   -- an exchange on a connection that was made
   pub exchanged : {R W : Type 0} (r : Reads R) (w : Writes W) (old mid new : Traffic) (box box' : OutboxParts S)
       (id : ℕ) (reader reader' : R) (writer writer' : W) (came : Result State ExchangeFault)

@@ -3,7 +3,6 @@ pub mod Among
 pub mod Answered
 pub mod Cutting
 pub mod Early
-pub mod Growing
 pub mod Halls
 pub mod Joining
 pub mod Pieces

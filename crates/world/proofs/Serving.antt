@@ -33,7 +33,7 @@ use Rattle.database_places.specs.Places as place
 use Rattle.world.specs.Causes.{register_cause, opening_cause, close_cause}
 use Rattle.world.specs.declared.ends.cause.Cause.TheVariants as cause
 use Rattle.world.proofs.Causes.{of_files}
-use Rattle.world.specs.Processes.{IsNotStopped, is_asleep}
+use Rattle.world.specs.Processes.{IsNotStopped}
 
 -- ---- a part of a connection
 
@@ -148,8 +148,3 @@ pub not_closed : {D : Type 0} {g : Ghosts D} (old : Option (Intake (FileStore D 
 not_closed {g = g} (Some intake) there new outcome error closed left is =
     (left.0, error, left.1, subst (λ o. IsLeftBy g (store_of intake).conn left.0 o) is left.2, refl)
 not_closed None there new outcome error closed left is = absurd (cc (closed refl))
-
--- a process whose register is closed gives no answer
-pub asleep : {S : Type 0} (intake : Option (Intake S)) → is_some intake ≡ false → is_asleep intake ≡ true
-asleep (Some intake) closed = absurd (true≢false closed)
-asleep None closed = refl
