@@ -135,13 +135,6 @@ impl<D: Disk + Drop, P: Place<D> + Drop> IntakeProcess<D, P> {
         self.intake.as_mut()
     }
 
-    /// Whether no close and no opening failed.
-    pub fn is_certain(&self) -> bool
-        ensures { result ≡ self.now.is_certain }
-    {
-        self.is_certain
-    }
-
     /// Opens it, if it is closed, and says how much the register holds then. It keeps at most `limit` keys. A refusal
     /// leaves the files in the place, and leaves a database that is damaged or no register as it was.
     pub fn open(

@@ -11,7 +11,7 @@ use filer_client::ExchangeFault;
 use http_wire::{Device, ReplyFault};
 use jiff::Timestamp;
 use outbox_core::State;
-use outbox_process::{Dial, TcpDial};
+use outbox_process::Dial;
 use receipts::{Exchange, Folder, ReceiptFault, receipt_of};
 use std::alloc::Global;
 use std::io::{self, Write};
@@ -56,6 +56,14 @@ pub(crate) struct PeerDial<'r, E> {
     /// How many receipts could not be written.
     lost_receipts: u64,
     errors: E,
+}
+
+/// A connection to the peer at this port of 127.0.0.1.
+fn stream_to(rt: &HostRuntime, port: u16) -> io::Result<TcpStream> {
+    let stream = TcpStream::connect(rt, ("127.0.0.1", port))?;
+    // A request is written whole, and without this its end may wait until the peer acknowledged what came before.
+    stream.set_nodelay(true)?;
+    Ok(stream)
 }
 
 /// Keeps the receipt of an exchange with this port, whose reply came now.
@@ -161,7 +169,7 @@ impl<'r, E: Write + Drop> Dial for PeerDial<'r, E> {
 
     fn connect(&mut self) -> io::Result<(Self::Reader, Self::Writer)> {
         self.tell();
-        let stream = TcpDial::new(self.rt, self.port).next_stream()?;
+        let stream = stream_to(self.rt, self.port)?;
         let deadline = Deadline::after(self.rt, self.patience.map(Duration::from_secs))?;
         self.deadline = Some(deadline);
         let reader = Device::new(Patient::new(stream.try_clone()?, &deadline));

@@ -24,4 +24,3 @@ pub use tasks::putting::put;
 pub use tasks::rounds::{Round, send_all};
 pub use tasks::sending::{send_entry, send_next};
 pub use tasks::showing::{show_each, show_entry, show_states};
-pub use tasks::tcp::TcpDial;

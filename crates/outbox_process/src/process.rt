@@ -66,13 +66,6 @@ impl<D: Disk + Drop, P: Place<D> + Drop> OutboxProcess<D, P> {
         self.outbox.is_some()
     }
 
-    /// Whether no close and no opening failed.
-    pub fn is_certain(&self) -> bool
-        ensures { result ≡ self.now.is_certain }
-    {
-        self.is_certain
-    }
-
     /// The outbox, if it is open.
     pub fn outbox(&self) -> Option<&Outbox<FileStore<D>>>
         ensures { option_map (λ outbox. outbox.now) result ≡ self.now.outbox }

@@ -1,5 +1,5 @@
 //! What `outbox` does with an open outbox: the calls that a task makes, the connections that are made for them, and the
-//! lines that are printed. No file is known here, and of the system's ports `TcpDial` alone.
+//! lines that are printed. No file and no port of the system is known here.
 
 pub(crate) mod answering;
 pub(crate) mod asking;
@@ -12,4 +12,3 @@ pub(crate) mod putting;
 pub(crate) mod rounds;
 pub(crate) mod sending;
 pub(crate) mod showing;
-pub(crate) mod tcp;
