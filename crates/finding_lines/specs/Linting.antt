@@ -2,6 +2,7 @@
 use Rattle.std.specs.Prelude.{◌≡◌, ◌⊎◌, ◌||◌, ℕ, max, Bool, true, false, List, [], ◌∷◌, ◌++◌, map, Option, Result, Ok}
 use Rattle.std.specs.Prelude.{Err, IfOk, IfErr, OnOk, if◌then◌else◌}
 use Rattle.std.specs.Io.KnownBytes.{Appends}
+use Rattle.std.specs.Result.{result_map_both}
 use Rattle.key_string.specs.Filer.{is_filer}
 use Rattle.command_line.specs.declared.fault.CommandFault.{CommandFault}
 use Rattle.command_line.specs.declared.fault.CommandFault.TheVariants.{Filer, Output}
@@ -95,13 +96,6 @@ LintsFiles form filer names out out' (Err fault) =
     ⊎ ((looks : List Look) × (next : List ℕ) × (rest : List (List ℕ)) × (names ≡ names_of looks ++ next ∷ rest)
     × PrintsEach form filer looks out out')
 
--- The code is no filer's, and nothing is done; or the files are looked at.
-abbrev pub LintsReports : Form → List ℕ → List (List ℕ) → Option (List ℕ) → Option (List ℕ)
-    → Result Linted CommandFault → Type 0
-LintsReports form filer names out out' result =
-    ((is_filer filer ≡ false) × (result ≡ Err Filer) × (out' ≡ out))
-    ⊎ ((is_filer filer ≡ true) × LintsFiles form filer names out out' result)
-
 -- ---- the status
 
 -- the greatest of some statuses
@@ -112,3 +106,17 @@ greatest (status ∷ statuses) = max status (greatest statuses)
 -- 1 if there is a finding; but the status of a report that was not read, if that is greater
 abbrev pub lint_status : Bool → List ReportFault → ℕ
 lint_status found unread = max (if found then 1 else 0) (greatest (map report_status unread))
+
+-- ---- the whole task
+
+-- what is answered: the status, or the fault of the output or of memory
+abbrev pub answer_of : Result Linted CommandFault → Result ℕ CommandFault
+answer_of = result_map_both (λ linted. lint_status linted.is_found linted.unread.items) (λ fault. fault)
+
+-- The code is no filer's, and nothing is done; or the files are looked at, and what came of that is answered.
+abbrev pub LintsReports : Form → List ℕ → List (List ℕ) → Option (List ℕ) → Option (List ℕ) → Result ℕ CommandFault
+    → Type 0
+LintsReports form filer names out out' result =
+    ((is_filer filer ≡ false) × (result ≡ Err Filer) × (out' ≡ out))
+    ⊎ ((is_filer filer ≡ true) × (linted : Result Linted CommandFault)
+    × LintsFiles form filer names out out' linted × (result ≡ answer_of linted))

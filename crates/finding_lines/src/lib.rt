@@ -14,6 +14,6 @@ mod telling;
 mod text;
 
 pub use form::Form;
-pub use linting::{Linted, lint_reports};
+pub use linting::lint_reports;
 pub use telling::lines;
 pub use terminal_text::one_line;

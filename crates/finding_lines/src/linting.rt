@@ -16,11 +16,11 @@ const FOUND: u8 = 1;
 
 /// What came of a look at the reports in some files.
 #[derive(Debug, Drop)]
-pub struct Linted<'a> {
+struct Linted<'a> {
     /// Whether a report that was read has a finding.
-    pub is_found: bool,
+    is_found: bool,
     /// Why the others were not read, in the order of their files.
-    pub unread: Vec<ReportFault<'a>>,
+    unread: Vec<ReportFault<'a>>,
 }
 
 impl Linted<'_> {
@@ -28,7 +28,7 @@ impl Linted<'_> {
     ghost use Rattle.finding_lines.specs.Linting.{lint_status};
 
     /// The status of the program: the greatest of 1 if there is a finding, of the status of each fault, and of 0.
-    pub fn status(&self) -> u8
+    fn status(&self) -> u8
         ensures { result ≡ lint_status self.now.is_found self.now.unread.items }
     {
         let mut status = if self.is_found { FOUND } else { DONE };
@@ -110,20 +110,31 @@ fn lint_files<'a, O: Write>(
 }
 
 /// Prints a line for each finding of the reports of the filer with this code in the files of these names, and answers
-/// whether there is one, and why reports were not read. The others are looked at all the same. Only if the output or
-/// memory fails are the reports after that left out.
-pub fn lint_reports<'a, O: Write>(
+/// the status. A report that cannot be read is reported to `errors`, with the name of the program, and the others are
+/// looked at all the same. Only if the output or memory fails are the reports after that left out.
+pub fn lint_reports<'a, O: Write, E: Write>(
     rt: &HostRuntime,
+    program: &str,
     form: Form,
     filer: &str,
     files: &[&'a str],
     output: &mut O,
-) -> Result<Linted<'a>, CommandFault<'a>>
+    errors: &mut E,
+) -> Result<u8, CommandFault<'a>>
     ensures { LintsReports form filer.now (map (λ file. file.now) files.now) (O.contents output.old)
         (O.contents output.new) result }
 {
     if !is_filer(filer) {
         return Err(CommandFault::Filer);
     }
-    lint_files(rt, form, filer, files, output)
+    match lint_files(rt, form, filer, files, output) {
+        Ok(linted) => {
+            for fault in linted.unread.as_slice() {
+                // Nothing is left to be done if this text can't be written either.
+                let _ = writeln!(errors, "{program}: {fault}");
+            }
+            Ok(linted.status())
+        }
+        Err(fault) => Err(fault),
+    }
 }

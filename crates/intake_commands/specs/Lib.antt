@@ -1,5 +1,4 @@
 pub mod Bounds
-pub mod Lints
 pub mod Reading
 pub mod Status
 pub mod Tasks

@@ -1,6 +1,5 @@
 -- The exit status of `intake`, and what a fault says of the register.
 use Rattle.std.specs.Prelude.{ℕ, Option, Some, None, Result, Ok, Err}
-use Rattle.command_line.specs.Reports.{report_status}
 use Rattle.database_places.specs.Verdicts.{verdict_of}
 use Rattle.database_places.specs.declared.verdict.Verdict.{Verdict}
 use Rattle.database_places.specs.declared.verdict.Verdict.TheVariants as verdict
@@ -44,7 +43,6 @@ fault_status fault.NoInit = 2
 fault_status fault.Limit = 2
 fault_status (fault.InMemory why) = 3
 fault_status (fault.Register name why) = visit_status why
-fault_status (fault.Report why) = report_status why
 fault_status (fault.Connection why) = 3
 fault_status (fault.Network port error) = 3
 fault_status (fault.Page why) = 3

@@ -2,7 +2,7 @@
 -- status.
 use Rattle.std.specs.Prelude.{◌≡◌, ◌⊎◌, ◌≤◌, ◌<◌, ◌^◌, ◌-◌, ℕ, Bool, true, false, not, List, codes, Option, Some}
 use Rattle.std.specs.Prelude.{None, Ok}
-use Rattle.std.specs.Prelude.{Result, Err, MatchBool}
+use Rattle.std.specs.Prelude.{Result, Err, MatchBool, map}
 use Rattle.std.specs.Borrow.{Bor}
 use Rattle.std.specs.Io.KnownBytes.{Appends}
 use Rattle.sqlite_disk.specs.declared.Disk.{Ghosts}
@@ -12,7 +12,9 @@ use Rattle.filing_model.specs.declared.served.Ended.{Ended}
 use Rattle.filing_model.specs.declared.served.Ended.TheVariants as ended
 use Rattle.gateway_server.specs.Ports.{Traffic}
 use Rattle.gateway_server.specs.declared.port_fault.PortFault.TheVariants as network
+use Rattle.command_line.specs.declared.fault.CommandFault.{CommandFault}
 use Rattle.command_line.specs.declared.fault.CommandFault.TheVariants as command
+use Rattle.finding_lines.specs.Linting.{LintsReports}
 use Rattle.database_places.specs.Verdicts.{verdict_text}
 use Rattle.database_places.specs.declared.verdict.Verdict.{Verdict}
 use Rattle.register_tables.specs.declared.fault.OpenFault.TheVariants as register
@@ -32,7 +34,6 @@ use Rattle.intake_process.specs.declared.serving.ServingFault.TheVariants as ref
 use Rattle.intake_process.specs.declared.visiting.Visited.{Visited}
 use Rattle.intake_commands.specs.declared.fault.Fault.{Fault}
 use Rattle.intake_commands.specs.declared.fault.Fault.TheVariants as fault
-use Rattle.intake_commands.specs.Lints.{Lints}
 use Rattle.intake_commands.specs.Status.{status_of, fault_verdict}
 use Rattle.intake_commands.specs.Told.{IsErrandTold, IsOpeningTold}
 
@@ -188,6 +189,11 @@ Visits {D} {g} name errand out out' old new result =
 abbrev pub IsNoFiler : {D : Type 0} {g : Ghosts D} → Means g → Means g → Result ℕ Fault → Type 0
 IsNoFiler old new result = (new ≡ old) × (result ≡ Err (fault.Command command.Filer))
 
+-- a fault of the command is reported as it is
+abbrev pub as_command : Result ℕ CommandFault → Result ℕ Fault
+as_command (Ok status) = Ok status
+as_command (Err why) = Err (fault.Command why)
+
 -- what each task does; nothing changes but what is named
 abbrev pub Does : {D : Type 0} {g : Ghosts D} → Task → Means g → Means g → Result ℕ Fault → Type 0
 Does (task.Run limit) old new result = (new ≡ record old { wire = new.wire }) × Runs limit old.wire new.wire result
@@ -199,7 +205,9 @@ Does (task.Visit name errand) old new result =
     × Visits name errand (outputs old.out old.pages) (outputs new.out new.pages) old.process new.process result)
     (IsNoFiler old new result)
 Does (task.Lint filer form files) old new result =
-    (new ≡ record old { out = new.out }) × Lints form filer.now files.items old.out new.out result
+    (new ≡ record old { out = new.out }) × (linted : Result ℕ CommandFault)
+    × LintsReports form filer.now (map (λ file. file.now) files.items) old.out new.out linted
+    × (result ≡ as_command linted)
 
 -- What performing a task does, and which status it answers.
 abbrev pub Performs : {D : Type 0} {g : Ghosts D} → Task → Means g → Means g → ℕ → Type 0

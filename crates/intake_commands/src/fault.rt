@@ -3,7 +3,7 @@
 ghost use Rattle.std.specs.Prelude.{◌≡◌};
 
 use crate::folder::PageFault;
-use command_line::{CommandFault, ReportFault};
+use command_line::CommandFault;
 use database_places::{Holding, Verdict};
 use http_wire::ConnFault;
 use intake_core::Unavailable;
@@ -204,8 +204,6 @@ pub enum Fault<'a> {
     #[error("{file}: {fault}", file = OneLine(*.name))]
     Register { name: &'a str, fault: VisitFault },
     #[error("{0}")]
-    Report(ReportFault<'a>),
-    #[error("{0}")]
     Connection(ConnFault),
     #[error("127.0.0.1:{port}: {error}")]
     Network { port: u16, error: io::Error },
@@ -234,7 +232,6 @@ impl Fault<'_> {
     {
         match self {
             Fault::Command(fault) => fault.status(),
-            Fault::Report(fault) => fault.status(),
             Fault::Register { name: _, fault } => fault.status(),
             Fault::Limit | Fault::NoInit => 2,
             Fault::InMemory(_) => 3,
@@ -254,7 +251,6 @@ impl Fault<'_> {
             Fault::Command(CommandFault::NotText | CommandFault::NoTask | CommandFault::Filer) =>
                 None,
             Fault::Command(CommandFault::Output | CommandFault::Memory) => None,
-            Fault::Report(_) => None,
             Fault::Limit | Fault::NoInit => None,
             Fault::InMemory(_) => None,
             Fault::Connection(_) => None,

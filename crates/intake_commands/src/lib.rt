@@ -9,7 +9,6 @@ mod fault;
 mod folder;
 mod limit;
 mod line;
-mod linting;
 mod note;
 mod options;
 mod pause;

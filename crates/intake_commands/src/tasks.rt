@@ -7,13 +7,13 @@ ghost use Rattle.intake_commands.specs.Tasks.{Does, Performs, is_wanted, means};
 
 use crate::fault::Fault;
 use crate::folder::SiteFolder;
-use crate::linting::lint;
 use crate::options::Task;
 use crate::running::run_once;
 use crate::serving::serve;
 use crate::visiting::visit;
 use command_line::CommandFault;
 use database_places::Place;
+use finding_lines::lint_reports;
 use gateway_server::Port;
 use http_wire::{Sink, Source};
 use intake_process::{Errand, IntakeProcess};
@@ -99,7 +99,12 @@ fn do_task<
             }
             visit(rt, database, *errand, process, folder, output, errors)
         }
-        Task::Lint { filer, form, files } => lint(rt, *form, filer, files, output, errors),
+        Task::Lint { filer, form, files } => {
+            match lint_reports(rt, "intake", *form, filer, files, output, errors) {
+                Ok(status) => Ok(status),
+                Err(fault) => Err(Fault::Command(fault)),
+            }
+        }
     }
 }
 

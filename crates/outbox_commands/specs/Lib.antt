@@ -1,4 +1,3 @@
-pub mod Lints
 pub mod Looking
 pub mod Networks
 pub mod Puts

@@ -8,7 +8,6 @@ mod asked;
 mod errand;
 mod fault;
 mod held;
-mod linting;
 mod network;
 mod options;
 mod putting;

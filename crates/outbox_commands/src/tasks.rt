@@ -10,7 +10,6 @@ ghost use Rattle.outbox_commands.specs.Visits.{opening_verdict};
 use crate::asked::read;
 use crate::errand::{close, open, run_errand};
 use crate::fault::{Fault, verdict_on};
-use crate::linting::lint;
 use crate::network::{Network, PeerDial};
 use crate::options::{Asked, Task};
 use crate::putting::put;
@@ -18,6 +17,7 @@ use command_line::{CommandFault, DONE, show, show_refusal, words};
 use database_places::{
     Place, ReadingPlace, SystemPlace, WaitingPlace, has_writable_log, show_verdict,
 };
+use finding_lines::lint_reports;
 use key_string::is_filer;
 use outbox_process::{Beginning, Errand, OpeningFault, OutboxProcess};
 use receipts::Folder;
@@ -276,7 +276,7 @@ fn perform_words<'a, O: Write, E: Write>(
 ) -> Result<u8, Fault<'a>> {
     match read(rt.alloc(), words) {
         Ok(Some(Asked::Lint { filer, form, files })) => {
-            lint(rt, form, filer, files.as_slice(), output, errors)
+            Ok(lint_reports(rt, "outbox", form, filer, files.as_slice(), output, errors)?)
         }
         Ok(Some(Asked::Outbox { task, wait })) => perform_once(rt, task, wait, output, errors),
         Ok(None) => Err(Fault::Command(CommandFault::NoTask)),
