@@ -135,6 +135,15 @@ module _ {S : Type 0} where
 
   -- ---- places
 
+  -- a place that is taken counts
+  pub one_taken : (places : List (Option (Connection S))) (i : ℕ) (c : Connection S) → get_or places i None ≡ Some c
+      → 1 ≤ taken_places places
+  one_taken [] i c is = absurd (let h = is in cc)
+  one_taken (place ∷ places) zero c is =
+      let h = sum_by-cons taken place places in let e = ap taken is in omega (arith, h, e)
+  one_taken (place ∷ places) (suc i) c is =
+      let h = sum_by-cons taken place places in let e = one_taken places i c is in omega (arith, h, e)
+
   -- where none is taken nothing counts
   pub zero_taken : (places : List (Option (Connection S)))
       → ((i : ℕ) → i < length places → get_or places i None ≡ None) → taken_places places ≡ 0

@@ -1,11 +1,11 @@
 -- What follows from what is known of some bytes, and what more bytes leave as it was.
 use Rattle.std.proofs.Common.{◌≡◌, ℕ, ◌+◌, ◌-◌, ◌<◌, ◌≤◌, Bool, true, false, List, ◌++◌, length, take, drop, refl, sym}
-use Rattle.std.proofs.Common.{ap, ap₂, ◌∙◌, subst, arith, nat_lt, ◌&&◌}
+use Rattle.std.proofs.Common.{ap, ap₂, ◌∙◌, subst, arith, nat_lt, ◌&&◌, append_assoc}
 use Rattle.std.proofs.lemmas.Bool.Decides.{nat_tests}
 use Rattle.std.proofs.lemmas.Grind.{common_steps}
 use Rattle.std.proofs.lemmas.List.{take-append-drop}
 use Rattle.std.specs.Prelude.{slice_range, None, Result, Ok, Err, IfErr}
-use Rattle.http_messages.specs.Block.{BeginsBlock, IsBlockEnd, from_block, skipped_len}
+use Rattle.http_messages.specs.Block.{BeginsBlock, IsBlockEnd, HasNoEndUpTo, from_block, skipped_len}
 use Rattle.http_messages.specs.Head.{RequestParts, IsHead, body_length, framing_fault, max_body_len}
 use Rattle.http_messages.specs.Message.{BeginsHead, BeginsRequest, SpellsRequest, IsRest, Asks, awaits}
 use Rattle.http_messages.specs.Request.{Request}
@@ -14,9 +14,26 @@ use Rattle.http_messages.specs.declared.head.Framing.{Framing}
 use Rattle.http_messages.specs.declared.head.HeadSpans.{HeadSpans}
 use Rattle.http_messages.proofs.BlockLemmas.{EndsAt-within}
 use Rattle.http_messages.proofs.MoreBytes.{EndsAt-more, EndsAt-front, skipped_len-more, from_block-more, block-more}
-use Rattle.http_messages.proofs.MoreBytes.{skipped_len-within, IsBlockEnd-within}
+use Rattle.http_messages.proofs.MoreBytes.{skipped_len-within, IsBlockEnd-within, BeginsHead-more, BeginsRequest-more}
 use Rattle.http_messages.proofs.Unique.{BeginsHead-unique, IsRefused-excludes}
-use Rattle.ready_connections.specs.NextPiece.{BeginsRequestOf, BeginsWhole, max_piece_len}
+use Rattle.ready_connections.specs.NextPiece.{BeginsRequestOf, IsProgress, BeginsWhole, max_piece_len}
+use Rattle.ready_connections.specs.declared.progress.Progress.{Progress}
+use Rattle.ready_connections.specs.declared.progress.Progress.TheVariants.{Head, Body}
+
+-- ---- more bytes
+
+-- what is known stays
+pub IsProgress-more : (bytes more : List ℕ) (progress : Progress) → IsProgress bytes progress
+    → IsProgress (bytes ++ more) progress
+IsProgress-more bytes more (Head searched) known = λ rest.
+    subst (λ all. HasNoEndUpTo (from_block all) searched) (sym (append_assoc bytes more rest)) (known (more ++ rest))
+IsProgress-more bytes more (Body len asks) known = record {
+  parts = known.parts;
+  head_len = known.head_len;
+  head = BeginsHead-more bytes more known.parts known.head_len known.head;
+  length_is = known.length_is;
+  asks_is = known.asks_is;
+}
 
 -- ---- the first bytes
 
@@ -70,6 +87,14 @@ BeginsRequest-spells bytes request n b =
     subst (BeginsRequest (take n bytes) request) (sym size)
     (BeginsRequest-front (take n bytes) (drop n bytes) request n (omega (arith, size)) whole)
 
+-- a request whose spelling the first bytes are begins the bytes
+pub BeginsWhole-begins : (bytes : List ℕ) (n : ℕ) (whole : BeginsWhole bytes n) → BeginsRequest bytes whole.request n
+BeginsWhole-begins bytes n whole =
+    let size : length (take n bytes) ≡ n = let within = whole.within in grind (arith, common_steps, within) in
+    subst (λ all. BeginsRequest all whole.request n) (take-append-drop n bytes)
+    (BeginsRequest-more (take n bytes) (drop n bytes) whole.request n
+    (subst (BeginsRequest (take n bytes) whole.request) size whole.spells))
+
 -- ---- with a head
 
 -- a head without fault declares no longer body than may be
@@ -82,6 +107,12 @@ head-fits bytes parts n b sound =
     let within = IsBlockEnd-within bytes n b in
     let skipped = skipped_len-within bytes within.0 in
     omega (arith, b.1.short, b.2, skipped, body_length-bound parts sound)
+
+-- no request is too long
+pub BeginsRequest-fits : (bytes : List ℕ) (request : Request) (n : ℕ) → BeginsRequest bytes request n
+    → n ≤ max_piece_len
+BeginsRequest-fits bytes request n b =
+    omega (arith, b.length_is, head-fits bytes request.head b.head_len b.head.block b.head.head.sound)
 
 pub BeginsRequestOf-fits : (bytes : List ℕ) (len : ℕ) (asks : Bool) → BeginsRequestOf bytes len asks
     → len ≤ max_piece_len

@@ -95,6 +95,7 @@ fn append(line: &mut Vec<u8>, before: &str, field: &[u8]) -> Result<(), AllocErr
 }
 
 /// The fields as a record of CSV.
+#[tactic(auto, unfolding(crate::specs::Fields::csv_record))]
 fn csv_record(alloc: Global, fields: &Fields) -> Result<Vec<u8>, AllocError>
     ensures { IfOk result (λ line. line.items ≡ csv_record (view_fields fields.now)) }
 {
@@ -118,6 +119,7 @@ fn csv_record(alloc: Global, fields: &Fields) -> Result<Vec<u8>, AllocError>
 }
 
 /// The fields as a line of JSON.
+#[tactic(auto, unfolding(crate::specs::Fields::json_line))]
 fn json_line(alloc: Global, fields: &Fields) -> Result<Vec<u8>, AllocError>
     ensures { IfOk result (λ line. line.items ≡ json_line (view_fields fields.now)) }
 {
