@@ -1,6 +1,6 @@
 //! A place in memory.
 
-ghost use Rattle.std.specs.Prelude.{◌≡◌, [], Some, IsTrue};
+ghost use Rattle.std.specs.Prelude.{◌≡◌, [], Some, None, IsTrue};
 ghost use Rattle.database_places.specs.Places.{Leaves};
 
 use crate::place::Place;
@@ -42,6 +42,8 @@ impl<D: Blank> Drawer<D> {
 
 impl<D: Blank> Place<D> for Drawer<D> {
     ghost lying = { λ drawer. Some drawer.files };
+
+    ghost file = { λ _. None };
 
     fn seed(&self) -> Option<u64> {
         Some(SEED)
@@ -89,7 +91,7 @@ impl<D: Blank> Place<D> for Drawer<D> {
     }
 
     fn leave(&mut self, files: Files<D>)
-        ensures { Leaves (Some self.old.files) (Some self.new.files) files }
+        ensures left { Leaves (Some self.old.files) (Some self.new.files) files }
     {
         self.files = Some(files);
     }

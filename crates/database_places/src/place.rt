@@ -1,6 +1,6 @@
 //! A place in which the files of a database lie.
 
-ghost use Rattle.std.specs.Prelude.{◌≡◌, false, IsTrue, IfOk, IfErr, Option};
+ghost use Rattle.std.specs.Prelude.{◌≡◌, ℕ, false, IsTrue, IfOk, IfErr, List, Option};
 ghost use Rattle.sqlite_disk.specs.declared.Files.{Files};
 ghost use Rattle.database_places.specs.Faults.{is_absence};
 ghost use Rattle.database_places.specs.Places.{TellsMissing, TellsEmpty, Takes, Leaves};
@@ -15,6 +15,9 @@ use std::alloc::Global;
 pub trait Place<D: Disk + Drop> {
     // If it is known what lies there: the files, if there are some.
     ghost lying: { Self → Option (Option (Files D)) };
+
+    // The name of the database file, if it has one in the file system.
+    ghost file: { Self → Option (List ℕ) };
 
     /// A number by which what is read there is hashed, or None if the system gives none. It is drawn at random, so that
     /// nobody can make a file whose pages all have one hash.
@@ -46,9 +49,11 @@ pub trait Place<D: Disk + Drop> {
         ensures log { IfOk result (λ files. IsTrue (D.Disk.is_usable files.log)) }
         ensures database { IfOk result (λ files. IsTrue (D.Disk.is_usable files.db)) }
         ensures taken { Takes D.Disk (lying self.old) (lying self.new) result }
-        ensures made { IfErr result (λ fault. is_absence fault ≡ false) };
+        ensures made { IfErr result (λ fault. is_absence fault ≡ false) }
+        ensures named { file self.new ≡ file self.old };
 
     /// Puts files in, which may be taken again then, also by another program.
     fn leave(&mut self, files: Files<D>)
-        ensures { Leaves (lying self.old) (lying self.new) files };
+        ensures left { Leaves (lying self.old) (lying self.new) files }
+        ensures named { file self.new ≡ file self.old };
 }

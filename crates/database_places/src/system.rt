@@ -1,6 +1,6 @@
 //! A place in the file system.
 
-ghost use Rattle.std.specs.Prelude.{◌≡◌, None, false};
+ghost use Rattle.std.specs.Prelude.{◌≡◌, Some, None, false};
 ghost use Rattle.database_places.specs.Faults.{is_absence};
 ghost use Rattle.database_places.specs.Places.{Leaves};
 
@@ -29,13 +29,18 @@ pub struct SystemPlace<'a, 'r> {
 }
 
 impl<'a, 'r> SystemPlace<'a, 'r> {
-    pub fn new(rt: &'r HostRuntime, name: &'a str) -> SystemPlace<'a, 'r> {
+    /// The place of the file of this name.
+    pub fn new(rt: &'r HostRuntime, name: &'a str) -> SystemPlace<'a, 'r>
+        ensures file { result.name ≡ name.entry }
+    {
         SystemPlace { rt, name }
     }
 }
 
 impl Place<File> for SystemPlace<'_, '_> {
     ghost lying = { λ _. None };
+
+    ghost file = { λ place. Some place.name.now };
 
     fn seed(&self) -> Option<u64> {
         match RandomState::new(self.rt) {
@@ -96,7 +101,8 @@ impl Place<File> for SystemPlace<'_, '_> {
 
     // Files that are let go are closed.
     fn leave(&mut self, files: Files<File>)
-        ensures { Leaves None None files }
+        ensures left { Leaves None None files }
+        ensures named { self.new.name.now ≡ self.old.name.now }
     {
         drop(files);
     }

@@ -54,6 +54,8 @@ impl<'r, P, C: Clock> WaitingPlace<'r, P, C> {
 impl<D: Disk + Drop, P: Place<D>, C: Clock> Place<D> for WaitingPlace<'_, P, C> {
     ghost lying = { λ waiting. P.lying waiting.place };
 
+    ghost file = { λ waiting. P.file waiting.place };
+
     fn seed(&self) -> Option<u64> {
         self.place.seed()
     }
@@ -96,7 +98,8 @@ impl<D: Disk + Drop, P: Place<D>, C: Clock> Place<D> for WaitingPlace<'_, P, C> 
     }
 
     fn leave(&mut self, files: Files<D>)
-        ensures { Leaves (P.lying self.old.place) (P.lying self.new.place) files }
+        ensures left { Leaves (P.lying self.old.place) (P.lying self.new.place) files }
+        ensures named { P.file self.new.place ≡ P.file self.old.place }
     {
         self.place.leave(files);
     }

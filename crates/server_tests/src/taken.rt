@@ -56,6 +56,8 @@ struct Taken<'a> {
 impl Place<Memory> for Taken<'_> {
     ghost lying = { λ _. None };
 
+    ghost file = { λ _. None };
+
     fn seed(&self) -> Option<u64> {
         self.drawer.seed()
     }
@@ -95,7 +97,7 @@ impl Place<Memory> for Taken<'_> {
     }
 
     fn leave(&mut self, files: Files<Memory>)
-        ensures { Leaves None None files }
+        ensures left { Leaves None None files }
     {
         self.drawer.leave(files);
     }

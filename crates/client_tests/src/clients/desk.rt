@@ -40,6 +40,8 @@ impl Desk {
 impl Place<Fuse<Memory>> for Desk {
     ghost lying = { λ _. None };
 
+    ghost file = { λ _. None };
+
     fn seed(&self) -> Option<u64> {
         Some(1)
     }
@@ -76,7 +78,7 @@ impl Place<Fuse<Memory>> for Desk {
     }
 
     fn leave(&mut self, files: Files<Fuse<Memory>>)
-        ensures { Leaves None None files }
+        ensures left { Leaves None None files }
     {
         self.files = Some(files);
     }

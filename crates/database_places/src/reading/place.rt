@@ -1,6 +1,6 @@
 //! A place in the file system that is only read.
 
-ghost use Rattle.std.specs.Prelude.{None};
+ghost use Rattle.std.specs.Prelude.{◌≡◌, Some, None};
 ghost use Rattle.database_places.specs.Places.{Leaves};
 
 use crate::place::Place;
@@ -26,7 +26,11 @@ pub struct ReadingPlace<'a, 'r> {
 }
 
 impl<'a, 'r> ReadingPlace<'a, 'r> {
-    pub fn new(rt: &'r HostRuntime, name: &'a str) -> ReadingPlace<'a, 'r> {
+    /// The place of the file of this name.
+    pub fn new(rt: &'r HostRuntime, name: &'a str) -> ReadingPlace<'a, 'r>
+        ensures file { result.name ≡ name.entry }
+        ensures same { result.system.name ≡ name.entry }
+    {
         ReadingPlace {
             rt,
             name,
@@ -37,6 +41,8 @@ impl<'a, 'r> ReadingPlace<'a, 'r> {
 
 impl Place<ReadingFile> for ReadingPlace<'_, '_> {
     ghost lying = { λ _. None };
+
+    ghost file = { λ place. Some place.name.now };
 
     fn seed(&self) -> Option<u64> {
         self.system.seed()
@@ -74,7 +80,8 @@ impl Place<ReadingFile> for ReadingPlace<'_, '_> {
 
     // What was written in memory ends here, and the file is unlocked.
     fn leave(&mut self, files: Files<ReadingFile>)
-        ensures { Leaves None None files }
+        ensures left { Leaves None None files }
+        ensures named { self.new.name.now ≡ self.old.name.now }
     {
         drop(files);
     }

@@ -5,7 +5,7 @@ use Rattle.database_places.proofs.closing.close.Goals as goal
 pub returns-in-Ok-clause-closed : goal.returns-in-Ok-clause-closed
 returns-in-Ok-clause-closed g c = (
   c.in-Ok.files,
-  c.leave.ensures,
+  c.leave.ensures.left,
   record {
     usable = record { log = c.in-Ok.ensures.usable.0; db = c.in-Ok.ensures.usable.1 };
     copied = c.in-Ok.ensures.copied;
@@ -16,7 +16,7 @@ returns-in-Ok-clause-closed g c = (
 pub returns-in-Err-clause-refused : goal.returns-in-Err-clause-refused
 returns-in-Err-clause-refused g c = (
   c.close.result,
-  c.leave-in-Err.ensures,
+  c.leave-in-Err.ensures.left,
   record {
     last = c.in-Err.store;
     same = sym c.close.ensures;

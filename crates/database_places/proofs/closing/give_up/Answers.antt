@@ -4,7 +4,7 @@ use Rattle.database_places.proofs.closing.give_up.Goals as goal
 pub returns : goal.returns
 returns g c = (
   c.close.result,
-  c.leave.ensures,
+  c.leave.ensures.left,
   record {
     last = c.into_store.result;
     same = sym c.close.ensures;

@@ -10,7 +10,7 @@ pub returns-in-Err-clause-opens : goal.returns-in-Err-clause-opens
 returns-in-Err-clause-opens g c =
     refuses g.D.Disk (g.P.Place.lying c.args.place.now) (g.P.Place.lying c.take.new.self)
     (g.P.Place.lying c.leave.new.self) (g.P.Place.lying c.remove_new_log.new.place) c.in_ok-files.files
-    c.into_files.result c.fault_of.result c.in_ok-files.ensures.taken c.leave.ensures c.remove_new_log.ensures
+    c.into_files.result c.fault_of.result c.in_ok-files.ensures.taken c.leave.ensures.left c.remove_new_log.ensures
     (record {
       error = c.in-Err.error;
       told = c.fault_of.ensures.told;
