@@ -72,6 +72,21 @@ pub style_of-new : (n : ℕ) (requests : List Request) (r : Request) → has_key
     → style_of (take n requests) r ≡ Problem
 style_of-new n requests r new = rw (has_key-take n requests r new) refl
 
+-- what is held after several new requests
+pub HoldsRequests-several : {S : Type 0} {g : Ghosts S} (requests rs : List Request) (old new : Intake S)
+    → firsts (requests ++ rs) ≡ requests ++ rs → HoldsRequests g old requests → new.cache ≡ old.cache
+    → old_style_of new ≡ old_style_of old → HasRequests g new.store (requests ++ rs)
+    → HoldsRequests g new (requests ++ rs)
+HoldsRequests-several requests rs old new are h same old_style rows = record {
+  firsts' = are;
+  rows = rows;
+  known = subst (λ es. RemembersIfAny es (requests ++ rs) new.cache)
+      (sym (ap (λ n. take n (requests ++ rs)) old_style
+      ∙ take-append-le (old_style_of old) requests rs h.rows.within))
+      (subst (RemembersIfAny (old_style_in old requests) (requests ++ rs)) (sym same)
+      (RemembersIfAny-more (old_style_in old requests) requests rs old.cache h.known));
+}
+
 module _ {S : Type 0} {g : Ghosts S} (requests : List Request) (r : Request) where
   -- the requests that were kept in the old style stay these after another request
   pub old_style_in-after : (old new : Intake S) → old_style_of new ≡ old_style_of old → HoldsRequests g old requests
@@ -90,15 +105,8 @@ module _ {S : Type 0} {g : Ghosts S} (requests : List Request) (r : Request) whe
   pub HoldsRequests-more : (old new : Intake S) → has_key requests r ≡ false → HoldsRequests g old requests
       → new.cache ≡ old.cache → old_style_of new ≡ old_style_of old → HasRequests g new.store (requests ++ r ∷ [])
       → HoldsRequests g new (requests ++ r ∷ [])
-  HoldsRequests-more old new fresh h same old_style rows = record {
-    firsts' = firsts-more requests r h.firsts' fresh;
-    rows = rows;
-    known = subst (λ es. RemembersIfAny es (requests ++ r ∷ []) new.cache)
-        (sym (ap (λ n. take n (requests ++ r ∷ [])) old_style
-        ∙ take-append-le (old_style_of old) requests (r ∷ []) h.rows.within))
-        (subst (RemembersIfAny (old_style_in old requests) (requests ++ r ∷ [])) (sym same)
-        (RemembersIfAny-more (old_style_in old requests) requests (r ∷ []) old.cache h.known));
-  }
+  HoldsRequests-more old new fresh h =
+      HoldsRequests-several requests (r ∷ []) old new (firsts-more requests r h.firsts' fresh) h
 
   -- what is held after a repeat
   pub HoldsRequests-repeat : (new : Intake S) → has_key requests r ≡ true → HoldsRequests g new requests

@@ -1,1 +1,4 @@
+pub mod Answering
 pub mod Deciding
+pub mod Group
+pub mod Together

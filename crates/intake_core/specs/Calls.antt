@@ -33,7 +33,8 @@ pub record DecidesRequest {S : Type 0} (g : Ghosts S) (r : Request) (old new : I
   -- A crash leaves what one before the call could leave, or the requests with this one, and after an answer these
   -- alone.
   pub crash : SurvivesAs g old new (λ requests trees. LeavesRegister (old_style_of old) (with_request requests r) trees)
-  pub durable : ForRequests g old new (λ requests. IsTrue (shows g old).is_open
+  -- Only a repeat may be answered without the register, which then has to be open already.
+  pub durable : ForRequests g old new (λ requests. IsTrue (shows g old).is_open ⊎ (has_key requests r ≡ false)
       → OnOk result (IsDurableAs g new (old_style_of old) (with_request requests r)))
   -- After a refusal of the database the answer is always `Down`.
   pub down : has_stopped old ≡ true → (result ≡ Err Down) × (new ≡ old)
@@ -59,7 +60,7 @@ pub record AnswersIf {S : Type 0} (g : Ghosts S) (r : Request) (Holds : List Req
   pub stopped : has_stopped new ≡ has_stopped old
   pub running : result ≢ Err Down
   -- A crash leaves what one before the call could leave, or the requests with this one.
-  pub crash : SurvivesAs g old new (λ requests trees. Holds requests
+  pub crash : SurvivesAs g old new (λ requests trees. IsTrue (shows g old).is_open → Holds requests
       → LeavesRegister (old_style_of old) (with_request requests r) trees)
   pub is_open : ForRequests g old new (λ requests. Holds requests → OnOk result (IsTrue (shows g new).is_open))
 

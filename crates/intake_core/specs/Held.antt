@@ -1,5 +1,5 @@
 -- What an intake holds.
-use Rattle.std.specs.Prelude.{◌≡◌, ◌∷◌, ◌++◌, [], ℕ, Bool, List, IsTrue, take}
+use Rattle.std.specs.Prelude.{◌≡◌, ◌∷◌, ◌++◌, [], ℕ, Bool, List, take}
 use Rattle.sqlite.specs.Store.{Ghosts}
 use Rattle.sqlite.specs.State.{State, HasCleanDisk, Survives}
 use Rattle.sqlite.specs.Tree.{Trees}
@@ -72,7 +72,7 @@ IsDurableAs g intake old_style requests = register.IsDurableAs g intake.store ol
 abbrev pub SurvivesAs : {S : Type 0} → Ghosts S → Intake S → Intake S → (List Request → Trees → Type 0) → Type 0
 SurvivesAs g old new Leaves =
     Survives (shows g old) (shows g new) (λ trees. (requests : List Request) → HoldsRequests g old requests
-    → IsTrue (shows g old).is_open → Leaves requests trees)
+    → Leaves requests trees)
 
 -- Whatever requests it held: if the disk is clean at the end, it holds such as this says of the old-style requests, of
 -- those that it held and of those that it holds. The old-style requests stay what they were.

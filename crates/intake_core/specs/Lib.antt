@@ -1,2 +1,4 @@
 pub mod Calls
+pub mod Group
 pub mod Held
+pub mod Together

@@ -18,6 +18,8 @@ ghost use Rattle.register_store.specs.Store.{HasRequests};
 ghost use Rattle.register_store.specs.Calls.{AddsRequest};
 ghost use Rattle.intake_core.specs.declared.intake.Unavailable.TheVariants.{Down, Full, Memory, Store as StoreFailed};
 
+mod group;
+
 use filing_model::{Answer, FilingRow, Outcome, Registered, Style};
 use intake_answers::{Cache, Request, answer_by, name_of};
 use key_string::KeyText;
@@ -104,7 +106,7 @@ impl<S: Alter + Drop> Drop for Intake<S> {
 }
 
 impl<S: Alter> Intake<S> {
-    ghost use Rattle.intake_core.specs.Calls.{DecidesRequest};
+    ghost use Rattle.intake_core.specs.Calls.{DecidesRequest, IsRequest};
     ghost use Rattle.intake_core.specs.Held.{store_of, limit_of, has_stopped, HoldsRequests};
 
     /// An intake over this register, which keeps at most `limit` keys.
@@ -165,20 +167,27 @@ impl<S: Alter> Intake<S> {
         ensures { DecidesRequest S.Store (the_request filer.now key.now target body.now) self.old self.new
             result }
     {
-        if self.is_down {
-            return Err(Unavailable::Down);
-        }
-        let request = Request {
+        self.submit_request(&Request {
             filer,
             key,
             target,
             body,
-        };
-        let name = name_of(self.alloc, &request).ok();
-        if let Some(answer) = self.recall(&request, &name) {
+        })
+    }
+
+    /// As `submit`, of a request as one value.
+    fn submit_request(&mut self, request: &Request<'_>) -> Result<Answer, Unavailable>
+        requires { IsRequest request.now }
+        ensures { DecidesRequest S.Store request.now self.old self.new result }
+    {
+        if self.is_down {
+            return Err(Unavailable::Down);
+        }
+        let name = name_of(self.alloc, request).ok();
+        if let Some(answer) = self.recall(request, &name) {
             return Ok(answer);
         }
-        let result = self.decide(&request, name);
+        let result = self.decide(request, name);
         self.is_down = store_failed(&result);
         result
     }
@@ -232,8 +241,9 @@ impl<S: Alter> Intake<S> {
     ghost use Rattle.intake_answers.specs.Answered.{IsAnswerTo};
     ghost use Rattle.intake_answers.specs.Cache.{IsKeptIn, IsNameIfAny};
     ghost use Rattle.intake_core.specs.Calls.{AnswersIf, IsRequest, TellsIfFree};
-    ghost use Rattle.intake_core.specs.Held.{store_of, limit_of, old_style_in, has_stopped};
-    ghost use Rattle.intake_core.specs.Held.{HoldsRequests, ForRequests, ChangesOnlyCache};
+    ghost use Rattle.intake_core.specs.Held.{store_of, limit_of, old_style_of, old_style_in, has_stopped};
+    ghost use Rattle.intake_core.specs.Held.{HoldsRequests, ForRequests, ChangesOnlyCache, SurvivesAs, with_request};
+    ghost use Rattle.register_tables.specs.Registers.{LeavesRegister};
 
     /// The answer to a request whose filer and key have this name, if the cache remembers it. The cache is made here,
     /// if there is memory for it.
@@ -281,6 +291,10 @@ impl<S: Alter> Intake<S> {
         requires request { IsRequest request.now }
         requires name { IsNameIfAny request.now name }
         ensures decided { AnswersIf S.Store request.now (λ _. Unit {0}) self.old self.new result }
+
+        // Nothing is written before the register was read, and so found open.
+        ensures crash { SurvivesAs S.Store self.old self.new (λ requests trees.
+            LeavesRegister (old_style_of self.old) (with_request requests request.now) trees) }
         ensures full { ForRequests S.Store self.old self.new (λ requests. (k : ℕ) → result ≡ Err (Full k)
             → (has_key requests request.now ≡ false) × (limit_of self.old ≤ k) × (k ≡ length requests)) }
         ensures room { ForRequests S.Store self.old self.new (λ requests.

@@ -6,4 +6,4 @@ pub returns : goal.returns
 returns g c honest r old new result requests files decides is_open had ends =
     outlives_call g.D.Disk honest g.met.D.Disk.seen_may_stay old.store.conn new.store.conn old.store.old_style requests
     (with_request requests r) had.rows.stands is_open decides.crash
-    (λ db commits. commits requests had is_open) files ends
+    (λ db commits. commits requests had) files ends

@@ -147,3 +147,27 @@ returns-in-None-clause-full g c = λ clean requests h k e.
     (c.in_ok-row.ensures.keeps.same cleaned requests h.rows) in
     let full = c.keep.ensures.full requests asked k e in
     (fresh, full.0, full.1)
+
+pub returns-in-Some-clause-crash : goal.returns-in-Some-clause-crash
+returns-in-Some-clause-crash g c =
+    rw c.repeat.ensures.rest.store
+    (survives_weaker (shows g.S.Store c.args.self.now.store) (shows g.S.Store c.find.new.self) _ _
+    (λ clean trees none. absurd none) c.find.ensures.keeps.crash)
+
+pub returns-in-None-clause-crash : goal.returns-in-None-clause-crash
+returns-in-None-clause-crash g c =
+    let r = c.args.request.now in
+    let at_none = (goal.at.returns-in-None-clause-crash g c).In-None in
+    let keeps = c.in_ok-row.ensures.keeps in
+    let kept = c.keep.ensures.kept in
+    survives_then (shows g.S.Store c.args.self.now.store) (shows g.S.Store c.find.new.self)
+    (shows g.S.Store c.keep.new.self.store) _ _ _
+    (λ clean trees none. absurd none)
+    (λ clean trees left requests h.
+    let cleaned = kept.setting.clean clean in
+    let fresh = new g at_none cleaned requests h.rows in
+    let asked =
+    HoldsRequests-asked requests c.args.self.now _ h refl keeps.old_style (keeps.same cleaned requests h.rows) in
+    let still = (c.in_ok-row.ensures.durable cleaned requests h.rows).0 in
+    subst (λ n. LeavesRegister n (with_request requests r) trees) keeps.old_style (left requests asked still fresh))
+    c.find.ensures.keeps.crash kept.crash

@@ -1,9 +1,8 @@
 use Rattle.std.proofs.Common.{◌≡◌, ◌<◌, ◌≤◌, ◌++◌, ◌∷◌, [], ℕ, false, List, length, Result, Ok, Err, IsTrue, IfOk, OnOk}
-use Rattle.std.proofs.Common.{sym, ap, ◌∙◌, subst, rules}
+use Rattle.std.proofs.Common.{inl, inr, true≢false, sym, ap, ◌∙◌, subst, rules}
 use Rattle.sqlite.specs.State.{Survives}
 use Rattle.sqlite.proofs.StateLemmas.{survives_weaker}
 use Rattle.filing_model.specs.Request.{Request, firsts, has_key}
-use Rattle.filing_model.specs.Views.{the_request}
 use Rattle.filing_model.proofs.Firsts.{firsts_repeat}
 use Rattle.register_store.specs.Store.{shows}
 use Rattle.register_tables.specs.Registers.{LeavesRegister}
@@ -11,7 +10,7 @@ use Rattle.register_store.proofs.StoreLemmas.{leaves}
 use Rattle.intake_answers.specs.Cache.{IsNameIfAny}
 use Rattle.intake_core.specs.Held.{HoldsRequests, old_style_of}
 use Rattle.intake_core.proofs.Deciding.{IfSome-made, HoldsRequests-repeat}
-use Rattle.intake_core.proofs.intake.Intake.submit.Goals as goal
+use Rattle.intake_core.proofs.intake.Intake.submit_request.Goals as goal
 
 on_both : {T E : Type 0} (x : Result T E) (P : Type 0) (Q : T → Type 0) (R : Type 0) → (P → (a : T) → Q a → R)
     → OnOk x P → IfOk x Q → OnOk x R
@@ -21,7 +20,7 @@ on_both (Err e) P Q R f p q = tt
 pub returns-in-Some : goal.returns-in-Some
 returns-in-Some g c = record {
   answer = λ clean requests h.
-      let r : Request = the_request c.args.filer.now c.args.key.now c.args.target c.args.body.now in
+      let r : Request = c.args.request.now in
       let named : IsNameIfAny r c.ok-name.result =
       rw c.ok-name.ensures.value (IfSome-made c.name_of.result _ c.name_of.ensures) in
       let known = c.in-Some.ensures.answer requests h named in
@@ -32,11 +31,15 @@ returns-in-Some g c = record {
   room = search rules;
   crash = search rules;
   -- no call was made, and what was committed last is all that a crash leaves
-  durable = λ clean requests h alive.
-      let r : Request = the_request c.args.filer.now c.args.key.now c.args.target c.args.body.now in
+  durable = λ clean requests h open_or_new.
+      let r : Request = c.args.request.now in
       let named : IsNameIfAny r c.ok-name.result =
       rw c.ok-name.ensures.value (IfSome-made c.name_of.result _ c.name_of.ensures) in
       let known = c.in-Some.ensures.answer requests h named in
+      let alive : IsTrue (shows g.S.Store c.args.self.now.store).is_open = elim open_or_new [
+        | inl alive ↦ alive
+        | inr fresh ↦ absurd (true≢false (sym known.1 ∙ fresh))
+      ] in
       let held : HoldsRequests g.S.Store c.recall.new.self requests = c.recall.ensures.same requests h in
       let still : IsTrue (shows g.S.Store c.recall.new.self.store).is_open =
       subst (λ s. IsTrue (shows g.S.Store s).is_open) (sym c.recall.ensures.rest.store) alive in (
@@ -65,22 +68,22 @@ returns g c = record {
       let full = c.decide-result.ensures.full clean requests (c.recall.ensures.same requests h) k e in
       (full.0, subst (λ (limit : ℕ). limit ≤ k) c.recall.ensures.rest.limit full.1, full.2);
   room = λ clean requests h.
-      let r : Request = the_request c.args.filer.now c.args.key.now c.args.target c.args.body.now in
+      let r : Request = c.args.request.now in
       subst (λ (limit : ℕ). OnOk c.decide-result.result (has_key requests r ≡ false → length requests < limit))
       c.recall.ensures.rest.limit
       (c.decide-result.ensures.room clean requests (c.recall.ensures.same requests h));
   crash =
-      let r : Request = the_request c.args.filer.now c.args.key.now c.args.target c.args.body.now in
+      let r : Request = c.args.request.now in
       let new = shows g.S.Store c.decide-result.new.self.store in
       subst (λ s. Survives (shows g.S.Store s) new (λ trees. (requests : List Request)
-      → HoldsRequests g.S.Store c.args.self.now requests → IsTrue (shows g.S.Store s).is_open
+      → HoldsRequests g.S.Store c.args.self.now requests
       → LeavesRegister s.old_style (firsts (requests ++ r ∷ [])) trees)) c.recall.ensures.rest.store
       (survives_weaker (shows g.S.Store c.recall.new.self.store) new _ _
-      (λ _ trees left requests h alive. left requests (c.recall.ensures.same requests h) alive tt)
-      c.decide-result.ensures.decided.crash);
+      (λ _ trees left requests h. left requests (c.recall.ensures.same requests h))
+      c.decide-result.ensures.crash);
   -- the requests that are kept are committed
   durable = λ clean requests h alive.
-      let r : Request = the_request c.args.filer.now c.args.key.now c.args.target c.args.body.now in
+      let r : Request = c.args.request.now in
       let held = c.recall.ensures.same requests h in
       let new = c.decide-result.new.self in
       let same : old_style_of new ≡ old_style_of c.args.self.now =

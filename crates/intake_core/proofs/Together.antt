@@ -1,0 +1,438 @@
+-- New requests are kept together.
+use Rattle.std.proofs.Common.{◌≡◌, ◌<◌, ◌≤◌, ◌+◌, ℕ, true, false, List, [], ◌∷◌, ◌++◌, take, map, length, inl, inr}
+use Rattle.std.proofs.Common.{Ok, Err, Vec, IsTrue, true≢false, refl, sym, ap, ◌∙◌, subst, arith, append_assoc}
+use Rattle.std.proofs.lemmas.Slice.Zip.{firsts-zip}
+use Rattle.std.proofs.lemmas.List.{length-take-le}
+use Rattle.std.proofs.lemmas.List.Elements.{All-nil, All-cons, All-head, All-tail}
+use Rattle.std.proofs.lemmas.List.Folds.{list_any-append}
+use Rattle.std.proofs.lemmas.Result.{IfOk-weaker}
+use Rattle.std.proofs.Common.{Result, OnErr}
+use Rattle.xbrl_report.specs.declared.judging.Judged.{Judged}
+use Rattle.xbrl_report.specs.Judgement.{IsAmendmentJudgement}
+use Rattle.filing_model.specs.Register.{is_free, register as filings_of}
+use Rattle.table_rows.specs.declared.fault.StoreFault.{StoreFault}
+use Rattle.register_store.specs.declared.outcome.NewRow.{NewRow}
+use Rattle.intake_core.specs.Calls.{IsRequest}
+use Rattle.register_store.specs.Calls.{AddsRequests}
+use Rattle.register_store.specs.NewRows.{AreNew, IsKeepable, request_of}
+use Rattle.intake_core.specs.Together.{AddsGroup, AreRowsOf, IfKept, IsJudgedAlone, LooksUp, UnlessKept, count_of}
+use Rattle.intake_core.specs.Held.{ForRequests}
+use Rattle.intake_core.proofs.Deciding.{HoldsRequests-asked, HoldsRequests-several}
+use Rattle.std.specs.List.{All, AllByRecursion, AllZip, zip}
+use Rattle.std.specs.Result.{IsErr, IsOk}
+use Rattle.std.specs.declared.alloc.Global.{Global}
+use Rattle.sqlite.specs.Store.{Ghosts}
+use Rattle.sqlite.specs.State.{HasCleanDisk, Survives}
+use Rattle.sqlite.specs.Tree.{Trees}
+use Rattle.sqlite.proofs.StateLemmas.{survives_then, survives_weaker}
+use Rattle.filing_model.specs.declared.outcome.Outcome.{Outcome}
+use Rattle.filing_model.specs.Request.{Request, firsts, has_key, same_key}
+use Rattle.register_store.specs.Store as register
+use Rattle.register_tables.specs.Registers.{LeavesRegister}
+use Rattle.intake_core.specs.declared.intake.Intake.{Intake}
+use Rattle.intake_core.specs.declared.intake.Unavailable.TheVariants.{Down, Store}
+use Rattle.intake_core.specs.declared.intake.group.Together.{Together}
+use Rattle.intake_core.specs.declared.intake.group.Together.TheVariants.{Kept, Alone, Failed}
+use Rattle.intake_core.specs.Group.{AddsResults, after, AreDecidedInTurn, Decided, DecidesEach, EndAtFailure, Given}
+use Rattle.intake_core.specs.Group.{HasFailed, LeavesHeld, LeavesSome}
+use Rattle.intake_core.specs.Held.{shows, limit_of, old_style_of, old_style_in, has_stopped, HoldsRequests, IsClean}
+use Rattle.intake_core.specs.Together.{AnswersGroup, AreNewBehind, KeepsFirst, RefusesGroup}
+use Rattle.intake_core.proofs.Deciding.{firsts-more}
+use Rattle.intake_core.proofs.Group.{append_nil, held_exactly}
+
+pub firsts_behind : (F rs : List Request) → firsts F ≡ F → AreNewBehind F rs → firsts (F ++ rs) ≡ F ++ rs
+firsts_behind F [] are new = ap firsts (append_nil F) ∙ are ∙ sym (append_nil F)
+firsts_behind F (r ∷ rs) are new =
+    ap firsts (sym (append_assoc F (r ∷ []) rs))
+    ∙ firsts_behind (F ++ r ∷ []) rs (firsts-more F r are new.0) new.1
+    ∙ append_assoc F (r ∷ []) rs
+
+pub has_key-neither : (F rs : List Request) (r : Request) → has_key F r ≡ false → has_key rs r ≡ false
+    → has_key (F ++ rs) r ≡ false
+has_key-neither F rs r first second = rw (list_any-append (λ s. same_key s r) F rs, first, second) refl
+
+pub new_more : (F rs : List Request) (r : Request) → AreNewBehind F rs → has_key (F ++ rs) r ≡ false
+    → AreNewBehind F (rs ++ r ∷ [])
+new_more F [] r h new = (subst (λ G. has_key G r ≡ false) (append_nil F) new, tt)
+new_more F (s ∷ rs) r h new =
+    (h.0, new_more (F ++ s ∷ []) rs r h.1 (subst (λ G. has_key G r ≡ false) (sym (append_assoc F (s ∷ []) rs)) new))
+
+-- ---- they are looked up and kept
+
+keepable_rows : (rows : List NewRow) → All IsRequest (map request_of rows)
+    → AllZip IsJudgedAlone (map request_of rows) (map (λ (row : NewRow). row.judged.now) rows) → All IsKeepable rows
+keepable_rows [] h judged = All-nil IsKeepable
+keepable_rows (row ∷ rows) h judged =
+    let first = All-head IsRequest (request_of row) (map request_of rows) h in
+    All-cons IsKeepable row rows
+    (record { filer = first.filer; target = first.target; body = first.body; facts = judged.0.facts })
+    (keepable_rows rows (All-tail IsRequest (request_of row) (map request_of rows) h) judged.1)
+
+pub keepable : (rs : List Request) (judged : List Judged) (rows : List NewRow) → AreRowsOf rs judged rows
+    → All IsRequest rs → AllZip IsJudgedAlone rs judged → All IsKeepable rows
+keepable rs judged rows are h each =
+    keepable_rows rows (subst (All IsRequest) (sym are.requests) h)
+    (subst (AllZip IsJudgedAlone (map request_of rows)) (sym are.judgements)
+    (subst (λ rs. AllZip IsJudgedAlone rs judged) (sym are.requests) each))
+
+new_rows : (F : List Request) (rows : List NewRow) → AreNewBehind F (map request_of rows)
+    → AllZip IsJudgedAlone (map request_of rows) (map (λ (row : NewRow). row.judged.now) rows) → AreNew F rows
+new_rows F [] new judged = tt
+new_rows F (row ∷ rows) new judged = (
+  record {
+    key = new.0;
+    judged =
+        subst (λ target. IsAmendmentJudgement row.filer.now row.body.now (is_free (filings_of F) row.filer.now target)
+        row.judged.now) (sym judged.0.alone) judged.0.report;
+  },
+  new_rows (F ++ request_of row ∷ []) rows new.1 judged.1,
+)
+
+on_err : {T E : Type 0} (x : Result T E) (P Q : Type 0) → (P → Q) → OnErr x P → OnErr x Q
+on_err (Ok a) P Q f h = tt
+on_err (Err e) P Q f h = f h
+
+rows_long : (rows : List NewRow) → length (map request_of rows) ≡ length rows
+rows_long [] = refl
+rows_long (row ∷ rows) = let rest = rows_long rows in omega (arith, rest)
+
+module _ {S : Type 0} {g : Ghosts S} where
+  pub looks_then : (old mid new : Intake S) → LooksUp g old mid → LooksUp g mid new → LooksUp g old new
+  looks_then old mid new one two = record {
+    same = λ clean F h. two.same clean F (one.same (two.setting.clean clean) F h);
+    setting = record {
+      clean = λ clean. one.setting.clean (two.setting.clean clean);
+      limit = two.setting.limit ∙ one.setting.limit;
+      old_style = two.setting.old_style ∙ one.setting.old_style;
+    };
+    stopped = two.stopped ∙ one.stopped;
+    count = two.count ∙ one.count;
+    crash = survives_then (shows g old) (shows g mid) (shows g new) _ _ _ (λ clean trees none. none)
+        (λ clean trees none. none) one.crash two.crash;
+  }
+
+  adds_rows : (rows : List NewRow) (old new : Intake S) (result : Result (Vec Outcome Global) StoreFault)
+      → AllZip IsJudgedAlone (map request_of rows) (map (λ (row : NewRow). row.judged.now) rows)
+      → new.cache ≡ old.cache → limit_of new ≡ limit_of old → has_stopped new ≡ has_stopped old
+      → AddsRequests g rows old.store new.store result → AddsGroup g (map request_of rows) old new result
+  adds_rows rows old new result judged cache limit stopped a = record {
+    added = λ clean F h new_ones.
+        IfOk-weaker result _ _ (λ outcomes told. (
+          told.0,
+          HoldsRequests-several F (map request_of rows) old new
+              (firsts_behind F (map request_of rows) h.firsts' new_ones) h cache a.old_style told.1,
+        )) (a.added clean F h.rows (new_rows F rows new_ones judged));
+    same = λ clean F h.
+        on_err result _ _ (λ still. HoldsRequests-asked F old new h cache a.old_style still) (a.same clean F h.rows);
+    each = IfOk-weaker result _ _ (λ outcomes long. long ∙ sym (rows_long rows)) a.each;
+    setting = record { clean = λ clean. omega (arith, a.crash.clean, clean); limit = limit; old_style = a.old_style };
+    stopped = stopped;
+    crash = survives_weaker (shows g old) (shows g new) _ _
+        (λ clean trees left F h alive new_ones. left F h.rows alive (new_rows F rows new_ones judged)) a.crash;
+    durable = λ clean F h new_ones. a.durable clean F h.rows (new_rows F rows new_ones judged);
+  }
+
+  pub adds_group : (rs : List Request) (judged : List Judged) (rows : List NewRow) (old new : Intake S)
+      (result : Result (Vec Outcome Global) StoreFault) → AreRowsOf rs judged rows → AllZip IsJudgedAlone rs judged
+      → new.cache ≡ old.cache → limit_of new ≡ limit_of old → has_stopped new ≡ has_stopped old
+      → AddsRequests g rows old.store new.store result → AddsGroup g rs old new result
+  adds_group rs judged rows old new result are each cache limit stopped a =
+      subst (λ rs. AddsGroup g rs old new result) are.requests
+      (adds_rows rows old new result
+      (subst (AllZip IsJudgedAlone (map request_of rows)) (sym are.judgements)
+      (subst (λ rs. AllZip IsJudgedAlone rs judged) (sym are.requests) each)) cache limit stopped a)
+
+  -- the database refused to keep them
+  pub first_refused : {e : StoreFault} (requests : List Request) (result : Together) (count : ℕ)
+      → count_of result ≡ count
+      → ((P : Type 0) → P → UnlessKept result P) → ((P : List Outcome → Type 0) → IfKept result P) → 0 < count
+      → count ≤ length requests → (old mid new : Intake S) → LooksUp g old mid
+      → ForRequests g old mid (λ F. AreNewBehind F (take count requests) × IsTrue (shows g mid).is_open)
+      → AddsGroup g (take count requests) mid new (Err e) → KeepsFirst g requests old new result
+  first_refused requests result count is unless kept some few old mid new looks fresh a = record {
+    some = (omega (arith, is, some), omega (arith, is, few));
+    kept = λ clean F h. kept _;
+    none = λ clean F h. unless _ (a.same clean F (looks.same (a.setting.clean clean) F h));
+    setting = record {
+      clean = λ clean. looks.setting.clean (a.setting.clean clean);
+      limit = a.setting.limit ∙ looks.setting.limit;
+      old_style = a.setting.old_style ∙ looks.setting.old_style;
+    };
+    stopped = a.stopped ∙ looks.stopped;
+    crash = survives_then (shows g old) (shows g mid) (shows g new) _ _ _ (λ clean trees none. absurd none)
+        (λ clean trees left F h.
+        let cleaned = a.setting.clean clean in
+        let new_ones = fresh cleaned F h in
+        let held = looks.same cleaned F h in
+        subst (λ m. LeavesRegister (old_style_of old) (firsts (F ++ take m requests)) trees) (sym is)
+        (subst (λ (G : List Request). LeavesRegister (old_style_of old) G trees)
+        (sym (firsts_behind F (take count requests) h.firsts' new_ones.0))
+        (subst (λ n. LeavesRegister n (F ++ take count requests) trees) looks.setting.old_style
+        (left F held new_ones.1 new_ones.0)))) looks.crash a.crash;
+    durable = λ clean F h. kept _;
+  }
+
+-- ---- each of them has an answer
+
+pub after_new : (F rs : List Request) (given : List Given) → firsts F ≡ F → AreNewBehind F rs
+    → length given ≡ length rs → AllByRecursion IsOk given → after F (zip rs given) ≡ F ++ rs
+after_new F [] [] are new long all = sym (append_nil F)
+after_new F [] (x ∷ given) are new long all = absurd (omega (arith, long))
+after_new F (r ∷ rs) [] are new long all = absurd (omega (arith, long))
+after_new F (r ∷ rs) (Ok a ∷ given) are new long all =
+    let more = firsts-more F r are new.0 in
+    ap (λ G. after G (zip rs given)) more
+    ∙ after_new (F ++ r ∷ []) rs given more new.1 (omega (arith, long)) all.1
+    ∙ append_assoc F (r ∷ []) rs
+after_new F (r ∷ rs) (Err e ∷ given) are new long all = absurd (true≢false (sym all.0))
+
+ok_ends : (rs : List Request) (given : List Given) → AllByRecursion IsOk given → EndAtFailure (zip rs given)
+ok_ends [] given all = tt
+ok_ends (r ∷ rs) [] all = tt
+ok_ends (r ∷ rs) (Ok a ∷ given) all = (λ failed. absurd (cc), ok_ends rs given all.1)
+ok_ends (r ∷ rs) (Err e ∷ given) all = absurd (true≢false (sym all.0))
+
+ok_is_fine : (rs : List Request) (given : List Given) → AllByRecursion IsOk given → HasFailed (zip rs given) → ⊥
+ok_is_fine [] given all failed = failed
+ok_is_fine (r ∷ rs) [] all failed = failed
+ok_is_fine (r ∷ rs) (Ok a ∷ given) all (inl this) = absurd (cc)
+ok_is_fine (r ∷ rs) (Ok a ∷ given) all (inr later) = ok_is_fine rs given all.1 later
+ok_is_fine (r ∷ rs) (Err e ∷ given) all failed = absurd (true≢false (sym all.0))
+
+ok_is_up : (P : Type 0) (rs : List Request) (given : List Given) → AllByRecursion IsOk given
+    → AllByRecursion (λ (d : Decided). d.1 ≡ Err Down → P) (zip rs given)
+ok_is_up P [] given all = tt
+ok_is_up P (r ∷ rs) [] all = tt
+ok_is_up P (r ∷ rs) (Ok a ∷ given) all = (λ down. absurd (cc), ok_is_up P rs given all.1)
+ok_is_up P (r ∷ rs) (Err e ∷ given) all = absurd (true≢false (sym all.0))
+
+-- ---- none of them has an answer
+
+abbrev refused : List Request → List Given
+refused rs = map (λ _. Err Store) rs
+
+refused_long : (rs : List Request) → length (refused rs) ≡ length rs
+refused_long [] = refl
+refused_long (r ∷ rs) = let rest = refused_long rs in omega (arith, rest)
+
+refused_after : (F rs : List Request) → after F (zip rs (refused rs)) ≡ F
+refused_after F [] = refl
+refused_after F (r ∷ rs) = refused_after F rs
+
+refused_in_turn : (limit : ℕ) (old_style F rs : List Request)
+    → AreDecidedInTurn limit old_style F (zip rs (refused rs))
+refused_in_turn limit old_style F [] = tt
+refused_in_turn limit old_style F (r ∷ rs) =
+    (record { answer = tt; full = λ k is. absurd (cc); room = tt }, refused_in_turn limit old_style F rs)
+
+refused_none : (rs : List Request) → AllByRecursion (λ (d : Decided). IsErr d.1) (zip rs (refused rs))
+refused_none [] = tt
+refused_none (r ∷ rs) = (refl, refused_none rs)
+
+refused_ends : (rs : List Request) → EndAtFailure (zip rs (refused rs))
+refused_ends [] = tt
+refused_ends (r ∷ rs) = (λ failed. refused_none rs, refused_ends rs)
+
+refused_failed : (rs : List Request) → 0 < length rs → HasFailed (zip rs (refused rs))
+refused_failed [] some = absurd (omega (arith, some))
+refused_failed (r ∷ rs) some = inl refl
+
+refused_up : (P : Type 0) (rs : List Request)
+    → AllByRecursion (λ (d : Decided). d.1 ≡ Err Down → P) (zip rs (refused rs))
+refused_up P [] = tt
+refused_up P (r ∷ rs) = (λ down. absurd (cc), refused_up P rs)
+
+-- ---- what a crash leaves of all of them
+
+leaves_all : (n : ℕ) (F rs : List Request) (given : List Given) (trees : Trees) → length given ≡ length rs
+    → 0 < length rs → LeavesRegister n (firsts (F ++ rs)) trees → LeavesSome n F (zip rs given) trees
+leaves_all n F [] given trees long some l = absurd (omega (arith, some))
+leaves_all n F (r ∷ rs) [] trees long some l = absurd (omega (arith, long))
+leaves_all n F (r ∷ rs) (x ∷ given) trees long some l = record {
+  before = [];
+  next = (r, x);
+  more = zip rs given;
+  rest = [];
+  are = ap (λ (ds : List Decided). (r, x) ∷ ds) (sym (append_nil (zip rs given)));
+  leaves =
+      subst (λ (ss : List Request). LeavesRegister n (firsts (F ++ r ∷ ss)) trees)
+      (sym (firsts-zip rs given (omega (arith, long)))) l;
+}
+
+held_all : (n : ℕ) (F rs : List Request) (given : List Given) (trees : Trees) → length given ≡ length rs
+    → after F (zip rs given) ≡ F → LeavesRegister n (firsts (F ++ rs)) trees → LeavesHeld n F (zip rs given) trees
+held_all n F rs given trees long same l = record {
+  before = [];
+  part = zip rs given;
+  rest = [];
+  are = sym (append_nil (zip rs given));
+  leaves =
+      subst (λ (G : List Request). LeavesRegister n (firsts (G ++ map (λ (d : Decided). d.0) (zip rs given))) trees)
+      (sym same)
+      (subst (λ (ss : List Request). LeavesRegister n (firsts (F ++ ss)) trees) (sym (firsts-zip rs given long)) l);
+}
+
+long_of : {X : Type 0} (n : ℕ) (xs : List X) → n ≤ length xs → length (take n xs) ≡ n
+long_of n xs few = length-take-le n xs few
+
+long_take : {X : Type 0} (n : ℕ) (xs : List X) → 0 < n → n ≤ length xs → 0 < length (take n xs)
+long_take n xs some few = omega (arith, some, long_of n xs few)
+
+module _ {S : Type 0} {g : Ghosts S} (requests : List Request) (old mid new : Intake S)
+    (results results' : Vec Given Global) (up : has_stopped old ≡ false) where
+  pub together_kept : (outcomes : Vec Outcome Global) → KeepsFirst g requests old mid (Kept outcomes)
+      → AnswersGroup g (take (length outcomes.items) requests) outcomes.items mid new results results'
+      → AddsResults g (take (length outcomes.items) requests) old new results results'
+  together_kept outcomes k h =
+      let rs = take (length outcomes.items) requests in
+      let cleaned : IsClean g new → IsClean g mid = λ clean.
+      subst (λ s. HasCleanDisk (register.shows g s)) h.rest.store clean in
+      let stopped : has_stopped new ≡ has_stopped old = h.rest.stopped ∙ k.stopped in
+      record {
+        given = h.given;
+        are = h.are;
+        each = h.each;
+        len = h.len;
+        room = h.room;
+        decides = record {
+          answers = λ clean F held.
+              let kept = k.kept (cleaned clean) F held in
+              let told = h.answers F held.firsts' kept.2 kept.0 kept.1
+              (subst (λ n. n ≤ length F) (sym k.setting.old_style) held.rows.within)
+              (subst (λ n. length F + length rs ≤ n) (sym k.setting.limit)
+              (omega (arith, kept.3, long_of (length outcomes.items) requests k.some.1))) in (
+                subst (λ n. AreDecidedInTurn n (old_style_in old F) F (zip rs h.given)) k.setting.limit
+                    (subst (λ n. AreDecidedInTurn (limit_of mid) (take n F) F (zip rs h.given)) k.setting.old_style
+                    told.0),
+                subst (HoldsRequests g new) (sym (after_new F rs h.given held.firsts' kept.0 h.each h.all)) told.1,
+              );
+          setting = record {
+            clean = λ clean. k.setting.clean (cleaned clean);
+            limit = h.rest.limit ∙ k.setting.limit;
+            old_style = ap (λ s. s.old_style) h.rest.store ∙ k.setting.old_style;
+          };
+          crash =
+              subst (λ s. Survives (shows g old) (register.shows g s) (λ trees. (F : List Request)
+              → HoldsRequests g old F → LeavesSome (old_style_of old) F (zip rs h.given) trees)) (sym h.rest.store)
+              (survives_weaker (shows g old) (shows g mid) _ _
+              (λ clean trees left F held. leaves_all (old_style_of old) F rs h.given trees h.each
+              (long_take (length outcomes.items) requests k.some.0 k.some.1) (left F held)) k.crash);
+          durable = λ clean F held trees left.
+              let kept = k.kept (cleaned clean) F held in
+              let same = after_new F rs h.given held.firsts' kept.0 h.each h.all in
+              inr (held_exactly (old_style_of old) F (zip rs h.given) trees
+              (ap firsts same ∙ firsts_behind F rs held.firsts' kept.0 ∙ sym same)
+              (subst (λ (G : List Request). LeavesRegister (old_style_of old) G trees) (sym same)
+              ((k.durable (cleaned clean) F held).1 trees
+              (subst (λ s. (register.shows g s).may_leave trees) h.rest.store left))));
+          ends = ok_ends rs h.given h.all;
+          down = λ down. absurd (true≢false (sym down ∙ up));
+          stops = (
+            λ s. inl (sym stopped ∙ s),
+            λ cause. elim cause [
+              | inl was ↦ stopped ∙ was
+              | inr failed ↦ absurd (ok_is_fine rs h.given h.all failed)
+            ],
+          );
+          up = ok_is_up (has_stopped new ≡ true) rs h.given h.all;
+        };
+      }
+
+  pub together_alone : (count : ℕ) → KeepsFirst g requests old mid (Alone count)
+      → AddsResults g (take count requests) mid new results results'
+      → AddsResults g (take count requests) old new results results'
+  together_alone count k h =
+      let rs = take count requests in
+      let ds = zip rs h.given in
+      let d = h.decides in
+      record {
+        given = h.given;
+        are = h.are;
+        each = h.each;
+        len = h.len;
+        room = h.room;
+        decides = record {
+          answers = λ clean F held.
+              let told = d.answers clean F (k.none (d.setting.clean clean) F held) in (
+                subst (λ n. AreDecidedInTurn n (old_style_in old F) F ds) k.setting.limit
+                    (subst (λ n. AreDecidedInTurn (limit_of mid) (take n F) F ds) k.setting.old_style told.0),
+                told.1,
+              );
+          setting = record {
+            clean = λ clean. k.setting.clean (d.setting.clean clean);
+            limit = d.setting.limit ∙ k.setting.limit;
+            old_style = d.setting.old_style ∙ k.setting.old_style;
+          };
+          crash = survives_then (shows g old) (shows g mid) (shows g new) _ _ _
+              (λ clean trees left F held. leaves_all (old_style_of old) F rs h.given trees h.each
+              (long_take count requests k.some.0 k.some.1) (left F held))
+              (λ clean trees left F held.
+              subst (λ n. LeavesSome n F ds trees) k.setting.old_style
+              (left F (k.none (d.setting.clean clean) F held)))
+              k.crash d.crash;
+          durable = λ clean F held trees left.
+              let cleaned = d.setting.clean clean in
+              elim (d.durable clean F (k.none cleaned F held) trees left) [
+                | inl same ↦ elim (k.crash.crash cleaned trees same.0) [
+                  | inl was ↦ inl (was, same.1)
+                  | inr made ↦ inr (held_all (old_style_of old) F rs h.given trees h.each same.1 (made F held))
+                ]
+                | inr still ↦ inr (subst (λ n. LeavesHeld n F ds trees) k.setting.old_style still)
+              ];
+          ends = d.ends;
+          down = λ down. absurd (true≢false (sym down ∙ up));
+          stops = (
+            λ s. elim (d.stops.0 s) [ inl was ↦ inl (sym k.stopped ∙ was) | inr failed ↦ inr failed ],
+            λ cause. elim cause [
+              | inl was ↦ d.stops.1 (inl (k.stopped ∙ was))
+              | inr failed ↦ d.stops.1 (inr failed)
+            ],
+          );
+          up = d.up;
+        };
+      }
+
+  pub together_failed : (count : ℕ) → KeepsFirst g requests old mid (Failed count)
+      → RefusesGroup (take count requests) mid new results results'
+      → AddsResults g (take count requests) old new results results'
+  together_failed count k h =
+      let rs = take count requests in
+      let some : 0 < length rs = long_take count requests k.some.0 k.some.1 in
+      let ds = zip rs (refused rs) in
+      let long = refused_long rs in
+      let same : record mid { is_down = true } ≡ new = sym h.down in
+      record {
+        given = refused rs;
+        are = h.are;
+        each = long;
+        len = omega (arith, h.len, long);
+        room = h.room;
+        decides = subst (DecidesEach g ds old) same (record {
+          answers = λ clean F held.
+              let still = k.none clean F held in (
+                refused_in_turn (limit_of old) (old_style_in old F) F rs,
+                subst (HoldsRequests g (record mid { is_down = true })) (sym (refused_after F rs)) (record {
+                  firsts' = still.firsts';
+                  rows = still.rows;
+                  known = still.known;
+                }),
+              );
+          setting = record {
+            clean = λ clean. k.setting.clean clean;
+            limit = k.setting.limit;
+            old_style = k.setting.old_style;
+          };
+          crash = survives_weaker (shows g old) (shows g mid) _ _
+              (λ clean trees left F held. leaves_all (old_style_of old) F rs (refused rs) trees long some (left F held))
+              k.crash;
+          durable = λ clean F held trees left. elim (k.crash.crash clean trees left) [
+            | inl was ↦ inl (was, refused_after F rs)
+            | inr made ↦
+                inr (held_all (old_style_of old) F rs (refused rs) trees long (refused_after F rs) (made F held))
+          ];
+          ends = refused_ends rs;
+          down = λ down. absurd (true≢false (sym down ∙ up));
+          stops = (λ s. inr (refused_failed rs some), λ cause. refl);
+          up = refused_up (true ≡ true) rs;
+        });
+      }
