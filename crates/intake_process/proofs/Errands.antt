@@ -24,6 +24,10 @@ use Rattle.register_tables.specs.Registers.{ForRows, IsRegisterOf}
 use Rattle.register_store.specs.Calls.{OpensOrGivesBack}
 use Rattle.register_store.specs.Numbered.{facts_numbered}
 use Rattle.register_store.specs.Store.{StoreParts, HasRequests, shows}
+use Rattle.register_digest.specs.declared.digest.Digest.{Digest}
+use Rattle.register_digest.specs.declared.fault.DigestFault.TheVariants as digest
+use Rattle.register_digest.specs.Registers.{DigestsRegister, digested}
+use Rattle.register_digest.specs.Views.{Digested, view_digest}
 use Rattle.register_export.specs.declared.facts.record.Form.{Form}
 use Rattle.register_export.specs.Exports.{ExportsFacts}
 use Rattle.register_export.specs.Exports.{UnlessOutput}
@@ -47,13 +51,13 @@ use Rattle.intake_process.specs.declared.tasks.showing.ShowFault.{ShowFault}
 use Rattle.intake_process.specs.declared.tasks.showing.ShowFault.TheVariants as showing
 use Rattle.intake_process.specs.declared.tasks.text.TextFault.{TextFault}
 use Rattle.intake_process.specs.declared.tasks.text.TextFault.TheVariants.{Memory, Output}
-use Rattle.intake_process.specs.Lines.{list_line, fact_lines, sound_line}
+use Rattle.intake_process.specs.Lines.{list_line, fact_lines, sound_line, digest_line}
 use Rattle.intake_process.specs.Tasks.{PrintsNothing, ListsFilings, ShowsFiling, ChecksRegister, MigratesRegister}
 use Rattle.intake_process.specs.declared.errand.ErrandFault.{ErrandFault}
 use Rattle.intake_process.specs.declared.errand.ErrandFault.TheVariants as fault
 use Rattle.intake_process.specs.Errands.{text_of, IsRegisterFor, MayFail, Tells, Says, RunsErrand, FillsFolder, IsQuiet}
 use Rattle.intake_process.specs.Errands.{IsBegun, is_broken_off, is_for_pages, is_refusal}
-use Rattle.intake_process.specs.Outcomes.{listed_as, records_fault, shown_as, writing_fault}
+use Rattle.intake_process.specs.Outcomes.{listed_as, records_fault, shown_as, printed_as, writing_fault}
 
 -- a disk that is clean after a call was clean before it
 clean_before : (old new : State) {Commits : Trees → Type 0} → Survives old new Commits → HasCleanDisk new
@@ -70,6 +74,7 @@ no_print (asked.Show number) out out' why same = inr same
 no_print asked.Check out out' why same = inr same
 no_print asked.Migrate out out' why same = inr same
 no_print (asked.Export form filer) out out' why same = λ _. same
+no_print (asked.Digest until) out out' why same = inr same
 no_print (asked.Pages folder) out out' why same = inr same
 
 -- no export was begun, whatever the errand
@@ -80,6 +85,7 @@ no_begin (asked.Show number) requests out out' why not = tt
 no_begin asked.Check requests out out' why not = tt
 no_begin asked.Migrate requests out out' why not = tt
 no_begin (asked.Export form filer) requests out out' why not = λ is. absurd (true≢false (sym is ∙ not))
+no_begin (asked.Digest until) requests out out' why not = tt
 no_begin (asked.Pages folder) requests out out' why not = tt
 
 refused_whole : (why : ErrandFault) → is_refusal why ≡ true → is_broken_off why ≡ false
@@ -89,6 +95,7 @@ refused_whole (fault.Migrate why holding) is = refl
 refused_whole (fault.List why) is = refl
 refused_whole (fault.Store why) is = absurd (true≢false (sym is))
 refused_whole (fault.NoFiling number) is = refl
+refused_whole (fault.TooFew kept) is = refl
 refused_whole (fault.Text why) is = absurd (true≢false (sym is))
 refused_whole fault.Folder is = refl
 
@@ -119,6 +126,12 @@ tells : {X : Type 0} (errand : Errand) (requests : List Request) (out out' : Opt
     → ((why : ErrandFault) → IsBegun errand requests out out' why) → Tells errand requests out out' r
 tells errand requests out out' (Ok done) told may quiet begun = told
 tells errand requests out out' (Err why) told may quiet begun = (may, quiet, begun why)
+
+-- a text was not printed
+text_quiet : (out out' : Option (List ℕ)) (why : TextFault) → PrintsNothing Output out out' why
+    → PrintsNothing (fault.Text Output) out out' (fault.Text why)
+text_quiet out out' why (inl failed) = inl (ap fault.Text failed)
+text_quiet out out' why (inr none) = inr none
 
 -- ---- list
 
@@ -426,6 +439,72 @@ module _ (form : Form) (filer : Option (Bor (List ℕ))) where
       found = λ clean not tables. absurd (true≢false not);
       refused = (exports.refused, exports.survives);
       quiet = λ _. exports.quiet;
+    }
+
+-- ---- digest
+
+module _ (until : Option ℕ) where
+  line_told : (requests : List Request) (out out' : Option (List ℕ)) (d : Digested) (r : Result (Unit {0}) TextFault)
+      → digested until requests ≡ Some d → OnOk r (Appends out out' (digest_line d))
+      → IfErr r (PrintsNothing Output out out') → Tells (asked.Digest until) requests out out' (printed_as r)
+  line_told requests out out' d (Ok done) is printed quiet = (digest_line d, ap (option_map digest_line) is, printed)
+  line_told requests out out' d (Err why) is printed quiet =
+      (subst (λ o. IsSome (option_map digest_line o)) (sym is) refl, text_quiet out out' why quiet, tt)
+
+  module _ {S : Type 0} (g : Ghosts S) (out out' : Option (List ℕ)) (old new : Held S) where
+    digest_says : (r : Result (Unit {0}) TextFault) → IfErr (printed_as r) (Says g (asked.Digest until) old new)
+    digest_says (Ok done) = tt
+    digest_says (Err why) = tt
+
+    digest_quiet : (r : Result (Unit {0}) TextFault) → IfErr r (PrintsNothing Output out out')
+        → IfErr (printed_as r) (IsQuiet (asked.Digest until) out out')
+    digest_quiet (Ok done) quiet = tt
+    digest_quiet (Err why) quiet = text_quiet out out' why quiet
+
+    pub digest_printed : (d : Digest) (r : Result (Unit {0}) TextFault) → DigestsRegister g until old new (Ok d)
+        → OnOk r (Appends out out' (digest_line (view_digest d))) → IfErr r (PrintsNothing Output out out')
+        → RunsErrand g (asked.Digest until) out out' old new (printed_as r)
+    digest_printed d r digests printed quiet = record {
+      told = λ clean old_style requests firsts_are rows.
+          line_told requests out out' (view_digest d) r (digests.computed clean old_style requests rows) printed quiet;
+      kept = λ clean not old_style requests firsts_are rows. digests.kept clean old_style requests rows;
+      found = λ clean not tables. digests.found clean tables;
+      refused = digest_says r;
+      quiet = digest_quiet r quiet;
+    }
+
+  module _ {S X : Type 0} (g : Ghosts S) (out : Option (List ℕ)) (old new : Held S) where
+    pub digest_unread : (why : StoreFault) → DigestsRegister g until old new (Err (digest.Store why))
+        → RunsErrand {S = S} {X = X} g (asked.Digest until) out out old new (Err (fault.Store why))
+    digest_unread why digests = record {
+      told = λ clean old_style requests firsts_are rows. (tt, inr refl, tt);
+      kept = λ clean not old_style requests firsts_are rows. digests.kept clean old_style requests rows;
+      found = λ clean not tables. digests.found clean tables;
+      refused = tt;
+      quiet = inr refl;
+    }
+
+    pub digest_of_few : (kept : ℕ) → DigestsRegister g until old new (Err (digest.TooFew kept))
+        → RunsErrand {S = S} {X = X} g (asked.Digest until) out out old new (Err (fault.TooFew kept))
+    digest_of_few kept digests = record {
+      told = λ clean old_style requests firsts_are rows.
+          let few = digests.few clean old_style requests rows in
+          ((few.0, ap (option_map digest_line) few.1), inr refl, tt);
+      kept = λ clean not old_style requests firsts_are rows. digests.kept clean old_style requests rows;
+      found = λ clean not tables. digests.found clean tables;
+      refused = tt;
+      quiet = inr refl;
+    }
+
+    pub digest_refused : (why : OpenFault) (holding : Holding)
+        → DigestsRegister g until old new (Err (digest.Open why))
+        → RunsErrand {S = S} {X = X} g (asked.Digest until) out out old new (Err (fault.Open why holding))
+    digest_refused why holding digests = record {
+      told = λ clean old_style requests firsts_are rows. (digests.failed clean old_style requests rows, inr refl, tt);
+      kept = λ clean not old_style requests firsts_are rows. absurd (true≢false not);
+      found = λ clean not tables. absurd (true≢false not);
+      refused = (digests.refused, digests.survives);
+      quiet = inr refl;
     }
 
 -- ---- pages

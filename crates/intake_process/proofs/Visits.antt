@@ -50,6 +50,7 @@ may_files (asked.Show number) requests why = tt
 may_files asked.Check requests why = tt
 may_files asked.Migrate requests why = tt
 may_files (asked.Export form filer) requests why = tt
+may_files (asked.Digest until) requests why = tt
 may_files (asked.Pages folder) requests why = tt
 
 module _ {D : Type 0} {g : Ghosts D} where

@@ -19,25 +19,28 @@ use Rattle.register_tables.specs.Migrating.{IsNotMigrated, MigratesTo}
 use Rattle.register_tables.specs.Opening.{IsRefused}
 use Rattle.register_tables.specs.Registers.{IsRegisterOf}
 use Rattle.register_store.specs.Numbered.{facts_numbered}
+use Rattle.register_digest.specs.Registers.{digested}
 use Rattle.register_export.specs.Records.{export_begun, export_text}
 use Rattle.register_pages.specs.Pages.{WritesSite}
 use Rattle.intake_process.specs.declared.tasks.errand.Errand.{Errand}
 use Rattle.intake_process.specs.declared.tasks.errand.Errand.TheVariants as asked
 use Rattle.intake_process.specs.declared.tasks.text.TextFault.TheVariants.{Memory, Output}
-use Rattle.intake_process.specs.Lines.{list_line, fact_lines, sound_line, migrated_line}
+use Rattle.intake_process.specs.Lines.{list_line, fact_lines, sound_line, migrated_line, digest_line}
 use Rattle.intake_process.specs.Tasks.{PrintsNothing}
 use Rattle.intake_process.specs.declared.errand.ErrandFault.{ErrandFault}
 use Rattle.intake_process.specs.declared.errand.ErrandFault.TheVariants as fault
 
 -- ---- an errand to a register
 
--- what is printed of a register that keeps these requests; `None` if no filing has the number that is asked for
+-- what is printed of a register that keeps these requests; `None` if no filing has the number that is asked for, or if
+-- there are fewer requests than a digest is asked of
 abbrev pub text_of : Errand → List Request → Option (List ℕ)
 text_of (asked.List filer) requests = Some (list_line filer.now (register requests))
 text_of (asked.Show number) requests = option_map fact_lines (facts_numbered number (register requests))
 text_of asked.Check requests = Some (sound_line (length requests) (length (register requests)))
 text_of asked.Migrate requests = Some migrated_line
 text_of (asked.Export form filer) requests = Some (export_text form (option_map (λ f. f.now) filer) (register requests))
+text_of (asked.Digest until) requests = option_map digest_line (digested until requests)
 text_of (asked.Pages folder) requests = Some []
 
 -- the database is a register of these requests in the version that the errand is for: an earlier one to be migrated,
@@ -47,6 +50,7 @@ IsRegisterFor (asked.List filer) old_style requests db = IsRegisterOf old_style 
 IsRegisterFor (asked.Show number) old_style requests db = IsRegisterOf old_style requests db
 IsRegisterFor asked.Check old_style requests db = IsRegisterOf old_style requests db
 IsRegisterFor (asked.Export form filer) old_style requests db = IsRegisterOf old_style requests db
+IsRegisterFor (asked.Digest until) old_style requests db = IsRegisterOf old_style requests db
 IsRegisterFor (asked.Pages folder) old_style requests db = IsRegisterOf old_style requests db
 IsRegisterFor asked.Migrate old_style requests db =
     (form : Earlier) × IsAlone form db.schema × IsEarlierOf form old_style requests db
@@ -57,11 +61,13 @@ HasTablesFor (asked.List filer) schema = IsDeclared schema
 HasTablesFor (asked.Show number) schema = IsDeclared schema
 HasTablesFor asked.Check schema = IsDeclared schema
 HasTablesFor (asked.Export form filer) schema = IsDeclared schema
+HasTablesFor (asked.Digest until) schema = IsDeclared schema
 HasTablesFor (asked.Pages folder) schema = IsDeclared schema
 HasTablesFor asked.Migrate schema = (form : Earlier) × IsAlone form schema
 
--- Why an errand to such a register is not done: no filing has the number, or memory, the disk, the output or the folder
--- failed. If the files gave no database, the fault of that is left to the contract of their place.
+-- Why an errand to such a register is not done: no filing has the number, there are fewer requests than were asked for,
+-- or memory, the disk, the output or the folder failed. If the files gave no database, the fault of that is left to the
+-- contract of their place.
 abbrev pub MayFail : Errand → List Request → ErrandFault → Type 0
 MayFail asked.Migrate requests (fault.Open why holding) = ⊥
 MayFail asked.Migrate requests (fault.Migrate why holding) = IsFailure why
@@ -69,10 +75,13 @@ MayFail errand requests (fault.Open why holding) = IsFailure why
 MayFail (asked.List filer) requests (fault.List why) = Unit {0}
 MayFail (asked.Show number) requests (fault.Store why) = Unit {0}
 MayFail (asked.Export form filer) requests (fault.Store why) = Unit {0}
+MayFail (asked.Digest until) requests (fault.Store why) = Unit {0}
 MayFail (asked.Pages folder) requests (fault.Store why) = Unit {0}
 MayFail (asked.Pages folder) requests fault.Folder = Unit {0}
 MayFail (asked.Show number) requests (fault.NoFiling missing) =
     (missing ≡ number) × (text_of (asked.Show number) requests ≡ None)
+MayFail (asked.Digest until) requests (fault.TooFew kept) =
+    (kept ≡ length requests) × (text_of (asked.Digest until) requests ≡ None)
 MayFail errand requests (fault.Text why) = IsSome (text_of errand requests)
 MayFail errand requests (fault.Files why) = Unit {0}
 MayFail errand requests other = ⊥
@@ -128,9 +137,11 @@ Says g errand old new (fault.Open why holding) =
 Says g (asked.List filer) old new (fault.List why) = Unit {0}
 Says g (asked.Show number) old new (fault.Store why) = Unit {0}
 Says g (asked.Export form filer) old new (fault.Store why) = Unit {0}
+Says g (asked.Digest until) old new (fault.Store why) = Unit {0}
 Says g (asked.Pages folder) old new (fault.Store why) = Unit {0}
 Says g (asked.Pages folder) old new fault.Folder = Unit {0}
 Says g (asked.Show number) old new (fault.NoFiling missing) = missing ≡ number
+Says g (asked.Digest until) old new (fault.TooFew kept) = Unit {0}
 Says g errand old new (fault.Text why) = Unit {0}
 Says g errand old new other = ⊥
 

@@ -1,11 +1,13 @@
 -- What is printed, byte for byte; own rules.
 use Rattle.std.specs.Prelude.{ℕ, List, ◌++◌, flat_map, codes, None}
 use Rattle.std.specs.Fmt.{decimal}
+use Rattle.hex.specs.Hex.{encode_lower}
 use Rattle.xbrl_report.specs.FactRecord.{FactRecord}
 use Rattle.filing_model.specs.Listing.{listings}
 use Rattle.filing_model.specs.Register.{Filing}
 use Rattle.filing_model.specs.Reply.{list_reply}
 use Rattle.intake_answers.specs.Line.{fact_line}
+use Rattle.register_digest.specs.Views.{Digested}
 use Rattle.terminal_text.specs.OneLine.{one_line}
 
 -- a text, and the end of its line
@@ -28,3 +30,7 @@ sound_line kept filings = codes "sound: " ++ decimal kept ++ codes " kept, " ++ 
 -- the line that says that a register was migrated
 abbrev pub migrated_line : List ℕ
 migrated_line = codes "migrated\n"
+
+-- the line of a digest: how many requests it is of, a space, and its bytes in hexadecimal digits
+abbrev pub digest_line : Digested → List ℕ
+digest_line d = decimal d.count ++ codes " " ++ encode_lower d.bytes ++ codes "\n"

@@ -8,6 +8,7 @@ ghost use Rattle.intake_process.specs.Errands.{FillsFolder, RunsErrand, is_refus
 ghost use Rattle.intake_process.specs.Outcomes.{listed_as, records_fault, shown_as, printed_as, writing_fault};
 
 use crate::tasks::checking::{CheckFault, Progress, check};
+use crate::tasks::digesting::print_digest;
 use crate::tasks::errand::Errand;
 use crate::tasks::listing::{ListFault, list};
 use crate::tasks::migrating::{Migrated, migrate};
@@ -16,6 +17,7 @@ use crate::tasks::text::TextFault;
 use command_line::DatabaseFault;
 use database_places::{Holding, held_in};
 use intake_core::{Intake, Unavailable};
+use register_digest::{DigestFault, digest_register};
 use register_export::{ExportFault, Form, RecordsFault, export};
 use register_pages::{Folder, PagesFault, WritingFault, write_pages};
 use register_store::{OpenFault, Store, StoreFault};
@@ -41,6 +43,8 @@ pub enum ErrandFault {
     Store(StoreFault),
     /// There is no filing of this number.
     NoFiling { number: u64 },
+    /// The register keeps so many requests, and that is fewer than were asked for.
+    TooFew { kept: u64 },
     /// The text was not printed.
     Text(TextFault),
     /// A page is not written.
@@ -145,6 +149,7 @@ pub(crate) fn run_errand<S: Alter + Drop, P: Progress, F: Folder, O: Write>(
         Errand::Check => check_register(alloc, conn, progress, output),
         Errand::Migrate => migrate_register(alloc, conn, output),
         Errand::Export { form, filer } => export_facts(alloc, conn, form, filer, output),
+        Errand::Digest { until } => digest_requests(alloc, conn, until, output),
         Errand::Pages { folder: _ } => write_site(alloc, conn, folder),
     }
 }
@@ -252,6 +257,31 @@ fn export_facts<S: Alter + Drop, O: Write>(
         Ok(()) => (conn, Ok(())),
         Err(ExportFault::Records(fault)) => (conn, Err(records_fault(fault))),
         Err(ExportFault::Open(fault)) => {
+            let holding = held_in(&conn);
+            (conn, Err(ErrandFault::Open(fault, holding)))
+        }
+    }
+}
+
+/// Prints the digest of the first requests, so many, or of all.
+fn digest_requests<S: Alter + Drop, O: Write>(
+    alloc: Global,
+    mut conn: Connection<S>,
+    until: Option<u64>,
+    output: &mut O,
+) -> (Connection<S>, Result<(), ErrandFault>)
+    requires { IsAtRest conn }
+    ensures { RunsErrand S.Store (Errand.Digest until) (O.contents output.old) (O.contents output.new) conn
+        result.0 result.1 }
+{
+    match digest_register(alloc, &mut conn, until) {
+        Ok(digest) => {
+            let printed = print_digest(alloc, &digest, output);
+            (conn, printed_as(printed))
+        }
+        Err(DigestFault::Store(fault)) => (conn, Err(ErrandFault::Store(fault))),
+        Err(DigestFault::TooFew { kept }) => (conn, Err(ErrandFault::TooFew { kept })),
+        Err(DigestFault::Open(fault)) => {
             let holding = held_in(&conn);
             (conn, Err(ErrandFault::Open(fault, holding)))
         }

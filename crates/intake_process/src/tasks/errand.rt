@@ -15,6 +15,8 @@ pub enum Errand<'a> {
     Migrate,
     /// Write out all facts, or those of one filer.
     Export { form: Form, filer: Option<&'a str> },
+    /// Show the digest of the first requests, so many, or of all.
+    Digest { until: Option<u64> },
     /// Write the register as pages of HTML into a folder.
     Pages { folder: &'a str },
 }

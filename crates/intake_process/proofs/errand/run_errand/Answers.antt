@@ -18,6 +18,9 @@ returns-in-Migrate-clause-fills g c = no_pages g.S.Store c.args.errand _ _ _ _ (
 pub returns-in-Export-clause-fills : goal.returns-in-Export-clause-fills
 returns-in-Export-clause-fills g c = no_pages g.S.Store c.args.errand _ _ _ _ (ap is_for_pages c.in-Export.is)
 
+pub returns-in-Digest-clause-fills : goal.returns-in-Digest-clause-fills
+returns-in-Digest-clause-fills g c = no_pages g.S.Store c.args.errand _ _ _ _ (ap is_for_pages c.in-Digest.is)
+
 pub returns-in-Pages-clause-runs : goal.returns-in-Pages-clause-runs
 returns-in-Pages-clause-runs g c =
     let out = g.O.Write.contents c.args.output.now in

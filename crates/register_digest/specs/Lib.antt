@@ -1,0 +1,5 @@
+pub mod Digest
+pub mod Laws
+pub mod Reading
+pub mod Registers
+pub mod Views

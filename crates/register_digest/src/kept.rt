@@ -1,0 +1,157 @@
+//! A kept request with its number.
+
+ghost use Rattle.std.specs.Prelude.{◌≡◌, ◌<◌, ◌^◌, ◌∷◌, [], ℕ, pos, map, Option, IfOk};
+ghost use Rattle.filing_model.specs.Register.{Kept, kept};
+ghost use Rattle.table_rows.specs.Leaving.{OnlyReads};
+ghost use Rattle.register_rows.specs.Register.{amends_rows_by, kept_row};
+ghost use Rattle.register_store.specs.Found.{IsPlaced, target_alone};
+ghost use Rattle.register_store.specs.Store.{ForRegister};
+ghost use Rattle.register_digest.specs.Digest.{row_of};
+ghost use Rattle.register_digest.specs.Reading.{kept_columns};
+ghost use Rattle.register_digest.specs.Views.{view_row};
+
+use crate::reads::{rows_at, target_rows_at};
+use crate::row::Row;
+use sqlite::{Alter, Connection};
+use std::marker::Model;
+use table_rows::StoreFault;
+
+/// A kept request with its number, if it was registered.
+#[derive(Drop)]
+pub(crate) struct KeptRequest {
+    filer: String,
+    key: String,
+    target: Option<u64>,
+    body: Vec<u8>,
+    number: Option<u64>,
+}
+
+impl Model for KeptRequest {
+    ghost use Rattle.std.specs.Prelude.{None, string_bytes};
+    ghost use Rattle.register_digest.specs.Digest.{Row};
+
+    ghost Value = { Row };
+
+    ghost view = { λ k. record {
+      request = record {
+        filer = string_bytes k.filer;
+        key = string_bytes k.key;
+        target = k.target;
+        body = k.body.items;
+      };
+      number = k.number;
+      moment = None;
+    } };
+}
+
+impl KeptRequest {
+    /// What a digest is computed of.
+    pub(crate) fn row(&self) -> Row<'_>
+        ensures { view_row result ≡ self.now }
+    {
+        Row {
+            filer: self.filer.as_str(),
+            key: self.key.as_str(),
+            target: self.target,
+            body: &self.body,
+            number: self.number,
+            moment: None,
+        }
+    }
+}
+
+/// The request in a row with the columns `filer`, `idem`, `body` and `number`, which is to replace this filing, if any.
+fn read_row(row: &sqlite::Row, target: Option<u64>) -> Result<KeptRequest, StoreFault>
+    ensures { IfOk result (λ request. (seq : ℕ) (k : Kept) → row.now ≡ kept_columns (kept_row seq k)
+        → target ≡ k.request.target → request ≡ row_of k) }
+{
+    let filer = row.get(0)?;
+    let key = row.get(1)?;
+    let body = row.get(2)?;
+    let number = row.get(3)?;
+    Ok(KeptRequest {
+        filer,
+        key,
+        target,
+        body,
+        number,
+    })
+}
+
+/// The request in the one row.
+fn read_first(rows: &[sqlite::Row], target: Option<u64>) -> Result<KeptRequest, StoreFault>
+    ensures { IfOk result (λ request. (seq : ℕ) (k : Kept) → rows.now ≡ kept_columns (kept_row seq k) ∷ []
+        → target ≡ k.request.target → request ≡ row_of k) }
+{
+    match rows.first() {
+        Some(row) => read_row(row, target),
+        None => Err(StoreFault::Store),
+    }
+}
+
+/// The number in the one column of the first row, if there is a row.
+fn read_target(rows: &[sqlite::Row]) -> Result<Option<u64>, StoreFault>
+    ensures { IfOk result (λ target.
+        (seq : ℕ) (wanted : Option ℕ) → rows.now ≡ map target_alone (amends_rows_by seq wanted) → target ≡ wanted) }
+{
+    match rows.first() {
+        None => Ok(None),
+        Some(row) => Ok(Some(row.get(0)?)),
+    }
+}
+
+/// The filing that the request at this place is to replace, if any.
+fn target_at<S: Alter>(conn: &mut Connection<S>, seq: i64) -> Result<Option<u64>, StoreFault>
+    ensures found { ForRegister S.Store conn.old conn.new (λ _ F.
+        (n : ℕ) (k : Kept) → seq ≡ pos n → IsPlaced 1 n (kept F) k
+        → IfOk result (λ target. target ≡ k.request.target)) }
+    ensures leaves { OnlyReads S.Store conn.old conn.new result }
+{
+    let rows = target_rows_at(conn, seq)?;
+    read_target(&rows)
+}
+
+/// The request at this place, which is to replace this filing, if any.
+fn with_target<S: Alter>(
+    conn: &mut Connection<S>,
+    seq: i64,
+    target: Option<u64>,
+) -> Result<KeptRequest, StoreFault>
+    ensures found { ForRegister S.Store conn.old conn.new (λ _ F.
+        (n : ℕ) (k : Kept) → seq ≡ pos n → IsPlaced 1 n (kept F) k → target ≡ k.request.target
+        → IfOk result (λ request. request ≡ row_of k)) }
+    ensures leaves { OnlyReads S.Store conn.old conn.new result }
+{
+    let rows = rows_at(conn, seq)?;
+    read_first(&rows, target)
+}
+
+/// The request at this place, with the filing that it is to replace, if any.
+fn in_row<S: Alter>(conn: &mut Connection<S>, seq: i64) -> Result<KeptRequest, StoreFault>
+    ensures found { ForRegister S.Store conn.old conn.new (λ _ F.
+        (n : ℕ) (k : Kept) → seq ≡ pos n → IsPlaced 1 n (kept F) k → IfOk result (λ request. request ≡ row_of k)) }
+    ensures leaves { OnlyReads S.Store conn.old conn.new result }
+{
+    let target = target_at(conn, seq)?;
+    with_target(conn, seq, target)
+}
+
+/// The place as a column holds it.
+fn in_column(place: u64) -> Result<i64, StoreFault>
+    ensures { IfOk result (λ seq. (seq ≡ pos place) × (place < 2 ^ 63)) }
+{
+    i64::try_from(place).map_err(|_| StoreFault::Store)
+}
+
+/// The kept request at this place, counted from 1. Nothing is written.
+pub(crate) fn kept_at<S: Alter>(
+    conn: &mut Connection<S>,
+    place: u64,
+) -> Result<KeptRequest, StoreFault>
+    ensures found { ForRegister S.Store conn.old conn.new (λ _ F.
+        (k : Kept) → IsPlaced 1 place (kept F) k → IfOk result (λ request. request ≡ row_of k)) }
+    ensures leaves { OnlyReads S.Store conn.old conn.new result }
+{
+    let seq = in_column(place)?;
+    in_row(conn, seq)
+}
