@@ -29,6 +29,9 @@ LINE = (
     '"period":"2024-12-31T00:00:00","unit":"iso4217:EUR","language":null,"note_id":null,"dimensions":{},'
     '"value":"100","decimals":0,"replaced_by":null}\n'
 )
+# By docs/PROTOCOL.md, which has both lines as an example.
+DIGEST = "25249be5714966a03c17a45599e7483ada7ed7b1cd9c581e4c5f21affc37c86b"
+DIGEST_OF_NONE = "e3b0c44298fc1c149afbf4c8996fb92427ae41e4649b934ca495991b7852b855"
 FILER_CODE = "not a filer code, which is 1 to 64 ASCII letters, digits, '.', '_' and '-'"
 
 # Each is a command line, with `@` for the folder, and its status, output and errors.
@@ -40,6 +43,7 @@ BEFORE = [
     ("show --db @r.db --number 1", 1, "", "r.db: there is no such file"),
     ("export --db @r.db --format csv", 1, "", "r.db: there is no such file"),
     ("pages --db @r.db --into @none", 1, "", "r.db: there is no such file"),
+    ("digest --db @r.db", 1, "", "r.db: there is no such file"),
     ("export --db @r.db --format csv --filer a/b", 2, "", f"--filer: {FILER_CODE}"),
     ("serve --db @r.db --port 1 --connections 1", 1, "", "r.db: there is no such file"),
     ("serve --db @none/r.db --port 1 --connections 1 --new", 3, "", "none/r.db: there is no such folder"),
@@ -53,6 +57,7 @@ EMPTY = [
     ("show --db @empty.db --number 1", 1, "", "empty.db: the file is empty"),
     ("export --db @empty.db --format csv", 1, "", "empty.db: the file is empty"),
     ("pages --db @empty.db --into @none", 1, "", "empty.db: the file is empty"),
+    ("digest --db @empty.db --until 0", 1, "", "empty.db: the file is empty"),
     ("serve --db @empty.db --port 1 --connections 1", 1, "", "empty.db: the file is empty"),
 ]
 OUTBOX_TABLES = "not a register: this is an outbox"
@@ -89,6 +94,10 @@ AFTER = [
     ("export --db @r.db --format csv --filer BETA", 0, NAMES, ""),
     ("export --db @r.db --format jsonl --filer ACME", 0, LINE, ""),
     ("export --db @r.db --format jsonl --filer BETA", 0, "", ""),
+    ("digest --db @r.db", 0, f"1 {DIGEST}\n", ""),
+    ("digest --db @r.db --until 1", 0, f"1 {DIGEST}\n", ""),
+    ("digest --db @r.db --until 0", 0, f"0 {DIGEST_OF_NONE}\n", ""),
+    ("digest --db @r.db --until 2", 4, "", "r.db: no more are kept than 1"),
     ("pages --db @r.db --into @none", 3, "", "none/filing-1.html: No such file or directory (os error 2)"),
     ("serve --db @r.db --port 1 --connections 1 --new", 1, "", "r.db: it is a register already: leave out --new"),
     ("lint --filer ACME @words", 1, "words:2:3: not-json: the body is no JSON text ()\n", ""),
@@ -101,6 +110,7 @@ DAMAGED = [
     ("migrate --db @r.db", 1, "damaged at row 1\n", "r.db: damaged at row 1"),
     ("list --db @r.db --filer ACME", 1, "", "r.db: damaged at row 1"),
     ("export --db @r.db --format csv", 1, "", "r.db: damaged at row 1"),
+    ("digest --db @r.db", 1, "", "r.db: damaged at row 1"),
 ]
 MIGRATED = [
     ("migrate --db @text", 1, "not a register\n", "text: not a database"),
@@ -203,6 +213,7 @@ NAMELESS_TO_INTAKE = [
     "check --db ",
     "migrate --db ",
     "export --db  --format csv",
+    "digest --db ",
     "pages --db  --into @pages",
     "pages --db @r.db --into ",
     "lint --filer ACME ",
@@ -237,6 +248,7 @@ OUT_OF_RANGE = [
     (INTAKE, "serve --db @r.db --port 1 --connections 1 --patience 0"),
     (INTAKE, "serve --db @r.db --port 1 --connections 1 --patience 86401"),
     (INTAKE, "show --db @r.db --number -1"),
+    (INTAKE, "digest --db @r.db --until -1"),
     (INTAKE, "check --db @r.db --wait -1"),
     (INTAKE, "check --db @r.db --wait 86401"),
     (OUTBOX, "send --db @box.db --port 0"),

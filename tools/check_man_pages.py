@@ -168,6 +168,7 @@ SCENES = [
     Scene("intake show", prints=rf'"concept":"{FACT}"'),
     Scene("intake check", prints=r"^sound: 1 kept, 1 filings"),
     Scene("intake export", before=Scratch.copied, writes="facts.csv"),
+    Scene("intake digest", prints=r"^1 [0-9a-f]{64}$"),
     Scene("mkdir -p site && intake pages", writes="site/index.html"),
     Scene("intake migrate", before=Scratch.earlier_register),
     Scene("outbox migrate", before=Scratch.earlier_outbox),

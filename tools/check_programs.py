@@ -535,7 +535,8 @@ def check_reading(folder):
     hold("the filings are in the log alone", LISTED in listed.stdout.decode(), False)
 
     register = copy / "register.db"
-    for words in (("list", "--filer", "ACME"), ("show", "--number", 1), ("export", "--format", "csv")):
+    for words in (("list", "--filer", "ACME"), ("show", "--number", 1), ("export", "--format", "csv"),
+                  ("digest",)):  # fmt: skip
         before = lying_in(copy)
         hold(f"{words[0]} of both", run(INTAKE, words[0], "--db", register, *words[1:]).returncode, 0)
         hold("leaves them as they are", lying_in(copy) == before, True)

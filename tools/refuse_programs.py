@@ -284,6 +284,7 @@ def try_register(counts, folder):
         counts, folder, "intake list", words_of(INTAKE, "list", "--db", database, "--filer", "ACME"), check, sound
     )
     try_command(counts, folder, "intake show", words_of(INTAKE, "show", "--db", database, "--number", 1), check, sound)
+    try_command(counts, folder, "intake digest", words_of(INTAKE, "digest", "--db", database), check, sound)
 
 
 def try_migration(counts, folder):

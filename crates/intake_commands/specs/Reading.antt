@@ -11,6 +11,7 @@ changes_nothing (errand.List filer) = true
 changes_nothing (errand.Show number) = true
 changes_nothing errand.Check = true
 changes_nothing (errand.Export form filer) = true
+changes_nothing (errand.Digest until) = true
 changes_nothing (errand.Pages folder) = true
 changes_nothing errand.Migrate = false
 

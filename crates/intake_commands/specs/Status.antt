@@ -22,7 +22,7 @@ opening_status (opening.Damaged row) = 1
 opening_status opening.Memory = 3
 opening_status opening.Disk = 3
 
--- the status is 1 also if the database cannot become a register, and 4 if a filing is missing
+-- the status is 1 also if the database cannot become a register, and 4 if a filing or a request is missing
 abbrev pub visit_status : VisitFault → ℕ
 visit_status (visit.Taken holding) = 1
 visit_status (visit.Create create.Taken) = 1
@@ -35,6 +35,7 @@ visit_status (visit.Store why) = 3
 visit_status (visit.NotClosed error) = 3
 visit_status (visit.List why) = 3
 visit_status (visit.NoFiling number) = 4
+visit_status (visit.TooFew kept) = 4
 
 -- 2 if the command line is at fault, and 3 for memory, the disk, a folder and the network
 abbrev pub fault_status : Fault → ℕ

@@ -104,7 +104,7 @@ Serves task port port' old new result =
     × ServesRegister (not task.new) task.limit most_asked port port' None None old new served
     × IsServingTold task served result))
 
--- ---- list, show, check, migrate, export and pages: the register of a file is visited
+-- ---- list, show, check, migrate, export, pages and digest: the register of a file is visited
 
 -- whether the filer's code of an errand, if it has one, is the code of a filer
 abbrev pub is_wanted : Errand → Bool

@@ -15,7 +15,7 @@ use Rattle.finding_lines.specs.declared.form.Form.{Form}
 use Rattle.finding_lines.specs.declared.form.Form.TheVariants.{Sentences, Objects}
 use Rattle.intake_process.specs.declared.tasks.errand.Errand.{Errand}
 use Rattle.intake_process.specs.declared.tasks.errand.Errand.TheVariants.{List as ListOf, Show, Check, Migrate, Export}
-use Rattle.intake_process.specs.declared.tasks.errand.Errand.TheVariants.{Pages}
+use Rattle.intake_process.specs.declared.tasks.errand.Errand.TheVariants.{Digest, Pages}
 use Rattle.intake_commands.specs.declared.options.Asked.{Asked}
 use Rattle.intake_commands.specs.declared.options.Serving.{Serving}
 use Rattle.intake_commands.specs.declared.options.Task.{Task}
@@ -70,6 +70,7 @@ IsErrand word options Migrate = word ≡ codes "migrate"
 IsErrand word options (Export format filer) =
     (word ≡ codes "export") × (format_of options ≡ Some format)
     × (option_map (λ text. text.now) filer ≡ value (codes "filer") options)
+IsErrand word options (Digest until) = (word ≡ codes "digest") × (number 64 (codes "until") options ≡ until)
 IsErrand word options (Pages folder) = (word ≡ codes "pages") × (value (codes "into") options ≡ Some folder.now)
 
 -- whether a word asks for an errand, and the values are there that the errand needs
@@ -79,7 +80,7 @@ has_errand word options =
     else if bytes_eq word (codes "show") then is_some (number 64 (codes "number") options)
     else if bytes_eq word (codes "export") then is_some (format_of options)
     else if bytes_eq word (codes "pages") then is_some (value (codes "into") options)
-    else list_any (bytes_eq word) (codes "check" ∷ codes "migrate" ∷ [])
+    else list_any (bytes_eq word) (codes "check" ∷ codes "migrate" ∷ codes "digest" ∷ [])
 
 -- the errand that a word asks for, if it asks for one
 abbrev pub IsErrandBy : Text → List Row → Option Errand → Type 0

@@ -98,6 +98,14 @@ fn pages_of<'a>(values: &ArgMatches<'a>) -> Option<Errand<'a>>
     })
 }
 
+fn digest_of<'a>(values: &ArgMatches<'a>) -> Option<Errand<'a>>
+    ensures { IsErrandBy (codes "digest") (options_of values.now) result }
+{
+    Some(Errand::Digest {
+        until: number_of(values, "until"),
+    })
+}
+
 /// The errand that a word asks for. `None` if it asks for none, or a value is not there that the errand needs.
 fn errand_of<'a>(word: &str, values: &ArgMatches<'a>) -> Option<Errand<'a>>
     ensures { IsErrandBy word.now (options_of values.now) result }
@@ -109,6 +117,7 @@ fn errand_of<'a>(word: &str, values: &ArgMatches<'a>) -> Option<Errand<'a>>
         "migrate" => Some(Errand::Migrate),
         "export" => export_of(values),
         "pages" => pages_of(values),
+        "digest" => digest_of(values),
         _ => None,
     }
 }

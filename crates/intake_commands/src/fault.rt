@@ -141,6 +141,9 @@ pub enum VisitFault {
     List(Unavailable),
     #[error("there is no filing {number}")]
     NoFiling { number: u64 },
+    /// The register keeps so many requests, and that is fewer than were asked for.
+    #[error("no more are kept than {kept}")]
+    TooFew { kept: u64 },
 }
 
 impl VisitFault {
@@ -154,7 +157,7 @@ impl VisitFault {
     }
 
     /// The status that the program ends with: 1 for a database that is no sound register or cannot
-    /// become one, 3 for a fault of memory or the disk, 4 if a filing is missing.
+    /// become one, 3 for a fault of memory or the disk, 4 if a filing or a request is missing.
     fn status(self) -> u8
         ensures { result ≡ visit_status self }
     {
@@ -169,6 +172,7 @@ impl VisitFault {
             VisitFault::NotClosed(_) => 3,
             VisitFault::List(_) => 3,
             VisitFault::NoFiling { number: _ } => 4,
+            VisitFault::TooFew { kept: _ } => 4,
         }
     }
 
@@ -186,6 +190,7 @@ impl VisitFault {
             VisitFault::NotClosed(_) => None,
             VisitFault::List(_) => None,
             VisitFault::NoFiling { number: _ } => None,
+            VisitFault::TooFew { kept: _ } => None,
         }
     }
 }
@@ -226,7 +231,7 @@ impl Fault<'_> {
 
     /// The status that the program ends with: 1 for a database that is no sound register or cannot
     /// become one, 2 for the command line, 3 for a fault of memory, the disk, a folder or the network,
-    /// 4 if a filing is missing.
+    /// 4 if a filing or a request is missing.
     fn status(&self) -> u8
         ensures { result ≡ fault_status self.now }
     {

@@ -205,6 +205,17 @@ fn folder<'a>(alloc: Global) -> Arg<'a> {
     )
 }
 
+fn until<'a>(alloc: Global) -> Arg<'a> {
+    number_option(
+        alloc,
+        "until",
+        "N",
+        "How many of the kept requests, from the first on [default: all]",
+        value_parser!(u64).range(0..=i64::MAX),
+    )
+    .required(false)
+}
+
 fn json<'a>(alloc: Global) -> Arg<'a> {
     Arg::new(alloc, "json")
         .long("json")
@@ -232,6 +243,7 @@ enum Argument {
     Format,
     OnlyFiler,
     Folder,
+    Until,
 }
 
 impl ToArg for Argument {
@@ -262,12 +274,13 @@ impl ToArg for Argument {
             Argument::Format => format(alloc),
             Argument::OnlyFiler => only_filer(alloc),
             Argument::Folder => folder(alloc),
+            Argument::Until => until(alloc),
         })
     }
 }
 
 /// The words that ask for tasks, as the help has them.
-static WORDS: [Word<Argument>; 9] = [
+static WORDS: [Word<Argument>; 10] = [
     Word {
         name: "run",
         about: "Serves standard input as one connection, on a register in memory [the default command]",
@@ -337,6 +350,12 @@ static WORDS: [Word<Argument>; 9] = [
         arguments: &[Argument::Database, Argument::Folder, Argument::Wait],
     },
     Word {
+        name: "digest",
+        about: "Prints how many requests are kept, and one SHA-256 digest over them, or over the first of them",
+        example: "Example: intake digest --db copy.db",
+        arguments: &[Argument::Database, Argument::Until, Argument::Wait],
+    },
+    Word {
         name: "lint",
         about: "Checks reports as the register would, and prints a line for each finding; status 1 if there is one",
         example: "Example: intake lint --filer ACME report.json",
@@ -354,7 +373,7 @@ pub(crate) fn command<'a>(alloc: Global) -> Result<Command<'a>, AllocError> {
             "Exit status: 0 done;\n",
             "1 not a register, a damaged one, one that is there already, or a report with findings;\n",
             "2 a wrong command line, or a report that is too large;\n",
-            "3 memory, a file, the disk or the network failed; 4 no such filing",
+            "3 memory, a file, the disk or the network failed; 4 no such filing, or fewer requests",
         ))
         .subcommands(tasks)
 }

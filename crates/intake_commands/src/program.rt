@@ -91,6 +91,7 @@ fn only_reads(task: &Task<'_>) -> bool
             Errand::Check => true,
             Errand::Migrate => false,
             Errand::Export { form: _, filer: _ } => true,
+            Errand::Digest { until: _ } => true,
             Errand::Pages { folder: _ } => true,
         },
         Task::Run { .. } | Task::Serve(_) | Task::Lint { .. } => false,

@@ -125,6 +125,7 @@ fn is_wanted(errand: Errand<'_>) -> bool
             form: _,
             filer: None,
         } => true,
+        Errand::Digest { until: _ } => true,
         Errand::Pages { folder: _ } => true,
     }
 }

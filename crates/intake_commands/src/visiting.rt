@@ -123,6 +123,7 @@ fn is_not_earlier(fault: ErrandFault) -> bool
         ErrandFault::List(_) => false,
         ErrandFault::Store(_) => false,
         ErrandFault::NoFiling { number: _ } => false,
+        ErrandFault::TooFew { kept: _ } => false,
         ErrandFault::Text(_) => false,
         ErrandFault::Folder => false,
     }
@@ -142,6 +143,7 @@ fn refusal_of(not_earlier: ErrandFault, checked: ErrandFault) -> ErrandFault
         ErrandFault::List(_) => checked,
         ErrandFault::Store(_) => checked,
         ErrandFault::NoFiling { number: _ } => checked,
+        ErrandFault::TooFew { kept: _ } => checked,
         ErrandFault::Text(_) => checked,
         ErrandFault::Folder => checked,
     }
@@ -183,6 +185,7 @@ fn shown_verdict(errand: Errand<'_>, fault: &Fault<'_>) -> Option<Verdict>
         Errand::Check => fault.verdict(),
         Errand::Migrate => fault.verdict(),
         Errand::Export { form: _, filer: _ } => None,
+        Errand::Digest { until: _ } => None,
         Errand::Pages { folder: _ } => None,
     }
 }

@@ -85,6 +85,7 @@ for_errand (asked.Show number) requests db allowed is = is
 for_errand asked.Check requests db allowed is = is
 for_errand asked.Migrate requests db allowed is = absurd allowed
 for_errand (asked.Export form filer) requests db allowed is = is
+for_errand (asked.Digest until) requests db allowed is = is
 for_errand (asked.Pages folder) requests db allowed is = is
 
 by_wanted : {A B X : Type 0} (wanted : Bool) → MatchBool wanted A B → (A → X) → (B → X) → X

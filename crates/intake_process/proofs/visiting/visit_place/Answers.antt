@@ -10,7 +10,7 @@ returns-in-Ok g c = record {
     c.run_errand-left.result.0,
     c.run_errand-left.ensures.runs,
     c.run_errand-left.ensures.fills,
-    c.leave-closed.ensures.left,
+    c.leave-closed.ensures,
   );
 }
 
