@@ -371,7 +371,9 @@ def base_for_booting(packages):
     if missing := absent(NEEDED_TO_BOOT):
         raise NotPossible(f"these are not installed: {' '.join(missing)}")
     try:
-        run("mount", "-t", "cgroup2", "cgroup2", GROUPS, stderr=subprocess.DEVNULL)
+        # Where it is mounted already, it may not be mounted once more.
+        if not (GROUPS / "cgroup.procs").exists():
+            run("mount", "-t", "cgroup2", "cgroup2", GROUPS, stderr=subprocess.DEVNULL)
     except subprocess.CalledProcessError as fault:
         raise NotPossible("cgroup2 can't be mounted here") from fault
     return base_tree(packages)
