@@ -127,14 +127,14 @@ def folder():
 
 
 class Server(Serving):
-    """An intake that serves the register in a folder, a new one if there is none, for so many connections."""
+    """An intake that serves the register in a folder, a new one if there is none, for so many connections. `program`
+    is another build of it."""
 
-    def __init__(self, place, connections, under=(), env=None):
-        built("intake")
+    def __init__(self, place, connections, under=(), env=None, program=None):
         self.cost = None
         self.database = os.path.join(place, "register.db")
         new = [] if os.path.exists(self.database) else ["--new"]
-        super().__init__(self.database, connections, *new, under=under, env=env)
+        super().__init__(self.database, connections, *new, under=under, env=env, program=program or built("intake"))
         if not self.ready:
             sys.exit("the server ended")
 
@@ -158,7 +158,9 @@ class Server(Serving):
     def __enter__(self):
         return self
 
-    def __exit__(self, *_):
+    def __exit__(self, fault, *_):
+        if fault:
+            self.process.kill()
         self.process.communicate(timeout=60)
 
 
