@@ -114,7 +114,8 @@ def without_moments(text):
 WORKERS = "pgrep -P $(cat /run/nginx.pid)"
 HEALTH = "intake-health http://127.0.0.1:8080/filings/health"
 LIST = "curl -s http://127.0.0.1:8081/filings/ACME"
-STATUS = "runuser -u berruzpil -- outbox status --db /var/lib/berruzpil/outbox.db"
+# A round that the timer started may have the outbox open.
+STATUS = "runuser -u berruzpil -- outbox status --wait 60 --db /var/lib/berruzpil/outbox.db"
 METRICS = "/var/lib/prometheus/node-exporter/berruzpil.prom"
 JOB = """Job for {0} failed because the control process exited with error code.
 See "systemctl status {0}" and "journalctl -xeu {0}" for details.
@@ -171,13 +172,18 @@ def start_intake(page, supervisor):
 
 
 def round_of(filer, unit="berruzpil-outbox.service"):
+    """A round from now on: one that the timer started before, and which a start would only wait for, has ended."""
+    filer.until(f"systemctl is-active {unit}", lambda _, printed: "activating" not in printed, seconds=patience())
     return filer.paste(f"systemctl start {unit}")
 
 
 def put(page, filer, key):
-    """Puts the report of the first day into the outbox once more, under this key, and gives its entry."""
+    """Puts the report of the first day into the outbox once more, under this key, and gives its entry. While a round
+    that the timer started has the outbox open, the command is pasted again."""
     command = next(it for it, _ in page.steps(FILER)[5] if "outbox put" in it)
-    return filer.paste(command.replace("2024-annual-1", key))[1].strip()
+    status, printed = filer.until(command.replace("2024-annual-1", key), seconds=patience())
+    hold(f"a report is put in under the key {key}", (status, re.sub(r"\d+", "N", printed)), (0, "entry N\n"))
+    return printed.strip()
 
 
 def states(filer):
@@ -278,7 +284,8 @@ def timers(page, supervisor, filer):
         return
     named = {"supervisor": supervisor, "filer": filer}
     for name, unit, within in TIMERS:
-        hold(f"{unit}.timer comes within {within} s", 0 <= next_run(named[name], unit) <= within, True)
+        wait = next_run(named[name], unit)
+        hold(f"{unit}.timer comes within {within} s", "in time" if 0 <= wait <= within else wait, "in time")
     hold("the timer of copies comes within 75 minutes",
          0 <= next_run(supervisor, "berruzpil-snapshot@register") <= 4500, True)
     entry = put(page, filer, "timer-1")
@@ -293,12 +300,12 @@ def timers(page, supervisor, filer):
 
 
 def next_run(machine, unit):
-    """In how many seconds a timer starts its unit the next time; -1 if never. One that runs now has none yet."""
+    """In how many seconds a timer starts its unit the next time; -1 if never. While the unit runs there is none yet."""
     command = f"systemctl list-timers --all --output=json {unit}.timer"
-    machine.until(f"systemctl is-active {unit}.service", lambda _, printed: "activating" not in printed)
-    for row in json.loads(machine.paste(command)[1] or "[]"):
-        return max(0, row["next"] / 1e6 - time.time()) if row["next"] else -1
-    return -1
+    _, printed = machine.until(command, lambda _, printed: any(it["next"] for it in json.loads(printed or "[]")),
+                               seconds=patience())  # fmt: skip
+    moments = [it["next"] for it in json.loads(printed or "[]") if it["next"]]
+    return max(0, moments[0] / 1e6 - time.time()) if moments else -1
 
 
 # ---- slow clients, and such as go away
@@ -361,13 +368,16 @@ def slow(page, supervisor, filer):
                             f"while :; do printf ' '; sleep 1; done; }} | {TLS} >/dev/null"),
         ("a reply that isn't read", f"{{ cat /run/large; sleep 600; }} | {TLS} | sleep 600"),
     ]  # fmt: skip
-    filer.paste(f"{{ cat /run/large; sleep 1; }} | timeout 60 {TLS} | head -c 1 | wc -c")
+    # Judged once, it is a repeat for all the others. nginx waits for the intake for two minutes.
+    printed = filer.paste(f"{{ cat /run/large; sleep 1; }} | timeout 150 {TLS} 2>/dev/null | head -c 12")[1]
+    hold("a large reply", printed, "HTTP/1.1 422")
     for what, command in clients:
         begun = [filer.begin(command.replace("{}", str(at))) for at in range(PLACES)]
         try:
             time.sleep(5)
-            # Once the intake has made their replies it is free.
-            supervisor.paste("curl -s -m 75 http://127.0.0.1:8080/filings/health")
+            # Once the intake has made their replies it is free. One that was built without proof takes its time.
+            hold(f"the intake is free beside {what}",
+                 supervisor.until(ask_health(page, supervisor), seconds=patience())[0], 0)
             beside, statuses = times_of(filer, [f"{what[:8]}-{at}" for at in range(2)])
         finally:
             filer.paste("pkill openssl; pkill -f 'sleep 600'")
@@ -553,7 +563,8 @@ def upgrade(page, supervisor, filer):
 
 def outbox_upgrade(page, supervisor, filer):
     """An outbox of an earlier version: the round says so, and the commands of the page upgrade it."""
-    filer.paste("systemctl stop berruzpil-outbox.timer; cd /var/lib/berruzpil; mkdir present; mv outbox.db* present/")
+    filer.paste("systemctl stop berruzpil-outbox.timer berruzpil-outbox; cd /var/lib/berruzpil; mkdir present; "
+                "mv outbox.db* present/")
     with tempfile.TemporaryDirectory() as folder:
         trials.make_earlier_outbox(pathlib.Path(folder, "old.db"))
         shutil.copyfile(pathlib.Path(folder, "old.db"), filer.file("/var/lib/berruzpil/outbox.db"))
@@ -590,7 +601,7 @@ def several(page, supervisor, filer):
     hold("a register that isn't there has no copy", supervisor.paste(f"systemctl start {unit}"), (1, JOB.format(unit)))
     hold("and there is an alert of it", alert_comes(supervisor, unit, 0), True)
     play(filer, "several outboxes", page.block("How do I run several outboxes?", "runuser"))
-    filer.paste("runuser -u berruzpil -- outbox put --db /var/lib/berruzpil/beta.db "
+    filer.paste("runuser -u berruzpil -- outbox put --wait 60 --db /var/lib/berruzpil/beta.db "
                 "--body /var/lib/berruzpil/report.json --key b-1")
     added = next(it for it, _ in page.steps(SUPERVISOR)[8] if "nginx-filer" in it).replace(" ACME", " BETA")
     if added not in supervisor.paste("cat /etc/nginx/conf.d/nginx-intake.conf")[1]:
@@ -600,7 +611,7 @@ def several(page, supervisor, filer):
     hold("and of one that may", round_of(filer, "berruzpil-outbox@beta.service"), (0, ""))
     # The report is ACME's, so BETA is answered that the entity is another.
     hold("its entry has its answer",
-         filer.paste("runuser -u berruzpil -- outbox status --db /var/lib/berruzpil/beta.db"), (0, "entry 1 refused\n"))
+         filer.paste(STATUS.replace("outbox.db", "beta.db")), (0, "entry 1 refused\n"))
 
 
 # ---- whether it serves
