@@ -1,5 +1,6 @@
 pub mod Looking
 pub mod Networks
+pub mod Performing
 pub mod Puts
 pub mod Reading
 pub mod Status

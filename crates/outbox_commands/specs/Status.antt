@@ -147,8 +147,3 @@ status_of (fault.Random error) = 3
 abbrev pub status_by : {X : Type 0} → Result X Fault → ℕ
 status_by (Ok done) = 0
 status_by (Err why) = status_of why
-
--- 3 if a receipt was not written, and otherwise 0
-abbrev pub receipt_status : ℕ → ℕ
-receipt_status zero = 0
-receipt_status (suc lost) = 3

@@ -1,7 +1,7 @@
 //! The network of `outbox send` and `outbox ask`: a port of this machine, what its peer answered, and the receipts of
 //! that.
 
-ghost use Rattle.std.specs.Prelude.{◌≡◌};
+ghost use Rattle.std.specs.Prelude.{◌≡◌, false};
 
 use crate::answer::{MOST_NOTED, Noted, tell_open, tell_refused};
 use crate::fault::{Cause, NoReceipt};
@@ -14,7 +14,7 @@ use outbox_core::State;
 use outbox_process::Dial;
 use receipts::{Exchange, Folder, ReceiptFault, receipt_of};
 use std::alloc::Global;
-use std::io::{self, Write};
+use std::io::{self, Stderr, Write};
 use std::net::TcpStream;
 use std::time::Duration;
 
@@ -42,7 +42,7 @@ pub(crate) trait Network: Dial {
 /// A port of this machine, to which a connection takes no longer than the patience with the peer. Once the line of an
 /// entry is printed, it reports on the standard error why the entry is not confirmed.
 #[derive(Drop)]
-pub(crate) struct PeerDial<'r, E> {
+pub(crate) struct PeerDial<'r> {
     rt: &'r HostRuntime,
     port: u16,
     patience: Option<u64>,
@@ -55,7 +55,7 @@ pub(crate) struct PeerDial<'r, E> {
     receipts: Option<Folder<'r, HostRuntime>>,
     /// How many receipts could not be written.
     lost_receipts: u64,
-    errors: E,
+    errors: Stderr,
 }
 
 /// A connection to the peer at this port of 127.0.0.1.
@@ -79,14 +79,19 @@ fn keep_receipt(
     Ok(())
 }
 
-impl<'r, E: Write + Drop> PeerDial<'r, E> {
+impl<'r> PeerDial<'r> {
     /// The port of this peer. Receipts of its replies are kept in this folder, if there is one.
     pub(crate) fn new(
         rt: &'r HostRuntime,
         peer: Peer<'_>,
         receipts: Option<Folder<'r, HostRuntime>>,
-        errors: E,
-    ) -> PeerDial<'r, E> {
+    ) -> PeerDial<'r>
+        ensures port { result.port ≡ peer.entry.port }
+        ensures patience { result.patience ≡ peer.entry.patience }
+        ensures receipts { result.receipts ≡ receipts.entry }
+        ensures in_time { result.is_late ≡ false }
+        ensures none_lost { result.lost_receipts ≡ 0 }
+    {
         PeerDial {
             rt,
             port: peer.port,
@@ -96,12 +101,14 @@ impl<'r, E: Write + Drop> PeerDial<'r, E> {
             untold: None,
             receipts,
             lost_receipts: 0,
-            errors,
+            errors: rt.stderr(),
         }
     }
 
     /// How many receipts could not be written.
-    pub(crate) fn lost_receipts(&self) -> u64 {
+    pub(crate) fn lost_receipts(&self) -> u64
+        ensures { result ≡ self.now.lost_receipts }
+    {
         self.lost_receipts
     }
 
@@ -158,7 +165,7 @@ fn explain<E: Write>(alloc: Global, exchanged: &Exchanged, errors: &mut E) -> io
     }
 }
 
-impl<'r, E: Write + Drop> Dial for PeerDial<'r, E> {
+impl<'r> Dial for PeerDial<'r> {
     type Reader = Noted<Device<Patient<'r, TcpStream, HostRuntime>>>;
 
     type Writer = Noted<Device<Patient<'r, TcpStream, HostRuntime>>>;
@@ -209,7 +216,7 @@ impl<'r, E: Write + Drop> Dial for PeerDial<'r, E> {
     }
 }
 
-impl<E: Write + Drop> Network for PeerDial<'_, E> {
+impl Network for PeerDial<'_> {
     fn tell(&mut self) {
         if let Some(exchanged) = self.untold.take() {
             // Nothing is left to be done if these texts can't be written either.

@@ -1,11 +1,14 @@
 //! Performs a task, and says how the program ends.
 
-ghost use Rattle.std.specs.Prelude.{◌≡◌, true, None};
+ghost use Rattle.std.specs.Prelude.{◌≡◌, true, Some, None, Ok, IfOk, IfErr, option_map};
 ghost use Rattle.outbox_process.specs.Process.{parts};
+ghost use Rattle.outbox_commands.specs.Performing.{IsNetworkOf, PerformsWith, PerformsOver, PerformsOnce, IsNoFolder};
+ghost use Rattle.outbox_commands.specs.Performing.{ended_without};
 ghost use Rattle.outbox_commands.specs.Reading.{only_reads, copies_log};
-ghost use Rattle.outbox_commands.specs.Status.{opening_status, status_of, status_by, receipt_status};
+ghost use Rattle.outbox_commands.specs.Status.{opening_status, status_of, status_by};
 ghost use Rattle.outbox_commands.specs.Tasks.{MakesOutbox, IsJudged, IsPrinted, MigratesOutbox, Does, is_current};
 ghost use Rattle.outbox_commands.specs.Visits.{opening_verdict};
+ghost use Rattle.outbox_commands.specs.Words.{database_of};
 
 use crate::asked::read;
 use crate::errand::{close, open, run_errand};
@@ -15,12 +18,13 @@ use crate::options::{Asked, Task};
 use crate::putting::put;
 use command_line::{CommandFault, DONE, show, show_refusal, words};
 use database_places::{
-    Place, ReadingPlace, SystemPlace, WaitingPlace, has_writable_log, show_verdict,
+    Place, ReadingFile, ReadingPlace, SystemPlace, WaitingPlace, has_writable_log, show_verdict,
 };
 use finding_lines::lint_reports;
 use key_string::is_filer;
 use outbox_process::{Beginning, Errand, OpeningFault, OutboxProcess};
 use receipts::Folder;
+use sqlite::File;
 use sqlite_disk::Disk;
 use std::alloc::Global;
 use std::io::Write;
@@ -176,7 +180,11 @@ pub(crate) fn perform_task<'a, D: Disk + Drop, P: Place<D> + Drop, N: Network, O
 fn receipt_folder<'r, 'a: 'r>(
     rt: &'r HostRuntime,
     path: Option<&'a str>,
-) -> Result<Option<Folder<'r, HostRuntime>>, Fault<'a>> {
+) -> Result<Option<Folder<'r, HostRuntime>>, Fault<'a>>
+    ensures named { IfOk result (λ folder.
+        option_map (λ it. it.path.now) folder ≡ option_map (λ name. name.now) path.entry) }
+    ensures refused { IfErr result (IsNoFolder path.entry) }
+{
     let Some(name) = path else {
         return Ok(None);
     };
@@ -188,7 +196,7 @@ fn receipt_folder<'r, 'a: 'r>(
 
 /// The result of a task of which this many receipts are missing: it is done if none is.
 fn done_but_for<'a>(lost: u64) -> Result<u8, Fault<'a>>
-    ensures { status_by result ≡ receipt_status lost }
+    ensures { result ≡ ended_without lost (Ok tt) }
 {
     if lost > 0 {
         return Err(Fault::Receipts { lost });
@@ -216,20 +224,43 @@ fn copies_log(task: &Task<'_>) -> bool
     }
 }
 
-/// Performs a task on the outbox that lies in this place, and answers the status.
+/// Performs a task on the outbox that lies in the place of its file, over the network of its peer, and answers the
+/// status.
+fn perform_with<'a, D: Disk + Drop, P: Place<D> + Drop, O: Write, E: Write>(
+    rt: &HostRuntime,
+    task: Task<'a>,
+    place: P,
+    network: &mut PeerDial<'_>,
+    output: &mut O,
+    errors: &mut E,
+) -> Result<u8, Fault<'a>>
+    requires file { P.file place ≡ Some (database_of task).now }
+    requires peer { IsNetworkOf task network.old }
+    ensures { PerformsWith D.Disk task.entry (P.lying place) network.new (O.contents output.old)
+        (O.contents output.new) result }
+{
+    let mut process = OutboxProcess::new(place);
+    perform_task(rt, &mut process, network, task, output, errors)?;
+    done_but_for(network.lost_receipts())
+}
+
+/// Performs a task on the outbox that lies in the place of its file, and answers the status. Receipts are kept in the
+/// folder that the task names.
 fn perform_over<'a, D: Disk + Drop, P: Place<D> + Drop, O: Write, E: Write>(
     rt: &HostRuntime,
     task: Task<'a>,
     place: P,
     output: &mut O,
     errors: &mut E,
-) -> Result<u8, Fault<'a>> {
-    let mut process = OutboxProcess::new(place);
+) -> Result<u8, Fault<'a>>
+    requires { P.file place ≡ Some (database_of task).now }
+    ensures { PerformsOver D.Disk task.entry (P.lying place) (O.contents output.old) (O.contents output.new)
+        result }
+{
     let peer = task.peer();
     let folder = receipt_folder(rt, peer.receipts)?;
-    let mut network = PeerDial::new(rt, peer, folder, rt.stderr());
-    perform_task(rt, &mut process, &mut network, task, output, errors)?;
-    done_but_for(network.lost_receipts())
+    let mut network = PeerDial::new(rt, peer, folder);
+    perform_with(rt, task, place, &mut network, output, errors)
 }
 
 /// Performs a task that changes nothing, and opens the file of its outbox for reading alone. So the file may lie where
@@ -242,8 +273,25 @@ fn perform_reading<'a, O: Write, E: Write>(
     errors: &mut E,
 ) -> Result<u8, Fault<'a>>
     requires { only_reads task ≡ true }
+    ensures { PerformsOver ⟦<ReadingFile as Disk>⟧ task.entry None (O.contents output.old) (O.contents output.new)
+        result }
 {
     let place = ReadingPlace::new(rt, task.database());
+    let waiting = WaitingPlace::new(rt, place, wait);
+    perform_over(rt, task, waiting, output, errors)
+}
+
+/// Performs a task, and opens the file of its outbox for writing.
+fn perform_writing<'a, O: Write, E: Write>(
+    rt: &HostRuntime,
+    task: Task<'a>,
+    wait: u32,
+    output: &mut O,
+    errors: &mut E,
+) -> Result<u8, Fault<'a>>
+    ensures { PerformsOver ⟦<File as Disk>⟧ task.entry None (O.contents output.old) (O.contents output.new) result }
+{
+    let place = SystemPlace::new(rt, task.database());
     let waiting = WaitingPlace::new(rt, place, wait);
     perform_over(rt, task, waiting, output, errors)
 }
@@ -256,15 +304,16 @@ fn perform_once<'a, O: Write, E: Write>(
     wait: u32,
     output: &mut O,
     errors: &mut E,
-) -> Result<u8, Fault<'a>> {
+) -> Result<u8, Fault<'a>>
+    ensures { PerformsOnce ⟦<File as Disk>⟧ ⟦<ReadingFile as Disk>⟧ task.entry (O.contents output.old)
+        (O.contents output.new) result }
+{
     if only_reads(&task) {
         if !copies_log(&task) || !has_writable_log(rt, task.database()) {
             return perform_reading(rt, task, wait, output, errors);
         }
     }
-    let place = SystemPlace::new(rt, task.database());
-    let waiting = WaitingPlace::new(rt, place, wait);
-    perform_over(rt, task, waiting, output, errors)
+    perform_writing(rt, task, wait, output, errors)
 }
 
 /// Performs what these words ask for, and answers the status.

@@ -1,5 +1,7 @@
 //! The folder in which receipts are kept.
 
+ghost use Rattle.std.specs.Prelude.{◌≡◌, IfOk};
+
 use crate::fault::KeepFault;
 use crate::name::{is_receipt_of, name_of};
 use crate::receipt::Receipt;
@@ -20,7 +22,9 @@ pub struct Folder<'a, F> {
 
 impl<'a, F: Files + RandomSource> Folder<'a, F> {
     /// The folder of this path, in which files can be made: one was, and is removed again.
-    pub fn open(rt: &'a F, alloc: Global, path: &'a str) -> io::Result<Folder<'a, F>> {
+    pub fn open(rt: &'a F, alloc: Global, path: &'a str) -> io::Result<Folder<'a, F>>
+        ensures { IfOk result (λ folder. folder.path ≡ path.entry) }
+    {
         let folder = Folder { rt, alloc, path };
         let probe = folder.new_path("probe")?;
         File::create_new(rt, probe.as_str())?;

@@ -1,0 +1,77 @@
+-- What `outbox` does with a task on the outbox of its file. `out` and `out'` are what the output has before and after.
+use Rattle.std.specs.Prelude.{◌≡◌, ◌⊎◌, ℕ, zero, suc, Bool, true, false, List, Option, Some, None, option_map}
+use Rattle.std.specs.Prelude.{Result, Ok, Err}
+use Rattle.std.specs.Borrow.{Bor}
+use Rattle.sqlite_disk.specs.declared.Disk.{Ghosts}
+use Rattle.sqlite_disk.specs.declared.Files.{Files}
+use Rattle.clap.specs.Words.{Text}
+use Rattle.outbox_process.specs.Process.{Parts}
+use Rattle.outbox_commands.specs.declared.fault.Fault.{Fault}
+use Rattle.outbox_commands.specs.declared.fault.Fault.TheVariants as fault
+use Rattle.outbox_commands.specs.declared.network.PeerDial.{PeerDial}
+use Rattle.outbox_commands.specs.declared.options.Peer.{Peer}
+use Rattle.outbox_commands.specs.declared.options.Task.{Task}
+use Rattle.outbox_commands.specs.Networks.{unknown}
+use Rattle.outbox_commands.specs.Reading.{only_reads}
+use Rattle.outbox_commands.specs.Tasks.{Does}
+use Rattle.outbox_commands.specs.Words.{Calls}
+
+-- ---- the network of a task
+
+-- The network calls the peer of the task, no longer than its patience, and keeps receipts in the folder that the task
+-- names, if it names one. Nothing was called yet.
+pub record IsNetworkOf (task : Task) (network : PeerDial) : Type 0 where
+  pub peer : Peer
+  pub calls : Calls task peer
+  pub port : network.port ≡ peer.port
+  pub patience : network.patience ≡ peer.patience
+  pub receipts : option_map (λ folder. folder.path.now) network.receipts ≡ option_map (λ name. name.now) peer.receipts
+  pub in_time : network.is_late ≡ false
+  pub none_lost : network.lost_receipts ≡ 0
+
+-- ---- a task on the outbox of a place
+
+-- the process of an outbox that lies there, and is closed
+abbrev pub closed : {D : Type 0} {g : Ghosts D} → Option (Option (Files D)) → Parts g
+closed lying = record { outbox = None; lying = lying; is_certain = true }
+
+-- a task that is done ends by a fault if receipts are missing, and otherwise with 0
+abbrev pub ended_without : ℕ → Result (Unit {0}) Fault → Result ℕ Fault
+ended_without lost (Err why) = Err why
+ended_without zero (Ok done) = Ok 0
+ended_without (suc lost) (Ok done) = Err (fault.Receipts (suc lost))
+
+-- the task was done to the outbox that lies there, over this network
+abbrev pub PerformsWith : {D : Type 0} (g : Ghosts D) → Task → Option (Option (Files D)) → PeerDial → Option (List ℕ)
+    → Option (List ℕ) → Result ℕ Fault → Type 0
+PerformsWith g task lying network out out' result =
+    (new : Parts g) × (done : Result (Unit {0}) Fault)
+    × Does g task (unknown false) (unknown network.is_late) out out' (closed lying) new done
+    × (result ≡ ended_without network.lost_receipts done)
+
+-- no receipt can be kept in the folder that is named
+abbrev pub IsNoFolder : Option (Bor Text) → Fault → Type 0
+IsNoFolder (Some name) (fault.Folder refused error) = refused ≡ name
+IsNoFolder _ _ = ⊥
+
+-- nothing was done, since no receipt can be kept in the folder of the task
+abbrev pub LacksFolder : Task → Option (List ℕ) → Option (List ℕ) → Result ℕ Fault → Type 0
+LacksFolder task out out' result =
+    (peer : Peer) × Calls task peer × (why : Fault) × IsNoFolder peer.receipts why × (result ≡ Err why) × (out' ≡ out)
+
+-- the task was done to the outbox that lies there, over the network of its peer; or it has no folder
+abbrev pub PerformsOver : {D : Type 0} (g : Ghosts D) → Task → Option (Option (Files D)) → Option (List ℕ)
+    → Option (List ℕ) → Result ℕ Fault → Type 0
+PerformsOver g task lying out out' result =
+    LacksFolder task out out' result
+    ⊎ ((before : PeerDial) × (after : PeerDial) × IsNetworkOf task before
+    × PerformsWith g task lying after out out' result)
+
+-- ---- a task on the outbox of a file
+
+-- the task was done to the outbox of a file, which is written; or read alone, if the task only reads
+abbrev pub PerformsOnce : {D R : Type 0} → Ghosts D → Ghosts R → Task → Option (List ℕ) → Option (List ℕ)
+    → Result ℕ Fault → Type 0
+PerformsOnce written read task out out' result =
+    PerformsOver written task None out out' result
+    ⊎ ((only_reads task ≡ true) × PerformsOver read task None out out' result)
