@@ -1,5 +1,6 @@
 -- A run of `intake serve`.
-use Rattle.std.proofs.Common.{◌≡◌, ◌≢◌, ◌∙◌, ℕ, ◌≤◌, true, false, List, [], ◌∷◌, ◌++◌, Option, Some, None, Result, Ok, Err}
+use Rattle.std.proofs.Common.{◌≡◌, ◌≢◌, ◌∙◌, ℕ, ◌≤◌, true, false, List, [], ◌∷◌, ◌++◌, Option, Some, None, Result, Ok}
+use Rattle.std.proofs.Common.{Err}
 use Rattle.std.proofs.Common.{refl, sym, ap, subst, inl, inr, true≢false}
 use Rattle.std.specs.Prelude.{not, is_err, IsSome, ◌||◌}
 use Rattle.sqlite_disk.specs.declared.Disk.{Ghosts}
@@ -317,7 +318,8 @@ module _ {D : Type 0} {g : Ghosts D} where
   does limit (task.Run most) old new result requests honest covered lies is certain =
       stayed limit old.process new.process requests lies (ap (λ (m : Means g). m.process) is.0)
   does limit (task.Serve serving) old new result requests honest covered lies is certain =
-      serve_task limit serving old.port new.port old.process new.process result requests honest covered lies is.1 certain
+      serve_task limit serving old.port new.port old.process new.process result requests honest covered lies is.1
+      certain
   does limit (task.Visit name errand) old new result requests honest covered lies is certain =
       by_wanted (is_wanted errand) is
       (λ (v : (new ≡ record old { out = new.out; pages = new.pages; process = new.process })

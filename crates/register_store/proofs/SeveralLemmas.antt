@@ -18,7 +18,8 @@ use Rattle.register_rows.proofs.MoreRequests.{judged_as, registered_more}
 use Rattle.register_tables.specs.Registers.{IsRegisterOf}
 use Rattle.register_store.specs.declared.outcome.NewRow.{NewRow}
 use Rattle.register_store.specs.NewRows.{AreNew, IsKeepable, IsNew, request_of}
-use Rattle.register_store.specs.Outcomes.{kept_new as kept_row, number_after, number_past, outcomes_behind, outcomes_from}
+use Rattle.register_store.specs.Outcomes.{kept_new as kept_row, number_after, number_past, outcomes_behind}
+use Rattle.register_store.specs.Outcomes.{outcomes_from}
 use Rattle.register_store.specs.Changes.{AddsAll, AddsAllInside, AddsInside, AddsRows}
 use Rattle.register_store.proofs.MoreRequests.{register_of_more}
 
@@ -93,7 +94,8 @@ new_last F (first ∷ rows) row all =
 
 -- ---- what stands after them
 
-module _ (F : List Request) (row : NewRow) (is : IsNew F row) (number : ℕ) (next : number ≡ suc (length (register F))) where
+module _ (F : List Request) (row : NewRow) (is : IsNew F row) (number : ℕ)
+    (next : number ≡ suc (length (register F))) where
   pub outcome_is : outcome_of number row.judged.now ≡ (judged (kept F) (request_of row)).outcome
   outcome_is =
       ap (λ n. outcome_of n row.judged.now) next ∙ sym (judged_as (kept F) (request_of row) row.judged.now is.judged)

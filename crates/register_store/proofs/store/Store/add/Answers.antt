@@ -12,7 +12,8 @@ returns g c =
     let row = c.args.row.now in
     let kept = rw c.from_ref.ensures.value at c.keep.ensures in
     let done = rw c.from_ref.ensures.value at c.in_ok-keep.ensures in
-    let told = c.in_ok-outcome.ensures ∙ ap (λ (s : StoreParts _). outcome_of (s.filings + 1) row.judged.now) c.self.view_is in
+    let told = c.in_ok-outcome.ensures
+    ∙ ap (λ (s : StoreParts _). outcome_of (s.filings + 1) row.judged.now) c.self.view_is in
     record {
       added = λ clean F was new_key is.
           let fresh : IsNew F row = record { key = new_key; judged = is } in (

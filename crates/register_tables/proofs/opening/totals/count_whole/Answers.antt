@@ -40,12 +40,13 @@ returns-in-Ok-clause-refused g c clean =
       c.deref-in-Ok-3.ensures.value,
     ) at c.totals_in.ensures.refused in
     IfErr-weaker c.totals_in.result _ _ (λ why h. whole_refused g.S.Store c.args.amends.now c.args.conn.now
-    c.read_tables.new.conn c.in-Ok.tables.kept.items (others_of c.args.amends.now c.in-Ok.tables) why (c.in-Ok.ensures.read clean) refl h) refused
+    c.read_tables.new.conn c.in-Ok.tables.kept.items (others_of c.args.amends.now c.in-Ok.tables) why
+    (c.in-Ok.ensures.read clean) refl h) refused
 
 pub returns-in-Err-clause-refused : goal.returns-in-Err-clause-refused
 returns-in-Err-clause-refused g c clean =
-    rw c.table_fault.ensures (whole_unread g.S.Store c.args.amends.now c.args.conn.now c.read_tables.new.conn c.in-Err.error
-    (c.in-Err.ensures.failed clean))
+    rw c.table_fault.ensures (whole_unread g.S.Store c.args.amends.now c.args.conn.now c.read_tables.new.conn
+    c.in-Err.error (c.in-Err.ensures.failed clean))
 
 pub returns-in-Ok-clause-leaves : goal.returns-in-Ok-clause-leaves
 returns-in-Ok-clause-leaves g c = concluded c.totals_in.result c.in-Ok.ensures.leaves
