@@ -34,7 +34,9 @@ REFUSED = SMALLEST.replace(b"2021", b"1999")
 # The calls by which a run changes its files, each with what makes strace look at it alone.
 CALLS = ["openat", "pwrite64", "fsync", "fdatasync", "ftruncate"]
 # Those by which it could, but does not.
-OTHERS = ["pwritev", "pwritev2", "unlink", "unlinkat", "rename", "renameat2", "truncate", "fallocate", "copy_file_range"]
+OTHERS = [
+    "pwritev", "pwritev2", "unlink", "unlinkat", "rename", "renameat2", "truncate", "fallocate", "copy_file_range",
+]  # fmt: skip
 FILERS = ["ACME", "BETA"]
 STATES = ["open", "confirmed", "refused", "clash"]
 
@@ -310,12 +312,15 @@ class Intake:
     """An intake that serves so many connections, or until it is ended."""
 
     def __init__(self, site, connections=1000, under=()):
-        self.port = free_port()
-        words = ["serve", "--db", site.register / "register.db", "--port", self.port, "--connections", connections]
-        self.process = subprocess.Popen(
-            [*map(str, [*under, INTAKE, *words])], stdout=subprocess.DEVNULL, stderr=subprocess.PIPE
-        )
-        self.line = self.process.stderr.readline()
+        self.line = b"in use"
+        # Somebody may take the port before the intake does.
+        while b"in use" in self.line:
+            self.port = free_port()
+            words = ["serve", "--db", site.register / "register.db", "--port", self.port, "--connections", connections]
+            self.process = subprocess.Popen(
+                [*map(str, [*under, INTAKE, *words])], stdout=subprocess.DEVNULL, stderr=subprocess.PIPE
+            )
+            self.line = self.process.stderr.readline()
 
     def end(self, waits=False):
         if not waits:
@@ -582,7 +587,8 @@ def main():
             trial.stop_outboxes()
             trial.stop_intakes()
             calls += trial.calls
-    print(f"{len(trials.failures)} failed after {calls} calls; what was not synced was lost by this script, and by no file system")
+    lost = "what was not synced was lost by this script, and by no file system"
+    print(f"{len(trials.failures)} failed after {calls} calls; {lost}")
     sys.exit(1 if trials.failures else 0)
 
 
