@@ -1,6 +1,6 @@
 #!/usr/bin/env python3
-"""Plays both first days of docs/OPERATIONS.md on two machines: the commands are read out of the page, and what they
-print is compared with it.
+"""Plays both first days of docs/FIRST_DAYS.md, and what comes after them by docs/OPERATIONS.md, on two machines: the
+commands are read out of the pages, and what they print is compared with them.
 
     tools/check_first_days.py INTAKE OUTBOX [PART ..]
     tools/check_first_days.py --stand-in INTAKE OUTBOX [PART ..]
@@ -71,10 +71,11 @@ def commands_in(text, indent):
 
 
 class Page:
-    """docs/OPERATIONS.md of a repository."""
+    """docs/FIRST_DAYS.md and docs/OPERATIONS.md of a repository, one after the other."""
 
     def __init__(self, repository):
-        self.text = (repository / "docs" / "OPERATIONS.md").read_text(encoding="utf-8")
+        self.text = "\n".join((repository / "docs" / name).read_text(encoding="utf-8")
+                              for name in ("FIRST_DAYS.md", "OPERATIONS.md"))
 
     def section(self, title):
         """The text below a heading."""
@@ -813,7 +814,7 @@ def try_faults(base, programs, word):
 
 
 def words_of(words):
-    parser = argparse.ArgumentParser(prog="check_first_days.py", description="Plays the days of docs/OPERATIONS.md.")
+    parser = argparse.ArgumentParser(prog="check_first_days.py", description="Plays the days of docs/FIRST_DAYS.md.")
     kind = parser.add_mutually_exclusive_group()
     kind.add_argument("--stand-in", action="store_true", help="with a stand-in for systemd")
     kind.add_argument("--planted", action="store_true", help="with planted faults, each of which has to be seen")

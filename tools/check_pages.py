@@ -7,15 +7,19 @@
 
 Links lead to files and headings that are there; nothing outside the repository is asked for. Each row of a table has as
 many cells as its head. Each page has at most a handful of the phrases in PHRASES. No line of README.md is longer than
-400 characters, and none of the code and the scripts than 120, but for strings in the code.
+400 characters, and none of the code and the scripts than 120, but for strings in the code. docs/ARCHITECTURE.md has the
+table that tools/crate_table.py makes. docs/PROOF.md says how many wrong bodies there are of each crate, and those that
+it names are there. The index of docs/OPERATIONS.md has the questions in QUESTIONS and no others, and each links to a
+section with the words there.
 
-Every block of commands in README.md and docs/OPERATIONS.md is one that bash can read, and either runs here as it is
-written, or needs root, or needs the kit. Those that need root are played by tools/check_first_days.py. An example that
-runs is a row in EXAMPLES. With --programs each option that a page gives to intake or outbox has to be in their help.
-Ports 8080 and 8081 of 127.0.0.1 have to be free.
+Every block of commands in README.md, docs/FIRST_DAYS.md and docs/OPERATIONS.md is one that bash can read, and either
+runs here as it is written, or needs root, or needs the kit. Those that need root are played by
+tools/check_first_days.py. An example that runs is a row in EXAMPLES. With --programs each option that a page gives to
+intake or outbox has to be in their help. Ports 8080 and 8081 of 127.0.0.1 have to be free.
 
 Status 1 if something fails.
 """
+import hashlib
 import os
 import pathlib
 import re
@@ -29,7 +33,9 @@ import tempfile
 from dataclasses import dataclass
 from typing import Callable
 
+import crate_table
 import trials
+import try_wrong_bodies
 from man_pages import commands_of, help_of, sections
 
 ROOT = pathlib.Path(__file__).resolve().parent.parent
@@ -38,6 +44,8 @@ WIDTH = 120
 # Files whose lines may be as long as they are: pages and data, and formats that have no line that goes on.
 ANY_WIDTH = re.compile(r"\.(?:md|json|yaml|edit)$|^crates\.txt$|^conformance/cases/|^crates/\w+/(?:stdin|stdout|args)$")
 HANDFUL = 5
+# Between these two lines docs/PROOF.md has how many wrong bodies there are.
+COUNTED, COUNTED_END = "<!-- counted by tools/try_wrong_bodies.py --table -->", "<!-- end of what is counted -->"
 # How many seconds a block of commands may take. Programs that were built without proof are slow.
 PATIENCE = 300
 # What a page says in too few or too old words, and what to write.
@@ -53,6 +61,39 @@ PHRASES = {
     r"to (?:the|what|its|their|it|this|them|account)\b": "compares .. with, tests .. against",
     r"\b(?:is|are|was|were) to (?:be|come|replace|have|hold)\b": "has to, will, replaces",
     r"\b(?:take|takes|taken|taking) along\b": "converts, upgrades",
+}
+# What an operator asks, as the index of docs/OPERATIONS.md has it, and the words of the answer.
+QUESTIONS = {
+    "The disk is full": ("Make room", "No restart is needed", "503", "`outbox put`"),
+    "Reports get 503": ("the disk is full", "`the register is full`", "memory ran out", "`Retry-After`"),
+    "A filer gets 403": ("`no-certificate`", "`not-yours`", "`nginx-filer`"),
+    "A filer gets 413": ("`too-large`", "1,048,576 bytes"),
+    "The intake does not start": ("`not a register of this version`", "`serve` ends with 1", "`serve` ends with 3"),
+    "A register is damaged": ("`intake check`", "restore a copy", "`lost-filings`", "`MemoryMax`"),
+    "Another program has the file open": ("`another program has it open`", "`database is locked`", "`--wait SECONDS`"),
+    "A client is slow": ("A slow client keeps nobody waiting", "`--patience`", "`--at-once`"),
+    "A key was stolen": ("A key was stolen", "`nginx-filer --remove FILE acme.pem`", "`ssl_crl`"),
+    "A certificate expires": ("Renewal", "Expiry", "-checkend"),
+    "The hourly copy failed": ("`journalctl -u berruzpil-snapshot@register`", "`register.tried`"),
+    "The register is full": ("1,000,000 keys", "LIMIT=", "MemoryMax="),
+    "The clock is wrong": ("log of nginx", "names of copies", "certificate", "receipts"),
+    "An entry stays open": ("75", "Never make a new key"),
+    "How do I restart an intake?": ("`systemctl restart berruzpil-intake`", "SIGTERM", "`register-new"),
+    "Does it serve?": ("`/health`", "`intake-health", "answered 503"),
+    "How do I make a backup?": ("`register-snapshot register.db copy.db`", "Each hour", "another disk"),
+    "How do I restore one?": ("register-restore", "lost-filings", "`outbox-restore"),
+    "How do I upgrade?": ("intake migrate", "`has this version already`", "Going back"),
+    "How do I move to another machine?": ("To move to another machine", "one writer", "`intake check`"),
+    "Who filed late?": ("Who filed late", "julianday(received)", "`register-receipts"),
+    "Who has not filed?": ("Who has not filed yet", "missing"),
+    "Two filers want one code": ("One code is one filer", "`key-reused`"),
+    "How are logs rotated?": ("`logrotate-berruzpil`", "ten years"),
+    "How do I watch it?": ("`berruzpil-metrics.timer`", "`berruzpil-alert@`"),
+    "How do I delete old reports?": ("deleting a whole register", "a new outbox"),
+    "How do I get the facts out?": ("intake export", "csv", "jsonl"),
+    "How do I correct or withdraw a filing?": ("To correct a filing", "--amend 17", "Nothing withdraws a filing"),
+    "Why was my report refused?": ("outbox ask", "`outbox lint`", "PROTOCOL.md"),
+    "Do I get a receipt?": ("`--receipts FOLDER`", "`sha256`", "not signed"),
 }
 # Commands that only root can use as they are written, and those of the kit.
 NEEDS_ROOT = re.compile(r"\b(?:systemctl|runuser|apt-get|useradd|journalctl|logrotate)\b"
@@ -157,13 +198,37 @@ def check_tables(page):
 
 
 def check_phrases(page):
-    text = re.sub(r"[ \n]+", " ", re.sub(r"\n(?=\n|[-|#] ?|\d+\.)", "\n. ", without_code(text_of(page))))
+    """The table of crates quotes the first lines of the crates, and does not count."""
+    text = text_of(page).replace(crate_table.table()[0], "")
+    text = re.sub(r"[ \n]+", " ", re.sub(r"\n(?=\n|[-|#] ?|\d+\.)", "\n. ", without_code(text)))
     found = [(it[0].strip(" .:;,(|"), better) for phrase, better in PHRASES.items() for it in re.finditer(phrase, text)]
     counts = {it: [one for one, _ in found].count(it) for it, _ in found}
     told = ", ".join(f"{it!r} {count} times ({dict(found)[it]})"
                      for it, count in sorted(counts.items(), key=lambda one: -one[1])[:6])
     trials.tell(f"{page}: {len(found)} phrases that are hard to read, at most {HANDFUL}",
                 told if len(found) > HANDFUL else None)
+
+
+def section_of(page, anchor):
+    """What a page has from this heading to the next one, with single spaces; nothing if there is no such heading."""
+    parts = re.split(r"(?m)^(?=#{1,6} )", without_fences(text_of(page)))
+    parts = parts if parts[0].startswith("#") else parts[1:]
+    return " ".join(dict(zip(anchors_of(page), parts)).get(anchor, "").split())
+
+
+def check_questions():
+    """Whoever looks for one of the QUESTIONS finds it in the index, and the words of its answer behind the link."""
+    page, faults = "docs/OPERATIONS.md", []
+    index = re.split(r"(?m)^## ", text_of(page))[0]
+    found = dict(re.findall(r"(?m)^- \[([^\]]+)\]\(([^)\s]+)\)$", index))
+    for question in found.keys() ^ QUESTIONS.keys():
+        faults.append(f"{question!r} is not in {'QUESTIONS' if question in found else 'the index'}")
+    for question in found.keys() & QUESTIONS.keys():
+        name, _, anchor = found[question].partition("#")
+        section = section_of(f"docs/{name}" if name else page, anchor)
+        faults += [f"{question!r}: {found[question]} does not have {words!r}"
+                   for words in QUESTIONS[question] if words not in section]  # fmt: skip
+    trials.tell(f"{page}: the answers to {len(QUESTIONS)} questions", "; ".join(sorted(faults)))
 
 
 def check_readme():
@@ -192,6 +257,19 @@ def check_lengths():
             faults += [f"{length} in place of {len(content)}: {content}"] if int(length) != len(content) else []
     trials.tell(f"docs/PROTOCOL.md: the lengths of {count} messages",
                 "; ".join(faults) if count else "no message is shown")
+
+
+def check_wrong_bodies():
+    """docs/PROOF.md has the table of wrong bodies as the crates have them, and each one that it names is there."""
+    text, table = text_of("docs/PROOF.md"), try_wrong_bodies.table()
+    found = text.partition(COUNTED)[2].partition(COUNTED_END)[0].strip()
+    trials.tell("docs/PROOF.md: how many wrong bodies there are of each crate",
+                None if found == table else "tools/try_wrong_bodies.py --table prints another table")
+    named = [(crate, name) for crate, name in re.findall(r"`(\w+)/(\w+)`", text)
+             if name != "specs" and (ROOT / "crates" / crate).is_dir()]  # fmt: skip
+    gone = [f"{crate}/{name}" for crate, name in named
+            if not list((ROOT / "crates" / crate).glob(f"*/{name}.edit"))]  # fmt: skip
+    trials.tell(f"docs/PROOF.md: {len(named)} wrong bodies that it names", "; ".join(gone))
 
 
 # ---- commands
@@ -284,6 +362,13 @@ def shows_findings(_, status, printed):
     return None if is_there and not status else f"status {status}, {printed}"
 
 
+def shows_a_digest(_, status, printed):
+    """The digest of one request, by docs/PROTOCOL.md."""
+    row = f"1\nACME\n2024-annual-1\n-\n1\n-\n{hashlib.sha256(trials.REPORT).hexdigest()}\n".encode()
+    wanted = f"1 {hashlib.sha256(hashlib.sha256(b'').digest() + row).hexdigest()}"
+    return None if not status and [it.strip() for it in printed] == [wanted] else f"status {status}, {printed}"
+
+
 def make_copies(scratch):
     """Two copies of a register, the later one with one request more."""
     for name, count in [("earlier.db", 2), ("later.db", 3)]:
@@ -333,6 +418,7 @@ EXAMPLES = [
     Example("README.md", "export PATH=", port=8080),
     Example("docs/PROTOCOL.md", "example=$(mktemp -d)", port=8080),
     Example("docs/OPERATIONS.md", "intake export --db copy.db", prints_nothing, port=8081, scene=make_copy),
+    Example("docs/OPERATIONS.md", "intake digest --db copy.db", shows_a_digest, port=8081, scene=make_copy),
     Example("docs/OPERATIONS.md", "mkdir site", prints_nothing, port=8081, scene=make_copy),
     Example("docs/OPERATIONS.md", "outbox ask --db outbox.db", port=8081, scene=make_refused_entry),
     Example("docs/OPERATIONS.md", 'sqlite3 outbox.db "SELECT writefile', shows_findings,
@@ -421,9 +507,12 @@ def main(words):
         check_tables(page)
         check_phrases(page)
     check_readme()
+    trials.tell("docs/ARCHITECTURE.md: the table of crates", crate_table.fault())
     check_widths()
     check_lengths()
-    for page in ("README.md", "docs/OPERATIONS.md"):
+    check_wrong_bodies()
+    check_questions()
+    for page in ("README.md", "docs/FIRST_DAYS.md", "docs/OPERATIONS.md"):
         check_commands(page)
     for example in EXAMPLES:
         if programs or not example.port:

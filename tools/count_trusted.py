@@ -1,7 +1,7 @@
 #!/usr/bin/env python3
 """Lists the definitions that the contract of `schedule::run` rests on, file by file, with their lines.
 
-    tools/count_trusted.py            the tables of docs/TRUST.md
+    tools/count_trusted.py            the tables of docs/TRUST.md: the totals, and the lists
     tools/count_trusted.py --names    the same, with the name of each definition
     tools/count_trusted.py --check    whether docs/TRUST.md has these tables; status 1 if it has others
 
@@ -269,20 +269,38 @@ def crate_of(file):
     return file.split("/")[1]
 
 
-def table(found, known, with_names, by_crate=False):
-    """The definitions beyond those known, a row for each file, or for each crate."""
+def beyond(found, known):
+    """The definitions beyond those known, of each file that has some."""
     new_of = {}
     for file in found.in_order():
         new = [d for key, d in found.definitions.items() if d.file == file and key not in known]
         if new:
-            new_of.setdefault(crate_of(file) if by_crate else file.removeprefix("crates/"), []).extend(new)
-    rows = [(f"`{title}`", new) for title, new in new_of.items()]
+            new_of[file] = new
+    return new_of
+
+
+def lines_of(definitions):
+    return f"{sum(len(d.lines) for d in definitions):,}"
+
+
+def totals(lists):
+    """A row for each list, and one for all."""
+    rows = [(title, [d for new in new_of.values() for d in new]) for title, new_of in lists]
     rows.append(("together", [d for _, new in rows for d in new]))
-    lines = [f"| {'crate' if by_crate else 'file'} | definitions | lines |", "|---|---|---|"]
-    for title, new in rows:
-        line = f"| {title} | {len(new):,} | {sum(len(d.lines) for d in new):,} |"
-        names = ", ".join(d.name for d in new) if with_names and title != "together" else ""
-        lines.append(f"{line} {names} |" if names else line)
+    return "\n".join(["| list | definitions | lines |", "|---|---|---|",
+                      *(f"| {title} | {len(new):,} | {lines_of(new)} |" for title, new in rows)])  # fmt: skip
+
+
+def table(new_of, with_names, by_crate=False):
+    """A row for each file, or for each crate."""
+    rows = {}
+    for file, new in new_of.items():
+        rows.setdefault(crate_of(file) if by_crate else file.removeprefix("crates/"), []).extend(new)
+    head = ["crate" if by_crate else "file", "lines"] + ["definitions"] * with_names
+    lines = [f"| {' | '.join(head)} |", "|---" * len(head) + "|"]
+    for title, new in rows.items():
+        names = f" {', '.join(d.name for d in new)} |" if with_names else ""
+        lines.append(f"| `{title}` | {lines_of(new)} |{names}")
     return lines
 
 
@@ -298,33 +316,35 @@ def kit_table(found):
 
 
 def report(with_names):
+    """The totals, and the lists."""
     first, second, third = Reached(HEADLINE), Reached(HEADLINE + ENDS), Reached(HEADLINE + PROGRAMS)
     fourth = Reached(HEADLINE + ENDS + PROGRAMS + TASKS)
-    parts = [
-        ["The contract of `run`, the calls that show its world, and what they rest on:"],
-        table(first, {}, with_names),
-        ["The calls `intake` and `outbox`, which lend the ends in that world, and what they rest on beyond that:"],
-        table(second, first.definitions, with_names),
-        ["The law `any_programs`, and what it rests on beyond the first list:"],
-        table(third, first.definitions, with_names),
-        ["The contracts `perform_task` of `intake` and `outbox`, and what they rest on beyond these three lists:"],
-        table(fourth, second.definitions | third.definitions, with_names, by_crate=True),
-        ["What they name of the kit:"],
-        kit_table(fourth),
-    ]
-    return "\n\n".join("\n".join(part) for part in parts)
+    lists = [
+        ("1. The contract of `run`, the calls that show its world, and what they rest on", beyond(first, {})),
+        ("2. The calls `intake` and `outbox`, which lend the ends in that world, and what they rest on beyond that",
+         beyond(second, first.definitions)),
+        ("3. The law `any_programs`, and what it rests on beyond the first list", beyond(third, first.definitions)),
+        ("4. The contracts `perform_task` of `intake` and `outbox`, and what they rest on beyond these three lists",
+         beyond(fourth, second.definitions | third.definitions)),
+    ]  # fmt: skip
+    parts = []
+    for number, (_, new_of) in enumerate(lists, 1):
+        by_crate = number == len(lists)
+        parts += [[f"List {number}, by {'crate' if by_crate else 'file'}:"], table(new_of, with_names, by_crate)]
+    parts += [["What they name of the kit:"], kit_table(fourth)]
+    return totals(lists), "\n\n".join("\n".join(part) for part in parts)
 
 
 def main(words):
     if set(words) - {"--names", "--check"}:
         print(__doc__.split("\n\n")[1], file=sys.stderr)
         return 2
-    text = report("--names" in words)
+    texts = report("--names" in words)
     if "--check" not in words:
-        print(text)
+        print("\n\n".join(texts))
         return 0
-    stands = PAGE.read_text().partition(BEGIN)[2].partition(END)[0].strip()
-    if stands == text:
+    stand = tuple(part.partition(END)[0].strip() for part in PAGE.read_text().split(BEGIN)[1:])
+    if stand == texts:
         print("docs/TRUST.md has what is counted")
         return 0
     print("docs/TRUST.md has other tables than tools/count_trusted.py prints", file=sys.stderr)

@@ -1,4 +1,4 @@
-"""Two machines, joined by a cable, on which tools/check_first_days.py plays the commands of docs/OPERATIONS.md.
+"""Two machines, joined by a cable, on which tools/check_first_days.py plays docs/FIRST_DAYS.md and docs/OPERATIONS.md.
 
 `Booted` is a container of Debian 12 that systemd-nspawn boots: its own systemd runs the units, with their sandboxes,
 timers, restarts and alerts. `StandIn` is made of namespaces over the files of this machine, and

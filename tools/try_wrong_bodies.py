@@ -6,6 +6,8 @@ Each has to be refused.
     tools/try_wrong_bodies.py schedule   those of one crate
     tools/try_wrong_bodies.py --reads    proves nothing, and says whether each can be read: whether its old texts are
                                          where it says
+    tools/try_wrong_bodies.py --table    proves nothing, and prints how many there are of each crate, in the gate and
+                                         outside: the table of docs/PROOF.md, to which tools/check_pages.py holds it
 
 It copies what git has of the repository, puts them in the place of those under `crates/CRATE/must-fail` there, and runs
 `rt must-fail CRATE`, which proves the crate from nothing first. The last line is that of `rt`;
@@ -19,6 +21,8 @@ import tempfile
 
 TOP = pathlib.Path(__file__).resolve().parent.parent
 CRATES = TOP / "crates"
+# Where those are that the gate tries, and the others.
+FOLDERS = ("must-fail", "wrong_bodies")
 
 
 def copy(folder):
@@ -54,7 +58,7 @@ def fault_of(edit, crate):
 def read_all():
     """Says of each wrong body that cannot be read why, in the gate or outside."""
     failed = 0
-    edits = sorted(CRATES.glob("*/wrong_bodies/*.edit")) + sorted(CRATES.glob("*/must-fail/*.edit"))
+    edits = [edit for folder in FOLDERS for edit in sorted(CRATES.glob(f"*/{folder}/*.edit"))]
     for edit in edits:
         fault = fault_of(edit, edit.parent.parent.name)
         if fault:
@@ -64,9 +68,22 @@ def read_all():
     return 1 if failed else 0
 
 
+def table():
+    """How many there are of each crate that has some, in the gate and outside."""
+    counts = {crate.name: [len(list(crate.glob(f"{folder}/*.edit"))) for folder in FOLDERS]
+              for crate in sorted(CRATES.iterdir())}  # fmt: skip
+    rows = [(f"`{crate}`", *count) for crate, count in counts.items() if any(count)]
+    rows.append(("together", *map(sum, zip(*counts.values()))))
+    return "\n".join(["| crate | in the gate | outside it |", "|---|---|---|",
+                      *(f"| {crate} | {tried} | {others} |" for crate, tried, others in rows)])  # fmt: skip
+
+
 def main():
     if sys.argv[1:] == ["--reads"]:
         sys.exit(read_all())
+    if sys.argv[1:] == ["--table"]:
+        print(table())
+        return
     crates = sys.argv[1:] or sorted(folder.parent.name for folder in CRATES.glob("*/wrong_bodies"))
     with tempfile.TemporaryDirectory() as name:
         folder = pathlib.Path(name)
@@ -83,4 +100,5 @@ def main():
         sys.exit(subprocess.run(["rt", "must-fail", *crates], cwd=folder).returncode)
 
 
-main()
+if __name__ == "__main__":
+    main()
