@@ -8,8 +8,8 @@
 Links lead to files and headings that are there; nothing outside the repository is asked for. Each row of a table has as
 many cells as its head. Each page has at most a handful of the phrases in PHRASES. No line of README.md is longer than
 400 characters, and none of the code and the scripts than 120, but for strings in the code. docs/ARCHITECTURE.md has the
-table that tools/crate_table.py makes. docs/PROOF.md says how many wrong bodies there are of each crate, and those that
-it names are there. The index of docs/OPERATIONS.md has the questions in QUESTIONS and no others, and each links to a
+table that tools/crate_table.py makes. docs/PROOF.md says how many wrong bodies there are, and those that it names are
+there. The index of docs/OPERATIONS.md has the questions in QUESTIONS and no others, and each links to a
 section with the words there.
 
 Every block of commands in README.md, docs/FIRST_DAYS.md and docs/OPERATIONS.md is one that bash can read, and either
@@ -45,7 +45,7 @@ WIDTH = 120
 ANY_WIDTH = re.compile(r"\.(?:md|json|yaml|edit)$|^crates\.txt$|^conformance/cases/|^crates/\w+/(?:stdin|stdout|args)$")
 HANDFUL = 5
 # Between these two lines docs/PROOF.md has how many wrong bodies there are.
-COUNTED, COUNTED_END = "<!-- counted by tools/try_wrong_bodies.py --table -->", "<!-- end of what is counted -->"
+COUNTED, COUNTED_END = "<!-- counted by tools/try_wrong_bodies.py --count -->", "<!-- end of what is counted -->"
 # How many seconds a block of commands may take. Programs that were built without proof are slow.
 PATIENCE = 300
 # What a page says in too few or too old words, and what to write.
@@ -260,11 +260,11 @@ def check_lengths():
 
 
 def check_wrong_bodies():
-    """docs/PROOF.md has the table of wrong bodies as the crates have them, and each one that it names is there."""
-    text, table = text_of("docs/PROOF.md"), try_wrong_bodies.table()
+    """docs/PROOF.md says how many wrong bodies the crates have, and each one that it names is there."""
+    text, count = text_of("docs/PROOF.md"), try_wrong_bodies.count()
     found = text.partition(COUNTED)[2].partition(COUNTED_END)[0].strip()
-    trials.tell("docs/PROOF.md: how many wrong bodies there are of each crate",
-                None if found == table else "tools/try_wrong_bodies.py --table prints another table")
+    trials.tell("docs/PROOF.md: how many wrong bodies there are",
+                None if found == count else f"{found!r} in place of {count!r}")
     named = [(crate, name) for crate, name in re.findall(r"`(\w+)/(\w+)`", text)
              if name != "specs" and (ROOT / "crates" / crate).is_dir()]  # fmt: skip
     gone = [f"{crate}/{name}" for crate, name in named

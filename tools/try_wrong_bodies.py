@@ -6,8 +6,8 @@ Each has to be refused.
     tools/try_wrong_bodies.py schedule   those of one crate
     tools/try_wrong_bodies.py --reads    proves nothing, and says whether each can be read: whether its old texts are
                                          where it says
-    tools/try_wrong_bodies.py --table    proves nothing, and prints how many there are of each crate, in the gate and
-                                         outside: the table of docs/PROOF.md, to which tools/check_pages.py holds it
+    tools/try_wrong_bodies.py --count    proves nothing, and prints how many there are: the sentence of docs/PROOF.md,
+                                         to which tools/check_pages.py holds it
 
 It copies what git has of the repository, puts them in the place of those under `crates/CRATE/must-fail` there, and runs
 `rt must-fail CRATE`, which proves the crate from nothing first. The last line is that of `rt`;
@@ -68,21 +68,18 @@ def read_all():
     return 1 if failed else 0
 
 
-def table():
-    """How many there are of each crate that has some, in the gate and outside."""
-    counts = {crate.name: [len(list(crate.glob(f"{folder}/*.edit"))) for folder in FOLDERS]
-              for crate in sorted(CRATES.iterdir())}  # fmt: skip
-    rows = [(f"`{crate}`", *count) for crate, count in counts.items() if any(count)]
-    rows.append(("together", *map(sum, zip(*counts.values()))))
-    return "\n".join(["| crate | in the gate | outside it |", "|---|---|---|",
-                      *(f"| {crate} | {tried} | {others} |" for crate, tried, others in rows)])  # fmt: skip
+def count():
+    """How many there are, in the gate and outside, and of how many crates."""
+    gate, others = ([edit.parent.parent.name for edit in CRATES.glob(f"*/{folder}/*.edit")] for folder in FOLDERS)
+    return (f"There are {len(gate) + len(others)}: {len(gate)} in the gate, of {len(set(gate))} crates, "
+            f"and {len(others)} outside it, of {len(set(others))}.")  # fmt: skip
 
 
 def main():
     if sys.argv[1:] == ["--reads"]:
         sys.exit(read_all())
-    if sys.argv[1:] == ["--table"]:
-        print(table())
+    if sys.argv[1:] == ["--count"]:
+        print(count())
         return
     crates = sys.argv[1:] or sorted(folder.parent.name for folder in CRATES.glob("*/wrong_bodies"))
     with tempfile.TemporaryDirectory() as name:
