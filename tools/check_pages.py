@@ -356,12 +356,6 @@ def prints_nothing(_, status, printed):
     return None if not status and not any(printed) else f"status {status}, {printed}"
 
 
-def shows_findings(_, status, printed):
-    """The body and the key of the entry, and then the findings of its report."""
-    is_there = len(printed) == 2 and printed[0].split() == ["393", "2024-annual-1"] and '"code":"period"' in printed[1]
-    return None if is_there and not status else f"status {status}, {printed}"
-
-
 def shows_a_digest(_, status, printed):
     """The digest of one request, by docs/PROTOCOL.md."""
     row = f"1\nACME\n2024-annual-1\n-\n1\n-\n{hashlib.sha256(trials.REPORT).hexdigest()}\n".encode()
@@ -421,8 +415,6 @@ EXAMPLES = [
     Example("docs/OPERATIONS.md", "intake digest --db copy.db", shows_a_digest, port=8081, scene=make_copy),
     Example("docs/OPERATIONS.md", "mkdir site", prints_nothing, port=8081, scene=make_copy),
     Example("docs/OPERATIONS.md", "outbox ask --db outbox.db", port=8081, scene=make_refused_entry),
-    Example("docs/OPERATIONS.md", 'sqlite3 outbox.db "SELECT writefile', shows_findings,
-            port=8081, scene=make_refused_entry),
 ]
 
 
