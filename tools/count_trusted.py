@@ -2,7 +2,7 @@
 """Lists the definitions that the contract of `schedule::run` rests on, file by file, with their lines.
 
     tools/count_trusted.py            the tables of docs/TRUST.md: the totals, and the lists
-    tools/count_trusted.py --names    the same, with the name of each definition
+    tools/count_trusted.py --names    the same, each list by file, with the name of each definition
     tools/count_trusted.py --check    whether docs/TRUST.md has these tables; status 1 if it has others
 
 It reads the contracts of `run`, of the calls that show its world, of the law `any_programs`, and of `perform_task` of
@@ -17,6 +17,7 @@ and promises nothing to a caller.
 import pathlib
 import re
 import sys
+import textwrap
 from collections import defaultdict
 
 ROOT = pathlib.Path(__file__).resolve().parent.parent
@@ -304,6 +305,13 @@ def table(new_of, with_names, by_crate=False):
     return lines
 
 
+def kit_names(found):
+    """A sentence: how many names of each library of the kit the definitions name."""
+    counts = [f"`{crate}` {sum(map(len, files.values()))}" for crate, files in sorted(found.kit.items())]
+    return textwrap.wrap(f"How many names of the kit's libraries they have: {', '.join(counts)}.", 120,
+                         break_long_words=False, break_on_hyphens=False)  # fmt: skip
+
+
 def kit_table(found):
     """The kit's libraries that the definitions name, with their files and how many names of each."""
     lines = ["| library of the kit | names | in its files |", "|---|---|---|"]
@@ -329,9 +337,9 @@ def report(with_names):
     ]  # fmt: skip
     parts = []
     for number, (_, new_of) in enumerate(lists, 1):
-        by_crate = number == len(lists)
+        by_crate = number > 1 and not with_names
         parts += [[f"List {number}, by {'crate' if by_crate else 'file'}:"], table(new_of, with_names, by_crate)]
-    parts += [["What they name of the kit:"], kit_table(fourth)]
+    parts += [["What they name of the kit:"], kit_table(fourth)] if with_names else [kit_names(fourth)]
     return totals(lists), "\n\n".join("\n".join(part) for part in parts)
 
 
