@@ -6,11 +6,11 @@
                                                 which are in FOLDER
 
 Links lead to files and headings that are there; nothing outside the repository is asked for. Each row of a table has as
-many cells as its head. Each page has at most a handful of the phrases in PHRASES. No line of README.md is longer than
-400 characters, and none of the code and the scripts than 120, but for strings in the code. docs/ARCHITECTURE.md has the
-table that tools/crate_table.py makes. docs/PROOF.md says how many wrong bodies there are, and those that it names are
-there. The index of docs/OPERATIONS.md has the questions in QUESTIONS and no others, and each links to a
-section with the words there.
+many cells as its head. Each page has at most a handful of the phrases in PHRASES, and all but CHANGELOG.md have at most
+WORDS words together. No line of README.md is longer than 400 characters, and none of the code and the scripts than 120,
+but for strings in the code. docs/ARCHITECTURE.md has the table that tools/crate_table.py makes. docs/PROOF.md says how
+many wrong bodies there are, and those that it names are there. The index of docs/OPERATIONS.md has the questions in
+QUESTIONS and no others, and each links to a section with the words there.
 
 Every block of commands in README.md, docs/FIRST_DAYS.md and docs/OPERATIONS.md is one that bash can read, and either
 runs here as it is written, or needs root, or needs the kit. Those that need root are played by
@@ -44,6 +44,7 @@ WIDTH = 120
 # Files whose lines may be as long as they are: pages and data, and formats that have no line that goes on.
 ANY_WIDTH = re.compile(r"\.(?:md|json|yaml|edit)$|^crates\.txt$|^conformance/cases/|^crates/\w+/(?:stdin|stdout|args)$")
 HANDFUL = 5
+WORDS = 42_000
 # Between these two lines docs/PROOF.md has how many wrong bodies there are.
 COUNTED, COUNTED_END = "<!-- counted by tools/try_wrong_bodies.py --count -->", "<!-- end of what is counted -->"
 # How many seconds a block of commands may take. Programs that were built without proof are slow.
@@ -229,6 +230,13 @@ def check_questions():
         faults += [f"{question!r}: {found[question]} does not have {words!r}"
                    for words in QUESTIONS[question] if words not in section]  # fmt: skip
     trials.tell(f"{page}: the answers to {len(QUESTIONS)} questions", "; ".join(sorted(faults)))
+
+
+def check_words():
+    """The pages but CHANGELOG.md can be read: words are what is between spaces, as `wc -w` counts them."""
+    count = sum(len(text_of(page).split()) for page in pages() if page != "CHANGELOG.md")
+    trials.tell(f"{count:,} words on all pages but CHANGELOG.md, at most {WORDS:,}",
+                None if count <= WORDS else "shorten some")
 
 
 def check_readme():
@@ -498,6 +506,7 @@ def main(words):
         check_links(page)
         check_tables(page)
         check_phrases(page)
+    check_words()
     check_readme()
     trials.tell("docs/ARCHITECTURE.md: the table of crates", crate_table.fault())
     check_widths()
