@@ -12,8 +12,9 @@ mod network;
 mod options;
 mod putting;
 mod tasks;
+mod words;
 
-pub use fault::{Cause, Fault, VisitFault};
+pub use fault::Fault;
 pub use options::{Peer, Task};
 pub use putting::Report;
 pub use tasks::{main, perform};
