@@ -21,6 +21,8 @@ use Rattle.outbox_process.specs.declared.errand.Done.{Done}
 use Rattle.outbox_process.specs.declared.errand.Done.TheVariants as done
 use Rattle.outbox_process.specs.declared.fault.OpeningFault.{OpeningFault}
 use Rattle.outbox_process.specs.declared.fault.OpeningFault.TheVariants as opening
+use Rattle.outbox_commands.specs.declared.fault.VisitFault.{VisitFault}
+use Rattle.outbox_commands.specs.declared.fault.VisitFault.TheVariants as visit
 use Rattle.outbox_commands.specs.declared.fault.Fault.{Fault}
 use Rattle.outbox_commands.specs.declared.fault.Fault.TheVariants as fault
 
@@ -102,6 +104,22 @@ done_status strict (Err why) = task_status why
 
 -- ---- of what is reported
 
+abbrev pub visit_status : VisitFault → ℕ
+visit_status (visit.Taken holding) = 1
+visit_status (visit.NotOurs holding) = 1
+visit_status visit.IsCurrent = 1
+visit_status visit.NotEarlier = 1
+visit_status (visit.Damaged row) = 1
+visit_status visit.BadFiler = 2
+visit_status visit.TooLarge = 2
+visit_status (visit.KeyUsed id) = 2
+visit_status (visit.NoEntry id) = 4
+visit_status (visit.IsOpen id) = 2
+visit_status (visit.NotTold id) = 3
+visit_status visit.NotClosed = 3
+visit_status visit.Memory = 3
+visit_status visit.Database = 3
+
 -- 3 if memory is short, and 2 if the text is no key
 abbrev pub key_status : KeyFault → ℕ
 key_status key.Memory = 3
@@ -112,13 +130,15 @@ status_of (fault.Command why) = command.status_of why
 status_of (fault.Key why) = key_status why
 status_of fault.ForOne = 2
 status_of (fault.Report why) = report_status why
-status_of (fault.Opening name why) = opening_status why
-status_of (fault.NotClosed name) = 3
-status_of (fault.Task name port late why) = task_status why
-status_of (fault.NotPut name why) = put_status why
-status_of (fault.LastPut name id why) = 3
+status_of (fault.Outbox name why) = visit_status why
+status_of (fault.NotPut name why) = visit_status why
+status_of (fault.LastPut name id why) = command.status_of why
+status_of (fault.Connect port error) = 3
+status_of (fault.Exchange port why) = 3
+status_of (fault.Patience port seconds) = 3
 status_of (fault.Round port sent failed) = 3
 status_of (fault.Unfiled refused left) = unfiled_status refused
+status_of (fault.Contradicts port id state told) = 3
 status_of (fault.Folder name error) = 3
 status_of (fault.Receipts lost) = 3
 status_of (fault.Random error) = 3

@@ -7,7 +7,7 @@ ghost use Rattle.outbox_commands.specs.Looking.{KeepsEntries};
 ghost use Rattle.outbox_commands.specs.Status.{status_by, failed_status, strict_status, done_status};
 ghost use Rattle.outbox_commands.specs.Visits.{OpensTold, VisitsOutbox};
 
-use crate::fault::Fault;
+use crate::fault::{Fault, VisitFault};
 use crate::network::Network;
 use database_places::{Place, refusal};
 use outbox_core::{Entry, Outbox};
@@ -48,7 +48,7 @@ pub(crate) fn close<D: Disk + Drop, P: Place<D> + Drop, E: Write>(
 {
     let closed = process.close();
     if closed.is_err() {
-        Fault::NotClosed { name }.tell(errors);
+        VisitFault::NotClosed.at(name).tell(errors);
     }
 }
 
@@ -70,7 +70,7 @@ pub(crate) fn run_errand<'a, D: Disk + Drop, P: Place<D> + Drop, N: Network, O: 
         (status_by result) }
 {
     if let Err(fault) = open(alloc, process, Beginning::Found) {
-        return Err(Fault::Opening { name, fault });
+        return Err(Fault::of_opening(fault, name));
     }
     let came = process.perform(alloc, network, errand, output);
     let done = answer(network, came, is_strict, name);
@@ -94,12 +94,7 @@ fn answer<'a, N: Network>(
             tell_outcome(network, done);
             fault_of_done(network.port(), is_strict, done)
         }
-        Err(fault) => Err(Fault::Task {
-            name,
-            port: network.port(),
-            late: network.lost_patience(),
-            fault,
-        }),
+        Err(fault) => Err(Fault::of_task(fault, name, network.port(), network.lost_patience())),
     }
 }
 

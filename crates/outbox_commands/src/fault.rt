@@ -1,21 +1,193 @@
-//! Why a task is not done, and the status that the program ends with.
+//! Why a task is not done, in words and as a status.
 
 ghost use Rattle.std.specs.Prelude.{◌≡◌};
-ghost use Rattle.outbox_commands.specs.Status.{outbox_status, opening_status, put_status, exchange_status, send_status};
-ghost use Rattle.outbox_commands.specs.Status.{task_status, status_of};
+ghost use Rattle.command_line.specs.Status as command;
+ghost use Rattle.outbox_commands.specs.Status.{outbox_status, opening_status, exchange_status, send_status};
+ghost use Rattle.outbox_commands.specs.Status.{task_status, visit_status, status_of};
 ghost use Rattle.outbox_commands.specs.Visits.{outbox_verdict, opening_verdict};
 
-use crate::words::{Undone, Unopened, Unput, unprinted};
+use crate::held::{taken, unfit};
 use command_line::{CommandFault, ReportFault};
-use database_places::Verdict;
+use database_places::{Holding, Verdict};
 use filer_client::ExchangeFault;
+use http_wire::ReplyFault;
 use key_string::KeyFault;
-use outbox_core::{OutboxFault, PutFault, TakeFault};
+use outbox_core::{OutboxFault, PutFault, State, StoreFault, TakeFault};
 use outbox_process::{LineFault, OpeningFault, SendFault, TaskFault};
+use receipts::{KeepFault, ReceiptFault};
 use std::alloc::AllocError;
-use std::io::{self, Write};
+use std::io::Write;
+use std::{fmt, io};
 use terminal_text::OneLine;
 use thiserror::Error;
+
+/// What went wrong in a visit to the outbox of a file.
+#[derive(Clone, Copy, Debug, Error)]
+pub enum VisitFault {
+    /// An outbox is made only in a database without tables.
+    #[error("{why}", why = taken(*.0))]
+    Taken(Holding),
+    /// The tables are not those of an outbox of this version.
+    #[error("{why}", why = unfit(*.0))]
+    NotOurs(Holding),
+    /// The outbox to be migrated has this version already.
+    #[error("this outbox has this version already")]
+    IsCurrent,
+    /// The database to be migrated has tables of an outbox, but not those of an earlier version.
+    #[error("its tables are not those of an earlier version")]
+    NotEarlier,
+    #[error("row {row} of the outbox is damaged")]
+    Damaged { row: u64 },
+    #[error("the filer is no filer code")]
+    BadFiler,
+    #[error("the report has more than 1048576 bytes")]
+    TooLarge,
+    #[error("this key is in use, by entry {id}")]
+    KeyUsed { id: u64 },
+    #[error("there is no entry {id}")]
+    NoEntry { id: u64 },
+    #[error("entry {id} is open: outbox send sends it")]
+    IsOpen { id: u64 },
+    #[error("entry {id} was put in, but the output cannot be written")]
+    NotTold { id: u64 },
+    #[error("it could not be closed; what was reported is kept, in the log beside it")]
+    NotClosed,
+    #[error("out of memory")]
+    Memory,
+    /// The disk, or what the disk gave.
+    #[error("the disk failed, or is full")]
+    Database,
+}
+
+impl From<PutFault> for VisitFault {
+    ghost use Rattle.std.specs.Prelude.{◌≡◌};
+    ghost use Rattle.outbox_commands.specs.Status.{put_status, visit_status};
+
+    ghost from_gives = { λ fault own. visit_status own ≡ put_status fault };
+
+    fn from(fault: PutFault) -> VisitFault {
+        match fault {
+            PutFault::TooLarge => VisitFault::TooLarge,
+            PutFault::KeyUsed { id } => VisitFault::KeyUsed { id },
+            PutFault::Memory => VisitFault::Memory,
+            PutFault::Store => VisitFault::Database,
+        }
+    }
+}
+
+impl From<StoreFault> for VisitFault {
+    ghost use Rattle.std.specs.Prelude.{◌≡◌};
+    ghost use Rattle.outbox_commands.specs.Status.{visit_status};
+
+    ghost from_gives = { λ _ own. visit_status own ≡ 3 };
+
+    fn from(fault: StoreFault) -> VisitFault {
+        match fault {
+            StoreFault::Memory => VisitFault::Memory,
+            StoreFault::Store => VisitFault::Database,
+        }
+    }
+}
+
+impl VisitFault {
+    /// Why a database that holds this was not opened or made an outbox.
+    fn of_outbox(fault: OutboxFault, held: Holding) -> VisitFault
+        ensures { visit_status result ≡ outbox_status fault }
+    {
+        match fault {
+            OutboxFault::BadFiler => VisitFault::BadFiler,
+            OutboxFault::Taken => VisitFault::Taken(held),
+            OutboxFault::NotOurs => VisitFault::NotOurs(held),
+            OutboxFault::Damaged { row } => VisitFault::Damaged { row },
+            OutboxFault::Memory => VisitFault::Memory,
+            OutboxFault::Disk => VisitFault::Database,
+        }
+    }
+
+    /// Why a database that holds this was not migrated.
+    fn of_migrating(fault: OutboxFault, held: Holding) -> VisitFault
+        ensures { visit_status result ≡ outbox_status fault }
+    {
+        match (fault, held) {
+            (OutboxFault::NotOurs, Holding::Outbox | Holding::EarlierOutbox) => {
+                VisitFault::NotEarlier
+            }
+            _ => VisitFault::of_outbox(fault, held),
+        }
+    }
+
+    /// Why the reply for the entry of this id was not taken.
+    fn of_taking(fault: TakeFault, id: u64) -> VisitFault
+        ensures { visit_status result ≡ exchange_status (ExchangeFault.Take fault) }
+    {
+        match fault {
+            TakeFault::NoEntry => VisitFault::NoEntry { id },
+            TakeFault::Memory => VisitFault::Memory,
+            TakeFault::Store => VisitFault::Database,
+        }
+    }
+
+    /// Why a task was not done that visited the outbox of the file with this name.
+    pub(crate) fn at(self, name: &str) -> Fault<'_>
+        ensures { status_of result ≡ visit_status self }
+    {
+        Fault::Outbox { name, fault: self }
+    }
+
+    /// The status that the program ends with: 1 for a database that is no outbox or cannot become
+    /// one, 2 for a filer, a key or a body that it does not take and for an entry that is open, 3
+    /// for a fault of memory or the disk, 4 if an entry is missing.
+    pub(crate) fn status(self) -> u8
+        ensures { result ≡ visit_status self }
+    {
+        match self {
+            VisitFault::Taken(_) => 1,
+            VisitFault::NotOurs(_) => 1,
+            VisitFault::IsCurrent | VisitFault::NotEarlier => 1,
+            VisitFault::Damaged { .. } => 1,
+            VisitFault::BadFiler | VisitFault::TooLarge => 2,
+            VisitFault::KeyUsed { .. } | VisitFault::IsOpen { .. } => 2,
+            VisitFault::NotTold { .. } => 3,
+            VisitFault::NotClosed | VisitFault::Memory | VisitFault::Database => 3,
+            VisitFault::NoEntry { .. } => 4,
+        }
+    }
+}
+
+/// What went wrong in an exchange, in words.
+#[derive(Clone, Copy, Debug)]
+pub struct Cause(pub(crate) ExchangeFault);
+
+impl fmt::Display for Cause {
+    fn fmt<W: fmt::Write>(&self, f: &mut fmt::Formatter<W>) -> fmt::Result {
+        match self.0 {
+            ExchangeFault::Write { sent } => {
+                write!(f, "the connection broke after {sent} bytes of the request")
+            }
+            ExchangeFault::Reply(ReplyFault::Read) => {
+                f.write_str("the connection broke before the whole reply came")
+            }
+            fault => write!(f, "{fault}"),
+        }
+    }
+}
+
+/// Why the receipt of a reply was not written.
+#[derive(Debug, Drop, Error)]
+pub(crate) enum NoReceipt {
+    /// No receipt can be made of what was noted.
+    #[error("{0}")]
+    Unmade(#[from] ReceiptFault),
+    /// The clock gives no moment.
+    #[error("the clock failed")]
+    Clock(#[from] jiff::Error),
+    /// It is not kept.
+    #[error("{0}")]
+    Unkept(#[from] KeepFault),
+}
+
+/// Why a reply may contradict an entry, and what to do then.
+const OTHER_REGISTER: &str = "another register answers, or it was restored; ask its supervisor";
 
 /// Why a task was not done. Its text is one line.
 #[derive(Debug, Drop, Error)]
@@ -29,38 +201,38 @@ pub enum Fault<'a> {
     ForOne,
     #[error("{0}")]
     Report(#[from] ReportFault<'a>),
-    /// The outbox of the file with this name was not opened, made or migrated.
-    #[error("{file}: {why}", file = OneLine(*.name), why = Unopened(*.fault))]
-    Opening {
+    #[error("{file}: {fault}", file = OneLine(*.name))]
+    Outbox {
         name: &'a str,
-        fault: OpeningFault,
-    },
-    /// It was not closed.
-    #[error("{file}: it could not be closed; what was reported is kept, in the log beside it", file = OneLine(*.name))]
-    NotClosed {
-        name: &'a str,
-    },
-    /// The task was not done on it. It sends to this port, if it sends, and `late` is how many seconds of patience are
-    /// over, if the last exchange failed by that.
-    #[error("{why}", why = Undone {name: *.name, port: *.port, late: *.late, fault: .fault})]
-    Task {
-        name: &'a str,
-        port: u16,
-        late: Option<u64>,
-        fault: TaskFault,
+        fault: VisitFault,
     },
     /// One of several reports was not put in.
-    #[error("{file}: not put in, nor any after it: {why}", file = OneLine(*.name), why = Unput(*.fault))]
+    #[error("{file}: not put in, nor any after it: {fault}", file = OneLine(*.name))]
     NotPut {
         name: &'a str,
-        fault: PutFault,
+        fault: VisitFault,
     },
     /// One of several reports was put in, but its id was not printed.
-    #[error("{file}: put in as entry {id}, but none after it: {why}", file = OneLine(*.name), why = unprinted(*.fault))]
+    #[error("{file}: put in as entry {id}, but none after it: {fault}", file = OneLine(*.name))]
     LastPut {
         name: &'a str,
         id: u64,
-        fault: LineFault,
+        fault: CommandFault<'a>,
+    },
+    #[error("127.0.0.1:{port}: {error}")]
+    Connect {
+        port: u16,
+        error: io::Error,
+    },
+    #[error("127.0.0.1:{port}: {cause}", cause = Cause(*.fault))]
+    Exchange {
+        port: u16,
+        fault: ExchangeFault,
+    },
+    #[error("127.0.0.1:{port}: no reply within {seconds} s")]
+    Patience {
+        port: u16,
+        seconds: u64,
     },
     #[error("127.0.0.1:{port}: {failed} of {sent} exchanges failed")]
     Round {
@@ -73,6 +245,13 @@ pub enum Fault<'a> {
     Unfiled {
         refused: u64,
         open: u64,
+    },
+    #[error("127.0.0.1:{port}: entry {id} is {state}, but the reply says {told}: {why}", why = OTHER_REGISTER)]
+    Contradicts {
+        port: u16,
+        id: u64,
+        state: State,
+        told: State,
     },
     #[error("{folder}: no receipt can be written there: {error}", folder = OneLine(*.name))]
     Folder {
@@ -96,6 +275,27 @@ impl From<AllocError> for Fault<'_> {
 
     fn from(_error: AllocError) -> Self {
         Fault::Command(CommandFault::Memory)
+    }
+}
+
+/// Why a line was not printed.
+fn unprinted<'a>(fault: LineFault) -> CommandFault<'a>
+    ensures { command.status_of result ≡ 3 }
+{
+    match fault {
+        LineFault::Output => CommandFault::Output,
+        LineFault::Memory => CommandFault::Memory,
+    }
+}
+
+impl From<LineFault> for Fault<'_> {
+    ghost use Rattle.std.specs.Prelude.{◌≡◌};
+    ghost use Rattle.outbox_commands.specs.Status.{status_of};
+
+    ghost from_gives = { λ _ fault. status_of fault ≡ 3 };
+
+    fn from(fault: LineFault) -> Self {
+        Fault::Command(unprinted(fault))
     }
 }
 
@@ -125,70 +325,91 @@ fn verdict_on_outbox(fault: OutboxFault) -> Option<Verdict>
     }
 }
 
-fn outbox_status(fault: OutboxFault) -> u8
-    ensures { result ≡ outbox_status fault }
-{
-    match fault {
-        OutboxFault::Taken | OutboxFault::NotOurs | OutboxFault::Damaged { .. } => 1,
-        OutboxFault::BadFiler => 2,
-        OutboxFault::Memory | OutboxFault::Disk => 3,
+impl<'a> Fault<'a> {
+    /// Why the outbox of the file with this name was not opened.
+    pub(crate) fn of_opening(fault: OpeningFault, name: &'a str) -> Fault<'a>
+        ensures { status_of result ≡ opening_status fault }
+    {
+        match fault {
+            OpeningFault::Files(fault) => Fault::Command(CommandFault::Database { name, fault }),
+            OpeningFault::Taken(held) => VisitFault::Taken(held).at(name),
+            OpeningFault::Create(fault) => {
+                VisitFault::of_outbox(fault, Holding::Nothing).at(name)
+            }
+            OpeningFault::Open(fault, held) => VisitFault::of_outbox(fault, held).at(name),
+            OpeningFault::IsCurrent => VisitFault::IsCurrent.at(name),
+            OpeningFault::Migrate(fault, held) => VisitFault::of_migrating(fault, held).at(name),
+        }
     }
-}
 
-fn opening_status(fault: OpeningFault) -> u8
-    ensures { result ≡ opening_status fault }
-{
-    match fault {
-        OpeningFault::Files(fault) => fault.status(),
-        OpeningFault::Taken(_) | OpeningFault::IsCurrent => 1,
-        OpeningFault::Create(fault) => outbox_status(fault),
-        OpeningFault::Open(fault, _) => outbox_status(fault),
-        OpeningFault::Migrate(fault, _) => outbox_status(fault),
+    /// Why a task was not done on the outbox of the file with this name, which sends to this port, if it sends. `late`
+    /// is how many seconds of patience are over, if the last exchange failed by that.
+    pub(crate) fn of_task(
+        fault: TaskFault,
+        name: &'a str,
+        port: u16,
+        late: Option<u64>,
+    ) -> Fault<'a>
+        ensures { status_of result ≡ task_status fault }
+    {
+        match fault {
+            TaskFault::Read(fault) => VisitFault::from(fault).at(name),
+            TaskFault::NoEntry { id } => VisitFault::NoEntry { id }.at(name),
+            TaskFault::IsOpen { id } => VisitFault::IsOpen { id }.at(name),
+            TaskFault::Put(fault) => VisitFault::from(fault).at(name),
+            TaskFault::NotTold {
+                id,
+                fault: LineFault::Output,
+            } => VisitFault::NotTold { id }.at(name),
+            TaskFault::NotTold { fault, .. } => fault.into(),
+            TaskFault::Send { id, fault } => Fault::of_sending(fault, name, id, port, late),
+            TaskFault::Contradicts { id, state, told } => Fault::Contradicts {
+                port,
+                id,
+                state,
+                told,
+            },
+            TaskFault::Line(fault) => fault.into(),
+        }
     }
-}
 
-fn put_status(fault: PutFault) -> u8
-    ensures { result ≡ put_status fault }
-{
-    match fault {
-        PutFault::TooLarge | PutFault::KeyUsed { .. } => 2,
-        PutFault::Memory | PutFault::Store => 3,
+    /// Why, of several reports, that of this file was the last that was put into the outbox of the file with this name,
+    /// or was not put in.
+    pub(crate) fn of_stop(fault: TaskFault, name: &'a str, file: &'a str) -> Fault<'a>
+        ensures { status_of result ≡ task_status fault }
+    {
+        match fault {
+            TaskFault::Put(fault) => Fault::NotPut {
+                name: file,
+                fault: fault.into(),
+            },
+            TaskFault::NotTold { id, fault } => Fault::LastPut {
+                name: file,
+                id,
+                fault: unprinted(fault),
+            },
+            other => Fault::of_task(other, name, 0, None),
+        }
     }
-}
 
-fn exchange_status(fault: ExchangeFault) -> u8
-    ensures { result ≡ exchange_status fault }
-{
-    match fault {
-        ExchangeFault::Write { .. } => 3,
-        ExchangeFault::Reply(_) => 3,
-        ExchangeFault::Take(TakeFault::NoEntry) => 4,
-        ExchangeFault::Take(TakeFault::Memory) => 3,
-        ExchangeFault::Take(TakeFault::Store) => 3,
-    }
-}
-
-fn send_status(fault: &SendFault) -> u8
-    ensures { result ≡ send_status fault.now }
-{
-    match fault {
-        SendFault::Connect(_) => 3,
-        SendFault::Exchange(fault) => exchange_status(*fault),
-    }
-}
-
-fn task_status(fault: &TaskFault) -> u8
-    ensures { result ≡ task_status fault.now }
-{
-    match fault {
-        TaskFault::Read(_) => 3,
-        TaskFault::NoEntry { .. } => 4,
-        TaskFault::IsOpen { .. } => 2,
-        TaskFault::Put(fault) => put_status(*fault),
-        TaskFault::NotTold { .. } => 3,
-        TaskFault::Send { fault, .. } => send_status(fault),
-        TaskFault::Contradicts { .. } => 3,
-        TaskFault::Line(_) => 3,
+    /// Why the entry of this id was not sent.
+    fn of_sending(
+        fault: SendFault,
+        name: &'a str,
+        id: u64,
+        port: u16,
+        late: Option<u64>,
+    ) -> Fault<'a>
+        ensures { status_of result ≡ send_status fault }
+    {
+        match (fault, late) {
+            (SendFault::Connect(error), _) => Fault::Connect { port, error },
+            (SendFault::Exchange(ExchangeFault::Take(fault)), _) => {
+                VisitFault::of_taking(fault, id).at(name)
+            }
+            (SendFault::Exchange(_), Some(seconds)) => Fault::Patience { port, seconds },
+            (SendFault::Exchange(fault), None) => Fault::Exchange { port, fault },
+        }
     }
 }
 
@@ -202,16 +423,18 @@ impl Fault<'_> {
         match self {
             Fault::Command(fault) => fault.status(),
             Fault::Report(fault) => fault.status(),
+            Fault::Outbox { fault, .. } => fault.status(),
+            Fault::NotPut { fault, .. } => fault.status(),
+            Fault::LastPut { fault, .. } => fault.status(),
             Fault::Key(KeyFault::Memory) => 3,
             Fault::Key(_) | Fault::ForOne => 2,
-            Fault::Opening { fault, .. } => opening_status(*fault),
-            Fault::NotClosed { .. } => 3,
-            Fault::Task { fault, .. } => task_status(fault),
-            Fault::NotPut { fault, .. } => put_status(*fault),
-            Fault::LastPut { .. } => 3,
+            Fault::Connect { .. } => 3,
+            Fault::Exchange { .. } => 3,
+            Fault::Patience { .. } => 3,
             Fault::Round { .. } => 3,
             Fault::Unfiled { refused: 0, .. } => 3,
             Fault::Unfiled { .. } => 1,
+            Fault::Contradicts { .. } => 3,
             Fault::Folder { .. } => 3,
             Fault::Receipts { .. } => 3,
             Fault::Random(_) => 3,

@@ -12,9 +12,8 @@ mod network;
 mod options;
 mod putting;
 mod tasks;
-mod words;
 
-pub use fault::Fault;
+pub use fault::{Cause, Fault, VisitFault};
 pub use options::{Peer, Task};
 pub use putting::Report;
 pub use tasks::{main, perform};

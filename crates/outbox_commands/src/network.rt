@@ -4,15 +4,15 @@
 ghost use Rattle.std.specs.Prelude.{◌≡◌, false};
 
 use crate::answer::{MOST_NOTED, Noted, tell_open, tell_refused};
+use crate::fault::{Cause, NoReceipt};
 use crate::options::Peer;
-use crate::words::Broken;
 use command_line::{Deadline, Patient};
 use filer_client::ExchangeFault;
 use http_wire::{Device, ReplyFault};
 use jiff::Timestamp;
 use outbox_core::State;
 use outbox_process::Dial;
-use receipts::{Exchange, Folder, KeepFault, ReceiptFault, receipt_of};
+use receipts::{Exchange, Folder, ReceiptFault, receipt_of};
 use std::alloc::Global;
 use std::io::{self, Stderr, Write};
 use std::net::TcpStream;
@@ -72,10 +72,11 @@ fn keep_receipt(
     folder: &Folder<'_, HostRuntime>,
     exchange: &Exchange<'_>,
     port: u16,
-) -> Result<(), KeepFault> {
+) -> Result<(), NoReceipt> {
     let moment = Timestamp::now(rt)?;
     let receipt = receipt_of(rt.alloc(), exchange, moment, port)?;
-    folder.keep(&receipt)
+    folder.keep(&receipt)?;
+    Ok(())
 }
 
 impl<'r> PeerDial<'r> {
@@ -118,7 +119,7 @@ impl<'r> PeerDial<'r> {
             return;
         };
         match keep_receipt(self.rt, folder, exchange, self.port) {
-            Ok(()) | Err(KeepFault::Unmade(ReceiptFault::Contradicts)) => {}
+            Ok(()) | Err(NoReceipt::Unmade(ReceiptFault::Contradicts)) => {}
             Err(error) => {
                 self.lost_receipts = self.lost_receipts.saturating_add(1);
                 let id = exchange.id;
@@ -160,7 +161,7 @@ fn explain<E: Write>(alloc: Global, exchanged: &Exchanged, errors: &mut E) -> io
             "outbox: entry {id}: clashed; the register has another report under its key: put it in under a new one"
         ),
         Ok(State::Confirmed(_)) => Ok(()),
-        Err(fault) => writeln!(errors, "outbox: entry {id}: {}", Broken(fault)),
+        Err(fault) => writeln!(errors, "outbox: entry {id}: {}", Cause(fault)),
     }
 }
 

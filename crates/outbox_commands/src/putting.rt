@@ -128,19 +128,9 @@ fn put_one<'a, D: Disk + Drop, P: Place<D> + Drop, N: Network, O: Write, E: Writ
 fn fault_of_put<'a>(fault: TaskFault, name: &'a str, named: Option<&'a str>) -> Fault<'a>
     ensures { status_of result ≡ task_status fault }
 {
-    match (named, fault) {
-        (Some(file), TaskFault::Put(fault)) => Fault::NotPut { name: file, fault },
-        (Some(file), TaskFault::NotTold { id, fault }) => Fault::LastPut {
-            name: file,
-            id,
-            fault,
-        },
-        (_, fault) => Fault::Task {
-            name,
-            port: 0,
-            late: None,
-            fault,
-        },
+    match named {
+        Some(file) => Fault::of_stop(fault, name, file),
+        None => Fault::of_task(fault, name, 0, None),
     }
 }
 
@@ -204,7 +194,7 @@ pub(crate) fn put<'a, D: Disk + Drop, P: Place<D> + Drop, N: Network, O: Write, 
     let reports = read_each(rt, files, key_text)?;
     let alloc = rt.alloc();
     if let Err(fault) = open(alloc, process, Beginning::Found) {
-        return Err(Fault::Opening { name, fault });
+        return Err(Fault::of_opening(fault, name));
     }
     let done = put_each(
         alloc,

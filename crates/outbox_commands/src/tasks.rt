@@ -45,7 +45,7 @@ fn init<'a, D: Disk + Drop, P: Place<D> + Drop, E: Write>(
         return Err(Fault::Command(CommandFault::Filer));
     }
     if let Err(fault) = open(alloc, process, Beginning::Made { filer }) {
-        return Err(Fault::Opening { name, fault });
+        return Err(Fault::of_opening(fault, name));
     }
     close(process, name, errors);
     Ok(())
@@ -62,10 +62,10 @@ fn show_refused<'a, O: Write>(
         (status_of result) }
 {
     let Some(verdict) = verdict_on(fault) else {
-        return Fault::Opening { name, fault };
+        return Fault::of_opening(fault, name);
     };
     match show_verdict(alloc, verdict, "an outbox", output) {
-        Ok(()) => Fault::Opening { name, fault },
+        Ok(()) => Fault::of_opening(fault, name),
         Err(unshown) => Fault::Command(unshown),
     }
 }

@@ -17,19 +17,17 @@ use Rattle.command_line.specs.declared.fault.DatabaseFault.{DatabaseFault}
 use Rattle.command_line.specs.declared.fault.DatabaseFault.TheVariants as database
 use Rattle.command_line.specs.declared.report_file.ReportFault.{ReportFault}
 use Rattle.command_line.specs.declared.report_file.ReportFault.TheVariants as report
-use Rattle.outbox_tables.specs.declared.fault.OutboxFault.{OutboxFault}
-use Rattle.outbox_tables.specs.declared.fault.OutboxFault.TheVariants as made
-use Rattle.outbox_process.specs.declared.fault.OpeningFault.{OpeningFault}
-use Rattle.outbox_process.specs.declared.fault.OpeningFault.TheVariants as opening
 use Rattle.outbox_process.specs.declared.tasks.fault.SendFault.{SendFault}
 use Rattle.outbox_process.specs.declared.tasks.fault.SendFault.TheVariants as send
 use Rattle.outbox_process.specs.declared.tasks.fault.TaskFault.{TaskFault}
 use Rattle.outbox_process.specs.declared.tasks.fault.TaskFault.TheVariants as task
 use Rattle.outbox_commands.specs.Puts.{turns_status}
-use Rattle.outbox_commands.specs.Status.{exchange_status, key_status, opening_status, outbox_status, put_status}
-use Rattle.outbox_commands.specs.Status.{send_status, status_by, status_of, task_status, unfiled_status}
+use Rattle.outbox_commands.specs.Status.{exchange_status, key_status, put_status, send_status, status_by, status_of}
+use Rattle.outbox_commands.specs.Status.{task_status, unfiled_status, visit_status}
 use Rattle.outbox_commands.specs.declared.fault.Fault.{Fault}
 use Rattle.outbox_commands.specs.declared.fault.Fault.TheVariants as fault
+use Rattle.outbox_commands.specs.declared.fault.VisitFault.{VisitFault}
+use Rattle.outbox_commands.specs.declared.fault.VisitFault.TheVariants as visit
 
 -- the status is not 0
 abbrev Fails : ℕ → Type 0
@@ -117,21 +115,21 @@ report_fails (report.Open file error) = refl
 report_fails (report.Read file why) = refl
 report_fails (report.TooLarge file) = refl
 
-outbox_fails : (why : OutboxFault) → Fails (outbox_status why)
-outbox_fails made.BadFiler = refl
-outbox_fails made.Taken = refl
-outbox_fails made.NotOurs = refl
-outbox_fails (made.Damaged row) = refl
-outbox_fails made.Memory = refl
-outbox_fails made.Disk = refl
-
-opening_fails : (why : OpeningFault) → Fails (opening_status why)
-opening_fails (opening.Files why) = database_fails why
-opening_fails (opening.Taken holding) = refl
-opening_fails (opening.Create why) = outbox_fails why
-opening_fails (opening.Open why holding) = outbox_fails why
-opening_fails opening.IsCurrent = refl
-opening_fails (opening.Migrate why holding) = outbox_fails why
+visit_fails : (why : VisitFault) → Fails (visit_status why)
+visit_fails (visit.Taken holding) = refl
+visit_fails (visit.NotOurs holding) = refl
+visit_fails visit.IsCurrent = refl
+visit_fails visit.NotEarlier = refl
+visit_fails (visit.Damaged row) = refl
+visit_fails visit.BadFiler = refl
+visit_fails visit.TooLarge = refl
+visit_fails (visit.KeyUsed id) = refl
+visit_fails (visit.NoEntry id) = refl
+visit_fails (visit.IsOpen id) = refl
+visit_fails (visit.NotTold id) = refl
+visit_fails visit.NotClosed = refl
+visit_fails visit.Memory = refl
+visit_fails visit.Database = refl
 
 unfiled_fails : (refused : ℕ) → Fails (unfiled_status refused)
 unfiled_fails zero = refl
@@ -142,13 +140,15 @@ fault_fails (fault.Command why) = command_fails why
 fault_fails (fault.Key why) = key_fails why
 fault_fails fault.ForOne = refl
 fault_fails (fault.Report why) = report_fails why
-fault_fails (fault.Opening name why) = opening_fails why
-fault_fails (fault.NotClosed name) = refl
-fault_fails (fault.Task name port late why) = task_fails why
-fault_fails (fault.NotPut name why) = put_fails why
-fault_fails (fault.LastPut name id why) = refl
+fault_fails (fault.Outbox name why) = visit_fails why
+fault_fails (fault.NotPut name why) = visit_fails why
+fault_fails (fault.LastPut name id why) = command_fails why
+fault_fails (fault.Connect port error) = refl
+fault_fails (fault.Exchange port why) = refl
+fault_fails (fault.Patience port seconds) = refl
 fault_fails (fault.Round port sent failed) = refl
 fault_fails (fault.Unfiled refused left) = unfiled_fails refused
+fault_fails (fault.Contradicts port id state told) = refl
 fault_fails (fault.Folder name error) = refl
 fault_fails (fault.Receipts lost) = refl
 fault_fails (fault.Random error) = refl

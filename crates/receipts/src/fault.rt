@@ -35,15 +35,9 @@ impl From<AllocError> for ReceiptFault {
     }
 }
 
-/// Why the receipt of an exchange is not kept.
+/// Why a receipt is not kept.
 #[derive(Debug, Drop, Error)]
 pub enum KeepFault {
-    /// There is none.
-    #[error("{0}")]
-    Unmade(#[from] ReceiptFault),
-    /// The clock gives no moment.
-    #[error("the clock failed")]
-    Clock(#[from] jiff::Error),
     /// What has its name is no receipt of its entry.
     #[error("{name} is there, and is no receipt of this entry")]
     Taken { name: String },

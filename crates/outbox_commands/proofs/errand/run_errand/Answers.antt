@@ -1,4 +1,4 @@
-use Rattle.std.proofs.Common.{refl, sym, subst, inl, inr}
+use Rattle.std.proofs.Common.{refl, sym, ◌∙◌, subst, inl, inr}
 use Rattle.outbox_process.specs.declared.begun.Beginning.TheVariants.{Found}
 use Rattle.outbox_process.specs.Process.{parts, PerformsErrand}
 use Rattle.outbox_commands.proofs.Opened.{refused, opened}
@@ -8,7 +8,7 @@ pub returns-in-Err : goal.returns-in-Err
 returns-in-Err g c =
     let r = refused g.D.Disk Found (parts g.P.Place.lying c.args.process.now) (parts g.P.Place.lying c.open.new.process)
     c.in-Err.fault c.in-Err.ensures in
-    inr (record { why = r.why; opens = r.opens; says = r.says }, refl, refl)
+    inr (record { why = r.why; opens = r.opens; says = c.of_opening.ensures ∙ r.says }, refl, refl)
 
 pub returns : goal.returns
 returns g c =

@@ -1,4 +1,4 @@
-use Rattle.std.proofs.Common.{◌≡◌, Err, rules, refl, sym, subst, inl, inr}
+use Rattle.std.proofs.Common.{◌≡◌, ◌∙◌, Err, rules, refl, sym, subst, inl, inr}
 use Rattle.outbox_process.specs.declared.begun.Beginning.TheVariants.{Found}
 use Rattle.outbox_process.specs.Process.{parts}
 use Rattle.outbox_commands.proofs.Opened.{refused, opened}
@@ -22,7 +22,7 @@ returns-in-Err g c =
         c.in_ok-reports.reports.items,
         c.in_ok-reports.ensures.read,
         refl,
-        inr (record { why = r.why; opens = r.opens; says = r.says }, refl),
+        inr (record { why = r.why; opens = r.opens; says = c.of_opening.ensures ∙ r.says }, refl),
       ),
     )
 
