@@ -5,6 +5,7 @@
 #![tactic(auto)]
 
 mod asked;
+mod clocked;
 mod fault;
 mod folder;
 mod limit;
@@ -15,6 +16,7 @@ mod pause;
 mod port;
 mod program;
 mod progress;
+mod published;
 mod record;
 mod reporter;
 mod room;
