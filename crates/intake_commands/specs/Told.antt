@@ -39,7 +39,6 @@ IsErrandTold name (errand.List why) told = told ≡ fault.Register name (visit.L
 IsErrandTold name (errand.Store why) told = told ≡ fault.Register name (visit.Store why)
 IsErrandTold name (errand.NoFiling number) told = told ≡ fault.Register name (visit.NoFiling number)
 IsErrandTold name (errand.TooFew kept) told = told ≡ fault.Register name (visit.TooFew kept)
-IsErrandTold name (errand.Another count) told = told ≡ fault.Register name (visit.Another count)
 IsErrandTold name (errand.Text text.Memory) told = told ≡ fault.Command command.Memory
 IsErrandTold name (errand.Text text.Output) told = told ≡ fault.Command command.Output
 IsErrandTold name errand.Folder told = (why : PageFault) × (told ≡ fault.Page why)

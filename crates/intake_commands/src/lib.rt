@@ -5,7 +5,6 @@
 #![tactic(auto)]
 
 mod asked;
-mod clocked;
 mod fault;
 mod folder;
 mod limit;
@@ -16,7 +15,6 @@ mod pause;
 mod port;
 mod program;
 mod progress;
-mod published;
 mod record;
 mod reporter;
 mod room;

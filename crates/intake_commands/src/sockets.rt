@@ -100,10 +100,6 @@ impl<K: Sockets, O: Write, E: Write> Sockets for ReportedSockets<K, O, E> {
         self.sockets.now()
     }
 
-    fn moment(&self) -> u64 {
-        self.sockets.moment()
-    }
-
     fn end(&mut self, stream: Recorded<K::Stream>, why: Why) {
         let Recorded { inner, record } = stream;
         self.report(&record, why);

@@ -55,7 +55,6 @@ pub(crate) fn errand_fault<'a, D: Disk + Drop, P: Place<D>, F: SiteFolder>(
         ErrandFault::Store(fault) => VisitFault::Store(fault).at(name),
         ErrandFault::NoFiling { number } => VisitFault::NoFiling { number }.at(name),
         ErrandFault::TooFew { kept } => VisitFault::TooFew { kept }.at(name),
-        ErrandFault::Another { count } => VisitFault::Another { count }.at(name),
         ErrandFault::Text(TextFault::Memory) => Fault::Command(CommandFault::Memory),
         ErrandFault::Text(TextFault::Output) => Fault::Command(CommandFault::Output),
         ErrandFault::Folder => Fault::Page(folder.take_fault()),

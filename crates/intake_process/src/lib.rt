@@ -21,7 +21,7 @@ pub use observer::{Observer, Went};
 pub use process::{Answered, Closed, IntakeProcess, Outcome};
 pub use serving::{ServingFault, serve_port, serve_register};
 pub use tasks::checking::{CheckFault, Progress, check};
-pub use tasks::errand::{Errand, Published};
+pub use tasks::errand::Errand;
 pub use tasks::listing::{ListFault, list};
 pub use tasks::migrating::{Migrated, migrate};
 pub use tasks::running::run;

@@ -4,7 +4,7 @@ use Rattle.std.proofs.lemmas.Result.{IfOk-weaker}
 use Rattle.register_store.proofs.ListLemmas.{knows}
 use Rattle.register_store.proofs.ReplaceLemmas.{kept_shown}
 use Rattle.register_digest.specs.Reading.{kept_columns}
-use Rattle.register_digest.proofs.kept.with_beside.Goals as goal
+use Rattle.register_digest.proofs.kept.with_target.Goals as goal
 
 pub returns-clause-found : goal.returns-clause-found
 returns-clause-found g c clean e F was n k seq placed target =
