@@ -89,10 +89,31 @@ CREATE TEMP VIEW missing AS
     WHERE filer <> '' AND NOT EXISTS (SELECT 1 FROM kept JOIN filing USING (seq) WHERE kept.filer = list.filer)
     ORDER BY filer;
 
--- The filings with the moment at which each was received, and the user who sent it. These come from the log of nginx: a
--- file that `register-receipts --into` makes has them.
+-- The filings with the moment at which the intake had each whole, by its clock: in UTC, with milliseconds, as RFC 3339
+-- has it. NULL for those of a version that kept no moments; a copy that was not migrated since has no such view.
 CREATE TEMP VIEW received AS
-    SELECT filings.*, received, user FROM filings LEFT JOIN receipt USING (number);
+    SELECT filings.*,
+        strftime('%Y-%m-%dT%H:%M:%S', moment / 1000, 'unixepoch') || printf('.%03dZ', moment % 1000) AS received
+    FROM filings LEFT JOIN main.received USING (seq);
+
+-- Who filed after a deadline. The moment is the reader's to give, in RFC 3339:
+-- INSERT INTO deadline VALUES ('2025-03-31T23:59:59.999Z'); SELECT * FROM late
+CREATE TEMP TABLE deadline (at TEXT NOT NULL);
+
+-- The filings that came after it, and how many filings their filers had by then: 0 for one who was late, more for one
+-- who only replaced or added a filing.
+CREATE TEMP VIEW late AS
+    SELECT one.number, one.filer, one.key, one.received,
+        (SELECT count(*) FROM received AS other
+            WHERE other.filer = one.filer
+                AND (other.received IS NULL OR julianday(other.received) <= julianday(at))) AS in_time
+    FROM received AS one, deadline WHERE julianday(one.received) > julianday(at);
+
+-- The filings with the users who sent them, and for those without a moment the one that the log has. Both come from the
+-- log of nginx: a file that `register-receipts --into` makes has them.
+CREATE TEMP VIEW senders AS
+    SELECT number, seq, filer, key, bytes, coalesce(own.received, receipt.received) AS received, user
+    FROM received AS own LEFT JOIN receipt USING (number);
 
 -- The entries of an outbox.
 CREATE TEMP VIEW entries AS

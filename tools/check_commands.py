@@ -7,11 +7,13 @@ the errors.
 It takes the programs that `rt run` builds in their folders, as crates/intake/out/intake. Status 1 if a line prints
 something else.
 """
+import hashlib
 import sqlite3
 import subprocess
 import threading
 import time
 
+from odd_register import date_register
 from trials import (INTAKE, NOT_A_REGISTER, NO_OUTBOX, OUTBOX, REPORT, Peer, Serving, exchange, hold, is_silent,
                     make_by_sql)
 from trials import make_earlier, make_earlier_outbox, make_register, run, said, try_all
@@ -21,18 +23,31 @@ FACT = (
     '"period":"2024-12-31T00:00:00","unit":"iso4217:EUR"},"id":"f1","value":"100"}\n'
 )
 NAMES = (
-    "number,filer,key,id,concept,entity,period,unit,language,note_id,dimensions,value,decimals,replaced_by\r\n"
+    "number,filer,key,id,concept,entity,period,unit,language,note_id,dimensions,value,decimals,replaced_by,received\r\n"
 )
-CSV = '1,"ACME","k-1","f1","eg:Assets","lei:ACME","2024-12-31T00:00:00","iso4217:EUR",,,"{}","100",0,\r\n'
+# When the example came, and as RFC 3339 has it.
+MOMENT = 1_795_930_005_123
+RECEIVED = "2026-11-29T05:26:45.123Z"
+CSV = (
+    '1,"ACME","k-1","f1","eg:Assets","lei:ACME","2024-12-31T00:00:00","iso4217:EUR",,,"{}","100",0,,'
+    f'"{RECEIVED}"\r\n'
+)
 LINE = (
     '{"number":1,"filer":"ACME","key":"k-1","id":"f1","concept":"eg:Assets","entity":"lei:ACME",'
     '"period":"2024-12-31T00:00:00","unit":"iso4217:EUR","language":null,"note_id":null,"dimensions":{},'
-    '"value":"100","decimals":0,"replaced_by":null}\n'
+    f'"value":"100","decimals":0,"replaced_by":null,"received":"{RECEIVED}"}}\n'
 )
-# By docs/PROTOCOL.md, which has both lines as an example.
-DIGEST = "25249be5714966a03c17a45599e7483ada7ed7b1cd9c581e4c5f21affc37c86b"
+# By docs/PROTOCOL.md.
+BODY = hashlib.sha256(REPORT).hexdigest()
+ROW = f"1\nACME\nk-1\n-\n1\n{MOMENT}\n{BODY}\n".encode()
+DIGEST = hashlib.sha256(hashlib.sha256(b"").digest() + ROW).hexdigest()
 DIGEST_OF_NONE = "e3b0c44298fc1c149afbf4c8996fb92427ae41e4649b934ca495991b7852b855"
 FILER_CODE = "not a filer code, which is 1 to 64 ASCII letters, digits, '.', '_' and '-'"
+
+AGAINST = "--against: it is N:HEX, a number and 64 hexadecimal digits, as intake digest prints both"
+# What is no number and 64 hexadecimal digits with a colon between.
+NO_DIGESTS = ["", ":", "1", "1:", f"1-{DIGEST}", f":{DIGEST}", f"-1:{DIGEST}", f"x:{DIGEST}", f"1:{DIGEST[1:]}",
+              f"1:{DIGEST}0", f"1:{DIGEST[1:]}g", f"1::{DIGEST}", f"18446744073709551616:{DIGEST}"]  # fmt: skip
 
 # Each is a command line, with `@` for the folder, and its status, output and errors.
 BEFORE = [
@@ -44,6 +59,9 @@ BEFORE = [
     ("export --db @r.db --format csv", 1, "", "r.db: there is no such file"),
     ("pages --db @r.db --into @none", 1, "", "r.db: there is no such file"),
     ("digest --db @r.db", 1, "", "r.db: there is no such file"),
+    ("check --db @r.db --against 1:0", 2, "", AGAINST),
+    (f"check --db @r.db --against 0:{DIGEST_OF_NONE}", 1, "not a register\n", "r.db: there is no such file"),
+    ("list --db @r.db --filer a/b --moments", 2, "", f"--filer: {FILER_CODE}"),
     ("export --db @r.db --format csv --filer a/b", 2, "", f"--filer: {FILER_CODE}"),
     ("serve --db @r.db --port 1 --connections 1", 1, "", "r.db: there is no such file"),
     ("serve --db @none/r.db --port 1 --connections 1 --new", 3, "", "none/r.db: there is no such folder"),
@@ -86,9 +104,21 @@ NOT_JSON = (
 AFTER = [
     ("migrate --db @r.db", 0, "has this version already\n", ""),
     ("check --db @r.db", 0, "sound: 1 kept, 1 filings\n", ""),
+    (f"check --db @r.db --against 1:{DIGEST}", 0, "sound: 1 kept, 1 filings\n", ""),
+    (f"check --db @r.db --against 1:{DIGEST.upper()}", 0, "sound: 1 kept, 1 filings\n", ""),
+    (f"check --db @r.db --against 0:{DIGEST_OF_NONE}", 0, "sound: 1 kept, 1 filings\n", ""),
+    (f"check --db @r.db --against 1:{DIGEST_OF_NONE}", 1, "", "r.db: another register before 1"),
+    (f"check --db @r.db --against 0:{DIGEST}", 1, "", "r.db: another register before 0"),
+    (f"check --db @r.db --against 2:{DIGEST}", 4, "", "r.db: no more are kept than 1"),
+    (f"check --db @r.db --against 18446744073709551615:{DIGEST}", 4, "", "r.db: no more are kept than 1"),
+    *((f"check --db @r.db --against {wrong}", 2, "", AGAINST) for wrong in NO_DIGESTS),
     ("list --db @r.db --filer ACME", 0, '{"filings":[{"facts":1,"number":1}]}\n', ""),
     ("list --db @r.db --filer BETA", 0, '{"filings":[]}\n', ""),
+    ("list --db @r.db --filer ACME --moments", 0, f'{{"number":1,"received":"{RECEIVED}"}}\n', ""),
+    ("list --db @r.db --filer BETA --moments", 0, "", ""),
     ("show --db @r.db --number 1", 0, FACT, ""),
+    ("show --db @r.db --number 1 --moments", 0, f'{{"number":1,"received":"{RECEIVED}"}}\n' + FACT, ""),
+    ("show --db @r.db --number 2 --moments", 4, "", "r.db: there is no filing 2"),
     ("show --db @r.db --number 2", 4, "", "r.db: there is no filing 2"),
     ("export --db @r.db --format csv", 0, NAMES + CSV, ""),
     ("export --db @r.db --format csv --filer BETA", 0, NAMES, ""),
@@ -108,7 +138,9 @@ AFTER = [
 DAMAGED = [
     ("check --db @r.db", 1, "damaged at row 1\n", "r.db: damaged at row 1"),
     ("migrate --db @r.db", 1, "damaged at row 1\n", "r.db: damaged at row 1"),
+    (f"check --db @r.db --against 1:{DIGEST}", 1, "damaged at row 1\n", "r.db: damaged at row 1"),
     ("list --db @r.db --filer ACME", 1, "", "r.db: damaged at row 1"),
+    ("list --db @r.db --filer ACME --moments", 1, "", "r.db: damaged at row 1"),
     ("export --db @r.db --format csv", 1, "", "r.db: damaged at row 1"),
     ("digest --db @r.db", 1, "", "r.db: damaged at row 1"),
 ]
@@ -120,6 +152,12 @@ MIGRATED = [
     ("check --db @old.db", 0, "sound: 1 kept, 0 filings\n", ""),
     ("migrate --db @old.db", 0, "has this version already\n", ""),
     ("check --db @old.db", 0, "sound: 1 kept, 0 filings\n", ""),
+    ("migrate --db @third.db", 0, "migrated\n", ""),
+    ("check --db @third.db", 0, "sound: 1 kept, 0 filings\n", ""),
+    ("check --db @fourth.db", 1, "not a register\n", f"fourth.db: {NOT_A_REGISTER}"),
+    ("migrate --db @fourth.db", 0, "migrated\n", ""),
+    ("check --db @fourth.db", 0, "sound: 1 kept, 0 filings\n", ""),
+    ("migrate --db @fourth.db", 0, "has this version already\n", ""),
 ]
 SMALL = "small:1:1: document-info: the member is missing (/documentInfo)\n"
 TOO_LARGE = "the report has more than 1048576 bytes"
@@ -313,6 +351,7 @@ def check_intake(folder):
     database = folder / "r.db"
     hold_each(INTAKE, BEFORE, folder)
     make_example(database)
+    date_register(database, [MOMENT])
     (folder / "words").write_text('{"a":1,\n  b}')
     hold_each(INTAKE, AFTER, folder)
     damage(database)
@@ -338,7 +377,8 @@ def check_others(folder):
 
 def check_migration(folder):
     (folder / "text").write_text("no database, and long enough to be read as one " * 20)
-    make_earlier(folder / "old.db")
+    for form, name in [(2, "old"), (3, "third"), (4, "fourth")]:
+        make_earlier(folder / f"{name}.db", form)
     hold_each(INTAKE, MIGRATED, folder)
 
 

@@ -4,6 +4,7 @@
     tools/check_damaged_registers.py --command 'intake check --db {db}' --as FILE       keeps the answers in FILE
     tools/check_damaged_registers.py --command 'intake check --db {db}' --against FILE  compares them with those in FILE
     tools/check_damaged_registers.py --command A --command B                            compares those of two commands
+    tools/check_damaged_registers.py --form 4 --command 'intake migrate --db {db}' ..   the same of an earlier form
 
 An answer is the status, the output and the errors, without the name of the file. The registers are made by Python's
 sqlite3, as docs/PROTOCOL.md declares the tables, with the same random numbers each time. So two runs have to be of one
@@ -38,7 +39,11 @@ TABLES = {
             "dimensions BLOB NOT NULL, value BLOB, decimals INTEGER, PRIMARY KEY (number, pos)",
     "migrated": "id INTEGER PRIMARY KEY, last INTEGER NOT NULL",
     "amends": "seq INTEGER PRIMARY KEY, target INTEGER NOT NULL",
+    "received": "seq INTEGER PRIMARY KEY, moment INTEGER NOT NULL",
 }  # fmt: skip
+# The form in which each of the later tables came.
+SINCE = {"migrated": 3, "amends": 4, "received": 5}
+FORM = 5
 COLUMNS = {
     "intake_meta": ["id", "kind", "form"],
     "kept": ["seq", "filer", "idem", "body", "number"],
@@ -47,7 +52,9 @@ COLUMNS = {
     "fact": ["number", "pos", "id", "concept", "dimensions", "value", "decimals"],
     "migrated": ["id", "last"],
     "amends": ["seq", "target"],
+    "received": ["seq", "moment"],
 }
+LAST_MOMENT = 253402300799999
 FILERS = ["ACME", "BETA", "007"]
 DOCUMENT = {
     "documentType": "https://xbrl.org/2021/xbrl-json",
@@ -80,15 +87,22 @@ def report(filer, facts, period="2024-12-31T00:00:00"):
     return compact({"documentInfo": DOCUMENT, "facts": told}), rows
 
 
-def rows_of_requests(chance, requests):
-    """The rows of a sound register of so many requests."""
+def tables_of(form):
+    """The tables of a register in this form."""
+    return [table for table in TABLES if SINCE.get(table, 0) <= form]
+
+
+def rows_of_requests(chance, requests, form):
+    """The rows of a sound register of so many requests, in this form."""
     rows = {table: [] for table in TABLES}
-    rows["intake_meta"] = [(1, "register", 4)]
+    rows["intake_meta"] = [(1, "register", form)]
     rows["migrated"] = [(1, chance.randint(0, requests))]
+    rows["received"] = [(seq, chance.choice([0, 1_700_000_000_000 + seq, LAST_MOMENT]))
+                        for seq in range(chance.randint(1, requests + 1), requests + 1)]  # fmt: skip
     owners, replaced = [], set()
     for seq in range(1, requests + 1):
         filer = chance.choice(FILERS)
-        target = chance.randint(1, len(owners) + 2) if chance.random() < 0.3 else None
+        target = chance.randint(1, len(owners) + 2) if chance.random() < 0.3 and "amends" in tables_of(form) else None
         free = target is None or (target <= len(owners) and owners[target - 1] == filer and target not in replaced)
         facts, period = chance.randint(0, 3), "2024-12-31T00:00:00"
         found = [] if free else [(NOT_REPLACEABLE, b"")]
@@ -149,9 +163,9 @@ def odd_value(chance, value):
     return chance.choice(choices)
 
 
-def disturb(chance, database):
+def disturb(chance, database, form):
     """Changes, takes out, moves or adds a row."""
-    table = chance.choice(list(TABLES))
+    table = chance.choice(tables_of(form))
     found = database.execute(f"SELECT rowid, * FROM {table} ORDER BY rowid").fetchall()
     names = COLUMNS[table]
     act = chance.choice(["change", "change", "change", "delete", "add", "exchange"])
@@ -172,18 +186,18 @@ def disturb(chance, database):
                          (odd_value(chance, row[at + 1]), row[0]))  # fmt: skip
 
 
-def make(number, path):
-    """Writes the register of this number, and says of which kind it is."""
+def make(number, path, form):
+    """Writes the register of this number in this form, and says of which kind it is."""
     chance = random.Random(SEED * 1_000_000 + number)
     kind = chance.choice(["sound", "rows", "rows", "rows", "rows", "tables", "tables", "bytes", "bytes"])
-    rows = rows_of_requests(chance, chance.randint(0, 7))
-    odd = chance.sample(list(TABLES), chance.randint(1, 2)) if kind == "tables" else []
+    rows = rows_of_requests(chance, chance.randint(0, 7), form)
+    odd = chance.sample(tables_of(form), chance.randint(1, 2)) if kind == "tables" else []
     path.unlink(missing_ok=True)
     database = sqlite3.connect(path, isolation_level=None)
     database.execute("PRAGMA page_size = 512")
     database.execute("BEGIN")
-    for table, text in TABLES.items():
-        statement = odd_table(chance, table) if table in odd else create(table, text)
+    for table in tables_of(form):
+        statement = odd_table(chance, table) if table in odd else create(table, TABLES[table])
         if statement is None:
             continue
         database.execute(statement)
@@ -195,7 +209,7 @@ def make(number, path):
     if kind in ("rows", "tables"):
         for _ in range(chance.randint(0 if odd else 1, 3)):
             try:
-                disturb(chance, database)
+                disturb(chance, database, form)
             except (sqlite3.Error, OverflowError):
                 pass  # the tables refuse such a row
     database.execute("COMMIT")
@@ -217,12 +231,12 @@ def answer(command, path):
     return [done.returncode, *texts]
 
 
-def answers_of(command, count):
+def answers_of(command, count, form):
     """What the command answers of each register, with the kind of the register and its hash."""
     with tempfile.TemporaryDirectory() as folder:
         path = pathlib.Path(folder).resolve() / "register.db"
         for number in range(count):
-            kind = make(number, path)
+            kind = make(number, path, form)
             digest = hashlib.sha256(path.read_bytes()).hexdigest()
             yield [kind, digest, *answer(command, path)]
             for left in path.parent.iterdir():
@@ -254,11 +268,12 @@ def main():
     words.add_argument("--command", action="append", required=True, help="a command line with {db}, once or twice")
     words.add_argument("--as", dest="keep", type=pathlib.Path, help="keep the answers in this file")
     words.add_argument("--against", type=pathlib.Path, help="compare the answers with those in this file")
+    words.add_argument("--form", type=int, choices=range(2, FORM + 1), default=FORM, help="the form of the registers")
     words.add_argument("--registers", type=int, default=REGISTERS, help="how many registers, for a short trial")
     given = words.parse_args()
     if len(given.command) + bool(given.against) > 2 or not all("{db}" in it for it in given.command):
         words.error("one command with --as or --against, or two commands, each with {db}")
-    answers = [list(answers_of(command, given.registers)) for command in given.command]
+    answers = [list(answers_of(command, given.registers, given.form)) for command in given.command]
     asked = " and ".join(repr(command) for command in given.command)
     if given.keep:
         given.keep.write_text(json.dumps({"command": given.command[0], "answers": answers[0]}, indent=0))

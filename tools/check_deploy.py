@@ -252,6 +252,8 @@ def codes_of_protocol():
 KEPT = [("ACME", "k-1", 1), ("ACME", "k-2", 2), ("BETA", "k-1", 3), ("ACME", "k-3", None), ("ACME", "k-4", 4),
         ("GAMMA", "k-1", None), ("DELTA", "k-1", None), ("BETA", "k-2", 5)]  # fmt: skip
 AMENDS = [(2, 1), (4, 1), (5, 2), (6, 9)]
+# The first four are of an earlier version. The fifth came in the last millisecond of 2024, the others after it.
+RECEIVED = [(5, 1735689599999), (6, 1735689600000), (7, 1735689600000), (8, 1735689600000)]
 FINDINGS = [(4, 1, 3, "/documentInfo"), (4, 2, 26, ""), (6, 1, 26, ""),
             (7, 1, 22, "/facts/a/value"), (7, 2, 22, "/facts/b/value")]
 DIMENSIONS = '{"concept":"eg:A","entity":"lei:ACME","period":"2024-12-31T00:00:00","unit":"iso4217:EUR"}'
@@ -273,7 +275,13 @@ VIEWS = [
     ("INSERT INTO expected VALUES ('ACME'), ('BETA'), ('DELTA'), ('OMEGA'), ('acme')", []),
     (".import {folder}/list.txt expected", []),
     ("SELECT * FROM missing", ["DELTA|1", "GAMMA|1", "OMEGA|0", "PSI|0", "acme|0"]),
-    ("SELECT * FROM received WHERE filer = 'BETA'", ["3|3|BETA|k-1|4|T1|agent", "5|8|BETA|k-2|4||"]),
+    ("SELECT * FROM received WHERE filer = 'BETA'", ["3|3|BETA|k-1|4|", "5|8|BETA|k-2|4|2025-01-01T00:00:00.000Z"]),
+    ("SELECT received FROM received WHERE number = 4", ["2024-12-31T23:59:59.999Z"]),
+    ("SELECT * FROM late", []),
+    ("INSERT INTO deadline VALUES ('2025-01-01T00:59:59.999+01:00')", []),
+    ("SELECT * FROM late", ["5|BETA|k-2|2025-01-01T00:00:00.000Z|1"]),
+    ("SELECT * FROM senders WHERE filer = 'BETA'",
+     ["3|3|BETA|k-1|4|T1|agent", "5|8|BETA|k-2|4|2025-01-01T00:00:00.000Z|"]),
     ("SELECT * FROM entries", ["1|k-1|4|confirmed|1", "2|k-2|4|open|"]),
 ]  # fmt: skip
 
@@ -283,7 +291,7 @@ def try_views(folder):
     if not (sqlite := find("sqlite3")):
         return
     tables = tables_of_protocol()
-    hold("the tables of docs/PROTOCOL.md", len(tables), 10)
+    hold("the tables of docs/PROTOCOL.md", len(tables), 11)
     copy = folder / "views.db"
     with contextlib.closing(sqlite3.connect(copy)) as database:
         database.executescript(
@@ -293,6 +301,7 @@ def try_views(folder):
         database.executemany("INSERT INTO kept VALUES (NULL, ?, ?, x'626f6479', ?)", KEPT)
         database.execute("INSERT INTO filing SELECT number, seq FROM kept WHERE number IS NOT NULL")
         database.executemany("INSERT INTO amends VALUES (?, ?)", AMENDS)
+        database.executemany("INSERT INTO received VALUES (?, ?)", RECEIVED)
         database.executemany("INSERT INTO finding VALUES (?, ?, ?, CAST(? AS BLOB))", FINDINGS)
         database.execute("INSERT INTO fact VALUES (4, 1, x'6631', x'65673a41', CAST(? AS BLOB), x'313030', 0)",
                          (DIMENSIONS,))

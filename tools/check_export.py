@@ -13,11 +13,12 @@ import shutil
 import subprocess
 import time
 
-from odd_register import SENT, WHOLE, make_odd_register, many, records
+from odd_register import MOMENTS, REFUSED, SENT, WHOLE, clock, date_register, make_odd_register, many, moment_text
+from odd_register import records
 from trials import INTAKE, hold, make_register, run, tell, try_all
 
 NAMES = ["number", "filer", "key", "id", "concept", "entity", "period", "unit", "language", "note_id", "dimensions",
-         "value", "decimals", "replaced_by"]  # fmt: skip
+         "value", "decimals", "replaced_by", "received"]  # fmt: skip
 # Debian's Python, for which its package python3-pandas is made.
 PANDAS = ["/usr/bin/python3", "-c"]
 
@@ -58,9 +59,14 @@ def exported(database, *words):
     return done.stdout
 
 
+def make(database):
+    make_odd_register(database)
+    date_register(database, MOMENTS)
+
+
 def check_csv(folder):
     database = folder / "register.db"
-    make_odd_register(database)
+    make(database)
     text = exported(database, "--format", "csv")
     rows = list(csv.reader(io.StringIO(text.decode(), newline="")))
     hold("Python's csv reads what was filed", rows, [NAMES] + [as_text(record) for record in records(SENT)])
@@ -75,7 +81,7 @@ def check_csv(folder):
 
 def check_lines(folder):
     database = folder / "register.db"
-    make_odd_register(database)
+    make(database)
     lines = exported(database, "--format", "jsonl").decode().split("\n")
     hold("the last line ends", lines.pop(), "")
     hold("Python's json reads what was filed", [json.loads(line) for line in lines], list(records(SENT)))
@@ -104,7 +110,7 @@ def check_pandas(folder):
         print("left out: there is no python3-pandas")
         return
     database = folder / "register.db"
-    make_odd_register(database)
+    make(database)
     (folder / "facts.csv").write_bytes(exported(database, "--format", "csv"))
     (folder / "facts.jsonl").write_bytes(exported(database, "--format", "jsonl"))
     wanted = list(records(SENT))
@@ -120,7 +126,7 @@ def check_sqlite(folder):
         print("left out: there is no sqlite3")
         return
     database = folder / "register.db"
-    make_odd_register(database)
+    make(database)
     (folder / "facts.csv").write_bytes(exported(database, "--format", "csv"))
     query = "SELECT json_group_array(json_array(" + ", ".join(NAMES) + ")) FROM facts"
     done = subprocess.run(["sqlite3", ":memory:", f".import --csv {folder}/facts.csv facts", query],
@@ -130,6 +136,36 @@ def check_sqlite(folder):
     done = subprocess.run(["sqlite3", ":memory:", f".import --csv {folder}/facts.csv facts", query],
                           capture_output=True, check=True)
     hold("sqlite3 asks for a dimension", json.loads(done.stdout), ["nil", "north"])
+
+
+def check_moments(folder):
+    """What list and show print with --moments, worked out from what was sent and when it came."""
+    database = folder / "register.db"
+    make(database)
+    valid = list(enumerate(SENT[: len(SENT) - REFUSED], 1))
+    for filer in sorted({row[0] for row in SENT}) + ["NONE"]:
+        wanted = [moment_line(number) for number, row in valid if row[0] == filer]
+        done = run(INTAKE, "list", "--db", database, "--filer", filer, "--moments")
+        hold(f"the filings of {filer}", (done.returncode, done.stdout.decode(), done.stderr), (0, "".join(wanted), b""))
+    for number, _ in valid:
+        facts = run(INTAKE, "show", "--db", database, "--number", number)
+        done = run(INTAKE, "show", "--db", database, "--number", number, "--moments")
+        hold(f"filing {number}", (done.returncode, done.stdout.decode()),
+             (0, moment_line(number) + facts.stdout.decode()))
+
+
+def moment_line(number):
+    received = moment_text(MOMENTS[number - 1])
+    return json.dumps({"number": number, "received": received}, separators=(",", ":")) + "\n"
+
+
+def check_clock(folder):
+    database = folder / "register.db"
+    begin = clock()
+    make_odd_register(database)
+    end = clock()
+    moments = {json.loads(line)["received"] for line in exported(database, "--format", "jsonl").decode().splitlines()}
+    tell(f"from {begin} to {end}", None if all(begin <= moment <= end for moment in moments) else sorted(moments))
 
 
 def check_others(folder):
@@ -155,4 +191,5 @@ def check_time(folder):
 
 
 if __name__ == "__main__":
-    try_all([INTAKE], [check_csv, check_lines, check_pandas, check_sqlite, check_others, check_time])
+    try_all([INTAKE], [check_csv, check_lines, check_pandas, check_sqlite, check_moments, check_clock, check_others,
+                       check_time])

@@ -565,6 +565,37 @@ def check_pause(folder):
 
 # ---- copies that are kept
 
+DIGESTED = "; it has the digest that lies beside the copy"
+
+
+def digest_of(copy):
+    """The line of a copy's digest, by the script that asks no program."""
+    words = [sys.executable, ROOT / "tools" / "register_digest.py", copy]
+    return subprocess.run(words, capture_output=True, text=True, check=True, timeout=60).stdout
+
+
+def check_digests(folder):
+    """What register-restore makes of a copy with a digest beside it: its own, that of a part, and others."""
+    make_register(folder / "register.db")
+    copy, beside, new = folder / "copy.db", folder / "copy.digest", folder / "new.db"
+    script("register-snapshot", folder / "register.db", copy)
+    line = digest_of(copy)
+    none = "0 " + hashlib.sha256(b"").hexdigest() + "\n"
+    count, wrong = line.split()[0], line.replace(line[-3], "0" if line[-3] != "0" else "1")
+    for what, text, status, cause in [
+        ("its own digest", line, 0, ""),
+        ("the digest of no request", none, 0, ""),
+        ("another digest", wrong, 1, f"another register before {count}"),
+        ("a digest of more requests", f"{int(count) + 1} {line.split()[1]}\n", 1, ""),
+        ("a line that is no digest", line.upper(), 1, "not a line of `intake digest`"),
+    ]:
+        beside.write_text(text)
+        found, said, errors = script("register-restore", copy, new)
+        hold(f"a copy with {what}", (found, said, cause in errors, new.exists()),
+             (status, "" if status else f"{new}: restored: {SOUND}{DIGESTED}\n", True, not status))
+        new.unlink(missing_ok=True)
+
+
 def day(ago):
     """A day in UTC, so many days ago."""
     return time.strftime("%Y%m%d", time.gmtime(time.time() - ago * 86400))
@@ -583,6 +614,7 @@ def check_kept_copies(folder):
     stay = [f"register-{day(30)}T000000Z.db", f"register-{day(20)}T235959Z.db", f"register-{day(2)}T230000Z.db",
             f"register-{day(1)}T000000Z.db", f"register-{day(1)}T010000Z.db",
             f"register-2-{day(40)}T000000Z.db", "before-upgrade.db"]  # fmt: skip
+    gone.append(f"register-{day(31)}T235959Z.digest")
     for name in gone + stay:
         (kept / name).write_bytes(b"")
     # What a run left that was killed, and what one has that runs.
@@ -592,16 +624,18 @@ def check_kept_copies(folder):
         os.utime(kept / name, (time.time() - age,) * 2)
     status, said, errors = script("register-copies", database, kept, 30)
     left = [".register-2.abcdef", ".register.ghijkl"]
-    (copy,) = set(names(kept)) - {*gone, *stay, *left, "register.tried"}
+    copy, digest = sorted(set(names(kept)) - {*gone, *stay, *left, "register.tried"})
     hold("register-copies", (status, said, errors),
-         (0, f"{kept / copy}: {SOUND}\n{kept / copy}: restored: {SOUND}\n", ""))
+         (0, f"{kept / copy}: {SOUND}\n{kept / copy}: restored: {SOUND}{DIGESTED}\n", ""))
+    hold("the digest beside it", (digest, (kept / digest).read_text()),
+         (f"{copy.removesuffix('.db')}.digest", digest_of(kept / copy)))
     hold("the name of the copy", bool(re.fullmatch(r"register-\d{8}T\d{6}Z\.db", copy)), True)
     hold("only its owner may read it", rights(kept / copy), "0o600")
     hold("the copies that are too old are gone, and no other file",
-         names(kept), sorted({copy, "register.tried", *stay, *left}))
+         names(kept), sorted({copy, digest, "register.tried", *stay, *left}))
     moment, *rest = (kept / "register.tried").read_text().split(" ", 3)
     hold("when the restore was tried", bool(re.fullmatch(r"\d{4}-\d\d-\d\dT\d\d:\d\d:\d\dZ", moment)), True)
-    hold("what came of it", rest, ["0", copy, f"restored: {SOUND}\n"])
+    hold("what came of it", rest, ["0", copy, f"restored: {SOUND}{DIGESTED}\n"])
     exchange(serving.port, request("k-1", REPORT))
     serving.end()
     hold("the copy is the register", rows(kept / copy) == rows(database), True)
@@ -628,7 +662,7 @@ def check_failed_copies(folder):
             (kept / it).unlink()
         done = subprocess.run([scripts / "register-copies", database, kept, "30"],
                               capture_output=True, text=True, check=False, env=PATHS, timeout=60)
-        old, copy, tried = names(kept)
+        old, copy, _, tried = names(kept)
         found = (done.returncode, done.stderr)
         hold(what, found, (wanted[0], f"register-copies: {kept / copy}: a restore failed: {wanted[1]}\n"))
         hold("no copy goes, and nothing else is left", (old, tried), ("register-20240101T000000Z.db", "register.tried"))
@@ -681,12 +715,21 @@ def check_receipts(folder):
     of other registers."""
     if missing("sqlite3"):
         return
-    database, copy = folder / "register.db", folder / "copy.db"
+    database, copy, begun = folder / "register.db", folder / "copy.db", time.time()
     serving = Serving(database, len(RECEIVED), "--new")
     found = [statuses(exchange(serving.port, it)) for it in RECEIVED]
     hold("what is filed", found, [[201], [201], [422], [201], [201]])
     script("register-snapshot", database, copy)
     serving.end()
+    with contextlib.closing(sqlite3.connect(copy)) as rows_of:
+        moments = [moment / 1000 for (moment,) in rows_of.execute("SELECT moment FROM received ORDER BY seq")]
+        hold("the moments of the register", (len(moments), moments == sorted(moments)), (len(RECEIVED), True))
+        hold("they are those of the requests", begun - 0.001 < moments[0] and moments[-1] < time.time(), True)
+        # As if the first request were of an earlier version, and the others had come at these moments.
+        rows_of.execute("DELETE FROM received WHERE seq = 1")
+        rows_of.executemany("UPDATE received SET moment = ? WHERE seq = ?",
+                            [(1711845240000, 2), (1711845210250, 4), (1711843200001, 5)])
+        rows_of.commit()
     # k-1 was answered at 00:30 UTC for the first time, by a clock that is an hour ahead. The line of its repeat has a
     # lesser text.
     early = write_log(folder / "filings.log-2024-03-31.gz", [
@@ -706,15 +749,17 @@ def check_receipts(folder):
         b'{"time":"2024-03-31T00:51:00+00:00","uri":"/fil',
     ])  # fmt: skip
     unread = f"register-receipts: {late}: 3 lines can't be read, the first is line 3\n"
-    none = f"register-receipts: {copy}: 1 filings have no line in these logs\n"
+    none = (f"register-receipts: {copy}: 1 filings have no line in these logs\n"
+            f"register-receipts: {copy}: of 1 filings the moments in the register and in these logs are more than a "
+            "minute apart, the first is filing 2\n")
     sums = {name: hashlib.sha256(body).hexdigest()
             for name, body in [("report", REPORT), ("large", LARGE), ("smallest", SMALLEST)]}
     first = "2024-03-31T01:30:00+01:00,acme"
-    table = f"""number,filer,key,sha256,received,user
-1,ACME,k-1,{sums["report"]},{first}
-2,ACME,"a""b",{sums["report"]},2024-03-31T01:32:00+01:00,agent
-3,ACME,k-4,{sums["large"]},2024-03-31T01:33:00+01:00,acme
-4,BETA,k-1,{sums["smallest"]},,
+    table = f"""number,filer,key,sha256,received,user,said_by
+1,ACME,k-1,{sums["report"]},{first},log
+2,ACME,"a""b",{sums["report"]},2024-03-31T00:34:00.000Z,agent,register
+3,ACME,k-4,{sums["large"]},2024-03-31T00:33:30.250Z,acme,register
+4,BETA,k-1,{sums["smallest"]},2024-03-31T00:00:00.001Z,,register
 """
     before = copy.read_bytes()
     own = ("--host", "intake.example")
@@ -727,15 +772,15 @@ def check_receipts(folder):
          (0, "", unread + none))
     hold("only its owner may read it", rights(reading), "0o600")
     asked = ["sqlite3", "-batch", "-init", str(DEPLOY / "reading.sql"), str(reading)]
-    question = "SELECT number, key, received, user FROM received ORDER BY number"
+    question = "SELECT number, key, received, user FROM senders ORDER BY number"
     done = subprocess.run([*asked, question], capture_output=True, text=True, check=False, timeout=60)
     wanted = (
         "1|k-1|2024-03-31T01:30:00+01:00|acme\n"
-        "2|a\"b|2024-03-31T01:32:00+01:00|agent\n"
-        "3|k-4|2024-03-31T01:33:00+01:00|acme\n"
-        "4|k-1||\n"
+        "2|a\"b|2024-03-31T00:34:00.000Z|agent\n"
+        "3|k-4|2024-03-31T00:33:30.250Z|acme\n"
+        "4|k-1|2024-03-31T00:00:00.001Z|\n"
     )
-    hold("the view `received`", (done.stdout, done.stderr), (wanted, ""))
+    hold("the view `senders`", (done.stdout, done.stderr), (wanted, ""))
     done = subprocess.run([*asked, "SELECT number FROM current ORDER BY number"],
                           capture_output=True, text=True, check=False, timeout=60)
     hold("the view `current`", (done.stdout, done.stderr), ("2\n3\n4\n", ""))
@@ -800,6 +845,7 @@ berruzpil_copy_kept{register="2025"} 0
 berruzpil_copy_kept{register="register"} 4
 berruzpil_copy_filings{register="2025"} 0
 berruzpil_copy_filings{register="register"} 3
+berruzpil_copy_received_timestamp_seconds{register="register"} 1704164640
 berruzpil_copy_timestamp_seconds{register="2025"} 1704067200
 berruzpil_copy_timestamp_seconds{register="register"} 1704164645
 berruzpil_restore_timestamp_seconds{register="register"} 1704164700
@@ -818,6 +864,9 @@ def check_numbers(folder):
     make_register(folder / "register.db")
     # The last copy, begun on 2 January 2024 at 3:04:05: 19,724 days and 11,045 seconds after the first moment of 1970.
     shutil.copy(folder / "register.db", kept / "register-20240102T030405Z.db")
+    with contextlib.closing(sqlite3.connect(kept / "register-20240102T030405Z.db")) as rows_of:
+        rows_of.execute("UPDATE received SET moment = 1704164640999 WHERE seq = (SELECT max(seq) FROM kept)")
+        rows_of.commit()
     (kept / "register.tried").write_text("2024-01-02T03:05:00Z 1 register-20240102T030405Z.db doesn't open\n")
     for it in kept.glob("*-wal"):
         it.unlink()
@@ -1150,6 +1199,7 @@ TRIALS = [
     check_kept_copies,
     check_failed_copies,
     check_receipts,
+    check_digests,
     check_numbers,
     check_pause,
     check_new,

@@ -22,7 +22,8 @@ import sys
 import tempfile
 import time
 
-from odd_register import REGION, SENT, REFUSED, fact, make_odd_register, many, records, report
+from odd_register import MOMENTS, REGION, SENT, REFUSED, date_register, fact, make_odd_register, many, moment_text
+from odd_register import records, report
 from trials import INTAKE, ROOT, failures, hold, run, tell, try_all
 
 TAGS = set(
@@ -52,6 +53,7 @@ class Page(html.parser.HTMLParser):
         super().__init__(convert_charrefs=True)
         self.tags, self.links, self.rows, self.classes, self.open = set(), [], [], [], []
         self.next, self.before, self.policy, self.texts, self.linked = None, None, "", {}, []
+        self.terms = []
         self.faults = []
         self.feed(text)
         self.close()
@@ -71,6 +73,8 @@ class Page(html.parser.HTMLParser):
             self.rows[-1].append("")
             self.classes[-1].append(its.get("class"))
             self.linked[-1].append(None)
+        if tag == "dt":
+            self.terms.append(["", ""])
         if tag == "a" and self.inside("td", "th"):
             self.linked[-1][-1] = its["href"]
         if tag == "a" and its.get("rel") == "next":
@@ -95,6 +99,8 @@ class Page(html.parser.HTMLParser):
     def handle_data(self, data):
         if self.inside("td", "th"):
             self.rows[-1][-1] += data
+        if self.inside("dt", "dd"):
+            self.terms[-1][self.inside("dd")] += data
         for tag in ("style", "script"):
             if self.open and self.open[-1] == tag:
                 self.texts[tag] = self.texts.get(tag, "") + data
@@ -139,8 +145,13 @@ def page(folder, name):
     return Page((folder / name).read_bytes().decode())
 
 
+def shown(moment):
+    return moment_text(moment) or "unknown"
+
+
 def check_texts(folder):
     make_odd_register(folder / "register.db")
+    date_register(folder / "register.db", MOMENTS)
     site = folder / "site"
     site.mkdir()
     pages_of(folder / "register.db", site)
@@ -158,8 +169,12 @@ def check_texts(folder):
         wanted = ["nil" if text is None else seen(text) for text in texts]
         hold(f"filing {number}: values", [row[5] for row in rows], wanted)
         hold(f"filing {number}: concepts", {row[1] for row in rows}, {"eg:A<b>&'"})
+        hold(f"filing {number}: when it was received", dict(read[f"filing-{number}.html"].terms)["Received"],
+             shown(MOMENTS[number - 1]))
     hold("the keys of ACME", [row[1] for row in read["filer-ACME.html"].rows[1:]], ["k<1>'&", "k-2"])
-    hold("what replaces what", [row[3:] for row in read["filer-ACME.html"].rows[1:]], [["", "3"], ["1", ""]])
+    hold("when they were received", [row[2] for row in read["filer-ACME.html"].rows[1:]],
+         [shown(MOMENTS[0]), shown(MOMENTS[2])])
+    hold("what replaces what", [row[4:] for row in read["filer-ACME.html"].rows[1:]], [["", "3"], ["1", ""]])
     hold("the filers", [row for row in read["index.html"].rows[1:]],
          [["007", "1", "1", "0"], ["ACME", "2", "1", "0"], ["BETA", "1", "1", "2"], ["a.b_c-", "1", "1", "0"]])
     rows = read["refused-BETA.html"].rows[1:]
@@ -202,7 +217,8 @@ def check_looks(folder):
         wide = any(set(it["dimensions"]) - core for it in facts.values())
         hold(f"filing {number}: columns", len(its.rows[0]), 8 if wide else 7)
     style = read["index.html"].texts["style"]
-    for rule in (".amount { text-align: right; }", ".period { white-space: nowrap; }"):
+    hold("moments on one line", {row[2] for row in read["filer-ACME.html"].classes[1:]}, {"moment"})
+    for rule in (".amount { text-align: right; }", ".moment, .period { white-space: nowrap; }"):
         hold(f"the style has {rule}", rule in style, True)
     hold("control characters are seen", read[f"filing-{len(valid)}.html"].rows[1][5], "bell \u2407 and return \u240d")
     counts = dict(zip((row[0] for row in read["index.html"].rows), (row[3] for row in read["index.html"].linked)))
@@ -364,6 +380,10 @@ TRIALS = [check_texts, check_looks, check_parts, check_hostile, check_folder, ch
 # Which trial sees what.
 FAULTS = [
     (check_texts, "filing-1.html", "it&#39;s &amp; ", "it&#39;s "),
+    (check_texts, "filing-2.html", "unknown", "1970-01-01T00:00:00.000Z"),
+    (check_texts, "filing-4.html", "23:59:59.999Z", "24:00:00.000Z"),
+    (check_texts, "filer-ACME.html", "1970-01-01T00:00:00.000Z", "1970-01-01T00:00:00Z"),
+    (check_looks, "filer-ACME.html", 'class="moment"', 'class="text"'),
     (check_looks, "index.html", "filer-ACME.html", "filer-NONE.html"),
     (check_looks, "index.html", "text-align: right", "text-align:right"),
     (check_looks, "filing-2.html", 'class="amount"', 'class="text"'),

@@ -42,7 +42,7 @@ HELP = ("help", "Prints the help of a command", Words([], False, takes_command=T
 
 
 def option_of(names, meaning):
-    value = re.search(r"<(\w+)>", names)
+    value = re.search(r"<([\w:]+)>", names)
     values = re.search(r"\[possible values: ([^]]*)\]", meaning)
     return Option(re.findall(r"(?<!\S)--?[\w-]+", names), value[1] if value else "",
                   values[1].split(", ") if values else [], meaning)

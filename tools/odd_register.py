@@ -1,5 +1,8 @@
-"""A register with odd texts, which the checks of exports and of pages share."""
+"""A register with odd texts, which the checks of exports, of pages and of digests share."""
+import contextlib
+import datetime
 import json
+import sqlite3
 
 from trials import Serving, exchange, request
 
@@ -78,8 +81,41 @@ SENT = [
 REFUSED = 2
 
 
+# When these came, in milliseconds since 1970, at the ends of what a moment may be, of a month and of a year. The first
+# two were kept before a register knew it.
+MOMENTS = [None, None, 0, 951_782_399_999, 951_782_400_000, 4_107_542_400_000, 253_402_300_799_999]
 # How many requests a connection carries.
 EACH = 100
+
+
+def moment_text(moment):
+    """A moment as RFC 3339 has it, in UTC and with milliseconds, worked out by Python's calendar."""
+    if moment is None:
+        return None
+    shown = datetime.datetime(1970, 1, 1) + datetime.timedelta(milliseconds=moment)
+    return shown.isoformat(timespec="milliseconds") + "Z"
+
+
+def clock():
+    """The moment by the clock, as RFC 3339 has it."""
+    shown = datetime.datetime.now(datetime.timezone.utc).replace(tzinfo=None)
+    return shown.isoformat(timespec="milliseconds") + "Z"
+
+
+def date_register(database, moments):
+    """Makes the register anew by SQLite, with these moments of its requests: the file has no sums then."""
+    made = database.with_suffix(".made")
+    database.rename(made)
+    with contextlib.closing(sqlite3.connect(made)) as old, contextlib.closing(sqlite3.connect(database)) as new:
+        new.execute("PRAGMA journal_mode = WAL")
+        for table, text in old.execute("SELECT name, sql FROM sqlite_master WHERE type = 'table' ORDER BY rowid"):
+            new.execute(text)
+            rows = old.execute(f"SELECT * FROM {table}").fetchall()
+            if table == "received":
+                rows = [(seq, moment) for seq, moment in enumerate(moments, 1) if moment is not None]
+            if rows:
+                new.executemany(f"INSERT INTO {table} VALUES ({', '.join('?' * len(rows[0]))})", rows)
+        new.commit()
 
 
 def make_odd_register(database, more=()):
@@ -107,8 +143,8 @@ CORE = {"concept": "concept", "entity": "entity", "period": "period", "unit": "u
         "noteId": "note_id"}  # fmt: skip
 
 
-def records(sent, filer=None):
-    """What an export has to say of the facts of valid reports, worked out from what was sent."""
+def records(sent, filer=None, moments=MOMENTS):
+    """What an export has to say of the facts of valid reports, worked out from what was sent and when it came."""
     valid = sent[: len(sent) - REFUSED]
     for number, (own, key, _, facts) in enumerate(valid, 1):
         if filer not in (None, own):
@@ -126,4 +162,5 @@ def records(sent, filer=None):
                 "value": facts[name]["value"],
                 "decimals": facts[name].get("decimals"),
                 "replaced_by": replaced_by,
+                "received": moment_text(moments[number - 1]),
             }

@@ -8,6 +8,7 @@ if that is not so.
 
 It takes the programs that `rt run` builds, as crates/intake/out/intake.
 """
+import hashlib
 import pathlib
 import re
 import shutil
@@ -285,6 +286,12 @@ def try_register(counts, folder):
     )
     try_command(counts, folder, "intake show", words_of(INTAKE, "show", "--db", database, "--number", 1), check, sound)
     try_command(counts, folder, "intake digest", words_of(INTAKE, "digest", "--db", database), check, sound)
+    against = words_of(INTAKE, "check", "--db", database, "--against", f"0:{hashlib.sha256(b'').hexdigest()}")
+    try_command(counts, folder, "intake check --against", against, check, sound)
+    moments = words_of(INTAKE, "list", "--db", database, "--filer", "ACME", "--moments")
+    try_command(counts, folder, "intake list --moments", moments, check, sound)
+    moments = words_of(INTAKE, "show", "--db", database, "--number", 1, "--moments")
+    try_command(counts, folder, "intake show --moments", moments, check, sound)
 
 
 def try_migration(counts, folder):

@@ -10,9 +10,8 @@ import hashlib
 import sqlite3
 import sys
 
-# A register does not know when a request came.
-KEPT = ("SELECT seq, filer, idem, target, number, NULL, body FROM kept LEFT JOIN amends USING (seq) "
-        "ORDER BY seq")  # fmt: skip
+KEPT = ("SELECT seq, filer, idem, target, number, moment, body FROM kept LEFT JOIN amends USING (seq) "
+        "LEFT JOIN received USING (seq) ORDER BY seq")  # fmt: skip
 
 
 def row_text(*fields):

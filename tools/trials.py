@@ -37,6 +37,16 @@ INSERT INTO intake_meta VALUES (1, 'register', 2);
 INSERT INTO kept VALUES (1, 'ACME', 'k-1', x'', NULL);
 INSERT INTO finding VALUES (1, 1, 1, x'');
 """
+# What the tables of forms 3 and 4 have besides.
+LATER = {
+    3: """
+CREATE TABLE migrated (id INTEGER PRIMARY KEY, last INTEGER NOT NULL) STRICT;
+INSERT INTO migrated VALUES (1, 0);
+""",
+    4: """
+CREATE TABLE amends (seq INTEGER PRIMARY KEY, target INTEGER NOT NULL) STRICT;
+""",
+}
 # An outbox of form 1, with an entry that was confirmed and one that is open.
 EARLIER_OUTBOX = """
 CREATE TABLE outbox_meta (id INTEGER PRIMARY KEY, kind TEXT NOT NULL, form INTEGER NOT NULL,
@@ -205,9 +215,10 @@ def make_by_sql(database, statements):
     conn.close()
 
 
-def make_earlier(database):
-    """A register of form 2, in which an empty body is kept under `ACME`'s `k-1`."""
-    make_by_sql(database, EARLIER)
+def make_earlier(database, form=2):
+    """A register of form 2, 3 or 4, in which an empty body is kept under `ACME`'s `k-1`."""
+    later = "".join(text for since, text in LATER.items() if since <= form)
+    make_by_sql(database, f"{EARLIER}{later}UPDATE intake_meta SET form = {form};")
 
 
 def make_earlier_outbox(database, more=""):

@@ -6,6 +6,7 @@ use Rattle.std.specs.Bool.{Decides}
 use Rattle.std.specs.Char.{digit_value}
 use Rattle.std.specs.List.{list_all}
 use Rattle.std.specs.Option.{option_map_or, unwrap_or}
+use Rattle.std.specs.Result.{result_ok}
 use Rattle.std.specs.Prelude.{option_and_then}
 use Rattle.std.specs.Str.{bytes_eq}
 use Rattle.std.specs.Str.Parse.{AllDigits, ParsesUnsigned, ExplainsUnsignedError, HasUnsignedDigitsIfOk, ParsesBool}
@@ -57,6 +58,12 @@ is_none bits text why unread = go (fits bits (without_leading_plus text)) refl
         let outer = both _ _ is in
         let inner = both _ _ outer.0 in
         absurd (unread.0 ((ltb-true _ _ inner.0, all_are (without_leading_plus text) inner.1), ltb-true _ _ outer.1))
+
+-- `parse` answers the number that a text writes
+pub text_read : (bits : ℕ) (text : Text) (read : Result ℕ ParseIntError) → Reads bits text read
+    → result_ok read ≡ read_decimal bits text
+text_read bits text (Ok n) is = is_number bits text n is
+text_read bits text (Err why) isnt = is_none bits text why isnt
 
 -- `get_one` answers the number that the value of an option writes
 pub number_read : (bits : ℕ) (found : Found) (name : Text) (result : Option ℕ)

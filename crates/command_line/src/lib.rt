@@ -23,6 +23,7 @@ pub use output::{DONE, show, show_refusal};
 pub use patience::{Deadline, Patient, Waits};
 pub use report_file::{ReportFault, report};
 pub use values::{
-    is_set, number_of, number_of_16_bits, number_of_32_bits, value_of, values_of, wait_of,
+    is_set, number_of, number_of_16_bits, number_of_32_bits, read_number, value_of, values_of,
+    wait_of,
 };
 pub use word::{ToArg, Word, tasks};

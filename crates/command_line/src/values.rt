@@ -1,7 +1,7 @@
 //! The values that `clap` found for the options of a word.
 
 ghost use Rattle.std.specs.Prelude.{◌≡◌, IfOk, option_map, unwrap_or, map, codes};
-ghost use Rattle.command_line.specs.Values.{options_of, value, values as all_values, is_set, number};
+ghost use Rattle.command_line.specs.Values.{options_of, value, values as all_values, is_set, number, read_decimal};
 
 use clap::ArgMatches;
 use std::alloc::{AllocError, Global};
@@ -54,6 +54,13 @@ pub fn number_of_16_bits(values: &ArgMatches<'_>, name: &str) -> Option<u16>
     ensures { result ≡ number 16 name.now (options_of values.now) }
 {
     values.get_one(name)
+}
+
+/// The number that a text writes in decimal digits, if it has 64 bits at most.
+pub fn read_number(text: &str) -> Option<u64>
+    ensures { result ≡ read_decimal 64 text.now }
+{
+    text.parse().ok()
 }
 
 /// For how many seconds a file is waited for, which is 0 if `--wait` does not say it.

@@ -13,8 +13,8 @@ use Rattle.table_rows.proofs.CleanLemmas.{always_clean}
 use Rattle.intake_core.specs.declared.intake.Intake.{Intake}
 use Rattle.database_places.specs.Places.{IsHonest}
 use Rattle.programs.specs.Deliveries.{Delivery}
-use Rattle.intake_process.specs.declared.begun.Totals.{Totals}
-use Rattle.intake_process.specs.Begun.{HoldsAs, AreTotals, FindsIntake}
+use Rattle.intake_process.specs.declared.beginning.Totals.{Totals}
+use Rattle.intake_process.specs.Beginning.{HoldsAs, AreTotals, FindsIntake}
 use Rattle.programs.specs.Happenings.{Situation, Serving, Killing}
 use Rattle.crash_recovery.specs.Deciding.{StopsIn}
 use Rattle.crash_recovery.specs.Killed.{ComesOn, read_on, cut_off, HappenedIn}

@@ -9,7 +9,7 @@ pub(crate) const OF_REGISTERS: &[u8] = b"intake_meta";
 pub(crate) const OF_OUTBOXES: &[u8] = b"outbox_meta";
 
 /// The table that a register has only since its newest version.
-const OF_NEW_REGISTERS: &[u8] = b"amends";
+const OF_NEW_REGISTERS: &[u8] = b"received";
 
 /// The table that an outbox has only since its newest version.
 const OF_NEW_OUTBOXES: &[u8] = b"target";

@@ -5,8 +5,8 @@
 
 mod complaint;
 mod event;
+mod event_line;
 mod fault;
-mod line;
 mod lines;
 mod put;
 mod read;

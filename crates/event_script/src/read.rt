@@ -9,8 +9,8 @@ ghost use Rattle.event_script.specs.Scripts.{events_from, filers_of, limit_of, s
 ghost use Rattle.event_script.specs.Scripts.{IsFaultOf};
 
 use crate::event::Event;
+use crate::event_line::{read_event, read_limit_line, read_outbox_line};
 use crate::fault::ScriptFault;
-use crate::line::{read_event, read_limit_line, read_outbox_line};
 use crate::lines::Lines;
 use crate::script::Script;
 use std::alloc::{AllocError, Global};

@@ -23,7 +23,7 @@ use crate::decide::Decided;
 use crate::stop::Stop;
 use filing_model::{Ended, Mark};
 use http_wire::{ConnFault, Inbox, Next, Refusal, Sink, Source};
-use intake_core::Intake;
+use intake_core::{Intake, Moment};
 use sqlite::Alter;
 use std::alloc::Global;
 
@@ -134,7 +134,8 @@ fn serve_arrivals<R: Source, W: Sink, S: Alter>(
     }
 }
 
-/// Serves the next arrival. If the connection goes on, one mark was added.
+/// Serves the next arrival. If the connection goes on, one mark was added. A request came when the last read of it
+/// ended, as the reader says.
 fn serve_arrival<R: Source, W: Sink, S: Alter>(
     alloc: Global,
     inbox: &mut Inbox,
@@ -163,7 +164,10 @@ fn serve_arrival<R: Source, W: Sink, S: Alter>(
     ensures told { TellsTurn inbox.new (R.left reader.new) result }
 {
     match inbox.next(reader, writer) {
-        Ok(Next::Message) => serve_message(alloc, inbox, writer, intake, stop, marks),
+        Ok(Next::Message) => {
+            intake.date(Moment::at(reader.moment()));
+            serve_message(alloc, inbox, writer, intake, stop, marks)
+        }
         Ok(Next::Refuse(refusal)) => serve_refusal(alloc, refusal, writer, stop, marks),
         Ok(Next::End) => Turn::Ended(Ended::InputEnded),
         Err(fault) => Turn::Ended(Ended::Fault(fault)),

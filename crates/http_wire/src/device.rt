@@ -23,6 +23,12 @@ pub trait Source {
         ensures bound { ReadsAtMost result room.new }
         ensures bytes { ReadConsumes (left self.old) (left self.new) result room.new }
         ensures failures { Counts (read_failures self.old) (read_failures self.new) result };
+
+    /// When the last read ended, in milliseconds since 1970-01-01T00:00:00Z by the clock of the system; 0 if the reader
+    /// looks at no clock. No clause says that the clock is right.
+    fn moment(&self) -> u64 {
+        0
+    }
 }
 
 /// A writer whose bytes contracts can name, and which counts its failures.

@@ -1,3 +1,3 @@
 pub mod Answered
 pub mod Cache
-pub mod Line
+pub mod FactLine

@@ -4,9 +4,9 @@
 #![tactic(auto)]
 
 mod cache;
-mod line;
+mod fact_lines;
 mod request;
 
 pub use cache::{Cache, answer_by, name_of};
-pub use line::fact_line;
+pub use fact_lines::fact_line;
 pub use request::Request;

@@ -2,5 +2,5 @@ pub mod Bounds
 pub mod Reading
 pub mod Status
 pub mod Tasks
-pub mod Told
+pub mod ReportedFault
 pub mod Words

@@ -7,9 +7,9 @@ use Rattle.intake_commands.specs.declared.options.Task.TheVariants as task
 
 -- an errand that changes nothing of the register that it is for
 abbrev pub changes_nothing : Errand → Bool
-changes_nothing (errand.List filer) = true
-changes_nothing (errand.Show number) = true
-changes_nothing errand.Check = true
+changes_nothing (errand.List filer dated) = true
+changes_nothing (errand.Show number dated) = true
+changes_nothing (errand.Check against) = true
 changes_nothing (errand.Export form filer) = true
 changes_nothing (errand.Digest until) = true
 changes_nothing (errand.Pages folder) = true
@@ -22,5 +22,5 @@ only_reads other = false
 
 -- a check is asked for, which copies the log into the file if both may be written
 abbrev pub copies_log : Task → Bool
-copies_log (task.Visit database errand.Check) = true
+copies_log (task.Visit database (errand.Check against)) = true
 copies_log other = false

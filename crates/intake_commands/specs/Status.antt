@@ -22,7 +22,8 @@ opening_status (opening.Damaged row) = 1
 opening_status opening.Memory = 3
 opening_status opening.Disk = 3
 
--- the status is 1 also if the database cannot become a register, and 4 if a filing or a request is missing
+-- the status is 1 also if the database cannot become a register, or is another one, and 4 if a filing or a request is
+-- missing
 abbrev pub visit_status : VisitFault → ℕ
 visit_status (visit.Taken holding) = 1
 visit_status (visit.Create create.Taken) = 1
@@ -36,12 +37,14 @@ visit_status (visit.NotClosed error) = 3
 visit_status (visit.List why) = 3
 visit_status (visit.NoFiling number) = 4
 visit_status (visit.TooFew kept) = 4
+visit_status (visit.Another count) = 1
 
 -- 2 if the command line is at fault, and 3 for memory, the disk, a folder and the network
 abbrev pub fault_status : Fault → ℕ
 fault_status (fault.Command why) = command_line.status_of why
 fault_status fault.NoInit = 2
 fault_status fault.Limit = 2
+fault_status fault.Against = 2
 fault_status (fault.InMemory why) = 3
 fault_status (fault.Register name why) = visit_status why
 fault_status (fault.Connection why) = 3

@@ -35,7 +35,7 @@ use Rattle.intake_process.specs.declared.visiting.Visited.{Visited}
 use Rattle.intake_commands.specs.declared.fault.Fault.{Fault}
 use Rattle.intake_commands.specs.declared.fault.Fault.TheVariants as fault
 use Rattle.intake_commands.specs.Status.{status_of, fault_verdict}
-use Rattle.intake_commands.specs.Told.{IsErrandTold, IsOpeningTold}
+use Rattle.intake_commands.specs.ReportedFault.{IsErrandTold, IsOpeningTold}
 
 -- What contracts see of what a task works with, as far as it is known: the connection on standard input and output,
 -- what else the output has, which pages the folder has, the port, and the process of the register.
@@ -108,13 +108,13 @@ Serves task port port' old new result =
 
 -- whether the filer's code of an errand, if it has one, is the code of a filer
 abbrev pub is_wanted : Errand → Bool
-is_wanted (asked.List filer) = is_filer filer.now
+is_wanted (asked.List filer dated) = is_filer filer.now
 is_wanted (asked.Export form (Some filer)) = is_filer filer.now
 is_wanted other = true
 
 -- the verdict that is printed, beside the text of a fault on standard error: that of a check or a migration
 abbrev pub shown_verdict : Errand → Fault → Option Verdict
-shown_verdict asked.Check why = fault_verdict why
+shown_verdict (asked.Check against) why = fault_verdict why
 shown_verdict asked.Migrate why = fault_verdict why
 shown_verdict other why = None
 
@@ -163,7 +163,7 @@ abbrev pub VisitsCurrent : {D : Type 0} {g : Ghosts D} → Bor (List ℕ) → Er
     → Parts g → Result ℕ Fault → Type 0
 VisitsCurrent name not_earlier out out' old new result =
     (unshown : Option (List ℕ)) × (unshown' : Option (List ℕ)) × (visited : Visited)
-    × VisitsRegister asked.Check (outputs unshown out.pages) (outputs unshown' out'.pages) old new visited
+    × VisitsRegister (asked.Check None) (outputs unshown out.pages) (outputs unshown' out'.pages) old new visited
     × IsCurrentTold name not_earlier visited.done out.text out'.text result
 
 -- ---- what a visit says

@@ -1,14 +1,18 @@
 -- What the command line asks `intake` for, by the word that `clap` found and the values of its options. `clap` says
 -- nothing of which words give which values, since an option may have a value that begins with a hyphen.
 use Rattle.std.specs.Prelude.{◌≡◌, ◌⊎◌, ◌&&◌, ℕ, Bool, true, false, List, [], ◌∷◌, map, codes, Option, Some, None}
-use Rattle.std.specs.Prelude.{is_some, option_map, option_and_then, unwrap_or, if◌then◌else◌}
-use Rattle.std.specs.List.{list_any}
+use Rattle.std.specs.Prelude.{Result, Ok, Err, is_some, option_map, option_and_then, unwrap_or, if◌then◌else◌, eqb}
+use Rattle.std.specs.List.{after_first, before_first, list_any}
+use Rattle.std.specs.Option.{option_map_or}
+use Rattle.std.specs.Result.{result_ok}
 use Rattle.std.specs.Str.{bytes_eq}
 use Rattle.clap.specs.Words.{Row, Text, HasMatchesOf, IsParsedFrom, app_of, kind_of, subcommand_rows_of, takes}
 use Rattle.clap.specs.declared.builder.command.Command.{Command}
 use Rattle.clap.specs.declared.error.Error.{Error}
 use Rattle.clap.specs.declared.error.kind.ErrorKind.TheVariants.{OutOfMemory}
 use Rattle.clap.specs.declared.parser.matches.ArgMatches.{ArgMatches}
+use Rattle.hex.specs.Hex.{decode_sized}
+use Rattle.command_line.specs.declared.fault.CommandFault.TheVariants as command
 use Rattle.register_export.specs.declared.facts.record.Form.{Form as Format}
 use Rattle.register_export.specs.declared.facts.record.Form.TheVariants.{Csv, JsonLines}
 use Rattle.finding_lines.specs.declared.form.Form.{Form}
@@ -16,11 +20,14 @@ use Rattle.finding_lines.specs.declared.form.Form.TheVariants.{Sentences, Object
 use Rattle.intake_process.specs.declared.tasks.errand.Errand.{Errand}
 use Rattle.intake_process.specs.declared.tasks.errand.Errand.TheVariants.{List as ListOf, Show, Check, Migrate, Export}
 use Rattle.intake_process.specs.declared.tasks.errand.Errand.TheVariants.{Digest, Pages}
+use Rattle.intake_process.specs.declared.tasks.errand.Published.{Published}
+use Rattle.intake_commands.specs.declared.fault.Fault.{Fault}
+use Rattle.intake_commands.specs.declared.fault.Fault.TheVariants as fault
 use Rattle.intake_commands.specs.declared.options.Asked.{Asked}
 use Rattle.intake_commands.specs.declared.options.Serving.{Serving}
 use Rattle.intake_commands.specs.declared.options.Task.{Task}
 use Rattle.intake_commands.specs.declared.options.Task.TheVariants.{Run, Serve, Visit, Lint}
-use Rattle.command_line.specs.Values.{value, values, is_set, number}
+use Rattle.command_line.specs.Values.{value, values, is_set, number, read_decimal}
 
 -- ---- what options say
 
@@ -41,6 +48,29 @@ format_named text =
 -- the format that `--format` names
 abbrev pub format_of : List Row → Option Format
 format_of options = option_and_then format_named (value (codes "format") options)
+
+-- what stands before the first colon of a text, and behind it; nothing if it has none
+unfoldable pub before_colon : Text → Text
+before_colon text = before_first (λ byte. eqb byte 58) text
+
+unfoldable pub after_colon : Text → Text
+after_colon text = after_first (λ byte. eqb byte 58) text
+
+-- the digest that a text `N:HEX` writes: N in decimal digits, and HEX as the 64 hexadecimal digits of 32 bytes
+unfoldable pub published_in : Text → Option Published
+published_in text =
+    option_and_then
+    (λ count. option_map (λ bytes. record { count = count; bytes = bytes })
+    (result_ok (decode_sized (after_colon text) 32)))
+    (read_decimal 64 (before_colon text))
+
+-- the digest of `--against`
+abbrev pub against_of : List Row → Option Published
+against_of options = option_and_then published_in (value (codes "against") options)
+
+-- whether its value, if there is one, writes a digest
+abbrev pub is_against : List Row → Bool
+is_against options = option_map_or (λ text. is_some (published_in text)) (value (codes "against") options) true
 
 -- ---- tasks
 
@@ -63,9 +93,14 @@ has_serving options = is_some (value (codes "db") options) && (is_some (number 1
 
 -- the errand is what this word asks for
 abbrev pub IsErrand : Text → List Row → Errand → Type 0
-IsErrand word options (ListOf filer) = (word ≡ codes "list") × (value (codes "filer") options ≡ Some filer.now)
-IsErrand word options (Show filing) = (word ≡ codes "show") × (number 64 (codes "number") options ≡ Some filing)
-IsErrand word options Check = word ≡ codes "check"
+IsErrand word options (ListOf filer dated) =
+    (word ≡ codes "list") × (value (codes "filer") options ≡ Some filer.now)
+    × (dated ≡ is_set (codes "moments") options)
+IsErrand word options (Show filing dated) =
+    (word ≡ codes "show") × (number 64 (codes "number") options ≡ Some filing)
+    × (dated ≡ is_set (codes "moments") options)
+IsErrand word options (Check against) =
+    (word ≡ codes "check") × (is_against options ≡ true) × (against_of options ≡ against)
 IsErrand word options Migrate = word ≡ codes "migrate"
 IsErrand word options (Export format filer) =
     (word ≡ codes "export") × (format_of options ≡ Some format)
@@ -73,14 +108,15 @@ IsErrand word options (Export format filer) =
 IsErrand word options (Digest until) = (word ≡ codes "digest") × (number 64 (codes "until") options ≡ until)
 IsErrand word options (Pages folder) = (word ≡ codes "pages") × (value (codes "into") options ≡ Some folder.now)
 
--- whether a word asks for an errand, and the values are there that the errand needs
+-- whether a word asks for an errand, and the values are there that the errand needs, and of its form
 abbrev pub has_errand : Text → List Row → Bool
 has_errand word options =
     if bytes_eq word (codes "list") then is_some (value (codes "filer") options)
     else if bytes_eq word (codes "show") then is_some (number 64 (codes "number") options)
     else if bytes_eq word (codes "export") then is_some (format_of options)
     else if bytes_eq word (codes "pages") then is_some (value (codes "into") options)
-    else list_any (bytes_eq word) (codes "check" ∷ codes "migrate" ∷ codes "digest" ∷ [])
+    else if bytes_eq word (codes "check") then is_against options
+    else list_any (bytes_eq word) (codes "migrate" ∷ codes "digest" ∷ [])
 
 -- the errand that a word asks for, if it asks for one
 abbrev pub IsErrandBy : Text → List Row → Option Errand → Type 0
@@ -97,7 +133,7 @@ IsTask word options (Lint filer form files) =
     (word ≡ codes "lint") × (value (codes "filer") options ≡ Some filer.now) × (form ≡ form_of options)
     × (map (λ text. text.now) files.items ≡ values (codes "FILE") options)
 
--- whether a word asks for a task, and the values are there that the task needs
+-- whether a word asks for a task, and the values are there that the task needs, and of its form
 abbrev pub has_task : Text → List Row → Bool
 has_task word options =
     if bytes_eq word (codes "run") then true
@@ -122,18 +158,22 @@ folder_of other = []
 
 -- ---- what is asked for
 
+-- the fault of options that ask for nothing: the value of `--against` writes no digest, or there is no task
+abbrev pub unasked : List Row → Fault
+unasked options = if is_against options then fault.Command command.NoTask else fault.Against
+
 -- a task, if the word that was found asks for one, and its file is waited for as long as `--wait` says, or not at all;
 -- without a word one connection is run, with the limit that is set if nothing is said
-abbrev pub IsAsked : Option (Text × List Row) → Option Asked → Type 0
-IsAsked None asked = asked ≡ Some (record { task = Run 1000000; wait = 0 })
-IsAsked (Some (word, options)) None = has_task word options ≡ false
-IsAsked (Some (word, options)) (Some asked) =
+abbrev pub IsAsked : Option (Text × List Row) → Result Asked Fault → Type 0
+IsAsked None asked = asked ≡ Ok (record { task = Run 1000000; wait = 0 })
+IsAsked (Some (word, options)) (Err why) = (has_task word options ≡ false) × (why ≡ unasked options)
+IsAsked (Some (word, options)) (Ok asked) =
     IsTask word options asked.task × (asked.wait ≡ unwrap_or (number 32 (codes "wait") options) 0)
 
 -- ---- reading the command line
 
 -- `clap` found these matches with this command, and they ask for that
-abbrev pub IsReadBy : Command → List Text → Option Asked → Type 0
+abbrev pub IsReadBy : Command → List Text → Result Asked Fault → Type 0
 IsReadBy command words asked =
     (matches : ArgMatches) × IsParsedFrom command matches × HasMatchesOf (app_of command) words matches
     × IsAsked (subcommand_rows_of matches) asked
@@ -142,7 +182,7 @@ IsReadBy command words asked =
 abbrev pub IsUnreadBy : Command → List Text → Error → Type 0
 IsUnreadBy command words error = takes (app_of command) words ≡ true → kind_of error ≡ OutOfMemory
 
-abbrev pub IsRead : List Text → Option Asked → Type 0
+abbrev pub IsRead : List Text → Result Asked Fault → Type 0
 IsRead words asked = (command : Command) × IsReadBy command words asked
 
 abbrev pub IsUnread : List Text → Error → Type 0

@@ -4,14 +4,18 @@ ghost use Rattle.std.specs.Prelude.{◌≡◌, IfOk, IfErr, IfSome, string_bytes
 ghost use Rattle.clap.specs.Words.{subcommand_rows_of};
 ghost use Rattle.command_line.specs.Values.{options_of};
 ghost use Rattle.intake_commands.specs.Words.{limit_of, form_of, format_of, has_serving, has_errand, IsServingOf};
+ghost use Rattle.intake_commands.specs.Words.{unasked};
 ghost use Rattle.intake_commands.specs.Words.{IsErrandBy, IsTaskBy, IsAsked, IsRead, IsReadBy, IsUnread, IsUnreadBy};
 
+use crate::fault::Fault;
 use crate::options::{
     Asked, DEFAULT_AT_ONCE, DEFAULT_LIMIT, DEFAULT_MEMORY, Serving, Task, command,
 };
+use crate::published::read_published;
 use clap::{ArgMatches, Command, Error};
 use command_line::{
-    is_set, number_of, number_of_16_bits, number_of_32_bits, value_of, values_of, wait_of,
+    CommandFault, is_set, number_of, number_of_16_bits, number_of_32_bits, value_of, values_of,
+    wait_of,
 };
 use finding_lines::Form;
 use intake_process::Errand;
@@ -70,6 +74,7 @@ fn list_of<'a>(values: &ArgMatches<'a>) -> Option<Errand<'a>>
 {
     Some(Errand::List {
         filer: value_of(values, "filer")?,
+        moments: is_set(values, "moments"),
     })
 }
 
@@ -78,6 +83,7 @@ fn show_of<'a>(values: &ArgMatches<'a>) -> Option<Errand<'a>>
 {
     Some(Errand::Show {
         number: number_of(values, "number")?,
+        moments: is_set(values, "moments"),
     })
 }
 
@@ -98,6 +104,17 @@ fn pages_of<'a>(values: &ArgMatches<'a>) -> Option<Errand<'a>>
     })
 }
 
+fn check_of<'a>(values: &ArgMatches<'a>) -> Option<Errand<'a>>
+    ensures { IsErrandBy (codes "check") (options_of values.now) result }
+{
+    match value_of(values, "against") {
+        Some(text) => Some(Errand::Check {
+            against: Some(read_published(text)?),
+        }),
+        None => Some(Errand::Check { against: None }),
+    }
+}
+
 fn digest_of<'a>(values: &ArgMatches<'a>) -> Option<Errand<'a>>
     ensures { IsErrandBy (codes "digest") (options_of values.now) result }
 {
@@ -106,14 +123,15 @@ fn digest_of<'a>(values: &ArgMatches<'a>) -> Option<Errand<'a>>
     })
 }
 
-/// The errand that a word asks for. `None` if it asks for none, or a value is not there that the errand needs.
+/// The errand that a word asks for. `None` if it asks for none, or a value is not there that the errand needs, or not
+/// of its form.
 fn errand_of<'a>(word: &str, values: &ArgMatches<'a>) -> Option<Errand<'a>>
     ensures { IsErrandBy word.now (options_of values.now) result }
 {
     match word {
         "list" => list_of(values),
         "show" => show_of(values),
-        "check" => Some(Errand::Check),
+        "check" => check_of(values),
         "migrate" => Some(Errand::Migrate),
         "export" => export_of(values),
         "pages" => pages_of(values),
@@ -147,7 +165,8 @@ fn lint_of<'a>(alloc: Global, values: &ArgMatches<'a>) -> Result<Option<Task<'a>
     }))
 }
 
-/// The task that a word asks for. `None` if it asks for none, or a value is not there that the task needs.
+/// The task that a word asks for. `None` if it asks for none, or a value is not there that the task needs, or not of
+/// its form.
 fn task_of<'a>(
     alloc: Global,
     word: &str,
@@ -170,7 +189,7 @@ fn task_of<'a>(
 
 /// What is asked for if no word says so.
 fn default_asked<'a>() -> Asked<'a>
-    ensures { IsAsked None (Some result) }
+    ensures { IsAsked None (Ok result) }
 {
     Asked {
         task: Task::Run {
@@ -180,30 +199,43 @@ fn default_asked<'a>() -> Asked<'a>
     }
 }
 
+/// Why the values of a word ask for nothing.
+fn unasked<'a>(values: &ArgMatches<'a>) -> Fault<'a>
+    ensures { result ≡ unasked (options_of values.now) }
+{
+    match value_of(values, "against") {
+        Some(text) if read_published(text).is_none() => Fault::Against,
+        _ => Fault::Command(CommandFault::NoTask),
+    }
+}
+
 /// What a word asks for.
 fn asked_by<'a>(
     alloc: Global,
     word: &str,
     values: &ArgMatches<'a>,
-) -> Result<Option<Asked<'a>>, AllocError>
+) -> Result<Result<Asked<'a>, Fault<'a>>, AllocError>
     ensures { IfOk result (IsAsked (Some (word.now, options_of values.now))) }
 {
     match task_of(alloc, word, values)? {
-        Some(task) => Ok(Some(Asked {
+        Some(task) => Ok(Ok(Asked {
             task,
             wait: wait_of(values),
         })),
-        None => Ok(None),
+        None => Ok(Err(unasked(values))),
     }
 }
 
 /// What is asked for by the word that was found.
-fn asked<'a>(alloc: Global, matches: &ArgMatches<'a>) -> Result<Option<Asked<'a>>, AllocError>
+fn asked<'a>(
+    alloc: Global,
+    matches: &ArgMatches<'a>,
+) -> Result<Result<Asked<'a>, Fault<'a>>, AllocError>
     ensures { IfOk result (IsAsked (subcommand_rows_of matches.now)) }
 {
     match matches.subcommand() {
         Some((word, values)) => asked_by(alloc, word, values),
-        None => Ok(Some(default_asked())),
+        None => Ok(Ok(default_asked())),
     }
 }
 
@@ -212,7 +244,7 @@ fn read_by<'a>(
     alloc: Global,
     command: Command<'a>,
     words: &'a [String],
-) -> Result<Option<Asked<'a>>, Error>
+) -> Result<Result<Asked<'a>, Fault<'a>>, Error>
     ensures read { IfOk result (IsReadBy command.entry (map string_bytes words.now)) }
     ensures unread { IfErr result (IsUnreadBy command.entry (map string_bytes words.now)) }
 {
@@ -222,9 +254,12 @@ fn read_by<'a>(
     }
 }
 
-/// What these words ask for. The first word is the program's name; if it is the only one, the task is `run`. `None` if
-/// the words ask for nothing.
-pub(crate) fn read<'a>(alloc: Global, words: &'a [String]) -> Result<Option<Asked<'a>>, Error>
+/// What these words ask for. The first word is the program's name; if it is the only one, the task is `run`. `clap`'s
+/// error if it does not take the words; a fault if it does and they ask for nothing.
+pub(crate) fn read<'a>(
+    alloc: Global,
+    words: &'a [String],
+) -> Result<Result<Asked<'a>, Fault<'a>>, Error>
     ensures read { IfOk result (IsRead (map string_bytes words.now)) }
     ensures unread { IfErr result (IsUnread (map string_bytes words.now)) }
 {

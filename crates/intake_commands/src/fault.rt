@@ -144,6 +144,9 @@ pub enum VisitFault {
     /// The register keeps so many requests, and that is fewer than were asked for.
     #[error("no more are kept than {kept}")]
     TooFew { kept: u64 },
+    /// The digest of the first requests, so many, is not the one that was published.
+    #[error("another register before {count}")]
+    Another { count: u64 },
 }
 
 impl VisitFault {
@@ -156,8 +159,8 @@ impl VisitFault {
         Fault::Register { name, fault: self }
     }
 
-    /// The status that the program ends with: 1 for a database that is no sound register or cannot
-    /// become one, 3 for a fault of memory or the disk, 4 if a filing or a request is missing.
+    /// The status that the program ends with: 1 for a database that is no sound register, cannot become one or is
+    /// another one, 3 for a fault of memory or the disk, 4 if a filing or a request is missing.
     fn status(self) -> u8
         ensures { result ≡ visit_status self }
     {
@@ -173,6 +176,7 @@ impl VisitFault {
             VisitFault::List(_) => 3,
             VisitFault::NoFiling { number: _ } => 4,
             VisitFault::TooFew { kept: _ } => 4,
+            VisitFault::Another { count: _ } => 1,
         }
     }
 
@@ -191,6 +195,7 @@ impl VisitFault {
             VisitFault::List(_) => None,
             VisitFault::NoFiling { number: _ } => None,
             VisitFault::TooFew { kept: _ } => None,
+            VisitFault::Another { count: _ } => None,
         }
     }
 }
@@ -204,6 +209,8 @@ pub enum Fault<'a> {
     NoInit,
     #[error("--limit: it is 4611686018427387904 at most")]
     Limit,
+    #[error("--against: it is N:HEX, a number and 64 hexadecimal digits, as intake digest prints both")]
+    Against,
     #[error("{0}")]
     InMemory(CreateFault),
     #[error("{file}: {fault}", file = OneLine(*.name))]
@@ -229,16 +236,16 @@ impl<'a> From<CommandFault<'a>> for Fault<'a> {
 impl Fault<'_> {
     ghost use Rattle.intake_commands.specs.Status.{fault_status, fault_verdict};
 
-    /// The status that the program ends with: 1 for a database that is no sound register or cannot
-    /// become one, 2 for the command line, 3 for a fault of memory, the disk, a folder or the network,
-    /// 4 if a filing or a request is missing.
+    /// The status that the program ends with: 1 for a database that is no sound register, cannot become one or is
+    /// another one, 2 for the command line, 3 for a fault of memory, the disk, a folder or the network, 4 if a filing
+    /// or a request is missing.
     fn status(&self) -> u8
         ensures { result ≡ fault_status self.now }
     {
         match self {
             Fault::Command(fault) => fault.status(),
             Fault::Register { name: _, fault } => fault.status(),
-            Fault::Limit | Fault::NoInit => 2,
+            Fault::Limit | Fault::Against | Fault::NoInit => 2,
             Fault::InMemory(_) => 3,
             Fault::Connection(_) => 3,
             Fault::Network { port: _, error: _ } => 3,
@@ -256,7 +263,7 @@ impl Fault<'_> {
             Fault::Command(CommandFault::NotText | CommandFault::NoTask | CommandFault::Filer) =>
                 None,
             Fault::Command(CommandFault::Output | CommandFault::Memory) => None,
-            Fault::Limit | Fault::NoInit => None,
+            Fault::Limit | Fault::Against | Fault::NoInit => None,
             Fault::InMemory(_) => None,
             Fault::Connection(_) => None,
             Fault::Network { port: _, error: _ } => None,

@@ -5,24 +5,26 @@
 #![tactic(auto)]
 
 mod asked;
+mod capacity;
+mod clocked;
+mod connection_line;
 mod fault;
 mod folder;
 mod limit;
-mod line;
-mod note;
+mod log_message;
 mod options;
 mod pause;
 mod port;
 mod program;
 mod progress;
+mod published;
 mod record;
+mod reported_fault;
 mod reporter;
-mod room;
 mod running;
 mod serving;
 mod sockets;
 mod tasks;
-mod told;
 mod visiting;
 
 pub use fault::{Fault, Refusal, VisitFault};

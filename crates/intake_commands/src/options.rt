@@ -135,7 +135,10 @@ fn memory<'a>(alloc: Global) -> Arg<'a> {
         alloc,
         "memory",
         "MB",
-        "The most megabytes that requests and replies may take in all, 1 to 65536; beyond that they wait [default: 256]",
+        concat!(
+            "The most megabytes that requests and replies may take in all, 1 to 65536; ",
+            "beyond that they wait [default: 256]",
+        ),
         value_parser!(u32).range(1..=MOST_MEMORY),
     )
     .required(false)
@@ -146,7 +149,10 @@ fn patience<'a>(alloc: Global) -> Arg<'a> {
         alloc,
         "patience",
         "SECONDS",
-        "The most seconds to wait for the rest of a request, for the next one, or until a reply is taken, 1 to 86400 [default: no limit]",
+        concat!(
+            "The most seconds to wait for the rest of a request, for the next one, or until a reply is taken, ",
+            "1 to 86400 [default: no limit]",
+        ),
         value_parser!(u32).range(1..=MOST_SECONDS),
     )
     .required(false)
@@ -216,6 +222,16 @@ fn until<'a>(alloc: Global) -> Arg<'a> {
     .required(false)
 }
 
+fn against<'a>(alloc: Global) -> Arg<'a> {
+    option(
+        alloc,
+        "against",
+        "N:HEX",
+        "The digest of the first N requests that was published, in 64 hexadecimal digits [default: none]",
+    )
+    .required(false)
+}
+
 fn json<'a>(alloc: Global) -> Arg<'a> {
     Arg::new(alloc, "json")
         .long("json")
@@ -244,6 +260,8 @@ enum Argument {
     OnlyFiler,
     Folder,
     Until,
+    Against,
+    Moments,
 }
 
 impl ToArg for Argument {
@@ -275,6 +293,12 @@ impl ToArg for Argument {
             Argument::OnlyFiler => only_filer(alloc),
             Argument::Folder => folder(alloc),
             Argument::Until => until(alloc),
+            Argument::Against => against(alloc),
+            Argument::Moments => flag(
+                alloc,
+                "moments",
+                "Prints when each filing was received, as a line of JSON: {\"number\":N,\"received\":MOMENT}, in UTC",
+            ),
         })
     }
 }
@@ -312,19 +336,29 @@ static WORDS: [Word<Argument>; 10] = [
         name: "list",
         about: "Prints the filings of a filer, as the reply to GET /filings/CODE has them",
         example: "Example: intake list --db register.db --filer ACME",
-        arguments: &[Argument::Database, Argument::Filer, Argument::Wait],
+        arguments: &[
+            Argument::Database,
+            Argument::Filer,
+            Argument::Moments,
+            Argument::Wait,
+        ],
     },
     Word {
         name: "show",
         about: "Prints the facts of a filing, each as a line of JSON",
         example: "Example: intake show --db register.db --number 1",
-        arguments: &[Argument::Database, Argument::Number, Argument::Wait],
+        arguments: &[
+            Argument::Database,
+            Argument::Number,
+            Argument::Moments,
+            Argument::Wait,
+        ],
     },
     Word {
         name: "check",
         about: "Checks every row against the stored reports, and prints what it found",
         example: "Example: intake check --db register.db --wait 60",
-        arguments: &[Argument::Database, Argument::Wait],
+        arguments: &[Argument::Database, Argument::Against, Argument::Wait],
     },
     Word {
         name: "migrate",
@@ -371,7 +405,7 @@ pub(crate) fn command<'a>(alloc: Global) -> Result<Command<'a>, AllocError> {
         .about("Answers filers' requests, and registers each valid report once")
         .after_help(concat!(
             "Exit status: 0 done;\n",
-            "1 not a register, a damaged one, one that is there already, or a report with findings;\n",
+            "1 not a register, a damaged one, another one, one that is there already, or a report with findings;\n",
             "2 a wrong command line, or a report that is too large;\n",
             "3 memory, a file, the disk or the network failed; 4 no such filing, or fewer requests",
         ))

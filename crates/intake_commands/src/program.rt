@@ -6,6 +6,7 @@ ghost use Rattle.intake_commands.specs.Reading.{only_reads, copies_log};
 ghost use Rattle.intake_commands.specs.Words.{database_of, folder_of};
 
 use crate::asked::read;
+use crate::clocked::Clocked;
 use crate::fault::Fault;
 use crate::folder::SystemFolder;
 use crate::options::{Asked, Serving, Task};
@@ -86,9 +87,15 @@ fn only_reads(task: &Task<'_>) -> bool
 {
     match task {
         Task::Visit { errand, .. } => match errand {
-            Errand::List { filer: _ } => true,
-            Errand::Show { number: _ } => true,
-            Errand::Check => true,
+            Errand::List {
+                filer: _,
+                moments: _,
+            } => true,
+            Errand::Show {
+                number: _,
+                moments: _,
+            } => true,
+            Errand::Check { against: _ } => true,
             Errand::Migrate => false,
             Errand::Export { form: _, filer: _ } => true,
             Errand::Digest { until: _ } => true,
@@ -104,7 +111,7 @@ fn copies_log(task: &Task<'_>) -> bool
 {
     match task {
         Task::Visit { errand, .. } => match errand {
-            Errand::Check => true,
+            Errand::Check { against: _ } => true,
             _ => false,
         },
         _ => false,
@@ -125,7 +132,7 @@ fn perform_over<D: Disk + Drop, P: Place<D> + Drop, L: Port>(
         &mut IntakeProcess::new(place),
         port,
         &mut SystemFolder::new(rt, folder_of(task)),
-        &mut Device::new(rt.reader()),
+        &mut Clocked::new(rt, Device::new(rt.reader())),
         &mut Device::new(rt.stdout()),
         &mut rt.stdout(),
         &mut rt.stderr(),
@@ -182,8 +189,7 @@ fn perform_words<'a>(rt: &HostRuntime, words: &'a [String]) -> Result<u8, Fault<
         return Err(Fault::NoInit);
     }
     match read(rt.alloc(), words) {
-        Ok(Some(asked)) => Ok(perform(rt, &asked)),
-        Ok(None) => Err(CommandFault::NoTask.into()),
+        Ok(asked) => Ok(perform(rt, &asked?)),
         Err(error) => Ok(show_refusal(rt.alloc(), &error, &mut rt.stdout(), &mut rt.stderr())?),
     }
 }

@@ -2,11 +2,11 @@
 
 ghost use Rattle.std.specs.Prelude.{None};
 
+use crate::capacity::Capacity;
 use crate::fault::VisitFault;
-use crate::note::Note;
+use crate::log_message::LogMessage;
 use crate::options::Serving;
 use crate::pause::Pause;
-use crate::room::Room;
 use gateway_server::Served;
 use intake_process::{Closed, Observer, Totals, Went};
 use std::io::Write;
@@ -21,8 +21,8 @@ pub(crate) struct Reporter<'r, 'a, 'o, E> {
     errors: &'o mut E,
     /// When the opening of the register began; `None` if the system has no clock.
     start: Option<Instant>,
-    /// The room of the register; `None` while it is closed.
-    room: Option<Room>,
+    /// How many keys the register may still keep; `None` while it is closed.
+    capacity: Option<Capacity>,
     /// How many requests the register kept when it was opened again; `None` before that.
     kept: Option<u64>,
     /// How long the register is left alone once it is closed.
@@ -41,7 +41,7 @@ impl<'r, 'a, 'o, E: Write> Reporter<'r, 'a, 'o, E> {
             serving,
             errors,
             start: Instant::now(rt).ok(),
-            room: None,
+            capacity: None,
             kept: None,
             pause: Pause::none(),
         }
@@ -50,7 +50,7 @@ impl<'r, 'a, 'o, E: Write> Reporter<'r, 'a, 'o, E> {
     /// Reports that all connections were served.
     pub(crate) fn tell_served(&mut self) {
         let connections = self.serving.connections;
-        Note::Served { connections }.tell(self.errors);
+        LogMessage::Served { connections }.tell(self.errors);
     }
 
     /// How long the opening took so far, in milliseconds; 0 if the system has no clock.
@@ -66,9 +66,9 @@ impl<'r, 'a, 'o, E: Write> Reporter<'r, 'a, 'o, E> {
 
     /// Reports that the register is full, if that is not reported yet.
     fn tell_full(&mut self) {
-        if let Some(room) = &mut self.room {
-            if let Some(limit) = room.newly_full() {
-                Note::Full { limit }.tell(self.errors);
+        if let Some(capacity) = &mut self.capacity {
+            if let Some(limit) = capacity.newly_full() {
+                LogMessage::Full { limit }.tell(self.errors);
             }
         }
     }
@@ -76,8 +76,8 @@ impl<'r, 'a, 'o, E: Write> Reporter<'r, 'a, 'o, E> {
     /// The database refused a call, and the register, which keeps so many requests, is closed. One that kept a request
     /// since it was opened failed for the first time.
     fn tell_down(&mut self, kept: u64) {
-        Note::Down.tell(self.errors);
-        self.room = None;
+        LogMessage::Down.tell(self.errors);
+        self.capacity = None;
         match self.kept {
             Some(before) if kept <= before => self.leave_alone(),
             _ => self.pause = Pause::none(),
@@ -88,7 +88,7 @@ impl<'r, 'a, 'o, E: Write> Reporter<'r, 'a, 'o, E> {
     fn leave_alone(&mut self) {
         self.pause = self.pause.longer(self.rt);
         let seconds = self.pause.seconds();
-        Note::Paused { seconds }.tell(self.errors);
+        LogMessage::Paused { seconds }.tell(self.errors);
     }
 }
 
@@ -96,8 +96,8 @@ impl<E: Write> Observer for Reporter<'_, '_, '_, E> {
     ghost answers = { λ _. None };
 
     fn ready(&mut self, totals: Totals) {
-        self.room = Some(Room::new(self.serving.limit, totals.kept));
-        Note::Ready {
+        self.capacity = Some(Capacity::new(self.serving.limit, totals.kept));
+        LogMessage::Ready {
             port: self.serving.port,
             kept: totals.kept,
             filings: totals.filings,
@@ -111,13 +111,13 @@ impl<E: Write> Observer for Reporter<'_, '_, '_, E> {
     }
 
     fn opened(&mut self, totals: Totals) {
-        Note::OpenAgain.tell(self.errors);
+        LogMessage::OpenAgain.tell(self.errors);
         self.kept = Some(totals.kept);
-        self.room = Some(Room::new(self.serving.limit, totals.kept));
+        self.capacity = Some(Capacity::new(self.serving.limit, totals.kept));
     }
 
     fn served(&mut self, served: &Served) {
-        self.room = self.room.map(|room| room.after(served.marks.as_slice()));
+        self.capacity = self.capacity.map(|it| it.after(served.marks.as_slice()));
     }
 
     fn ended(&mut self, went: Went) {

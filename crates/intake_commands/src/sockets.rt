@@ -2,8 +2,8 @@
 
 ghost use Rattle.std.specs.Prelude.{None};
 
+use crate::connection_line::ConnectionLine;
 use crate::fault::ConnectionFault;
-use crate::line::ConnectionLine;
 use crate::record::{Record, Recorded};
 use command_line::show;
 use ready_connections::{Sockets, Why};
@@ -98,6 +98,10 @@ impl<K: Sockets, O: Write, E: Write> Sockets for ReportedSockets<K, O, E> {
 
     fn now(&self) -> u64 {
         self.sockets.now()
+    }
+
+    fn moment(&self) -> u64 {
+        self.sockets.moment()
     }
 
     fn end(&mut self, stream: Recorded<K::Stream>, why: Why) {

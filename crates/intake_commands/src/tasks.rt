@@ -113,9 +113,12 @@ fn is_wanted(errand: Errand<'_>) -> bool
     ensures { result ≡ is_wanted errand.entry }
 {
     match errand {
-        Errand::List { filer } => is_filer(filer),
-        Errand::Show { number: _ } => true,
-        Errand::Check => true,
+        Errand::List { filer, moments: _ } => is_filer(filer),
+        Errand::Show {
+            number: _,
+            moments: _,
+        } => true,
+        Errand::Check { against: _ } => true,
         Errand::Migrate => true,
         Errand::Export {
             form: _,

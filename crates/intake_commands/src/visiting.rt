@@ -9,7 +9,7 @@ ghost use Rattle.intake_commands.specs.Tasks.{IsCurrentShown, is_not_earlier, re
 use crate::fault::{Fault, VisitFault};
 use crate::folder::SiteFolder;
 use crate::progress::TerminalProgress;
-use crate::told::errand_fault;
+use crate::reported_fault::errand_fault;
 use command_line::{DONE, show};
 use database_places::{Place, Verdict, show_verdict};
 use intake_process::{Errand, ErrandFault, IntakeProcess, Visited};
@@ -79,7 +79,7 @@ fn visit_current<'a, D: Disk + Drop, P: Place<D> + Drop, F: SiteFolder, O: Write
     let mut unshown = sink();
     let Visited { done, closed } = process.visit(
         rt.alloc(),
-        Errand::Check,
+        Errand::Check { against: None },
         &mut progress,
         folder,
         &mut unshown,
@@ -124,6 +124,7 @@ fn is_not_earlier(fault: ErrandFault) -> bool
         ErrandFault::Store(_) => false,
         ErrandFault::NoFiling { number: _ } => false,
         ErrandFault::TooFew { kept: _ } => false,
+        ErrandFault::Another { count: _ } => false,
         ErrandFault::Text(_) => false,
         ErrandFault::Folder => false,
     }
@@ -144,6 +145,7 @@ fn refusal_of(not_earlier: ErrandFault, checked: ErrandFault) -> ErrandFault
         ErrandFault::Store(_) => checked,
         ErrandFault::NoFiling { number: _ } => checked,
         ErrandFault::TooFew { kept: _ } => checked,
+        ErrandFault::Another { count: _ } => checked,
         ErrandFault::Text(_) => checked,
         ErrandFault::Folder => checked,
     }
@@ -180,9 +182,15 @@ fn shown_verdict(errand: Errand<'_>, fault: &Fault<'_>) -> Option<Verdict>
     ensures { result ≡ shown_verdict errand.entry fault.now }
 {
     match errand {
-        Errand::List { filer: _ } => None,
-        Errand::Show { number: _ } => None,
-        Errand::Check => fault.verdict(),
+        Errand::List {
+            filer: _,
+            moments: _,
+        } => None,
+        Errand::Show {
+            number: _,
+            moments: _,
+        } => None,
+        Errand::Check { against: _ } => fault.verdict(),
         Errand::Migrate => fault.verdict(),
         Errand::Export { form: _, filer: _ } => None,
         Errand::Digest { until: _ } => None,

@@ -199,6 +199,7 @@ module _ {S : Type 0} {g : Ghosts S} (rs : List Request) (outcomes : List Became
         store = rest.store ∙ h.rest.store;
         limit = rest.limit ∙ h.rest.limit;
         stopped = rest.stopped ∙ h.rest.stopped;
+        moment = rest.moment ∙ h.rest.moment;
       };
       room = room ∙ h.room;
     }

@@ -18,10 +18,13 @@ use Rattle.register_tables.specs.Registers.{LeavesRegister}
 use Rattle.intake_core.specs.declared.intake.Intake.{Intake}
 use Rattle.intake_core.specs.declared.intake.Unavailable.TheVariants.{Down}
 use Rattle.intake_core.specs.Calls.{DecidesRequest}
-use Rattle.intake_core.specs.Group.{AddsResults, after, after_one, AreDecidedInTurn, Decided, DecidesEach, EndAtFailure}
+use Rattle.intake_core.specs.Group.{after, after_one, AreDecidedInTurn, Decided, DecidesEach, EndAtFailure}
 use Rattle.intake_core.specs.Group.{Given, HasFailed, LeavesHeld, LeavesSome}
 use Rattle.intake_core.specs.Held.{shows, limit_of, old_style_of, old_style_in, has_stopped, HoldsRequests, SurvivesAs}
 use Rattle.intake_core.specs.Held.{with_request}
+use Rattle.intake_core.specs.Moments.{DatesAll, DatesRequest}
+use Rattle.intake_core.specs.Together.{AddsResults}
+use Rattle.intake_core.proofs.Dating.{after-append, append-three, dates_none, dates_one, dates_then}
 use Rattle.intake_core.proofs.Deciding.{firsts-more}
 
 -- ---- lists
@@ -45,17 +48,18 @@ pub append_nil : {X : Type 0} (xs : List X) → xs ++ [] ≡ xs
 append_nil [] = refl
 append_nil (x ∷ xs) = ap (λ ys. x ∷ ys) (append_nil xs)
 
-append-three : {X : Type 0} (xs before part rest : List X)
-    → xs ++ (before ++ part ++ rest) ≡ xs ++ before ++ part ++ rest
-append-three xs before part rest =
-    sym (append_assoc xs (before ++ part) rest) ∙ ap (λ ys. ys ++ rest) (sym (append_assoc xs before part))
-
 zip-append : {X Y : Type 0} (xs xs' : List X) (ys ys' : List Y) → length ys ≡ length xs
     → zip (xs ++ xs') (ys ++ ys') ≡ zip xs ys ++ zip xs' ys'
 zip-append [] xs' [] ys' h = refl
 zip-append [] xs' (y ∷ ys) ys' h = absurd (omega (arith, h))
 zip-append (x ∷ xs) xs' [] ys' h = absurd (omega (arith, h))
 zip-append (x ∷ xs) xs' (y ∷ ys) ys' h = ap (λ ps. (x, y) ∷ ps) (zip-append xs xs' ys ys' (omega (arith, h)))
+
+length_zipped : {X Y : Type 0} (xs : List X) (ys : List Y) → length ys ≡ length xs → length (zip xs ys) ≡ length xs
+length_zipped [] [] h = refl
+length_zipped [] (y ∷ ys) h = refl
+length_zipped (x ∷ xs) [] h = absurd (omega (arith, h))
+length_zipped (x ∷ xs) (y ∷ ys) h = ap suc (length_zipped xs ys (omega (arith, h)))
 
 take-none : {X : Type 0} (n : ℕ) → take {0} {A = X} n [] ≡ []
 take-none zero = refl
@@ -69,10 +73,6 @@ take-both (suc n) m (x ∷ xs) =
     ap (λ ys. x ∷ ys) (take-both n m xs) ∙ ap (λ k. take k (x ∷ xs)) same
 
 -- ---- what is held after them
-
-pub after-append : (F : List Request) (xs ys : List Decided) → after F (xs ++ ys) ≡ after (after F xs) ys
-after-append F [] ys = refl
-after-append F (d ∷ xs) ys = after-append (after_one F d.0 d.1) xs ys
 
 -- each is still the first of its filer and key, and those that were there first are the same
 abbrev Keeps : ℕ → List Request → List Request → Type 0
@@ -345,32 +345,36 @@ module _ {S : Type 0} {g : Ghosts S} where
 
   -- ---- the results
 
-  pub adds_none : (i : Intake S) (results : Vec Given Global) → AddsResults g [] i i results results
+  pub adds_none : (i : Intake S) (results : Vec Given Global) → AddsResults g [] [] i i results results
   adds_none i results = record {
     given = [];
     are = sym (append_nil results.items);
     each = refl;
     len = omega arith;
     decides = decides_none i;
+    dates = dates_none i;
     room = refl;
   }
 
-  pub adds_one : (r : Request) (result : Given) (old new : Intake S) (results results' : Vec Given Global)
-      → DecidesRequest g r old new result → results'.items ≡ results.items ++ result ∷ []
+  pub adds_one : (r : Request) (m : ℕ) (result : Given) (old new : Intake S) (results results' : Vec Given Global)
+      → DecidesRequest g r old new result → DatesRequest g r m old new result
+      → results'.items ≡ results.items ++ result ∷ []
       → vec_len results' ≡ vec_len results + 1 → vec_capacity results' ≡ vec_capacity results
-      → AddsResults g (r ∷ []) old new results results'
-  adds_one r result old new results results' decides are len room = record {
+      → AddsResults g (r ∷ []) (m ∷ []) old new results results'
+  adds_one r m result old new results results' decides dates are len room = record {
     given = result ∷ [];
     are = are;
     each = refl;
     len = len;
     decides = decides_one r result old new decides;
+    dates = dates_one r result m old new dates;
     room = room;
   }
 
-  pub adds_then : (rs ss : List Request) (old mid new : Intake S) (a b c : Vec Given Global)
-      → AddsResults g rs old mid a b → AddsResults g ss mid new b c → AddsResults g (rs ++ ss) old new a c
-  adds_then rs ss old mid new a b c one two = record {
+  pub adds_then : (rs ss : List Request) (ms ms' : List ℕ) (old mid new : Intake S) (a b c : Vec Given Global)
+      → length ms ≡ length rs → AddsResults g rs ms old mid a b → AddsResults g ss ms' mid new b c
+      → AddsResults g (rs ++ ss) (ms ++ ms') old new a c
+  adds_then rs ss ms ms' old mid new a b c long one two = record {
     given = one.given ++ two.given;
     are = two.are ∙ ap (λ xs. xs ++ two.given) one.are ∙ append_assoc a.items one.given two.given;
     each = omega (arith, length-append one.given two.given, length-append rs ss, one.each, two.each);
@@ -378,20 +382,32 @@ module _ {S : Type 0} {g : Ghosts S} where
     decides =
         subst (λ ds. DecidesEach g ds old new) (sym (zip-append rs ss one.given two.given one.each))
         (decides_then (zip rs one.given) (zip ss two.given) old mid new one.decides two.decides);
+    dates =
+        subst (λ ds. DatesAll g ds (ms ++ ms') old new) (sym (zip-append rs ss one.given two.given one.each))
+        (dates_then (zip rs one.given) (zip ss two.given) ms ms' old mid new
+        (long ∙ sym (length_zipped rs one.given one.each))
+        one.decides two.decides one.dates two.dates);
     room = two.room ∙ one.room;
   }
 
   -- those that come next
-  pub adds_next : (requests : List Request) {rest : List Request} (at count : ℕ) (old mid new : Intake S)
-      (a b c : Vec Given Global) → vec_len b ≡ at → AddsResults g (take at requests) old mid a b
-      → AddsResults g (take count rest) mid new b c → count ≤ length rest → rest ≡ drop at requests
-      → (vec_len c ≡ at + count) × AddsResults g (take (vec_len c) requests) old new a c
-  adds_next requests {rest} at count old mid new a b c here one two few is =
+  pub adds_next : (requests : List Request) (ms : List ℕ) {rest : List Request} {ms' : List ℕ} (at count : ℕ)
+      (old mid new : Intake S) (a b c : Vec Given Global) → length ms ≡ length requests → vec_len b ≡ at
+      → AddsResults g (take at requests) (take at ms) old mid a b
+      → AddsResults g (take count rest) (take count ms') mid new b c → count ≤ length rest → rest ≡ drop at requests
+      → ms' ≡ drop at ms → at ≤ length requests
+      → (vec_len c ≡ at + count) × AddsResults g (take (vec_len c) requests) (take (vec_len c) ms) old new a c
+  adds_next requests ms {rest} {ms'} at count old mid new a b c long_ms here one two few is ms_is within =
       let long : vec_len c ≡ at + count = omega (arith, two.len, two.each, here, length-take-le count rest few) in (
         long,
-        subst (λ rs. AddsResults g rs old new a c)
+        subst (λ ms. AddsResults g (take (vec_len c) requests) ms old new a c)
+            (ap (λ (rest : List ℕ). take at ms ++ take count rest) ms_is
+            ∙ take-both at count ms
+            ∙ ap (λ n. take n ms) (sym long))
+            (subst (λ rs. AddsResults g rs (take at ms ++ take count ms') old new a c)
             (ap (λ (rest : List Request). take at requests ++ take count rest) is
             ∙ take-both at count requests
             ∙ ap (λ n. take n requests) (sym long))
-            (adds_then (take at requests) (take count rest) old mid new a b c one two),
+            (adds_then (take at requests) (take count rest) (take at ms) (take count ms') old mid new a b c
+            (length-take-le at ms (omega (arith, long_ms, within)) ∙ sym (length-take-le at requests within)) one two)),
       )

@@ -6,14 +6,16 @@ use Rattle.std.proofs.lemmas.List.{length-take-le}
 use Rattle.std.proofs.lemmas.List.Elements.{All-nil, All-cons, All-head, All-tail}
 use Rattle.std.proofs.lemmas.List.Folds.{list_any-append}
 use Rattle.std.proofs.lemmas.Result.{IfOk-weaker}
-use Rattle.std.proofs.Common.{Result, OnErr}
+use Rattle.std.proofs.Common.{Result, OnErr, OnOk, Option, Some}
 use Rattle.xbrl_report.specs.declared.judging.Judged.{Judged}
 use Rattle.xbrl_report.specs.Judgement.{IsAmendmentJudgement}
 use Rattle.filing_model.specs.Register.{is_free, register as filings_of}
 use Rattle.table_rows.specs.declared.fault.StoreFault.{StoreFault}
 use Rattle.register_store.specs.declared.outcome.NewRow.{NewRow}
 use Rattle.intake_core.specs.Calls.{IsRequest}
-use Rattle.register_store.specs.Calls.{AddsRequests}
+use Rattle.register_rows.specs.declared.moment.Moment.{Moment}
+use Rattle.register_store.specs.Calls.{AddsMoments, AddsRequests}
+use Rattle.register_store.specs.Moments.{moments_of}
 use Rattle.register_store.specs.NewRows.{AreNew, IsKeepable, request_of}
 use Rattle.intake_core.specs.Together.{AddsGroup, AreRowsOf, IfKept, IsJudgedAlone, LooksUp, UnlessKept, count_of}
 use Rattle.intake_core.specs.Held.{ForRequests}
@@ -26,17 +28,23 @@ use Rattle.sqlite.specs.State.{HasCleanDisk, Survives}
 use Rattle.sqlite.specs.Tree.{Trees}
 use Rattle.sqlite.proofs.StateLemmas.{survives_then, survives_weaker}
 use Rattle.filing_model.specs.declared.outcome.Outcome.{Outcome}
+use Rattle.filing_model.specs.Views.{view_outcome}
+use Rattle.register_store.specs.Outcomes.{outcomes_behind}
 use Rattle.filing_model.specs.Request.{Request, firsts, has_key, same_key}
 use Rattle.register_store.specs.Store as register
-use Rattle.register_tables.specs.Registers.{LeavesRegister}
+use Rattle.register_tables.specs.Registers.{LeavesReceived, LeavesRegister}
 use Rattle.intake_core.specs.declared.intake.Intake.{Intake}
 use Rattle.intake_core.specs.declared.intake.Unavailable.TheVariants.{Down, Store}
 use Rattle.intake_core.specs.declared.intake.group.Together.{Together}
 use Rattle.intake_core.specs.declared.intake.group.Together.TheVariants.{Kept, Alone, Failed}
-use Rattle.intake_core.specs.Group.{AddsResults, after, AreDecidedInTurn, Decided, DecidesEach, EndAtFailure, Given}
+use Rattle.intake_core.specs.Group.{after, AreDecidedInTurn, Decided, DecidesEach, EndAtFailure, Given}
 use Rattle.intake_core.specs.Group.{HasFailed, LeavesHeld, LeavesSome}
 use Rattle.intake_core.specs.Held.{shows, limit_of, old_style_of, old_style_in, has_stopped, HoldsRequests, IsClean}
-use Rattle.intake_core.specs.Together.{AnswersGroup, AreNewBehind, KeepsFirst, RefusesGroup}
+use Rattle.intake_core.specs.Held.{store_of, IsDurableAs}
+use Rattle.intake_core.specs.Moments.{DatesAll, HoldsMoments, LeavesSomeWith, with_moments}
+use Rattle.intake_core.specs.Together.{AddsResults, AnswersGroup, AreNewBehind, KeepsFirst, RefusesGroup}
+use Rattle.intake_core.specs.Together.{in_milliseconds}
+use Rattle.intake_core.proofs.Dating.{HoldsMoments-same, leaves_together, moments_kept, moments_refused, with_new}
 use Rattle.intake_core.proofs.Deciding.{firsts-more}
 use Rattle.intake_core.proofs.Group.{append_nil, held_exactly}
 
@@ -68,9 +76,9 @@ keepable_rows (row ∷ rows) h judged =
     (record { filer = first.filer; target = first.target; body = first.body; facts = judged.0.facts })
     (keepable_rows rows (All-tail IsRequest (request_of row) (map request_of rows) h) judged.1)
 
-pub keepable : (rs : List Request) (judged : List Judged) (rows : List NewRow) → AreRowsOf rs judged rows
-    → All IsRequest rs → AllZip IsJudgedAlone rs judged → All IsKeepable rows
-keepable rs judged rows are h each =
+pub keepable : (rs : List Request) (moments : List Moment) (judged : List Judged) (rows : List NewRow)
+    → AreRowsOf rs moments judged rows → All IsRequest rs → AllZip IsJudgedAlone rs judged → All IsKeepable rows
+keepable rs moments judged rows are h each =
     keepable_rows rows (subst (All IsRequest) (sym are.requests) h)
     (subst (AllZip IsJudgedAlone (map request_of rows)) (sym are.judgements)
     (subst (λ rs. AllZip IsJudgedAlone rs judged) (sym are.requests) each))
@@ -92,14 +100,42 @@ on_err : {T E : Type 0} (x : Result T E) (P Q : Type 0) → (P → Q) → OnErr 
 on_err (Ok a) P Q f h = tt
 on_err (Err e) P Q f h = f h
 
+moments_are : (rows : List NewRow)
+    → map Some (in_milliseconds (map (λ (row : NewRow). row.moment) rows)) ≡ moments_of rows
+moments_are [] = refl
+moments_are (row ∷ rows) = ap (λ ms. Some row.moment.milliseconds ∷ ms) (moments_are rows)
+
 rows_long : (rows : List NewRow) → length (map request_of rows) ≡ length rows
 rows_long [] = refl
 rows_long (row ∷ rows) = let rest = rows_long rows in omega (arith, rest)
+
+as_many : (requests : List Request) (ms : List ℕ) → length ms ≡ length requests → (count : ℕ)
+    → count ≤ length requests → length (take count ms) ≡ length (take count requests)
+as_many requests ms long count few =
+    length-take-le count ms (omega (arith, few, long)) ∙ sym (length-take-le count requests few)
+
+left_together : (n : ℕ) (F requests : List Request) (ms : List ℕ) (moments : List (Option ℕ)) (trees : Trees)
+    → length ms ≡ length requests → (count : ℕ) → count ≤ length requests → firsts F ≡ F
+    → AreNewBehind F (take count requests)
+    → LeavesReceived n (F ++ take count requests) (moments ++ map Some (take count ms)) trees
+    → LeavesReceived n (firsts (F ++ take count requests))
+    (with_moments F (take count requests) (take count ms) moments) trees
+left_together n F requests ms moments trees long count few are new l =
+    subst (λ mo. LeavesReceived n (firsts (F ++ take count requests)) mo trees)
+    (sym (with_new F (take count requests) (take count ms) moments are new (as_many requests ms long count few)))
+    (subst (λ G. LeavesReceived n G (moments ++ map Some (take count ms)) trees)
+    (sym (firsts_behind F (take count requests) are new)) l)
 
 module _ {S : Type 0} {g : Ghosts S} where
   pub looks_then : (old mid new : Intake S) → LooksUp g old mid → LooksUp g mid new → LooksUp g old new
   looks_then old mid new one two = record {
     same = λ clean F h. two.same clean F (one.same (two.setting.clean clean) F h);
+    moments = record {
+      same = λ clean F h moments had.
+          let cleaned = two.setting.clean clean in
+          two.moments.same clean F (one.same cleaned F h) moments (one.moments.same cleaned F h moments had);
+      next = two.moments.next ∙ one.moments.next;
+    };
     setting = record {
       clean = λ clean. one.setting.clean (two.setting.clean clean);
       limit = two.setting.limit ∙ one.setting.limit;
@@ -114,8 +150,10 @@ module _ {S : Type 0} {g : Ghosts S} where
   adds_rows : (rows : List NewRow) (old new : Intake S) (result : Result (Vec Outcome Global) StoreFault)
       → AllZip IsJudgedAlone (map request_of rows) (map (λ (row : NewRow). row.judged.now) rows)
       → new.cache ≡ old.cache → limit_of new ≡ limit_of old → has_stopped new ≡ has_stopped old
-      → AddsRequests g rows old.store new.store result → AddsGroup g (map request_of rows) old new result
-  adds_rows rows old new result judged cache limit stopped a = record {
+      → new.moment ≡ old.moment → AddsRequests g rows old.store new.store result
+      → AddsMoments g rows old.store new.store result
+      → AddsGroup g (map request_of rows) (in_milliseconds (map (λ (row : NewRow). row.moment) rows)) old new result
+  adds_rows rows old new result judged cache limit stopped next a m = record {
     added = λ clean F h new_ones.
         IfOk-weaker result _ _ (λ outcomes told. (
           told.0,
@@ -124,6 +162,16 @@ module _ {S : Type 0} {g : Ghosts S} where
         )) (a.added clean F h.rows (new_rows F rows new_ones judged));
     same = λ clean F h.
         on_err result _ _ (λ still. HoldsRequests-asked F old new h cache a.old_style still) (a.same clean F h.rows);
+    dated = λ clean F h moments had.
+        subst (λ ms. OnOk result (HoldsMoments g new (moments ++ ms))) (sym (moments_are rows))
+        (m.added clean F h.rows moments had);
+    undated = λ clean F h moments had. m.same clean F h.rows moments had;
+    received = survives_weaker (shows g old) (shows g new) _ _
+        (λ clean trees left F moments h had alive new_ones.
+        subst (λ ms. LeavesReceived (old_style_of old) (F ++ map request_of rows) (moments ++ ms) trees)
+        (sym (moments_are rows))
+        (left F moments h.rows had alive (new_rows F rows new_ones judged))) m.crash;
+    next = ap (λ (t : Moment). t.milliseconds) next;
     each = IfOk-weaker result _ _ (λ outcomes long. long ∙ sym (rows_long rows)) a.each;
     setting = record { clean = λ clean. omega (arith, a.crash.clean, clean); limit = limit; old_style = a.old_style };
     stopped = stopped;
@@ -132,27 +180,108 @@ module _ {S : Type 0} {g : Ghosts S} where
     durable = λ clean F h new_ones. a.durable clean F h.rows (new_rows F rows new_ones judged);
   }
 
-  pub adds_group : (rs : List Request) (judged : List Judged) (rows : List NewRow) (old new : Intake S)
-      (result : Result (Vec Outcome Global) StoreFault) → AreRowsOf rs judged rows → AllZip IsJudgedAlone rs judged
-      → new.cache ≡ old.cache → limit_of new ≡ limit_of old → has_stopped new ≡ has_stopped old
-      → AddsRequests g rows old.store new.store result → AddsGroup g rs old new result
-  adds_group rs judged rows old new result are each cache limit stopped a =
-      subst (λ rs. AddsGroup g rs old new result) are.requests
+  pub adds_group : (rs : List Request) (moments : List Moment) (judged : List Judged) (rows : List NewRow)
+      (old new : Intake S) (result : Result (Vec Outcome Global) StoreFault) → AreRowsOf rs moments judged rows
+      → AllZip IsJudgedAlone rs judged → new.cache ≡ old.cache → limit_of new ≡ limit_of old
+      → has_stopped new ≡ has_stopped old → new.moment ≡ old.moment → AddsRequests g rows old.store new.store result
+      → AddsMoments g rows old.store new.store result → AddsGroup g rs (in_milliseconds moments) old new result
+  adds_group rs moments judged rows old new result are each cache limit stopped next a m =
+      subst (λ ms. AddsGroup g rs (in_milliseconds ms) old new result) are.moments'
+      (subst (λ rs. AddsGroup g rs (in_milliseconds (map (λ (row : NewRow). row.moment) rows)) old new result)
+      are.requests
       (adds_rows rows old new result
       (subst (AllZip IsJudgedAlone (map request_of rows)) (sym are.judgements)
-      (subst (λ rs. AllZip IsJudgedAlone rs judged) (sym are.requests) each)) cache limit stopped a)
+      (subst (λ rs. AllZip IsJudgedAlone rs judged) (sym are.requests) each)) cache limit stopped next a m))
+
+  -- they are kept
+  pub first_kept : (requests : List Request) (ms : List ℕ) → length ms ≡ length requests
+      → (outcomes : Vec Outcome Global) (count : ℕ) → 0 < count → count ≤ length requests → (old mid new : Intake S)
+      → LooksUp g old mid
+      → ForRequests g old mid (λ F. AreNewBehind F (take count requests) × IsTrue (shows g mid).is_open)
+      → (store_of mid).kept + count ≤ limit_of mid
+      → AddsGroup g (take count requests) (take count ms) mid new (Ok outcomes)
+      → KeepsFirst g requests ms old new (Kept outcomes)
+  first_kept requests ms long_ms outcomes count some few old mid new looks fresh room a =
+      let is : count ≡ length outcomes.items = sym (a.each ∙ length-take-le count requests few) in record {
+        some = (omega (arith, is, some), omega (arith, is, few));
+        kept = λ clean F h.
+            let cleaned = a.setting.clean clean in
+            let new_ones = fresh cleaned F h in
+            let held = looks.same cleaned F h in
+            let told = a.added clean F held new_ones.0 in
+            let within : length F + count ≤ limit_of old =
+            subst (λ n. length F + count ≤ n) looks.setting.limit (omega (arith, room, held.rows.kept_is)) in
+            subst (λ m. AreNewBehind F (take m requests)
+            × (map view_outcome outcomes.items ≡ outcomes_behind F (take m requests))
+            × HoldsRequests g new (F ++ take m requests) × (length F + m ≤ limit_of old)) is
+            (new_ones.0, told.0, told.1, within);
+        none = λ clean F h. tt;
+        dated = λ clean F h moments had.
+            let cleaned = a.setting.clean clean in
+            subst (λ m. HoldsMoments g new (moments ++ map Some (take m ms))) is
+            (a.dated clean F (looks.same cleaned F h) moments (looks.moments.same cleaned F h moments had));
+        undated = λ clean F h moments had. tt;
+        received = survives_then (shows g old) (shows g mid) (shows g new) _ _ _ (λ clean trees none. absurd none)
+            (λ clean trees left F moments h had.
+            let cleaned = a.setting.clean clean in
+            subst (λ m. LeavesReceived (old_style_of old) (firsts (F ++ take m requests))
+            (with_moments F (take m requests) (take m ms) moments) trees) is
+            (left_together (old_style_of old) F requests ms moments trees long_ms count few h.firsts'
+            (fresh cleaned F h).0
+            (subst (λ n. LeavesReceived n (F ++ take count requests) (moments ++ map Some (take count ms)) trees)
+            looks.setting.old_style
+            (left F moments (looks.same cleaned F h) (looks.moments.same cleaned F h moments had) (fresh cleaned F h).1
+            (fresh cleaned F h).0)))) looks.crash a.received;
+        next = a.next ∙ looks.moments.next;
+        setting = record {
+          clean = λ clean. looks.setting.clean (a.setting.clean clean);
+          limit = a.setting.limit ∙ looks.setting.limit;
+          old_style = a.setting.old_style ∙ looks.setting.old_style;
+        };
+        stopped = a.stopped ∙ looks.stopped;
+        crash = survives_then (shows g old) (shows g mid) (shows g new) _ _ _ (λ clean trees none. absurd none)
+            (λ clean trees left F h.
+            let cleaned = a.setting.clean clean in
+            let new_ones = fresh cleaned F h in
+            let held = looks.same cleaned F h in
+            subst (λ m. LeavesRegister (old_style_of old) (firsts (F ++ take m requests)) trees) is
+            (subst (λ (G : List Request). LeavesRegister (old_style_of old) G trees)
+            (sym (firsts_behind F (take count requests) h.firsts' new_ones.0))
+            (subst (λ n. LeavesRegister n (F ++ take count requests) trees) looks.setting.old_style
+            (left F held new_ones.1 new_ones.0)))) looks.crash a.crash;
+        durable = λ clean F h.
+            let cleaned = a.setting.clean clean in
+            subst (λ m. IsDurableAs g new (old_style_of old) (F ++ take m requests)) is
+            (subst (λ n. IsDurableAs g new n (F ++ take count requests)) looks.setting.old_style
+            (a.durable clean F (looks.same cleaned F h) (fresh cleaned F h).0));
+      }
 
   -- the database refused to keep them
-  pub first_refused : {e : StoreFault} (requests : List Request) (result : Together) (count : ℕ)
-      → count_of result ≡ count
+  pub first_refused : {e : StoreFault} (requests : List Request) (ms : List ℕ) → length ms ≡ length requests
+      → (result : Together) (count : ℕ) → count_of result ≡ count
       → ((P : Type 0) → P → UnlessKept result P) → ((P : List Outcome → Type 0) → IfKept result P) → 0 < count
       → count ≤ length requests → (old mid new : Intake S) → LooksUp g old mid
       → ForRequests g old mid (λ F. AreNewBehind F (take count requests) × IsTrue (shows g mid).is_open)
-      → AddsGroup g (take count requests) mid new (Err e) → KeepsFirst g requests old new result
-  first_refused requests result count is unless kept some few old mid new looks fresh a = record {
+      → AddsGroup g (take count requests) (take count ms) mid new (Err e) → KeepsFirst g requests ms old new result
+  first_refused requests ms long_ms result count is unless kept some few old mid new looks fresh a = record {
     some = (omega (arith, is, some), omega (arith, is, few));
     kept = λ clean F h. kept _;
     none = λ clean F h. unless _ (a.same clean F (looks.same (a.setting.clean clean) F h));
+    dated = λ clean F h moments had. kept _;
+    undated = λ clean F h moments had.
+        let cleaned = a.setting.clean clean in
+        unless _ (a.undated clean F (looks.same cleaned F h) moments (looks.moments.same cleaned F h moments had));
+    received = survives_then (shows g old) (shows g mid) (shows g new) _ _ _ (λ clean trees none. absurd none)
+        (λ clean trees left F moments h had.
+        let cleaned = a.setting.clean clean in
+        subst (λ m. LeavesReceived (old_style_of old) (firsts (F ++ take m requests))
+        (with_moments F (take m requests) (take m ms) moments) trees) (sym is)
+        (left_together (old_style_of old) F requests ms moments trees long_ms count few h.firsts' (fresh cleaned F h).0
+        (subst (λ n. LeavesReceived n (F ++ take count requests) (moments ++ map Some (take count ms)) trees)
+        looks.setting.old_style
+        (left F moments (looks.same cleaned F h) (looks.moments.same cleaned F h moments had) (fresh cleaned F h).1
+        (fresh cleaned F h).0)))) looks.crash a.received;
+    next = a.next ∙ looks.moments.next;
     setting = record {
       clean = λ clean. looks.setting.clean (a.setting.clean clean);
       limit = a.setting.limit ∙ looks.setting.limit;
@@ -278,11 +407,11 @@ long_of n xs few = length-take-le n xs few
 long_take : {X : Type 0} (n : ℕ) (xs : List X) → 0 < n → n ≤ length xs → 0 < length (take n xs)
 long_take n xs some few = omega (arith, some, long_of n xs few)
 
-module _ {S : Type 0} {g : Ghosts S} (requests : List Request) (old mid new : Intake S)
-    (results results' : Vec Given Global) (up : has_stopped old ≡ false) where
-  pub together_kept : (outcomes : Vec Outcome Global) → KeepsFirst g requests old mid (Kept outcomes)
+module _ {S : Type 0} {g : Ghosts S} (requests : List Request) (ms : List ℕ) (long_ms : length ms ≡ length requests)
+    (old mid new : Intake S) (results results' : Vec Given Global) (up : has_stopped old ≡ false) where
+  pub together_kept : (outcomes : Vec Outcome Global) → KeepsFirst g requests ms old mid (Kept outcomes)
       → AnswersGroup g (take (length outcomes.items) requests) outcomes.items mid new results results'
-      → AddsResults g (take (length outcomes.items) requests) old new results results'
+      → AddsResults g (take (length outcomes.items) requests) (take (length outcomes.items) ms) old new results results'
   together_kept outcomes k h =
       let rs = take (length outcomes.items) requests in
       let cleaned : IsClean g new → IsClean g mid = λ clean.
@@ -294,6 +423,26 @@ module _ {S : Type 0} {g : Ghosts S} (requests : List Request) (old mid new : In
         each = h.each;
         len = h.len;
         room = h.room;
+        dates = record {
+          dated = λ clean F held moments had.
+              let kept = k.kept (cleaned clean) F held in
+              let few = k.some.1 in
+              subst (HoldsMoments g new)
+              (sym (moments_kept F rs h.given (take (length outcomes.items) ms) moments held.firsts' kept.0 h.each
+              (as_many requests ms long_ms (length outcomes.items) few) h.all))
+              (HoldsMoments-same mid new (moments ++ map Some (take (length outcomes.items) ms)) h.rest.store
+              (k.dated (cleaned clean) F held moments had));
+          crash =
+              subst (λ s. Survives (shows g old) (register.shows g s) (λ trees. (F : List Request)
+              (moments : List (Option ℕ)) → HoldsRequests g old F → HoldsMoments g old moments
+              → LeavesSomeWith (old_style_of old) F moments (zip rs h.given) (take (length outcomes.items) ms) trees))
+              (sym h.rest.store)
+              (survives_weaker (shows g old) (shows g mid) _ _
+              (λ clean trees left F moments held had. leaves_together (old_style_of old) F rs moments h.given
+              (take (length outcomes.items) ms) trees h.each
+              (long_take (length outcomes.items) requests k.some.0 k.some.1) (left F moments held had)) k.received);
+          next = ap (λ (t : Moment). t.milliseconds) h.rest.moment ∙ k.next;
+        };
         decides = record {
           answers = λ clean F held.
               let kept = k.kept (cleaned clean) F held in
@@ -338,9 +487,9 @@ module _ {S : Type 0} {g : Ghosts S} (requests : List Request) (old mid new : In
         };
       }
 
-  pub together_alone : (count : ℕ) → KeepsFirst g requests old mid (Alone count)
-      → AddsResults g (take count requests) mid new results results'
-      → AddsResults g (take count requests) old new results results'
+  pub together_alone : (count : ℕ) → KeepsFirst g requests ms old mid (Alone count)
+      → AddsResults g (take count requests) (take count ms) mid new results results'
+      → AddsResults g (take count requests) (take count ms) old new results results'
   together_alone count k h =
       let rs = take count requests in
       let ds = zip rs h.given in
@@ -351,6 +500,20 @@ module _ {S : Type 0} {g : Ghosts S} (requests : List Request) (old mid new : In
         each = h.each;
         len = h.len;
         room = h.room;
+        dates = record {
+          dated = λ clean F held moments had.
+              let cleaned = d.setting.clean clean in
+              h.dates.dated clean F (k.none cleaned F held) moments (k.undated cleaned F held moments had);
+          crash = survives_then (shows g old) (shows g mid) (shows g new) _ _ _
+              (λ clean trees left F moments held had. leaves_together (old_style_of old) F rs moments h.given
+              (take count ms) trees h.each (long_take count requests k.some.0 k.some.1) (left F moments held had))
+              (λ clean trees left F moments held had.
+              let cleaned = d.setting.clean clean in
+              subst (λ n. LeavesSomeWith n F moments ds (take count ms) trees) k.setting.old_style
+              (left F moments (k.none cleaned F held) (k.undated cleaned F held moments had)))
+              k.received h.dates.crash;
+          next = h.dates.next ∙ k.next;
+        };
         decides = record {
           answers = λ clean F held.
               let told = d.answers clean F (k.none (d.setting.clean clean) F held) in (
@@ -392,9 +555,9 @@ module _ {S : Type 0} {g : Ghosts S} (requests : List Request) (old mid new : In
         };
       }
 
-  pub together_failed : (count : ℕ) → KeepsFirst g requests old mid (Failed count)
+  pub together_failed : (count : ℕ) → KeepsFirst g requests ms old mid (Failed count)
       → RefusesGroup (take count requests) mid new results results'
-      → AddsResults g (take count requests) old new results results'
+      → AddsResults g (take count requests) (take count ms) old new results results'
   together_failed count k h =
       let rs = take count requests in
       let some : 0 < length rs = long_take count requests k.some.0 k.some.1 in
@@ -407,6 +570,17 @@ module _ {S : Type 0} {g : Ghosts S} (requests : List Request) (old mid new : In
         each = long;
         len = omega (arith, h.len, long);
         room = h.room;
+        dates = subst (DatesAll g ds (take count ms) old) same (record {
+          dated = λ clean F held moments had.
+              subst (HoldsMoments g (record mid { is_down = true }))
+              (sym (moments_refused F rs (take count ms) moments))
+              (HoldsMoments-same mid (record mid { is_down = true }) moments refl (k.undated clean F held moments had));
+          crash = survives_weaker (shows g old) (shows g mid) _ _
+              (λ clean trees left F moments held had. leaves_together (old_style_of old) F rs moments (refused rs)
+              (take count ms) trees long some (left F moments held had))
+              k.received;
+          next = k.next;
+        });
         decides = subst (DecidesEach g ds old) same (record {
           answers = λ clean F held.
               let still = k.none clean F held in (

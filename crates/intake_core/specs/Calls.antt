@@ -16,6 +16,7 @@ use Rattle.intake_core.specs.declared.intake.Unavailable.TheVariants.{Down, Full
 use Rattle.intake_answers.specs.Answered.{IsAnswerTo}
 use Rattle.intake_core.specs.Held.{store_of, shows, limit_of, old_style_of, old_style_in, has_stopped, HoldsRequests}
 use Rattle.intake_core.specs.Held.{KeepsSetting, ForRequests, IsDurableAs, SurvivesAs, with_request}
+use Rattle.intake_core.specs.Moments.{KeepsMoments}
 
 -- What `submit` does with a request, by the requests that the intake held before.
 pub record DecidesRequest {S : Type 0} (g : Ghosts S) (r : Request) (old new : Intake S)
@@ -87,6 +88,7 @@ pub record TellsOfRequests {S X : Type 0} (g : Ghosts S) (old new : Intake S) (r
   pub rows : ForRequests g old new (λ requests. IfOk result (Tells requests))
   -- What is held stays, whatever the answer is.
   pub kept : ForRequests g old new (HoldsRequests g new)
+  pub moments : KeepsMoments g old new
   pub setting : KeepsSetting g old new
   -- A crash leaves what it could leave before.
   pub crash : CommitsNothing (shows g old) (shows g new)

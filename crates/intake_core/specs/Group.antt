@@ -1,10 +1,9 @@
 -- What an intake does with several requests, which it decides in their order.
 use Rattle.std.specs.Prelude.{◌≡◌, ◌<◌, ◌≤◌, ◌+◌, ◌↔◌, ◌⊎◌, ◌∷◌, ◌++◌, [], ℕ, List, length, map, true, false, Result}
 use Rattle.std.specs.Prelude.{Ok}
-use Rattle.std.specs.Prelude.{Err, IfOk, OnOk, Vec, vec_len, vec_capacity}
-use Rattle.std.specs.List.{AllByRecursion, zip}
+use Rattle.std.specs.Prelude.{Err, IfOk, OnOk}
+use Rattle.std.specs.List.{AllByRecursion}
 use Rattle.std.specs.Result.{IsErr}
-use Rattle.std.specs.declared.alloc.Global.{Global}
 use Rattle.sqlite.specs.Store.{Ghosts}
 use Rattle.sqlite.specs.Tree.{Trees}
 use Rattle.filing_model.specs.declared.answer.Answer.{Answer}
@@ -92,13 +91,3 @@ pub record DecidesEach {S : Type 0} (g : Ghosts S) (ds : List Decided) (old new 
   pub down : has_stopped old ≡ true → AllByRecursion (λ d. d.1 ≡ Err Down) ds × (new ≡ old)
   pub stops : (has_stopped new ≡ true) ↔ ((has_stopped old ≡ true) ⊎ HasFailed ds)
   pub up : AllByRecursion (λ d. d.1 ≡ Err Down → has_stopped new ≡ true) ds
-
--- The results gain one for each of these requests, in the room that was there.
-pub record AddsResults {S : Type 0} (g : Ghosts S) (requests : List Request) (old new : Intake S)
-    (results results' : Vec Given Global) : Type 0 where
-  pub given : List Given
-  pub are : results'.items ≡ results.items ++ given
-  pub each : length given ≡ length requests
-  pub len : vec_len results' ≡ vec_len results + length given
-  pub decides : DecidesEach g (zip requests given) old new
-  pub room : vec_capacity results' ≡ vec_capacity results

@@ -55,6 +55,7 @@ pub record ChangesOnlyCache {S : Type 0} (old new : Intake S) : Type 0 where
   pub store : store_of new ≡ store_of old
   pub limit : limit_of new ≡ limit_of old
   pub stopped : has_stopped new ≡ has_stopped old
+  pub moment : new.moment ≡ old.moment
 
 -- Whatever requests it held before: if the disk is clean at the end, this holds of them.
 abbrev pub ForRequests : {S : Type 0} → Ghosts S → Intake S → Intake S → (List Request → Type 0) → Type 0

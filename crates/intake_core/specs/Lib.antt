@@ -1,4 +1,5 @@
 pub mod Calls
 pub mod Group
 pub mod Held
+pub mod Moments
 pub mod Together

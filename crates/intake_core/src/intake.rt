@@ -1,7 +1,7 @@
 //! The intake: its register, and the answer to the next request.
 
 ghost use Rattle.std.specs.Prelude.{◌≡◌, ◌≢◌, ◌↔◌, ◌<◌, ◌≤◌, ◌^◌, ◌⊎◌, ℕ, List, length, map, true, false, Err, None};
-ghost use Rattle.std.specs.Prelude.{Some, IfSome, OnOk};
+ghost use Rattle.std.specs.Prelude.{◌∷◌, [], Some, IfSome, OnOk};
 ghost use Rattle.std.specs.Option.{option_to_list};
 ghost use Rattle.key_string.specs.Filer.{is_filer};
 ghost use Rattle.http_messages.specs.Head.{max_body_len};
@@ -15,7 +15,7 @@ ghost use Rattle.filing_model.specs.Style.{style_of, HasStyle};
 ghost use Rattle.filing_model.specs.Views.{view_answer, view_outcome, view_row, the_request};
 ghost use Rattle.register_store.specs.Outcomes.{kept_as};
 ghost use Rattle.register_store.specs.Store.{HasRequests};
-ghost use Rattle.register_store.specs.Calls.{AddsRequest};
+ghost use Rattle.register_store.specs.Calls.{AddsMoments, AddsRequest};
 ghost use Rattle.intake_core.specs.declared.intake.Unavailable.TheVariants.{Down, Full, Memory, Store as StoreFailed};
 
 mod group;
@@ -23,7 +23,7 @@ mod group;
 use filing_model::{Answer, FilingRow, Outcome, Registered, Style};
 use intake_answers::{Cache, Request, answer_by, name_of};
 use key_string::KeyText;
-use register_store::{KeptRow, NewRow, Store, StoreFault};
+use register_store::{KeptRow, Moment, NewRow, Store, StoreFault};
 use sqlite::Alter;
 use std::alloc::{AllocError, Global};
 use thiserror::Error;
@@ -84,11 +84,13 @@ struct Limit {
     ghost few: { keys ≤ 2 ^ 62 },
 }
 
-/// A register, how many keys it may keep, and a cache of its answers, which no answer shows.
+/// A register, how many keys it may keep, the moment at which the next request came, and a cache of the answers, which
+/// no answer shows.
 pub struct Intake<S: Alter> {
     alloc: Global,
     store: Store<S>,
     limit: Limit,
+    moment: Moment,
     is_down: bool,
     cache: Option<Cache>,
 }
@@ -99,6 +101,7 @@ impl<S: Alter + Drop> Drop for Intake<S> {
             alloc: _,
             store: _,
             limit: _,
+            moment: _,
             is_down: _,
             cache: _,
         } = self;
@@ -108,20 +111,24 @@ impl<S: Alter + Drop> Drop for Intake<S> {
 impl<S: Alter> Intake<S> {
     ghost use Rattle.intake_core.specs.Calls.{DecidesRequest, IsRequest};
     ghost use Rattle.intake_core.specs.Held.{store_of, limit_of, has_stopped, HoldsRequests};
+    ghost use Rattle.intake_core.specs.Moments.{DatesRequest, moment_of};
 
-    /// An intake over this register, which keeps at most `limit` keys.
+    /// An intake over this register, which keeps at most `limit` keys. A request came at the beginning of 1970, until
+    /// `date` says another moment.
     pub fn new(alloc: Global, store: Store<S>, limit: u64) -> Intake<S>
         requires { limit ≤ 2 ^ 62 }
         ensures limit { limit_of result ≡ limit }
         ensures store { store_of result ≡ store }
         ensures holds { (requests : List Request) → firsts requests ≡ requests → HasRequests S.Store store requests
             → HoldsRequests S.Store result requests }
+        ensures moment { moment_of result ≡ 0 }
         ensures up { has_stopped result ≡ false }
     {
         Intake {
             alloc,
             store,
             limit: Limit { keys: limit },
+            moment: Moment::at(0),
             is_down: false,
             cache: None,
         }
@@ -135,6 +142,7 @@ impl<S: Alter> Intake<S> {
             alloc: _,
             store,
             limit: _,
+            moment: _,
             is_down: _,
             cache: _,
         } = self;
@@ -149,11 +157,22 @@ impl<S: Alter> Intake<S> {
         self.is_down
     }
 
+    /// Says at which moment the requests came that are submitted from now on. The clock is the caller's: no clause says
+    /// that it goes forward.
+    pub fn date(&mut self, moment: Moment)
+        ensures dated { moment_of self.new ≡ moment.milliseconds }
+        ensures holds { (requests : List Request) → HoldsRequests S.Store self.old requests
+            → HoldsRequests S.Store self.new requests }
+        ensures rest { self.new ≡ record self.old { moment = moment } }
+    {
+        self.moment = moment;
+    }
+
     /// Decides a request (own rule): the first of a filer and key is judged and kept, whether it is valid or not, and a
     /// later one gets what the first got, or that the key was used for another body or to replace another filing. With
     /// a target the report is to replace that filing of the filer, and a finding says so if it can't be replaced. The
     /// filer is a filer code, and the body has at most 1,048,576 bytes. An answer to a filer's key that was kept before
-    /// there were problem details is in the old style.
+    /// there were problem details is in the old style. A request that is kept has the moment that `date` said last.
     pub fn submit(
         &mut self,
         filer: &str,
@@ -164,21 +183,29 @@ impl<S: Alter> Intake<S> {
         requires filer { is_filer filer.now ≡ true }
         requires target { IsTarget target }
         requires body { length body.now ≤ max_body_len }
-        ensures { DecidesRequest S.Store (the_request filer.now key.now target body.now) self.old self.new
+        ensures decides { DecidesRequest S.Store (the_request filer.now key.now target body.now) self.old self.new
             result }
+        ensures dates { DatesRequest S.Store (the_request filer.now key.now target body.now) (moment_of self.old)
+            self.old self.new result }
     {
-        self.submit_request(&Request {
+        let request = Request {
             filer,
             key,
             target,
             body,
-        })
+        };
+        self.submit_request(&request, self.moment)
     }
 
-    /// As `submit`, of a request as one value.
-    fn submit_request(&mut self, request: &Request<'_>) -> Result<Answer, Unavailable>
+    /// As `submit`, of a request as one value, which came at this moment.
+    fn submit_request(
+        &mut self,
+        request: &Request<'_>,
+        moment: Moment,
+    ) -> Result<Answer, Unavailable>
         requires { IsRequest request.now }
-        ensures { DecidesRequest S.Store request.now self.old self.new result }
+        ensures decides { DecidesRequest S.Store request.now self.old self.new result }
+        ensures dates { DatesRequest S.Store request.now moment.milliseconds self.old self.new result }
     {
         if self.is_down {
             return Err(Unavailable::Down);
@@ -187,7 +214,7 @@ impl<S: Alter> Intake<S> {
         if let Some(answer) = self.recall(request, &name) {
             return Ok(answer);
         }
-        let result = self.decide(request, name);
+        let result = self.decide(request, moment, name);
         self.is_down = store_failed(&result);
         result
     }
@@ -243,7 +270,8 @@ impl<S: Alter> Intake<S> {
     ghost use Rattle.intake_core.specs.Calls.{AnswersIf, IsRequest, TellsIfFree};
     ghost use Rattle.intake_core.specs.Held.{store_of, limit_of, old_style_of, old_style_in, has_stopped};
     ghost use Rattle.intake_core.specs.Held.{HoldsRequests, ForRequests, ChangesOnlyCache, SurvivesAs, with_request};
-    ghost use Rattle.register_tables.specs.Registers.{LeavesRegister};
+    ghost use Rattle.intake_core.specs.Moments.{DatesIf, KeepsMoments, SurvivesWith, with_moment};
+    ghost use Rattle.register_tables.specs.Registers.{LeavesReceived, LeavesRegister};
 
     /// The answer to a request whose filer and key have this name, if the cache remembers it. The cache is made here,
     /// if there is memory for it.
@@ -286,15 +314,24 @@ impl<S: Alter> Intake<S> {
         }
     }
 
-    /// Decides a request by the register.
-    fn decide(&mut self, request: &Request<'_>, name: Option<String>) -> Result<Answer, Unavailable>
+    /// Decides a request that came at this moment by the register.
+    fn decide(
+        &mut self,
+        request: &Request<'_>,
+        moment: Moment,
+        name: Option<String>,
+    ) -> Result<Answer, Unavailable>
         requires request { IsRequest request.now }
         requires name { IsNameIfAny request.now name }
         ensures decided { AnswersIf S.Store request.now (λ _. Unit {0}) self.old self.new result }
+        ensures dated { DatesIf S.Store request.now moment.milliseconds (λ _. Unit {0}) self.old self.new result }
 
         // Nothing is written before the register was read, and so found open.
         ensures crash { SurvivesAs S.Store self.old self.new (λ requests trees.
             LeavesRegister (old_style_of self.old) (with_request requests request.now) trees) }
+        ensures received { SurvivesWith S.Store self.old self.new (λ requests moments trees.
+            LeavesReceived (old_style_of self.old) (with_request requests request.now)
+            (with_moment requests request.now moment.milliseconds moments) trees) }
         ensures full { ForRequests S.Store self.old self.new (λ requests. (k : ℕ) → result ≡ Err (Full k)
             → (has_key requests request.now ≡ false) × (limit_of self.old ≤ k) × (k ≡ length requests)) }
         ensures room { ForRequests S.Store self.old self.new (λ requests.
@@ -302,7 +339,7 @@ impl<S: Alter> Intake<S> {
     {
         match self.store.find(request.filer, request.key)? {
             Some(row) => Ok(self.repeat(request, name, row)),
-            None => self.keep(request, name),
+            None => self.keep(request, moment, name),
         }
     }
 
@@ -332,7 +369,8 @@ impl<S: Alter> Intake<S> {
 
     /// Whether the filing that a request names may be replaced. A request that names none is free.
     fn is_free(&mut self, request: &Request<'_>) -> Result<bool, Unavailable>
-        ensures { TellsIfFree S.Store request.now self.old self.new result }
+        ensures tells { TellsIfFree S.Store request.now self.old self.new result }
+        ensures moments { KeepsMoments S.Store self.old self.new }
     {
         match request.target {
             None => Ok(true),
@@ -348,8 +386,9 @@ impl<S: Alter> Intake<S> {
         requires facts { HasFacts row.now.body.now row.now.judged.now }
         requires room { (store_of self.old).kept < 2 ^ 62 }
         ensures added { AddsRequest S.Store row.now (store_of self.old) (store_of self.new) result }
+        ensures moments { AddsMoments S.Store (row.now ∷ []) (store_of self.old) (store_of self.new) result }
         ensures rest { (self.new.cache ≡ self.old.cache) × (limit_of self.new ≡ limit_of self.old)
-            × (has_stopped self.new ≡ has_stopped self.old) }
+            × (has_stopped self.new ≡ has_stopped self.old) × (self.new.moment ≡ self.old.moment) }
     {
         self.store.add(row)
     }
@@ -358,6 +397,7 @@ impl<S: Alter> Intake<S> {
     fn keep_judged(
         &mut self,
         request: &Request<'_>,
+        moment: Moment,
         name: Option<String>,
         free: bool,
     ) -> Result<Answer, Unavailable>
@@ -365,6 +405,9 @@ impl<S: Alter> Intake<S> {
         requires name { IsNameIfAny request.now name }
         requires room { (store_of self.old).kept < 2 ^ 62 }
         ensures kept { AnswersIf S.Store request.now (λ requests. (has_key requests request.now ≡ false)
+            × (free ≡ is_free (register requests) request.now.filer request.now.target)) self.old self.new result }
+        ensures dated { DatesIf S.Store request.now moment.milliseconds (λ requests.
+            (has_key requests request.now ≡ false)
             × (free ≡ is_free (register requests) request.now.filer request.now.target)) self.old self.new result }
         ensures full { (k : ℕ) → result ≢ Err (Full k) }
     {
@@ -375,17 +418,25 @@ impl<S: Alter> Intake<S> {
             target: request.target,
             body: request.body,
             judged: &judged,
+            moment,
         })?;
         self.remember(request, name, &outcome, Style::Problem);
         Ok(answer_by(outcome, false, Style::Problem))
     }
 
     /// Judges and keeps the first request under a key, if there is room.
-    fn keep(&mut self, request: &Request<'_>, name: Option<String>) -> Result<Answer, Unavailable>
+    fn keep(
+        &mut self,
+        request: &Request<'_>,
+        moment: Moment,
+        name: Option<String>,
+    ) -> Result<Answer, Unavailable>
         requires request { IsRequest request.now }
         requires name { IsNameIfAny request.now name }
         ensures kept { AnswersIf S.Store request.now (λ requests. has_key requests request.now ≡ false)
             self.old self.new result }
+        ensures dated { DatesIf S.Store request.now moment.milliseconds (λ requests.
+            has_key requests request.now ≡ false) self.old self.new result }
         ensures full { (requests : List Request) → HoldsRequests S.Store self.old requests → (k : ℕ)
             → result ≡ Err (Full k) → (limit_of self.old ≤ k) × (k ≡ length requests) }
         ensures room { (requests : List Request) → HoldsRequests S.Store self.old requests
@@ -396,6 +447,6 @@ impl<S: Alter> Intake<S> {
             return Err(Unavailable::Full { kept });
         }
         let free = self.is_free(request)?;
-        self.keep_judged(request, name, free)
+        self.keep_judged(request, moment, name, free)
     }
 }

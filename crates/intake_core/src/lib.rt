@@ -7,3 +7,4 @@ mod memory;
 
 pub use filing_model::{Answer, FilingRow, Style, list_reply, reply_of, word_reply};
 pub use intake::{Intake, Unavailable};
+pub use register_store::Moment;

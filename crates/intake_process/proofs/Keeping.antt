@@ -22,14 +22,14 @@ use Rattle.database_places.specs.Closing.{IsClosedIn, IsNotClosed, IsGivenUp, Li
 use Rattle.database_places.specs.Opening.{ComesFrom, OpensPlace, StaysIn}
 use Rattle.database_places.specs.Places.{KeepsLying, IsHonest}
 use Rattle.database_places.specs.Places as place
-use Rattle.intake_process.specs.declared.begun.Totals.{Totals}
+use Rattle.intake_process.specs.declared.beginning.Totals.{Totals}
 use Rattle.intake_process.specs.declared.fault.OpeningFault.{OpeningFault}
 use Rattle.intake_process.specs.declared.fault.OpeningFault.TheVariants.{Files as Unopened, Taken, Create, Open}
 use Rattle.intake_process.specs.declared.process.Answered.{Answered}
 use Rattle.intake_process.specs.declared.process.Closed.{Closed}
 use Rattle.intake_process.specs.declared.process.Outcome.{Outcome}
 use Rattle.intake_process.specs.declared.process.Outcome.TheVariants as outcome
-use Rattle.intake_process.specs.Begun.{HoldsAs, AreTotals, FindsIntake, MakesIntake, IsNotBegun}
+use Rattle.intake_process.specs.Beginning.{HoldsAs, AreTotals, FindsIntake, MakesIntake, IsNotBegun}
 use Rattle.intake_process.specs.Process.{Parts, IsAwake, IsUp, AnswersBy, KeepsBy, IsNotOpened}
 use Rattle.intake_process.specs.Process.{IsLeftBy, Leaves, OpensProcess, ClosesProcess}
 

@@ -17,10 +17,10 @@ use Rattle.gateway_server.proofs.Turns.{IsEndTold, came_none, told_none, came_on
 use Rattle.gateway_server.proofs.Turns.{turns_join, came_join, counted_join, told_join, unchanged}
 use Rattle.table_rows.proofs.CleanLemmas.{always_clean}
 use Rattle.database_places.specs.Places.{IsHonest}
-use Rattle.intake_process.specs.declared.begun.Totals.{Totals}
+use Rattle.intake_process.specs.declared.beginning.Totals.{Totals}
 use Rattle.intake_process.specs.declared.process.Answered.{Answered}
 use Rattle.intake_process.specs.declared.process.Closed.{Closed}
-use Rattle.intake_process.specs.Begun.{HoldsAs}
+use Rattle.intake_process.specs.Beginning.{HoldsAs}
 use Rattle.intake_process.specs.Process.{Parts, IsUnrefused, StaysUp, KeepsBy, Leaves, AnswersBy, AnswersWire}
 use Rattle.intake_process.specs.Process.{IsUp, OpensProcess, ClosesProcess}
 use Rattle.intake_process.specs.Turns.{Turn, Served, TurnedAway, connection_of, connections_of, served_in}

@@ -24,10 +24,11 @@ use Rattle.intake_process.specs.declared.tasks.errand.Errand.{Errand}
 use Rattle.intake_process.specs.declared.tasks.errand.Errand.TheVariants as asked
 use Rattle.intake_process.specs.declared.errand.ErrandFault.TheVariants as fault
 use Rattle.intake_process.specs.declared.visiting.Visited.{Visited}
-use Rattle.intake_process.specs.Errands.{IsRegisterFor, MayFail, Tells, is_for_pages, is_refused}
+use Rattle.intake_process.specs.Errands.{AreMomentsFor, IsRegisterFor, MayFail, Tells, is_for_pages, is_refused}
 use Rattle.intake_process.specs.Process.{Parts, KeepsBy}
 use Rattle.intake_process.proofs.Errands.{no_begin, no_print}
-use Rattle.intake_process.specs.Visits.{Outputs, LiesFor, is_doubtful, IsLeftIn, GoesOn, VisitsPlace, VisitsRegister}
+use Rattle.intake_process.specs.Visits.{Outputs, LiesDatedFor, LiesFor, is_doubtful, IsLeftIn, GoesOn, VisitsPlace}
+use Rattle.intake_process.specs.Visits.{VisitsRegister}
 
 or_first : (a b : Bool) → (a || b) ≡ false → a ≡ false
 or_first true b not = not
@@ -43,15 +44,16 @@ pub kept_lying : {D : Type 0} (lying mid after : Option (Option (Files D))) (fil
 kept_lying None mid after files leaves keeps = tt
 kept_lying (Some there) mid after files leaves keeps = subst (λ m. KeepsLying m after) leaves keeps
 
-may_files : (errand : Errand) (requests : List Request) (why : DatabaseFault)
-    → MayFail errand requests (fault.Files why)
-may_files (asked.List filer) requests why = tt
-may_files (asked.Show number) requests why = tt
-may_files asked.Check requests why = tt
-may_files asked.Migrate requests why = tt
-may_files (asked.Export form filer) requests why = tt
-may_files (asked.Digest until) requests why = tt
-may_files (asked.Pages folder) requests why = tt
+may_files : (errand : Errand) (requests : List Request) (moments : List (Option ℕ)) (why : DatabaseFault)
+    → MayFail errand requests moments (fault.Files why)
+may_files (asked.List filer false) requests moments why = tt
+may_files (asked.List filer true) requests moments why = tt
+may_files (asked.Show number dated) requests moments why = tt
+may_files (asked.Check against) requests moments why = tt
+may_files asked.Migrate requests moments why = tt
+may_files (asked.Export form filer) requests moments why = tt
+may_files (asked.Digest until) requests moments why = tt
+may_files (asked.Pages folder) requests moments why = tt
 
 module _ {D : Type 0} {g : Ghosts D} where
   -- ---- the files are left
@@ -87,6 +89,21 @@ module _ {D : Type 0} {g : Ghosts D} where
         came.0,
       )
 
+  -- and so are its moments
+  found_dated : (errand : Errand) (old between : Option (Option (Files D))) (conn : Held (FileStore D g)) → IsHonest g
+      → ComesFrom old between conn → (old_style : ℕ) (requests : List Request) (moments : List (Option ℕ))
+      → LiesDatedFor g errand old old_style requests moments
+      → IsRegisterFor errand old_style requests (file_state conn).now
+      × AreMomentsFor errand requests moments (file_state conn).now
+  found_dated errand old between conn honest comes old_style requests moments lies =
+      let came = subst (λ l. ComesFrom l between conn) lies.1.1 comes in
+      let both = came.1 (always_clean honest conn) in
+      let hold = lies.1.2 in
+      let is = sym (finds lies.1.0 conn both.0 both.1 hold.db hold.held) in (
+        subst (IsRegisterFor errand old_style requests) is hold.register,
+        subst (AreMomentsFor errand requests moments) is hold.received,
+      )
+
   copied : (conn : Held (FileStore D g)) (files : Files D) → IsHonest g → IsClosedIn g conn files
       → (old_style : ℕ) (requests : List Request) → HasCommitted (IsRegisterOf old_style requests) (file_state conn)
       → HoldRegister g files old_style requests
@@ -110,17 +127,18 @@ module _ {D : Type 0} {g : Ghosts D} where
   module _ (errand : Errand) (out out' : Outputs) (old new : Option (Option (Files D))) (visited : Visited) where
     told_by : (opened : Result (Held (FileStore D g)) DatabaseFault) (between : Option (Option (Files D)))
         → OpensPlace g true old between opened → GoesOn errand out out' between new opened visited
-        → IsHonest g → (old_style : ℕ) (requests : List Request) → LiesFor g errand old old_style requests
-        → Tells errand requests out.text out'.text visited.done
-    told_by (Err why) between opens goes honest old_style requests lies =
-        subst (λ done. Tells errand requests out.text out'.text done) (sym goes.0) (
-          may_files errand requests why,
+        → IsHonest g → (old_style : ℕ) (requests : List Request) (moments : List (Option ℕ))
+        → LiesDatedFor g errand old old_style requests moments
+        → Tells errand requests moments out.text out'.text visited.done
+    told_by (Err why) between opens goes honest old_style requests moments lies =
+        subst (λ done. Tells errand requests moments out.text out'.text done) (sym goes.0) (
+          may_files errand requests moments why,
           no_print errand out.text out'.text (fault.Files why) (ap (λ o. o.text) goes.3),
-          no_begin errand requests out.text out'.text (fault.Files why) refl,
+          no_begin errand requests moments out.text out'.text (fault.Files why) refl,
         )
-    told_by (Ok conn) between opens goes honest old_style requests lies =
-        goes.1.told (always_clean honest goes.0) old_style requests lies.0
-        (found errand old between conn honest opens.comes old_style requests lies).0
+    told_by (Ok conn) between opens goes honest old_style requests moments lies =
+        let is = found_dated errand old between conn honest opens.comes old_style requests moments lies in
+        goes.1.told (always_clean honest goes.0) old_style requests lies.0 is.0 moments is.1
 
     filled_by : (opened : Result (Held (FileStore D g)) DatabaseFault) (between : Option (Option (Files D)))
         → OpensPlace g true old between opened → GoesOn errand out out' between new opened visited

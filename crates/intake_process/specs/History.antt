@@ -3,7 +3,7 @@ use Rattle.std.specs.Prelude.{◌≡◌, ◌⊎◌, ◌++◌, ℕ, Bool, true, f
 use Rattle.std.specs.Prelude.{Result}
 use Rattle.sqlite_disk.specs.declared.Disk.{Ghosts}
 use Rattle.http_wire.specs.Wire.{Wire}
-use Rattle.intake_process.specs.declared.begun.Totals.{Totals}
+use Rattle.intake_process.specs.declared.beginning.Totals.{Totals}
 use Rattle.intake_process.specs.declared.fault.OpeningFault.{OpeningFault}
 use Rattle.intake_process.specs.declared.process.Answered.{Answered}
 use Rattle.intake_process.specs.declared.process.Closed.{Closed}

@@ -22,7 +22,7 @@ use Rattle.database_places.specs.Closing.{IsClosedIn, IsNotClosed, LieGivenUp}
 use Rattle.database_places.specs.Opening.{ComesFrom, OpensPlace}
 use Rattle.database_places.specs.Places.{Lie, IsHonest}
 use Rattle.database_places.specs.Places as place
-use Rattle.intake_process.specs.declared.begun.Totals.{Totals}
+use Rattle.intake_process.specs.declared.beginning.Totals.{Totals}
 use Rattle.intake_process.specs.declared.fault.OpeningFault.{OpeningFault}
 use Rattle.intake_process.specs.declared.fault.OpeningFault.TheVariants as fault
 use Rattle.intake_process.specs.declared.process.Answered.{Answered}
@@ -30,7 +30,7 @@ use Rattle.intake_process.specs.declared.process.Closed.{Closed}
 use Rattle.intake_process.specs.declared.process.IntakeProcess.{IntakeProcess}
 use Rattle.intake_process.specs.declared.process.Outcome.{Outcome}
 use Rattle.intake_process.specs.declared.process.Outcome.TheVariants as outcome
-use Rattle.intake_process.specs.Begun.{HoldsAs, AreTotals, IsNotBegun}
+use Rattle.intake_process.specs.Beginning.{HoldsAs, AreTotals, IsNotBegun}
 use Rattle.intake_process.specs.Turning.{TurnsAway}
 
 -- What contracts see of it: the intake, if it is open; if that is known, the files that lie in its place, if there are

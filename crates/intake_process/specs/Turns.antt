@@ -8,7 +8,7 @@ use Rattle.filing_model.specs.Serving.{Keeping, keeping}
 use Rattle.gateway_server.specs.InTurn.{ServeInTurn, Came, AreCounted, AreTold}
 use Rattle.gateway_server.specs.Ports.{Connection, Traffic}
 use Rattle.database_places.specs.Places.{IsHonest}
-use Rattle.intake_process.specs.declared.begun.Totals.{Totals}
+use Rattle.intake_process.specs.declared.beginning.Totals.{Totals}
 use Rattle.intake_process.specs.declared.process.Closed.{Closed}
 use Rattle.intake_process.specs.declared.serving.ServingFault.{ServingFault}
 use Rattle.intake_process.specs.declared.serving.ServingFault.TheVariants.{Register, Port}

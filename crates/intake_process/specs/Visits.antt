@@ -19,7 +19,8 @@ use Rattle.database_places.specs.Places as place
 use Rattle.intake_process.specs.declared.tasks.errand.Errand.{Errand}
 use Rattle.intake_process.specs.declared.errand.ErrandFault.TheVariants as fault
 use Rattle.intake_process.specs.declared.visiting.Visited.{Visited}
-use Rattle.intake_process.specs.Errands.{FillsFolder, IsRegisterFor, RunsErrand, Tells, is_for_pages, is_refused}
+use Rattle.intake_process.specs.Errands.{AreMomentsFor, FillsFolder, IsRegisterFor, RunsErrand, Tells, is_for_pages}
+use Rattle.intake_process.specs.Errands.{is_refused}
 use Rattle.intake_process.specs.Process.{Parts, KeepsBy}
 
 -- what an output has, and which pages were written into a folder, if that is known
@@ -37,6 +38,21 @@ pub record HoldFor {D : Type 0} (g : Ghosts D) (errand : Errand) (files : Files 
   pub register : IsRegisterFor errand old_style requests db
   pub held : HoldsDatabase g files db
   pub usable : AreUsable g files
+
+-- the same, and these are the moments of its requests
+pub record HoldDatedFor {D : Type 0} (g : Ghosts D) (errand : Errand) (files : Files D) (old_style : ℕ)
+    (requests : List Request) (moments : List (Option ℕ)) : Type 0 where
+  pub db : Database
+  pub register : IsRegisterFor errand old_style requests db
+  pub received : AreMomentsFor errand requests moments db
+  pub held : HoldsDatabase g files db
+  pub usable : AreUsable g files
+
+-- the register of these requests, with these moments, lies there
+abbrev pub LiesDatedFor : {D : Type 0} → Ghosts D → Errand → Option (Option (Files D)) → ℕ → List Request
+    → List (Option ℕ) → Type 0
+LiesDatedFor g errand lying old_style requests moments =
+    (firsts requests ≡ requests) × Lie lying (λ files. HoldDatedFor g errand files old_style requests moments)
 
 -- the register of these requests lies there
 abbrev pub LiesFor : {D : Type 0} → Ghosts D → Errand → Option (Option (Files D)) → ℕ → List Request → Type 0
@@ -80,12 +96,13 @@ pub record VisitsPlace {D : Type 0} (g : Ghosts D) (errand : Errand) (out out' :
 -- ---- a register
 
 -- What a visit does with a process that is closed. What is printed of a register of the version that the errand is for
--- is the text of its requests, and they are kept as a register of this version as long as no close and no opening
--- failed. Its pages are written if the errand is for them, and otherwise none.
+-- is the text of its requests and their moments, and they are kept as a register of this version as long as no close
+-- and no opening failed. Its pages are written if the errand is for them, and otherwise none.
 pub record VisitsRegister {D : Type 0} {g : Ghosts D} (errand : Errand) (out out' : Outputs) (old new : Parts g)
     (visited : Visited) : Type 0 where
-  pub told : IsHonest g → (old_style : ℕ) (requests : List Request) → LiesFor g errand old.lying old_style requests
-      → Tells errand requests out.text out'.text visited.done
+  pub told : IsHonest g → (old_style : ℕ) (requests : List Request) (moments : List (Option ℕ))
+      → LiesDatedFor g errand old.lying old_style requests moments
+      → Tells errand requests moments out.text out'.text visited.done
   pub filled : IsHonest g → (old_style : ℕ) (requests : List Request) → LiesFor g errand old.lying old_style requests
       → is_for_pages errand ≡ true
       → OnOk visited.done (WritesSite requests out.pages out'.pages)

@@ -1,15 +1,16 @@
 //! An errand to the register that a database is. This is written over any store, since each function that names a store
 //! in files and calls such code costs much to prove.
 
-ghost use Rattle.std.specs.Prelude.{◌≡◌, ℕ, List, Option};
+ghost use Rattle.std.specs.Prelude.{◌≡◌, ℕ, List, Option, true, false};
 ghost use Rattle.std.specs.Borrow.{Bor};
 ghost use Rattle.table_rows.specs.Standing.{IsAtRest};
 ghost use Rattle.intake_process.specs.Errands.{FillsFolder, RunsErrand, is_refusal};
 ghost use Rattle.intake_process.specs.Outcomes.{listed_as, records_fault, shown_as, printed_as, writing_fault};
 
 use crate::tasks::checking::{CheckFault, Progress, check};
+use crate::tasks::dating::list_moments;
 use crate::tasks::digesting::print_digest;
-use crate::tasks::errand::Errand;
+use crate::tasks::errand::{Errand, Published};
 use crate::tasks::listing::{ListFault, list};
 use crate::tasks::migrating::{Migrated, migrate};
 use crate::tasks::showing::{ShowFault, show};
@@ -45,6 +46,8 @@ pub enum ErrandFault {
     NoFiling { number: u64 },
     /// The register keeps so many requests, and that is fewer than were asked for.
     TooFew { kept: u64 },
+    /// The digest of the first requests, so many, is not the one that was published.
+    Another { count: u64 },
     /// The text was not printed.
     Text(TextFault),
     /// A page is not written.
@@ -106,7 +109,7 @@ fn printed_as(printed: Result<(), TextFault>) -> Result<(), ErrandFault>
     }
 }
 
-/// Why an errand to write facts out is not done, if their records are not all written for this reason.
+/// Why an errand to write facts out, or to list moments, is not done, if not all is written for this reason.
 fn records_fault(fault: RecordsFault) -> ErrandFault
     ensures { result ≡ records_fault fault }
 {
@@ -144,9 +147,9 @@ pub(crate) fn run_errand<S: Alter + Drop, P: Progress, F: Folder, O: Write>(
     ensures fills { FillsFolder S.Store errand.entry (F.pages folder.old) (F.pages folder.new) conn result.0 result.1 }
 {
     match errand {
-        Errand::List { filer } => list_filings(alloc, conn, filer, output),
-        Errand::Show { number } => show_filing(alloc, conn, number, output),
-        Errand::Check => check_register(alloc, conn, progress, output),
+        Errand::List { filer, moments } => list_filings(alloc, conn, filer, moments, output),
+        Errand::Show { number, moments } => show_filing(alloc, conn, number, moments, output),
+        Errand::Check { against } => check_register(alloc, conn, against, progress, output),
         Errand::Migrate => migrate_register(alloc, conn, output),
         Errand::Export { form, filer } => export_facts(alloc, conn, form, filer, output),
         Errand::Digest { until } => digest_requests(alloc, conn, until, output),
@@ -154,15 +157,34 @@ pub(crate) fn run_errand<S: Alter + Drop, P: Progress, F: Folder, O: Write>(
     }
 }
 
-/// Prints the filings of a filer.
+/// Prints the filings of a filer, or when each was received.
 fn list_filings<S: Alter + Drop, O: Write>(
+    alloc: Global,
+    conn: Connection<S>,
+    filer: &str,
+    moments: bool,
+    output: &mut O,
+) -> (Connection<S>, Result<(), ErrandFault>)
+    requires { IsAtRest conn }
+    ensures { RunsErrand S.Store (Errand.List filer.entry moments) (O.contents output.old) (O.contents output.new) conn
+        result.0 result.1 }
+{
+    if moments {
+        list_received(alloc, conn, filer, output)
+    } else {
+        list_contents(alloc, conn, filer, output)
+    }
+}
+
+/// Prints the filings of a filer, as the reply to a GET lists them.
+fn list_contents<S: Alter + Drop, O: Write>(
     alloc: Global,
     conn: Connection<S>,
     filer: &str,
     output: &mut O,
 ) -> (Connection<S>, Result<(), ErrandFault>)
     requires { IsAtRest conn }
-    ensures { RunsErrand S.Store (Errand.List filer.entry) (O.contents output.old) (O.contents output.new) conn
+    ensures { RunsErrand S.Store (Errand.List filer.entry false) (O.contents output.old) (O.contents output.new) conn
         result.0 result.1 }
 {
     match Store::open_or_back(alloc, conn) {
@@ -178,20 +200,46 @@ fn list_filings<S: Alter + Drop, O: Write>(
     }
 }
 
-/// Prints the facts of a filing.
-fn show_filing<S: Alter + Drop, O: Write>(
+/// Prints when each filing of a filer was received.
+fn list_received<S: Alter + Drop, O: Write>(
     alloc: Global,
     conn: Connection<S>,
-    number: u64,
+    filer: &str,
     output: &mut O,
 ) -> (Connection<S>, Result<(), ErrandFault>)
     requires { IsAtRest conn }
-    ensures { RunsErrand S.Store (Errand.Show number) (O.contents output.old) (O.contents output.new) conn
+    ensures { RunsErrand S.Store (Errand.List filer.entry true) (O.contents output.old) (O.contents output.new) conn
         result.0 result.1 }
 {
     match Store::open_or_back(alloc, conn) {
         Ok(mut register) => {
-            let shown = show(alloc, &mut register, number, output);
+            match list_moments(alloc, &mut register, filer, output) {
+                Ok(()) => (register.into_conn(), Ok(())),
+                Err(fault) => (register.into_conn(), Err(records_fault(fault))),
+            }
+        }
+        Err((fault, back)) => {
+            let holding = held_in(&back);
+            (back, Err(ErrandFault::Open(fault, holding)))
+        }
+    }
+}
+
+/// Prints the facts of a filing, and before them when it was received, if that is asked for.
+fn show_filing<S: Alter + Drop, O: Write>(
+    alloc: Global,
+    conn: Connection<S>,
+    number: u64,
+    moments: bool,
+    output: &mut O,
+) -> (Connection<S>, Result<(), ErrandFault>)
+    requires { IsAtRest conn }
+    ensures { RunsErrand S.Store (Errand.Show number moments) (O.contents output.old) (O.contents output.new) conn
+        result.0 result.1 }
+{
+    match Store::open_or_back(alloc, conn) {
+        Ok(mut register) => {
+            let shown = show(alloc, &mut register, number, moments, output);
             (register.into_conn(), shown_as(number, shown))
         }
         Err((fault, back)) => {
@@ -201,20 +249,24 @@ fn show_filing<S: Alter + Drop, O: Write>(
     }
 }
 
-/// Checks the register, and prints how much it holds, if it is sound.
+/// Checks the register, and prints how much it holds, if it is sound and has the requests of the published digest.
 fn check_register<S: Alter + Drop, P: Progress, O: Write>(
     alloc: Global,
     mut conn: Connection<S>,
+    against: Option<Published>,
     progress: &mut P,
     output: &mut O,
 ) -> (Connection<S>, Result<(), ErrandFault>)
     requires { IsAtRest conn }
-    ensures { RunsErrand S.Store Errand.Check (O.contents output.old) (O.contents output.new) conn
+    ensures { RunsErrand S.Store (Errand.Check against) (O.contents output.old) (O.contents output.new) conn
         result.0 result.1 }
 {
-    match check(alloc, &mut conn, progress, output) {
+    match check(alloc, &mut conn, against, progress, output) {
         Ok(()) => (conn, Ok(())),
         Err(CheckFault::Text(fault)) => (conn, Err(ErrandFault::Text(fault))),
+        Err(CheckFault::Store(fault)) => (conn, Err(ErrandFault::Store(fault))),
+        Err(CheckFault::TooFew { kept }) => (conn, Err(ErrandFault::TooFew { kept })),
+        Err(CheckFault::Another { count }) => (conn, Err(ErrandFault::Another { count })),
         Err(CheckFault::Open(fault)) => {
             let holding = held_in(&conn);
             (conn, Err(ErrandFault::Open(fault, holding)))

@@ -4,7 +4,7 @@
 //! long it waits before an opening, is the caller's.
 #![tactic(auto)]
 
-mod begun;
+mod beginning;
 mod errand;
 mod fault;
 mod observer;
@@ -14,14 +14,14 @@ mod tasks;
 mod turning;
 mod visiting;
 
-pub use begun::Totals;
+pub use beginning::Totals;
 pub use errand::ErrandFault;
 pub use fault::OpeningFault;
 pub use observer::{Observer, Went};
 pub use process::{Answered, Closed, IntakeProcess, Outcome};
 pub use serving::{ServingFault, serve_port, serve_register};
 pub use tasks::checking::{CheckFault, Progress, check};
-pub use tasks::errand::Errand;
+pub use tasks::errand::{Errand, Published};
 pub use tasks::listing::{ListFault, list};
 pub use tasks::migrating::{Migrated, migrate};
 pub use tasks::running::run;

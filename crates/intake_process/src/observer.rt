@@ -3,7 +3,7 @@
 ghost use Rattle.std.specs.Prelude.{◌≡◌, ◌∷◌, [], Bool, List, Option};
 ghost use Rattle.intake_process.specs.Observing.{Notes};
 
-use crate::begun::Totals;
+use crate::beginning::Totals;
 use crate::fault::OpeningFault;
 use crate::process::Closed;
 use gateway_server::Served;

@@ -7,7 +7,7 @@ ghost use Rattle.http_wire.specs.Wire.{wire};
 ghost use Rattle.database_places.specs.Opening.{is_found};
 ghost use Rattle.intake_process.specs.Process.{ServesBy, CountsRefusal};
 
-use crate::begun::{Totals, begin, parted};
+use crate::beginning::{Totals, begin, parted};
 use crate::fault::OpeningFault;
 use crate::turning::turn_away;
 use database_places::{Opening, Place, close, give_up, open, remove_new_log};

@@ -10,7 +10,7 @@ ghost use Rattle.intake_process.specs.Observing.{Notes};
 ghost use Rattle.intake_process.specs.Turns.{AnswersSome, EndsBy, ServesRegister};
 ghost use Rattle.database_places.specs.Opening.{is_found};
 
-use crate::begun::Totals;
+use crate::beginning::Totals;
 use crate::fault::OpeningFault;
 use crate::observer::{Observer, Went};
 use crate::process::{IntakeProcess, Outcome};

@@ -2,6 +2,7 @@
 //! command line are known here.
 
 pub(crate) mod checking;
+pub(crate) mod dating;
 pub(crate) mod digesting;
 pub(crate) mod errand;
 pub(crate) mod listing;

@@ -13,4 +13,4 @@ pub use event::Event;
 pub use many::Many;
 pub use note::Note;
 pub use piece_reader::PieceReader;
-pub use tcp::{TcpLine, TcpSockets};
+pub use tcp::{TcpLine, TcpSockets, moment_now};

@@ -78,7 +78,8 @@ impl<S: Stream<Note = Note> + Drop, K: Sockets<Stream = S> + Drop> Port for Many
                 let event = Event::Came(piece);
                 self.events = self.events.and(&event, &true);
                 let writer = MemoryWriter::new(self.alloc);
-                Ok(Some((PieceReader::new(event.into_bytes()), writer)))
+                let reader = PieceReader::new(event.into_bytes(), self.sockets.moment());
+                Ok(Some((reader, writer)))
             }
             None => Ok(None),
         }

@@ -6,19 +6,22 @@ ghost use Rattle.many_connections.specs.PieceReader.{bytes_left};
 use http_wire::{DeviceFailed, Source};
 use std::io::{Cursor, Read};
 
-/// The bytes of a piece, which are read from their front.
+/// The bytes of a piece, which are read from their front, and the moment at which it was taken up.
 #[derive(Drop)]
 pub struct PieceReader {
     cursor: Cursor<Vec<u8>>,
+    /// In milliseconds since 1970-01-01T00:00:00Z.
+    moment: u64,
 }
 
 impl PieceReader {
-    /// A reader of these bytes.
-    pub(crate) fn new(bytes: Vec<u8>) -> PieceReader
+    /// A reader of these bytes, which were taken up at this moment.
+    pub(crate) fn new(bytes: Vec<u8>, moment: u64) -> PieceReader
         ensures { bytes_left result ≡ bytes.items }
     {
         PieceReader {
             cursor: Cursor::new(bytes),
+            moment,
         }
     }
 
@@ -46,5 +49,10 @@ impl Source for PieceReader {
             Ok(count) => Ok(count),
             Err(_) => Err(DeviceFailed),
         }
+    }
+
+    // All bytes came before the piece was taken up.
+    fn moment(&self) -> u64 {
+        self.moment
     }
 }

@@ -8,7 +8,7 @@ use mio::{Events, Interest, Poll, Token};
 use ready_connections::{Broken, Got, Sockets, Stream, Why};
 use std::io::{self, ErrorKind, Read, Write};
 use std::net::{IpAddr, Ipv4Addr, SocketAddr};
-use std::time::{Duration, Instant};
+use std::time::{Duration, Instant, SystemTime};
 
 /// The token of the listener; those of connections are their places.
 const LISTENER: Token = Token(usize::MAX);
@@ -110,6 +110,18 @@ fn write(stream: &mut TcpStream, text: &[u8]) -> Result<usize, Broken>
         }
     }
     Err(Broken)
+}
+
+/// How many milliseconds passed since 1970-01-01T00:00:00Z by the clock of the system; 0 if it fails, or is set to an
+/// earlier time.
+pub fn moment_now(rt: &HostRuntime) -> u64 {
+    let Ok(now) = SystemTime::now(rt) else {
+        return 0;
+    };
+    match now.duration_since(SystemTime::UNIX_EPOCH) {
+        Ok(passed) => u64::try_from(passed.as_millis()).unwrap_or(u64::MAX),
+        Err(_) => 0,
+    }
 }
 
 /// What the system is asked by.
@@ -259,6 +271,10 @@ impl Sockets for TcpSockets<'_> {
             Ok(time) => u64::try_from(time.as_millis()).unwrap_or(u64::MAX),
             Err(_) => 0,
         }
+    }
+
+    fn moment(&self) -> u64 {
+        moment_now(self.rt)
     }
 
     // A stream that is let go is closed, and the system watches it no more.

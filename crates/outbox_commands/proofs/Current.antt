@@ -11,7 +11,7 @@ use Rattle.outbox_tables.specs.Rows.{IsOutboxOf}
 use Rattle.outbox_tables.specs.declared.fault.OutboxFault.TheVariants.{NotOurs}
 use Rattle.database_places.specs.Opening.{ComesFrom}
 use Rattle.database_places.specs.Places.{IsHonest}
-use Rattle.outbox_process.specs.declared.begun.Beginning.TheVariants.{Migrated}
+use Rattle.outbox_process.specs.declared.beginning.Beginning.TheVariants.{Migrated}
 use Rattle.outbox_process.specs.declared.fault.OpeningFault.{OpeningFault}
 use Rattle.outbox_process.specs.declared.fault.OpeningFault.TheVariants.{Files, Taken, Create, Open, IsCurrent, Migrate}
 use Rattle.outbox_process.specs.Process.{Parts, Keeps, KeepsBy, IsNotOpened, OpensProcess}

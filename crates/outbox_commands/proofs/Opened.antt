@@ -1,7 +1,7 @@
 -- What came of an opening that was told.
 use Rattle.std.proofs.Common.{◌≡◌, ◌≢◌, Option, Some, None, Result, Ok, Err, refl, ◌∙◌, ap}
 use Rattle.sqlite_disk.specs.declared.Disk.{Ghosts}
-use Rattle.outbox_process.specs.declared.begun.Beginning.{Beginning}
+use Rattle.outbox_process.specs.declared.beginning.Beginning.{Beginning}
 use Rattle.outbox_process.specs.declared.fault.OpeningFault.{OpeningFault}
 use Rattle.outbox_process.specs.Process.{Parts, OpensProcess}
 use Rattle.outbox_commands.specs.Status.{opening_status}

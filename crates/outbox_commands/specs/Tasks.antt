@@ -13,7 +13,7 @@ use Rattle.database_places.specs.Places.{IsHonest}
 use Rattle.database_places.specs.declared.verdict.Verdict.{Verdict}
 use Rattle.database_places.specs.Verdicts.{verdict_text}
 use Rattle.outbox_process.specs.Dials.{Traffic}
-use Rattle.outbox_process.specs.declared.begun.Beginning.TheVariants as beginning
+use Rattle.outbox_process.specs.declared.beginning.Beginning.TheVariants as beginning
 use Rattle.outbox_process.specs.declared.errand.Errand.TheVariants as errand
 use Rattle.outbox_process.specs.declared.fault.OpeningFault.{OpeningFault}
 use Rattle.outbox_process.specs.declared.fault.OpeningFault.TheVariants as opening

@@ -9,8 +9,8 @@ use Rattle.outbox_tables.specs.declared.fault.OutboxFault.{OutboxFault}
 use Rattle.outbox_tables.specs.declared.fault.OutboxFault.TheVariants as made
 use Rattle.outbox_process.specs.Dials.{Traffic}
 use Rattle.outbox_process.specs.declared.tasks.fault.TaskFault.{TaskFault}
-use Rattle.outbox_process.specs.declared.begun.Beginning.{Beginning}
-use Rattle.outbox_process.specs.declared.begun.Beginning.TheVariants.{Found}
+use Rattle.outbox_process.specs.declared.beginning.Beginning.{Beginning}
+use Rattle.outbox_process.specs.declared.beginning.Beginning.TheVariants.{Found}
 use Rattle.outbox_process.specs.declared.errand.Done.{Done}
 use Rattle.outbox_process.specs.declared.errand.Errand.{Errand}
 use Rattle.outbox_process.specs.declared.fault.OpeningFault.{OpeningFault}

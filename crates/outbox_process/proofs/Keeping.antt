@@ -23,12 +23,12 @@ use Rattle.command_line.specs.declared.fault.DatabaseFault.TheVariants.{Missing}
 use Rattle.database_places.specs.Opening.{ComesFrom, OpensPlace, StaysIn}
 use Rattle.database_places.specs.Places.{KeepsLying, IsHonest}
 use Rattle.database_places.specs.Places as place
-use Rattle.outbox_process.specs.declared.begun.Beginning.{Beginning}
-use Rattle.outbox_process.specs.declared.begun.Beginning.TheVariants.{Found, Made, Migrated}
+use Rattle.outbox_process.specs.declared.beginning.Beginning.{Beginning}
+use Rattle.outbox_process.specs.declared.beginning.Beginning.TheVariants.{Found, Made, Migrated}
 use Rattle.outbox_process.specs.declared.fault.OpeningFault.{OpeningFault}
 use Rattle.outbox_process.specs.declared.fault.OpeningFault.TheVariants.{Files as Unopened, Taken, Create, Open}
 use Rattle.outbox_process.specs.declared.fault.OpeningFault.TheVariants.{IsCurrent, Migrate}
-use Rattle.outbox_process.specs.Begun.{HasContents, BeginsOutbox}
+use Rattle.outbox_process.specs.Beginning.{HasContents, BeginsOutbox}
 use Rattle.outbox_process.specs.Process.{Parts, KeepsBy, Keeps, BeginsWith, IsNotOpened, IsUp, has_to_be_there}
 use Rattle.outbox_process.specs.Process.{OpensProcess, IsLeftOpen, ClosesProcess}
 use Rattle.outbox_process.specs.Refusals.{RefusesOutbox}

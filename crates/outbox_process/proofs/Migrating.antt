@@ -16,7 +16,7 @@ use Rattle.outbox_tables.specs.Faults.{IsFailure}
 use Rattle.outbox_tables.specs.declared.fault.OutboxFault.TheVariants.{NotOurs}
 use Rattle.outbox_core.specs.OutboxParts.{OutboxParts}
 use Rattle.outbox_core.specs.Refusals.{GivesBackOpening, GivesBackMigrating}
-use Rattle.outbox_process.specs.Begun.{MigratesEarlier, MigratesOutbox}
+use Rattle.outbox_process.specs.Beginning.{MigratesEarlier, MigratesOutbox}
 use Rattle.outbox_process.specs.Refusals.{IsNotEarlier, RefusesMigrating}
 use Rattle.outbox_process.specs.declared.fault.OpeningFault.{OpeningFault}
 use Rattle.outbox_process.specs.declared.fault.OpeningFault.TheVariants.{Files, Taken, Create, Open, IsCurrent, Migrate}

@@ -1,6 +1,6 @@
 pub mod Answering
 pub mod Asking
-pub mod Begun
+pub mod Beginning
 pub mod Dials
 pub mod Endings
 pub mod Errands

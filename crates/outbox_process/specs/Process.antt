@@ -20,14 +20,14 @@ use Rattle.database_places.specs.Places.{Lie, IsHonest}
 use Rattle.database_places.specs.Places as place
 use Rattle.outbox_process.specs.Dials.{Traffic}
 use Rattle.outbox_process.specs.declared.tasks.fault.TaskFault.{TaskFault}
-use Rattle.outbox_process.specs.declared.begun.Beginning.{Beginning}
-use Rattle.outbox_process.specs.declared.begun.Beginning.TheVariants.{Found, Made, Migrated}
+use Rattle.outbox_process.specs.declared.beginning.Beginning.{Beginning}
+use Rattle.outbox_process.specs.declared.beginning.Beginning.TheVariants.{Found, Made, Migrated}
 use Rattle.outbox_process.specs.declared.errand.Done.{Done}
 use Rattle.outbox_process.specs.declared.errand.Errand.{Errand}
 use Rattle.outbox_process.specs.declared.fault.OpeningFault.{OpeningFault}
 use Rattle.outbox_process.specs.declared.fault.OpeningFault.TheVariants as fault
 use Rattle.outbox_process.specs.declared.process.OutboxProcess.{OutboxProcess}
-use Rattle.outbox_process.specs.Begun.{HasContents}
+use Rattle.outbox_process.specs.Beginning.{HasContents}
 use Rattle.outbox_process.specs.Errands.{DoesErrand}
 use Rattle.outbox_process.specs.Refusals.{RefusesOutbox}
 

@@ -8,8 +8,8 @@ use Rattle.outbox_tables.specs.declared.fault.OutboxFault.TheVariants.{NotOurs}
 use Rattle.outbox_core.specs.HandedOut.{HandsOutFound}
 use Rattle.outbox_core.specs.OutboxParts.{OutboxParts}
 use Rattle.outbox_core.specs.Refusals.{GivesBackMaking, GivesBackOpening, GivesBackMigrating}
-use Rattle.outbox_process.specs.declared.begun.Beginning.{Beginning}
-use Rattle.outbox_process.specs.declared.begun.Beginning.TheVariants.{Found, Made, Migrated}
+use Rattle.outbox_process.specs.declared.beginning.Beginning.{Beginning}
+use Rattle.outbox_process.specs.declared.beginning.Beginning.TheVariants.{Found, Made, Migrated}
 use Rattle.outbox_process.specs.declared.fault.OpeningFault.{OpeningFault}
 use Rattle.outbox_process.specs.declared.fault.OpeningFault.TheVariants.{Taken, Create, Open, IsCurrent, Migrate}
 

@@ -3,14 +3,14 @@
 //! each entry. What is reported of a refusal is the caller's.
 #![tactic(auto)]
 
-mod begun;
+mod beginning;
 mod errand;
 mod fault;
 mod process;
 mod target;
 mod tasks;
 
-pub use begun::Beginning;
+pub use beginning::Beginning;
 pub use errand::{Done, Errand, Which};
 pub use fault::OpeningFault;
 pub use finding_lines::Form;

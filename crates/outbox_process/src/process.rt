@@ -6,7 +6,7 @@ ghost use Rattle.std.specs.Borrow.{sem};
 ghost use Rattle.database_places.specs.Opening.{is_found};
 ghost use Rattle.outbox_process.specs.Process.{has_to_be_there};
 
-use crate::begun::{Beginning, begin};
+use crate::beginning::{Beginning, begin};
 use crate::errand::{Done, Errand, do_errand};
 use crate::fault::OpeningFault;
 use crate::tasks::dial::Dial;

@@ -12,10 +12,10 @@ use Rattle.outbox_core.specs.OutboxParts.{OutboxParts, HasEntries}
 use Rattle.outbox_process.specs.Dials.{Traffic}
 use Rattle.outbox_process.specs.declared.tasks.fault.TaskFault.{TaskFault}
 use Rattle.database_places.specs.Places.{IsHonest, Lie}
-use Rattle.outbox_process.specs.declared.begun.Beginning.TheVariants.{Found}
+use Rattle.outbox_process.specs.declared.beginning.Beginning.TheVariants.{Found}
 use Rattle.outbox_process.specs.declared.errand.Done.{Done}
 use Rattle.outbox_process.specs.declared.errand.Errand.{Errand}
-use Rattle.outbox_process.specs.Begun.{HasContents}
+use Rattle.outbox_process.specs.Beginning.{HasContents}
 use Rattle.outbox_process.specs.Process.{Parts, Keeps, KeepsBy, OpensProcess, PerformsErrand, ClosesProcess}
 use Rattle.program_runs.specs.Deeds.{Deed, AreDone}
 use Rattle.program_runs.specs.Runs.{LiesClosed, IsRunBy}

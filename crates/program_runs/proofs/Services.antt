@@ -81,9 +81,9 @@ in_turn_join limit a b c (Killed read crash marks written ∷ first) second one 
 
 for_errand : (errand : Errand) (requests : List Request) (db : Database) → IsNoMigration errand
     → IsRegisterOf 0 requests db → IsRegisterFor errand 0 requests db
-for_errand (asked.List filer) requests db allowed is = is
-for_errand (asked.Show number) requests db allowed is = is
-for_errand asked.Check requests db allowed is = is
+for_errand (asked.List filer dated) requests db allowed is = is
+for_errand (asked.Show number dated) requests db allowed is = is
+for_errand (asked.Check against) requests db allowed is = is
 for_errand asked.Migrate requests db allowed is = absurd allowed
 for_errand (asked.Export form filer) requests db allowed is = is
 for_errand (asked.Digest until) requests db allowed is = is
@@ -295,7 +295,7 @@ module _ {D : Type 0} {g : Ghosts D} where
       let visits = current.3 in
       let before = lies (visits.certain certain) in
       let is =
-      visited asked.Check (outputs current.0 out.pages) (outputs current.1 out'.pages) mid new current.2
+      visited (asked.Check None) (outputs current.0 out.pages) (outputs current.1 out'.pages) mid new current.2
       requests honest tt before.0 visits certain in
       (is.0, λ gone. before.1 (is.1 gone)))
       (λ (fault : IsFaultTold name errand why out.text out'.text result × (out'.pages ≡ out.pages) × (new ≡ mid)).

@@ -22,8 +22,8 @@ use Rattle.outbox_process.specs.Dials.{Traffic}
 use Rattle.outbox_process.specs.Putting.{IsPutTold}
 use Rattle.outbox_process.specs.declared.tasks.fault.TaskFault.{TaskFault}
 use Rattle.outbox_process.specs.declared.tasks.fault.TaskFault.TheVariants as failed
-use Rattle.outbox_process.specs.declared.begun.Beginning.{Beginning}
-use Rattle.outbox_process.specs.declared.begun.Beginning.TheVariants.{Made}
+use Rattle.outbox_process.specs.declared.beginning.Beginning.{Beginning}
+use Rattle.outbox_process.specs.declared.beginning.Beginning.TheVariants.{Made}
 use Rattle.outbox_process.specs.declared.errand.Done.{Done}
 use Rattle.outbox_process.specs.declared.errand.Done.TheVariants as outcome
 use Rattle.outbox_process.specs.declared.errand.Errand.{Errand}

@@ -34,6 +34,12 @@ pub trait Sockets {
     /// How many milliseconds passed since some moment.
     fn now(&self) -> u64;
 
+    /// How many milliseconds passed since 1970-01-01T00:00:00Z by the clock of the system; 0 if it has none. No clause
+    /// says that the clock is right, or that it goes forward.
+    fn moment(&self) -> u64 {
+        0
+    }
+
     /// Takes back a connection that is over.
     fn end(&mut self, stream: Self::Stream, why: Why)
         ensures { traffic self.new ≡ option_map (one_over stream why) (traffic self.old) };

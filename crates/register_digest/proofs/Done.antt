@@ -19,7 +19,8 @@ use Rattle.register_tables.specs.declared.fault.OpenFault.{OpenFault}
 use Rattle.register_tables.specs.declared.opening.Counts.{Counts}
 use Rattle.register_tables.specs.Opening.{ReadsRegister}
 use Rattle.register_tables.specs.Registers.{IsRegisterOf}
-use Rattle.register_store.specs.Store.{ForRegister}
+use Rattle.register_moments.specs.Dated.{ForDated}
+use Rattle.register_moments.proofs.Dating.{still}
 use Rattle.register_digest.specs.declared.digest.Digest.{Digest}
 use Rattle.register_digest.specs.declared.fault.DigestFault.TheVariants as fault
 use Rattle.register_digest.specs.Digest.{digest_until}
@@ -28,15 +29,17 @@ use Rattle.register_digest.specs.Views.{bytes_of, count_of, view_digest}
 use Rattle.register_digest.proofs.Requests.{length-kept}
 
 -- so many are there
-there : (until : Option ℕ) (F : List Request) (d : Digest) → unwrap_or until (length F) ≡ count_of d
-    → count_of d ≤ length F → bytes_of d ≡ digest_until (count_of d) F → digested until F ≡ Some (view_digest d)
-there until F d same low bytes =
+there : (until : Option ℕ) (F : List Request) (moments : List (Option ℕ)) (d : Digest)
+    → unwrap_or until (length F) ≡ count_of d → count_of d ≤ length F
+    → bytes_of d ≡ digest_until (count_of d) F moments → digested until F moments ≡ Some (view_digest d)
+there until F moments d same low bytes =
     let within : nat_le (unwrap_or until (length F)) (length F) ≡ true = grind (arith, nat_tests, same, low) in
-    rw within (λ i. Some (record { count = same i; bytes = (ap (λ n. digest_until n F) same ∙ sym bytes) i }))
+    rw within (λ i. Some (record { count = same i; bytes = (ap (λ n. digest_until n F moments) same ∙ sym bytes) i }))
 
 -- they are not
-not_there : (until : Option ℕ) (F : List Request) → length F < unwrap_or until (length F) → digested until F ≡ None
-not_there until F more =
+not_there : (until : Option ℕ) (F : List Request) (moments : List (Option ℕ))
+    → length F < unwrap_or until (length F) → digested until F moments ≡ None
+not_there until F moments more =
     let beyond : nat_le (unwrap_or until (length F)) (length F) ≡ false = grind (arith, nat_tests, more) in
     rw beyond refl
 
@@ -71,9 +74,9 @@ module _ {S : Type 0} (g : Ghosts S) (until : Option ℕ) (old mid : Held S) whe
         → DigestsRegister g until old mid (Err (fault.TooFew counts.kept))
     too_few more = record {
       computed = λ _. tt;
-      few = λ clean old_style F rows.
+      few = λ clean old_style F rows moments one_each received.
           let it = read.only clean old_style F rows in
-          (it.2, not_there until F (rw it.2 at more));
+          (it.2, not_there until F moments (rw it.2 at more));
       found = found_then;
       kept = λ clean old_style F rows. (read.only clean old_style F rows).1;
       refused = λ _. tt;
@@ -87,17 +90,20 @@ module _ {S : Type 0} (g : Ghosts S) (until : Option ℕ) (old mid : Held S) whe
       -- the walk came to its end
       pub done : Leaves Passed (state g mid) (state g new) → (d : Digest) (count : ℕ)
           → count ≡ unwrap_or until counts.kept → count ≤ counts.kept
-          → ForRegister g mid new (λ _ F. count ≤ length (kept F)
-          → (count_of d ≡ count) × (bytes_of d ≡ digest_until count F))
+          → ForDated g mid new (λ F moments. count ≤ length (kept F) → count ≤ length moments
+          → (count_of d ≡ count) × (bytes_of d ≡ digest_until count F moments))
           → DigestsRegister g until old new (Ok d)
       done leaves d count asked low walked =
           let whole = asked_before opened leaves in record {
-            computed = λ clean old_style F rows.
-                let it = read.only (clean_before leaves clean) old_style F rows in
+            computed = λ clean old_style F rows moments one_each received.
+                let before : HasCleanDisk (state g mid) = clean_before leaves clean in
+                let it = read.only before old_style F rows in
                 let long = length-kept F rows.rows.distinct in
-                let is = walked clean old_style F it.1 (omega (arith, low, long, it.2)) in
-                there until F d (ap (unwrap_or until) (sym it.2) ∙ sym asked ∙ sym is.0)
-                (omega (arith, low, it.2, is.0)) (is.1 ∙ ap (λ n. digest_until n F) (sym is.0));
+                let dated = still g old mid counts read before it.1 received in
+                let is = walked clean old_style F it.1 moments one_each dated (omega (arith, low, long, it.2))
+                (omega (arith, low, one_each, it.2)) in
+                there until F moments d (ap (unwrap_or until) (sym it.2) ∙ sym asked ∙ sym is.0)
+                (omega (arith, low, it.2, is.0)) (is.1 ∙ ap (λ n. digest_until n F moments) (sym is.0));
             few = λ _. tt;
             found = λ clean. found_then (clean_before leaves clean);
             kept = λ clean old_style F rows.

@@ -1,5 +1,5 @@
 -- The digest of a register: what it is computed of, and how.
-use Rattle.std.specs.Prelude.{◌≡◌, ℕ, suc, List, [], ◌∷◌, ◌++◌, map, take, length, codes, Option, Some, None}
+use Rattle.std.specs.Prelude.{◌≡◌, ℕ, suc, List, [], ◌∷◌, ◌++◌, map, take, zip, length, codes, Option, Some, None}
 use Rattle.std.specs.Fmt.{decimal}
 use Rattle.hex.specs.Hex.{encode_lower}
 use Rattle.sha2.specs.Sha256.{sha256}
@@ -14,13 +14,17 @@ pub record Row : Type 0 where
   pub number : Option ℕ
   pub moment : Option ℕ
 
--- the row of a kept request; a register does not know when it came
-abbrev pub row_of : Kept → Row
-row_of k = record { request = k.request; number = number_of k.outcome; moment = None }
+-- the row of a kept request that was received at this moment, if that is known
+abbrev pub row_of : Kept → Option ℕ → Row
+row_of k moment = record { request = k.request; number = number_of k.outcome; moment = moment }
 
--- the rows of the requests that a register keeps, in order
-abbrev pub rows_of : List Request → List Row
-rows_of requests = map row_of (kept requests)
+-- the rows of kept requests, each with its moment, in order
+abbrev pub rows_with : List Kept → List (Option ℕ) → List Row
+rows_with ks moments = map (λ p. row_of p.0 p.1) (zip ks moments)
+
+-- the rows of the requests that a register keeps, each with its moment, in order
+abbrev pub rows_of : List Request → List (Option ℕ) → List Row
+rows_of requests moments = rows_with (kept requests) moments
 
 -- a text, and the line feed that ends it
 unfoldable pub line : List ℕ → List ℕ
@@ -67,9 +71,9 @@ digest_after before seq (r ∷ rows) = digest_after (next_digest before seq r) (
 abbrev pub digest_of : List Row → List ℕ
 digest_of rows = digest_after first_digest 1 rows
 
--- the digest of the first kept requests, so many
-abbrev pub digest_until : ℕ → List Request → List ℕ
-digest_until count requests = digest_of (take count (rows_of requests))
+-- the digest of the first kept requests, so many, with their moments
+abbrev pub digest_until : ℕ → List Request → List (Option ℕ) → List ℕ
+digest_until count requests moments = digest_of (take count (rows_of requests moments))
 
 -- a running digest of these requests: so many, and their digest
 pub record IsDigestOf (count : ℕ) (digest : List ℕ) (rows : List Row) : Type 0 where

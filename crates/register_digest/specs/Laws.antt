@@ -56,8 +56,11 @@ abbrev pub joined_from : ℕ → List Row → List ℕ
 joined_from seq [] = []
 joined_from seq (r ∷ rows) = row_text seq r ++ joined_from (suc seq) rows
 
--- the requests that a register keeps: each was completed, and is the first of its filer and key
-pub record IsRegister (requests : List Request) : Type 0 where
+-- the requests that a register keeps, each with its moment, if that is known: each was completed, and is the first of
+-- its filer and key
+pub record IsRegister (requests : List Request) (moments : List (Option ℕ)) : Type 0 where
   pub distinct : firsts requests ≡ requests
   pub completed : AllByRecursion IsCompleted requests
   pub few : length requests < 2 ^ 63
+  pub one_each : length moments ≡ length requests
+  pub within : AllByRecursion FitsIfAny moments

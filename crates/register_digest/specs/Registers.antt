@@ -11,18 +11,20 @@ use Rattle.register_tables.specs.declared.fault.OpenFault.{OpenFault}
 use Rattle.register_tables.specs.Faults.{IsFailure}
 use Rattle.register_tables.specs.Opening.{IsRefused}
 use Rattle.register_tables.specs.Registers.{ForRows, IsRegisterOf}
+use Rattle.register_moments.specs.Dated.{ForDatedRows}
 use Rattle.register_digest.specs.declared.digest.Digest.{Digest}
 use Rattle.register_digest.specs.declared.fault.DigestFault.{DigestFault}
 use Rattle.register_digest.specs.declared.fault.DigestFault.TheVariants as fault
 use Rattle.register_digest.specs.Digest.{digest_until}
 use Rattle.register_digest.specs.Views.{Digested, view_digest}
 
--- the digest of the first requests, so many, or of all if no number is given; `None` if there are not so many
-abbrev pub digested : Option ℕ → List Request → Option Digested
-digested until requests =
+-- the digest of the first requests, so many, or of all if no number is given, with these moments; `None` if there are
+-- not so many
+abbrev pub digested : Option ℕ → List Request → List (Option ℕ) → Option Digested
+digested until requests moments =
     let count = unwrap_or until (length requests) in
     if nat_le count (length requests)
-    then Some (record { count = count; bytes = digest_until count requests })
+    then Some (record { count = count; bytes = digest_until count requests moments })
     else None
 
 -- this holds of the fault by which an opening was refused; nothing is said of the faults of a sound register
@@ -43,12 +45,13 @@ UnlessRefused other Holds = Holds
 -- What `digest_register` computes of the register that a database is. Nothing is written to the database.
 pub record DigestsRegister {S : Type 0} (g : Ghosts S) (until : Option ℕ) (old new : Held S)
     (result : Result Digest DigestFault) : Type 0 where
-  -- The rows stand for requests, and there is one such list at most.
+  -- The rows stand for requests with moments, and there is one such list of each at most.
   pub computed : HasCleanDisk (state g new)
-      → IfOk result (λ digest. ForRows g old (λ _ requests. digested until requests ≡ Some (view_digest digest)))
+      → IfOk result (λ digest. ForDatedRows g old (λ requests moments.
+      digested until requests moments ≡ Some (view_digest digest)))
   -- If fewer are kept than were asked for, it is said how many; and only then.
-  pub few : HasCleanDisk (state g new) → IfErr result (IfTooFew (λ kept. ForRows g old (λ _ requests.
-      (kept ≡ length requests) × (digested until requests ≡ None))))
+  pub few : HasCleanDisk (state g new) → IfErr result (IfTooFew (λ kept. ForDatedRows g old (λ requests moments.
+      (kept ≡ length requests) × (digested until requests moments ≡ None))))
   -- Unless it is refused, a database with the tables of a register is one, and what its rows stand for is still
   -- committed.
   pub found : HasCleanDisk (state g new) → IsDeclared (state g old).now.schema

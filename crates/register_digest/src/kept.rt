@@ -1,22 +1,25 @@
-//! A kept request with its number.
+//! A kept request with its number and its moment.
 
 ghost use Rattle.std.specs.Prelude.{◌≡◌, ◌<◌, ◌^◌, ◌∷◌, [], ℕ, pos, map, Option, IfOk};
 ghost use Rattle.filing_model.specs.Register.{Kept, kept};
 ghost use Rattle.table_rows.specs.Leaving.{OnlyReads};
 ghost use Rattle.register_rows.specs.Register.{amends_rows_by, kept_row};
 ghost use Rattle.register_store.specs.Found.{IsPlaced, target_alone};
+ghost use Rattle.register_store.specs.Moments.{milliseconds_of, moment_in};
 ghost use Rattle.register_store.specs.Store.{ForRegister};
+ghost use Rattle.register_moments.specs.Dated.{ForDated};
 ghost use Rattle.register_digest.specs.Digest.{row_of};
 ghost use Rattle.register_digest.specs.Reading.{kept_columns};
 ghost use Rattle.register_digest.specs.Views.{view_row};
 
 use crate::reads::{rows_at, target_rows_at};
 use crate::row::Row;
+use register_moments::{Moment, moment_at};
 use sqlite::{Alter, Connection};
 use std::marker::Model;
 use table_rows::StoreFault;
 
-/// A kept request with its number, if it was registered.
+/// A kept request with its number, if it was registered, and its moment, if that is known.
 #[derive(Drop)]
 pub(crate) struct KeptRequest {
     filer: String,
@@ -24,10 +27,11 @@ pub(crate) struct KeptRequest {
     target: Option<u64>,
     body: Vec<u8>,
     number: Option<u64>,
+    moment: Option<u64>,
 }
 
 impl Model for KeptRequest {
-    ghost use Rattle.std.specs.Prelude.{None, string_bytes};
+    ghost use Rattle.std.specs.Prelude.{string_bytes};
     ghost use Rattle.register_digest.specs.Digest.{Row};
 
     ghost Value = { Row };
@@ -40,7 +44,7 @@ impl Model for KeptRequest {
         body = k.body.items;
       };
       number = k.number;
-      moment = None;
+      moment = k.moment;
     } };
 }
 
@@ -55,15 +59,22 @@ impl KeptRequest {
             target: self.target,
             body: &self.body,
             number: self.number,
-            moment: None,
+            moment: self.moment,
         }
     }
 }
 
-/// The request in a row with the columns `filer`, `idem`, `body` and `number`, which is to replace this filing, if any.
-fn read_row(row: &sqlite::Row, target: Option<u64>) -> Result<KeptRequest, StoreFault>
+/// What is read of a request beside its row: the filing that it is to replace, and its moment.
+#[derive(Clone, Copy)]
+struct Beside {
+    target: Option<u64>,
+    moment: Option<u64>,
+}
+
+/// The request in a row with the columns `filer`, `idem`, `body` and `number`.
+fn read_row(row: &sqlite::Row, beside: Beside) -> Result<KeptRequest, StoreFault>
     ensures { IfOk result (λ request. (seq : ℕ) (k : Kept) → row.now ≡ kept_columns (kept_row seq k)
-        → target ≡ k.request.target → request ≡ row_of k) }
+        → beside.target ≡ k.request.target → request ≡ row_of k beside.moment) }
 {
     let filer = row.get(0)?;
     let key = row.get(1)?;
@@ -72,19 +83,20 @@ fn read_row(row: &sqlite::Row, target: Option<u64>) -> Result<KeptRequest, Store
     Ok(KeptRequest {
         filer,
         key,
-        target,
+        target: beside.target,
         body,
         number,
+        moment: beside.moment,
     })
 }
 
 /// The request in the one row.
-fn read_first(rows: &[sqlite::Row], target: Option<u64>) -> Result<KeptRequest, StoreFault>
+fn read_first(rows: &[sqlite::Row], beside: Beside) -> Result<KeptRequest, StoreFault>
     ensures { IfOk result (λ request. (seq : ℕ) (k : Kept) → rows.now ≡ kept_columns (kept_row seq k) ∷ []
-        → target ≡ k.request.target → request ≡ row_of k) }
+        → beside.target ≡ k.request.target → request ≡ row_of k beside.moment) }
 {
     match rows.first() {
-        Some(row) => read_row(row, target),
+        Some(row) => read_row(row, beside),
         None => Err(StoreFault::Store),
     }
 }
@@ -111,29 +123,44 @@ fn target_at<S: Alter>(conn: &mut Connection<S>, seq: i64) -> Result<Option<u64>
     read_target(&rows)
 }
 
-/// The request at this place, which is to replace this filing, if any.
-fn with_target<S: Alter>(
+/// The request at this place.
+fn with_beside<S: Alter>(
     conn: &mut Connection<S>,
     seq: i64,
-    target: Option<u64>,
+    beside: Beside,
 ) -> Result<KeptRequest, StoreFault>
     ensures found { ForRegister S.Store conn.old conn.new (λ _ F.
-        (n : ℕ) (k : Kept) → seq ≡ pos n → IsPlaced 1 n (kept F) k → target ≡ k.request.target
-        → IfOk result (λ request. request ≡ row_of k)) }
+        (n : ℕ) (k : Kept) → seq ≡ pos n → IsPlaced 1 n (kept F) k → beside.target ≡ k.request.target
+        → IfOk result (λ request. request ≡ row_of k beside.moment)) }
     ensures leaves { OnlyReads S.Store conn.old conn.new result }
 {
     let rows = rows_at(conn, seq)?;
-    read_first(&rows, target)
+    read_first(&rows, beside)
 }
 
-/// The request at this place, with the filing that it is to replace, if any.
-fn in_row<S: Alter>(conn: &mut Connection<S>, seq: i64) -> Result<KeptRequest, StoreFault>
+/// The request at this place, which was received at this moment, with the filing that it is to replace, if any.
+fn in_row<S: Alter>(
+    conn: &mut Connection<S>,
+    seq: i64,
+    moment: Option<u64>,
+) -> Result<KeptRequest, StoreFault>
     ensures found { ForRegister S.Store conn.old conn.new (λ _ F.
-        (n : ℕ) (k : Kept) → seq ≡ pos n → IsPlaced 1 n (kept F) k → IfOk result (λ request. request ≡ row_of k)) }
+        (n : ℕ) (k : Kept) → seq ≡ pos n → IsPlaced 1 n (kept F) k
+        → IfOk result (λ request. request ≡ row_of k moment)) }
     ensures leaves { OnlyReads S.Store conn.old conn.new result }
 {
     let target = target_at(conn, seq)?;
-    with_target(conn, seq, target)
+    with_beside(conn, seq, Beside { target, moment })
+}
+
+/// A moment in milliseconds.
+fn in_milliseconds(moment: Option<Moment>) -> Option<u64>
+    ensures { result ≡ milliseconds_of moment }
+{
+    match moment {
+        Some(moment) => Some(moment.milliseconds()),
+        None => None,
+    }
 }
 
 /// The place as a column holds it.
@@ -148,10 +175,12 @@ pub(crate) fn kept_at<S: Alter>(
     conn: &mut Connection<S>,
     place: u64,
 ) -> Result<KeptRequest, StoreFault>
-    ensures found { ForRegister S.Store conn.old conn.new (λ _ F.
-        (k : Kept) → IsPlaced 1 place (kept F) k → IfOk result (λ request. request ≡ row_of k)) }
+    ensures found { ForDated S.Store conn.old conn.new (λ F moments.
+        (k : Kept) → IsPlaced 1 place (kept F) k
+        → IfOk result (λ request. request ≡ row_of k (moment_in moments place))) }
     ensures leaves { OnlyReads S.Store conn.old conn.new result }
 {
     let seq = in_column(place)?;
-    in_row(conn, seq)
+    let moment = moment_at(conn, place)?;
+    in_row(conn, seq, in_milliseconds(moment))
 }

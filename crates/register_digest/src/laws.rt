@@ -1,7 +1,7 @@
 //! What holds of the digests of any two registers. What may live here: functions that do nothing, each with a law about
 //! the definitions as its contract.
 
-ghost use Rattle.std.specs.Prelude.{◌≡◌, ◌⊎◌, ◌++◌, ◌∷◌, [], ◌<◌, ◌^◌, ℕ, suc, List, length, take};
+ghost use Rattle.std.specs.Prelude.{◌≡◌, ◌⊎◌, ◌++◌, ◌∷◌, [], ◌<◌, ◌^◌, ℕ, suc, List, length, take, Option};
 ghost use Rattle.std.specs.List.{AllByRecursion};
 ghost use Rattle.filing_model.specs.Prefix.{IsPrefixOf};
 ghost use Rattle.filing_model.specs.Request.{Request};
@@ -46,11 +46,13 @@ pub fn a_digest_tells_the_rows()
         → (rows ≡ others) ⊎ Collide (hashed rows) (hashed others) }
 {}
 
-/// Two registers with one digest of the first requests, so many, have the same first requests, in the same order, and
-/// so the same outcomes and numbers; or two texts that are hashed for them differ and have one SHA-256.
+/// Two registers with one digest of the first requests, so many, have the same first requests, in the same order, each
+/// with the same moment, and so the same outcomes and numbers; or two texts that are hashed for them differ and have
+/// one SHA-256.
 pub fn a_digest_tells_the_requests()
-    ensures { (count : ℕ) (F G : List Request) → IsRegister F → IsRegister G
-        → digest_until count F ≡ digest_until count G
-        → (take count F ≡ take count G)
-        ⊎ Collide (hashed (take count (rows_of F))) (hashed (take count (rows_of G))) }
+    ensures { (count : ℕ) (F G : List Request) (moments others : List (Option ℕ))
+        → IsRegister F moments → IsRegister G others
+        → digest_until count F moments ≡ digest_until count G others
+        → ((take count F ≡ take count G) × (take count moments ≡ take count others))
+        ⊎ Collide (hashed (take count (rows_of F moments))) (hashed (take count (rows_of G others))) }
 {}

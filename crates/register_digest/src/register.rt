@@ -4,7 +4,7 @@ ghost use Rattle.std.specs.Prelude.{◌≡◌, ◌≤◌, ◌^◌, length, IfOk}
 ghost use Rattle.filing_model.specs.Register.{kept};
 ghost use Rattle.table_rows.specs.Leaving.{MayRead};
 ghost use Rattle.table_rows.specs.Standing.{IsAtRest};
-ghost use Rattle.register_store.specs.Store.{ForRegister};
+ghost use Rattle.register_moments.specs.Dated.{ForDated};
 ghost use Rattle.register_digest.specs.Digest.{digest_until};
 ghost use Rattle.register_digest.specs.Registers.{DigestsRegister};
 ghost use Rattle.register_digest.specs.Views.{bytes_of, count_of};
@@ -17,11 +17,13 @@ use sqlite::{Alter, Connection};
 use std::alloc::Global;
 use table_rows::StoreFault;
 
-/// The digest of the first kept requests, so many. One request is in memory at a time.
-fn first_digest<S: Alter>(conn: &mut Connection<S>, count: u64) -> Result<Digest, StoreFault>
+/// The digest of the first requests, so many, that a register keeps, which was read before. Nothing is written to the
+/// database. One request is in memory at a time.
+pub fn first_digest<S: Alter>(conn: &mut Connection<S>, count: u64) -> Result<Digest, StoreFault>
     requires { count ≤ 2 ^ 62 }
-    ensures digested { ForRegister S.Store conn.old conn.new (λ _ F. count ≤ length (kept F)
-        → IfOk result (λ digest. (count_of digest ≡ count) × (bytes_of digest ≡ digest_until count F))) }
+    ensures digested { ForDated S.Store conn.old conn.new (λ F moments.
+        count ≤ length (kept F) → count ≤ length moments
+        → IfOk result (λ digest. (count_of digest ≡ count) × (bytes_of digest ≡ digest_until count F moments))) }
     ensures leaves { MayRead S.Store conn.old conn.new result }
 {
     let mut digest = Digest::new();

@@ -7,12 +7,13 @@ use Rattle.sqlite.specs.State.{HasCleanDisk}
 use Rattle.table_rows.specs.Standing.{HasCommitted, CommitsNothing, StaysOnOk}
 use Rattle.register_export.specs.declared.facts.record.Form.{Form}
 use Rattle.filing_model.specs.Request.{Request}
-use Rattle.filing_model.specs.Register.{register}
+use Rattle.filing_model.specs.Register.{kept}
 use Rattle.register_rows.specs.Schema.{IsDeclared}
 use Rattle.register_tables.specs.declared.fault.OpenFault.{OpenFault}
 use Rattle.register_tables.specs.Faults.{IsFailure}
 use Rattle.register_tables.specs.Opening.{IsRefused}
 use Rattle.register_tables.specs.Registers.{ForRows, IsRegisterOf}
+use Rattle.register_moments.specs.Dated.{ForDatedRows}
 use Rattle.register_export.specs.declared.fault.ExportFault.{ExportFault}
 use Rattle.register_export.specs.declared.fault.ExportFault.TheVariants as fault
 use Rattle.register_export.specs.declared.fault.RecordsFault.{RecordsFault}
@@ -43,13 +44,14 @@ UnlessRefused (Err (fault.Open why)) Holds = Unit {0}
 -- What `export` writes out of the register that a database is: all facts, or those of one filer, byte for byte.
 pub record ExportsFacts {S X : Type 0} (g : Ghosts S) (form : Form) (filer : Option (List ℕ))
     (out out' : Option (List ℕ)) (old new : Held S) (result : Result X ExportFault) : Type 0 where
-  -- The rows stand for requests, and there is one such list at most.
+  -- The rows stand for requests with moments, and there is one such list of each at most.
   pub exported : HasCleanDisk (state g new)
-      → OnOk result (ForRows g old (λ _ requests. Appends out out' (export_text form filer (register requests))))
+      → OnOk result (ForDatedRows g old (λ requests moments.
+      Appends out out' (export_text form filer (kept requests) moments)))
   -- If the writing is broken off, and not by the output, the records of the first filings are written, and no others.
   pub begun : HasCleanDisk (state g new)
-      → IfErr result (IfBrokenOff (ForRows g old (λ _ requests.
-      (many : ℕ) × Appends out out' (export_begun many form filer (register requests)))))
+      → IfErr result (IfBrokenOff (ForDatedRows g old (λ requests moments.
+      (many : ℕ) × Appends out out' (export_begun many form filer (kept requests) moments))))
   -- Unless it is refused, a database with the tables of a register is one, and what its rows stand for is still
   -- committed.
   pub found : HasCleanDisk (state g new) → IsDeclared (state g old).now.schema

@@ -7,6 +7,8 @@ use Rattle.serde_json.specs.Data.{Data, string}
 use Rattle.serde_json.specs.Read.{read}
 use Rattle.serde_json.specs.Written.{compact_text}
 use Rattle.xbrl_report.specs.FactRecord.{FactRecord}
+use Rattle.register_store.specs.Moments.{milliseconds_of}
+use Rattle.register_moments.specs.Text.{moment_text}
 use Rattle.register_export.specs.Dimensions.{dimension, other_dimensions}
 use Rattle.register_export.specs.declared.facts.aspects.Aspects.{Aspects as HeldAspects}
 use Rattle.register_export.specs.declared.facts.record.Form.{Form}
@@ -16,12 +18,14 @@ use Rattle.register_export.specs.declared.facts.record.Head.{Head as Given}
 
 -- ---- what a record says
 
--- what a record says of the filing of a fact: its number, who filed it, under which key, and which filing replaces it
+-- what a record says of the filing of a fact: its number, who filed it, under which key, which filing replaces it, and
+-- when it was received, in milliseconds since 1970-01-01T00:00:00Z
 pub record Head : Type 0 where
   pub number : ℕ
   pub filer : List ℕ
   pub key : List ℕ
   pub replaced_by : Option ℕ
+  pub received : Option ℕ
 
 -- ---- how a field is written
 
@@ -46,6 +50,10 @@ absent JsonLines = codes "null"
 abbrev pub field_or_absent : {X : Type 0} → Form → (X → List ℕ) → Option X → List ℕ
 field_or_absent form written None = absent form
 field_or_absent form written (Some x) = written x
+
+-- a moment: its text, in UTC
+abbrev pub moment_field : Form → ℕ → List ℕ
+moment_field form moment = text_field form (moment_text moment)
 
 -- a JSON object: as the text of one in CSV, and as itself in a line of JSON
 abbrev pub object_field : Form → Data → List ℕ
@@ -86,6 +94,7 @@ pub record Fields : Type 0 where
   pub value : List ℕ
   pub decimals : List ℕ
   pub replaced_by : List ℕ
+  pub received : List ℕ
 
 abbrev pub fields : Form → Head → FactRecord → Fields
 fields form head fact = record {
@@ -98,6 +107,7 @@ fields form head fact = record {
   value = field_or_absent form (text_field form) fact.value;
   decimals = field_or_absent form signed_decimal fact.decimals;
   replaced_by = field_or_absent form decimal head.replaced_by;
+  received = field_or_absent form (moment_field form) head.received;
 }
 
 -- ---- the lines
@@ -108,7 +118,8 @@ csv_record f =
     f.number ++ codes "," ++ f.filer ++ codes "," ++ f.key ++ codes "," ++ f.id ++ codes "," ++ f.concept
     ++ codes "," ++ f.aspects.entity ++ codes "," ++ f.aspects.period ++ codes "," ++ f.aspects.unit
     ++ codes "," ++ f.aspects.language ++ codes "," ++ f.aspects.note_id ++ codes "," ++ f.aspects.dimensions
-    ++ codes "," ++ f.value ++ codes "," ++ f.decimals ++ codes "," ++ f.replaced_by ++ codes "\r\n"
+    ++ codes "," ++ f.value ++ codes "," ++ f.decimals ++ codes "," ++ f.replaced_by ++ codes "," ++ f.received
+    ++ codes "\r\n"
 
 -- an object with members of these names, in this order, and LF at the end
 unfoldable pub json_line : Fields → List ℕ
@@ -119,7 +130,8 @@ json_line f =
     ++ codes ",\"unit\":" ++ f.aspects.unit ++ codes ",\"language\":" ++ f.aspects.language
     ++ codes ",\"note_id\":" ++ f.aspects.note_id ++ codes ",\"dimensions\":" ++ f.aspects.dimensions
     ++ codes ",\"value\":" ++ f.value
-    ++ codes ",\"decimals\":" ++ f.decimals ++ codes ",\"replaced_by\":" ++ f.replaced_by ++ codes "}\n"
+    ++ codes ",\"decimals\":" ++ f.decimals ++ codes ",\"replaced_by\":" ++ f.replaced_by
+    ++ codes ",\"received\":" ++ f.received ++ codes "}\n"
 
 abbrev pub record_of : Form → Fields → List ℕ
 record_of Csv f = csv_record f
@@ -132,13 +144,20 @@ record_text form head fact = record_of form (fields form head fact)
 -- CSV has the names of the fields first
 abbrev pub first_line : Form → List ℕ
 first_line Csv =
-    codes "number,filer,key,id,concept,entity,period,unit,language,note_id,dimensions,value,decimals,replaced_by\r\n"
+    codes "number,filer,key,id,concept,entity,period,unit,language,note_id,dimensions,value,decimals,replaced_by,"
+    ++ codes "received\r\n"
 first_line JsonLines = []
 
 -- ---- as code holds it
 
 abbrev pub view_head : Given → Head
-view_head h = record { number = h.number; filer = h.filer.now; key = h.key.now; replaced_by = h.replaced_by }
+view_head h = record {
+  number = h.number;
+  filer = h.filer.now;
+  key = h.key.now;
+  replaced_by = h.replaced_by;
+  received = milliseconds_of h.received;
+}
 
 abbrev pub view_aspects : HeldAspects → Aspects
 view_aspects a = record {
@@ -161,4 +180,5 @@ view_fields f = record {
   value = f.value.items;
   decimals = f.decimals.items;
   replaced_by = f.replaced_by.items;
+  received = f.received.items;
 }

@@ -3,12 +3,18 @@ use Rattle.std.specs.Prelude.{ℕ, List, [], ◌++◌, take, Bool, true, bytes_e
 use Rattle.std.specs.List.{flat_map}
 use Rattle.register_export.specs.declared.facts.record.Form.{Form}
 use Rattle.register_export.specs.Fields.{Head, first_line, record_text}
-use Rattle.filing_model.specs.Register.{Filing}
+use Rattle.filing_model.specs.Register.{Filing, Kept, filings}
 use Rattle.register_export.specs.Filings.{FilingParts, whole}
 
 -- what the records of a filing's facts say of it
 abbrev pub head_of : FilingParts → Head
-head_of f = record { number = f.number; filer = f.filer; key = f.key; replaced_by = f.replaced_by }
+head_of f = record {
+  number = f.number;
+  filer = f.filer;
+  key = f.key;
+  replaced_by = f.replaced_by;
+  received = f.received;
+}
 
 -- a record for each of its facts
 abbrev pub records : Form → FilingParts → List ℕ
@@ -23,15 +29,16 @@ is_wanted (Some filer) own = bytes_eq own filer
 abbrev pub wanted_records : Form → Option (List ℕ) → FilingParts → List ℕ
 wanted_records form filer f = if is_wanted filer f.filer then records form f else []
 
--- the records of a filing, with what replaces it among these
-abbrev pub filing_records : Form → Option (List ℕ) → List Filing → Filing → List ℕ
-filing_records form filer filings f = wanted_records form filer (whole filings f)
+-- the records of a filing as it stands among these kept requests, each with its moment
+abbrev pub filing_records : Form → Option (List ℕ) → List Kept → List (Option ℕ) → Filing → List ℕ
+filing_records form filer ks moments f = wanted_records form filer (whole ks moments f)
 
 -- what is written before the first record, and then the records of the first filings, so many
-abbrev pub export_begun : ℕ → Form → Option (List ℕ) → List Filing → List ℕ
-export_begun many form filer filings =
-    first_line form ++ flat_map (filing_records form filer filings) (take many filings)
+abbrev pub export_begun : ℕ → Form → Option (List ℕ) → List Kept → List (Option ℕ) → List ℕ
+export_begun many form filer ks moments =
+    first_line form ++ flat_map (filing_records form filer ks moments) (take many (filings ks))
 
 -- what is written before the first record, and then the records of each filing, in order
-abbrev pub export_text : Form → Option (List ℕ) → List Filing → List ℕ
-export_text form filer filings = first_line form ++ flat_map (filing_records form filer filings) filings
+abbrev pub export_text : Form → Option (List ℕ) → List Kept → List (Option ℕ) → List ℕ
+export_text form filer ks moments =
+    first_line form ++ flat_map (filing_records form filer ks moments) (filings ks)

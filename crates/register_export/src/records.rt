@@ -44,6 +44,7 @@ fn head_of(filing: &WholeFiling) -> Head<'_>
         filer: filing.filer.as_str(),
         key: filing.key.as_str(),
         replaced_by: filing.replaced_by,
+        received: filing.received,
     }
 }
 

@@ -2,12 +2,12 @@
 
 ghost use Rattle.std.specs.Prelude.{◌≡◌, ◌⊎◌, ℕ, length, option_map, Some, IfErr, OnOk};
 ghost use Rattle.std.specs.Io.KnownBytes.{Appends};
-ghost use Rattle.filing_model.specs.Register.{Filing, register};
+ghost use Rattle.filing_model.specs.Register.{Filing, kept, register};
 ghost use Rattle.table_rows.specs.Leaving.{MayRead};
 ghost use Rattle.table_rows.specs.Standing.{IsAtRest};
 ghost use Rattle.register_rows.specs.Catalogue.{catalogue_of, view_lines};
 ghost use Rattle.register_store.specs.Numbered.{filing_numbered};
-ghost use Rattle.register_store.specs.Store.{ForRegister};
+ghost use Rattle.register_moments.specs.Dated.{ForDated};
 ghost use Rattle.register_export.specs.Records.{export_begun, export_text, filing_records};
 ghost use Rattle.register_export.specs.Exports.{ExportsFacts, UnlessOutput};
 
@@ -49,14 +49,14 @@ fn write_records<S: Alter, O: Write>(
     filer: Option<&str>,
     output: &mut O,
 ) -> Result<(), RecordsFault>
-    ensures exported { ForRegister S.Store conn.old conn.new (λ _ F.
+    ensures exported { ForDated S.Store conn.old conn.new (λ F moments.
         view_lines counts.now.catalogue ≡ catalogue_of F → counts.now.filings ≡ length (register F)
         → OnOk result (Appends (O.contents output.old) (O.contents output.new)
-        (export_text form (option_map (λ s. s.now) filer.entry) (register F)))) }
-    ensures begun { ForRegister S.Store conn.old conn.new (λ _ F.
+        (export_text form (option_map (λ s. s.now) filer.entry) (kept F) moments))) }
+    ensures begun { ForDated S.Store conn.old conn.new (λ F moments.
         view_lines counts.now.catalogue ≡ catalogue_of F → counts.now.filings ≡ length (register F)
         → IfErr result (UnlessOutput ((many : ℕ) × Appends (O.contents output.old) (O.contents output.new)
-        (export_begun many form (option_map (λ s. s.now) filer.entry) (register F))))) }
+        (export_begun many form (option_map (λ s. s.now) filer.entry) (kept F) moments)))) }
     ensures leaves { MayRead S.Store conn.old conn.new result }
 {
     print(output, first_line(form).as_bytes())?;
@@ -76,11 +76,11 @@ fn write_numbered<S: Alter, O: Write>(
     filer: Option<&str>,
     output: &mut O,
 ) -> Result<(), RecordsFault>
-    ensures written { ForRegister S.Store conn.old conn.new (λ _ F.
+    ensures written { ForDated S.Store conn.old conn.new (λ F moments.
         (f : Filing) → view_lines catalogue.now ≡ catalogue_of F
         → filing_numbered number (register F) ≡ Some f
         → OnOk result (Appends (O.contents output.old) (O.contents output.new)
-        (filing_records form (option_map (λ s. s.now) filer.entry) (register F) f))) }
+        (filing_records form (option_map (λ s. s.now) filer.entry) (kept F) moments f))) }
     ensures quiet { IfErr result (λ fault.
         (fault ≡ RecordsFault.Output) ⊎ (O.contents output.new ≡ O.contents output.old)) }
     ensures leaves { MayRead S.Store conn.old conn.new result }

@@ -1,9 +1,16 @@
--- What a page shows of the findings of a refused report, in HTML (own rule).
+-- What a page shows of a moment, and of the findings of a refused report, in HTML (own rule).
 use Rattle.std.specs.Prelude.{◌≡◌, ◌⊎◌, ◌-◌, ℕ, zero, suc, List, [], ◌++◌, codes, min, nat_le, if◌then◌else◌}
+use Rattle.std.specs.Prelude.{Option, Some, None}
 use Rattle.std.specs.Fmt.{decimal}
 use Rattle.markup.specs.Reading.{AddsText}
 use Rattle.markup.specs.Short.{shortened}
 use Rattle.markup.specs.Visible.{visible}
+use Rattle.register_moments.specs.Text.{moment_text}
+
+-- a moment, or that it is not known
+abbrev pub shown_moment : Option ℕ → List ℕ
+shown_moment None = codes "unknown"
+shown_moment (Some moment) = moment_text moment
 
 -- A line is added: two texts, each shortened. The second is the finding's place, in brackets.
 abbrev pub AddsLine : List ℕ → List ℕ → Type 0

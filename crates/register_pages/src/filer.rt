@@ -8,12 +8,15 @@ ghost use Rattle.register_pages.specs.Pages.{Writes, filer_page, numbered, pages
 
 use crate::fault::WritingFault;
 use crate::folder::{Folder, put};
-use crate::frame::{begin, begin_table, end, end_table, filing_cell, number_cell, text_cell};
+use crate::frame::{
+    begin, begin_table, end, end_table, filing_cell, moment_cell, number_cell, text_cell,
+};
 use crate::names;
 use crate::own::{Filed, Own, own_of};
 use crate::parts::{MOST_ROWS, Part, behind, first, neighbours, pages_for};
 use crate::refused::write_refused;
 use markup::Markup;
+use register_moments::{Moment, moment_at};
 use register_rows::Catalogue;
 use sqlite::{Alter, Connection};
 use std::alloc::{AllocError, Global};
@@ -23,6 +26,7 @@ const HEAD: &str = "<caption>Filings</caption>\n\
     <thead><tr>\
     <th scope=\"col\" class=\"number\">Number</th>\
     <th scope=\"col\">Key</th>\
+    <th scope=\"col\">Received</th>\
     <th scope=\"col\" class=\"number\">Facts</th>\
     <th scope=\"col\" class=\"number\">Replaces</th>\
     <th scope=\"col\" class=\"number\">Replaced by</th>\
@@ -31,22 +35,56 @@ const HEAD: &str = "<caption>Filings</caption>\n\
 /// What the names of a filer's pages begin with.
 const KIND: &str = "filer-";
 
-/// Adds the row of a filing.
+/// Adds the row of a filing that was received at this moment.
 fn filing_row(
-    page: &mut Markup,
+    rows: &mut Markup,
     alloc: Global,
     catalogue: &Catalogue,
     filed: &Filed,
+    received: Option<Moment>,
 ) -> Result<(), AllocError> {
-    page.constant("<tr>")?;
-    filing_cell(page, alloc, Some(filed.number))?;
-    text_cell(page, filed.key.as_str())?;
+    rows.constant("<tr>")?;
+    filing_cell(rows, alloc, Some(filed.number))?;
+    text_cell(rows, filed.key.as_str())?;
+    moment_cell(rows, alloc, received)?;
     if let Some(line) = catalogue.line(filed.number) {
-        number_cell(page, alloc, line.facts())?;
-        filing_cell(page, alloc, line.replaces())?;
-        filing_cell(page, alloc, line.replaced_by())?;
+        number_cell(rows, alloc, line.facts())?;
+        filing_cell(rows, alloc, line.replaces())?;
+        filing_cell(rows, alloc, line.replaced_by())?;
     }
-    page.constant("</tr>\n")
+    rows.constant("</tr>\n")
+}
+
+/// Reads when a filing was received, and adds its row.
+fn read_row<S: Alter>(
+    rows: &mut Markup,
+    alloc: Global,
+    conn: &mut Connection<S>,
+    catalogue: &Catalogue,
+    filed: &Filed,
+) -> Result<(), WritingFault>
+    ensures { MayRead S.Store conn.old conn.new result }
+{
+    let received = moment_at(conn, filed.place)?;
+    filing_row(rows, alloc, catalogue, filed, received)?;
+    Ok(())
+}
+
+/// The rows of these filings.
+fn read_rows<S: Alter>(
+    alloc: Global,
+    conn: &mut Connection<S>,
+    catalogue: &Catalogue,
+    filings: &[Filed],
+) -> Result<Markup, WritingFault>
+    requires { length filings.now ≤ 1000 }
+    ensures { MayRead S.Store conn.old conn.new result }
+{
+    let mut rows = Markup::new(alloc);
+    for filed in filings {
+        read_row(&mut rows, alloc, conn, catalogue, filed)?;
+    }
+    Ok(rows)
 }
 
 /// How many reports of the filer were refused, with a link to the first page of these.
@@ -78,56 +116,47 @@ pub(crate) fn refused_count(
     page.constant("</a>")
 }
 
-/// A page of a filer's filings.
+/// A page of a filer's filings, with these rows.
 fn filings_page(
     alloc: Global,
-    catalogue: &Catalogue,
     filer: &str,
-    filings: &[Filed],
+    rows: &Markup,
     refused: usize,
     part: Part,
-) -> Result<Markup, AllocError>
-    requires { length filings.now ≤ 1000 }
-{
+) -> Result<Markup, AllocError> {
     let mut page = begin(alloc, filer)?;
     refused_line(&mut page, alloc, filer, refused)?;
     let before = names::of_filer(alloc, KIND, filer, part.before())?;
     let next = names::of_filer(alloc, KIND, filer, part.next())?;
     neighbours(&mut page, alloc, part, before.as_str(), next.as_str())?;
     begin_table(&mut page, HEAD)?;
-    for filed in filings {
-        filing_row(&mut page, alloc, catalogue, filed)?;
-    }
+    page.piece(rows)?;
     end_table(&mut page)?;
     end(&mut page)?;
     Ok(page)
 }
 
 /// Writes the pages of a filer's filings.
-fn write_filings<F: Folder>(
+fn write_filings<S: Alter, F: Folder>(
     alloc: Global,
+    conn: &mut Connection<S>,
     catalogue: &Catalogue,
     filer: &str,
     own: &Own,
     folder: &mut F,
     missed: &mut Option<WritingFault>,
-)
-    ensures { Writes missed.old missed.new (F.pages folder.old) (F.pages folder.new)
-        (numbered (filer_page filer.now) (pages_for_lem 1000 (length own.now.filings.items))) }
+) -> Result<(), WritingFault>
+    ensures written { OnOk result (Writes missed.old missed.new (F.pages folder.old) (F.pages folder.new)
+        (numbered (filer_page filer.now) (pages_for_lem 1000 (length own.now.filings.items)))) }
+    ensures leaves { MayRead S.Store conn.old conn.new result }
 {
     let mut rest = own.filings.as_slice();
     let pages = pages_for(MOST_ROWS, rest.len());
     let refused = own.refused.len();
     for at in 0..pages {
         let part = Part::new(at + 1, pages);
-        let page = filings_page(
-            alloc,
-            catalogue,
-            filer,
-            first(rest, MOST_ROWS),
-            refused,
-            part,
-        );
+        let rows = read_rows(alloc, conn, catalogue, first(rest, MOST_ROWS))?;
+        let page = filings_page(alloc, filer, &rows, refused, part);
         put(
             folder,
             missed,
@@ -136,6 +165,7 @@ fn write_filings<F: Folder>(
         );
         rest = behind(rest, MOST_ROWS);
     }
+    Ok(())
 }
 
 /// Writes the pages of a filer.
@@ -153,6 +183,6 @@ pub(crate) fn write_filer<S: Alter, F: Folder>(
     ensures leaves { MayRead S.Store conn.old conn.new result }
 {
     let own = own_of(alloc, conn, filer)?;
-    write_filings(alloc, catalogue, filer, &own, folder, missed);
+    write_filings(alloc, conn, catalogue, filer, &own, folder, missed)?;
     write_refused(alloc, conn, catalogue, filer, &own.refused, folder, missed)
 }

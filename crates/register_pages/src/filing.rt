@@ -5,7 +5,9 @@ ghost use Rattle.register_pages.specs.Pages.{Writes, filing_page, numbered, page
 
 use crate::fault::WritingFault;
 use crate::folder::{Folder, put};
-use crate::frame::{begin, begin_table, end, end_table, filer_link, filing_link, text_cell};
+use crate::frame::{
+    begin, begin_table, end, end_table, filer_link, filing_link, moment, text_cell,
+};
 use crate::names;
 use crate::parts::{MOST_ROWS, Part, behind, first, neighbours, pages_for};
 use json::Scratch;
@@ -93,12 +95,14 @@ fn facts_page(
     Ok(page)
 }
 
-/// Who filed it, under which key, and what replaces what.
+/// Who filed it, under which key, when it was received, and what replaces what.
 fn describe(page: &mut Markup, alloc: Global, filing: &WholeFiling) -> Result<(), AllocError> {
     page.constant("<dl>\n<dt>Filer</dt><dd>")?;
     filer_link(page, alloc, filing.filer.as_str())?;
     page.constant("</dd>\n<dt>Key</dt><dd>")?;
     page.text(filing.key.as_str())?;
+    page.constant("</dd>\n<dt>Received</dt><dd>")?;
+    moment(page, alloc, filing.received)?;
     page.constant("</dd>\n")?;
     describe_link(page, alloc, "<dt>Replaces</dt>", filing.replaces)?;
     describe_link(page, alloc, "<dt>Replaced by</dt>", filing.replaced_by)?;

@@ -1,7 +1,14 @@
 //! What every page has: its head, the links to the other pages, and its end.
 
+ghost use Rattle.std.specs.Prelude.{OnOk};
+ghost use Rattle.markup.specs.Reading.{AddsText};
+ghost use Rattle.markup.specs.Visible.{visible};
+ghost use Rattle.register_store.specs.Moments.{milliseconds_of};
+ghost use Rattle.register_pages.specs.Shown.{shown_moment};
+
 use crate::names;
 use markup::Markup;
+use register_moments::{Moment, moment_text};
 use std::alloc::{AllocError, Global};
 
 /// What a page has before its title. It loads nothing from elsewhere, and a browser runs no script and takes no style
@@ -13,7 +20,7 @@ const BEFORE_TITLE: &str = "<!DOCTYPE html>\n\
     <meta charset=\"utf-8\">\n\
     <meta name=\"viewport\" content=\"width=device-width, initial-scale=1\">\n\
     <meta http-equiv=\"Content-Security-Policy\" content=\"default-src 'none'; style-src \
-    'sha256-YpOHrmUodfVvKHRBnGbYaMw7YLAYs8G2MgfUFk400ac='; script-src \
+    'sha256-Xhmz1UgEeyFauHNFJBG43pJ7MiEO8HmXSkfaX4vVKlQ='; script-src \
     'sha256-OOScLr2hX3IXEz8Yz8BW/VjPWv2934WpYHw4bQYLns0='; img-src data:; base-uri 'none'; form-action 'none'\">\n\
     <link rel=\"icon\" href=\"data:,\">\n\
     <title>";
@@ -40,7 +47,7 @@ const AFTER_TITLE: &str = "</title>\n\
     h1, dd { overflow-wrap: anywhere; unicode-bidi: isolate; white-space: pre-wrap; }\n\
     .number { text-align: right; white-space: nowrap; }\n\
     .amount { text-align: right; }\n\
-    .period { white-space: nowrap; }\n\
+    .moment, .period { white-space: nowrap; }\n\
     input { font: inherit; max-width: 100%; padding: .25rem; width: 24rem; }\n\
     svg { height: auto; max-width: 100%; }\n\
     svg text { fill: currentColor; font: 14px system-ui, sans-serif; }\n\
@@ -133,6 +140,31 @@ pub(crate) fn text_cell(page: &mut Markup, text: &str) -> Result<(), AllocError>
 pub(crate) fn number_cell(page: &mut Markup, alloc: Global, number: u64) -> Result<(), AllocError> {
     page.constant("<td class=\"number\">")?;
     page.number(alloc, number)?;
+    page.constant("</td>")
+}
+
+/// A moment in UTC, or that it is not known.
+pub(crate) fn moment(
+    page: &mut Markup,
+    alloc: Global,
+    moment: Option<Moment>,
+) -> Result<(), AllocError>
+    ensures { OnOk result (AddsText (visible (shown_moment (milliseconds_of moment))) page.old page.new) }
+{
+    match moment {
+        Some(moment) => page.text(moment_text(alloc, moment)?.as_str()),
+        None => page.text("unknown"),
+    }
+}
+
+/// A cell with a moment, in one line.
+pub(crate) fn moment_cell(
+    page: &mut Markup,
+    alloc: Global,
+    received: Option<Moment>,
+) -> Result<(), AllocError> {
+    page.constant("<td class=\"moment\">")?;
+    moment(page, alloc, received)?;
     page.constant("</td>")
 }
 

@@ -14,10 +14,11 @@ use sqlite::{Alter, Connection, Row};
 use std::alloc::{AllocError, Global};
 use table_rows::StoreFault;
 
-/// A filing, and the key under which it was sent.
+/// A filing, the place of its request, and the key under which it was sent.
 #[derive(Drop)]
 pub(crate) struct Filed {
     pub(crate) number: u64,
+    pub(crate) place: u64,
     pub(crate) key: String,
 }
 
@@ -56,6 +57,7 @@ impl Own {
         match row.number {
             Some(number) => self.filings.push(Filed {
                 number,
+                place: row.place,
                 key: row.key,
             })?,
             None => self.refused.push(row.place)?,

@@ -7,8 +7,10 @@ pub mod FactRows
 pub mod FiledLemmas
 pub mod Filings
 pub mod HeldLemmas
+pub mod MomentLemmas
 pub mod MoreRequests
 pub mod NextLemmas
+pub mod OneList
 pub mod SeenLemmas
 pub mod SegmentLemmas
 pub mod SpanLemmas

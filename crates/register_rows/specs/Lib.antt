@@ -2,8 +2,11 @@ pub mod Audit
 pub mod Catalogue
 pub mod Cells
 pub mod Columns
+pub mod Dated
+pub mod Dates
 pub mod Filed
 pub mod Outcomes
+pub mod Received
 pub mod Register
 pub mod Schema
 pub mod Spans

@@ -17,6 +17,7 @@ use Rattle.filing_model.specs.Request.{Request, firsts}
 use Rattle.filing_model.specs.Register.{Outcome, Kept, kept}
 use Rattle.filing_model.specs.Register.Outcome.{Registered, Refused}
 use Rattle.table_rows.specs.Rows.{TableHas, counted_from}
+use Rattle.register_rows.specs.Received.{Received}
 use Rattle.register_rows.specs.Schema.{IsDeclared, meta_table, kept_table, finding_table, filing_table, fact_table}
 use Rattle.register_rows.specs.Schema.{migrated_table, amends_table}
 
@@ -28,7 +29,7 @@ form_row form = Int (pos 1) ∷ Text (codes "register") ∷ Int (pos form) ∷ [
 
 -- the one row of `intake_meta`: a register in the form of these tables
 abbrev pub meta_row : Row
-meta_row = form_row 4
+meta_row = form_row 5
 
 -- the one row of `migrated`: the first `old_style` kept requests keep the answers of an earlier version
 abbrev pub migrated_row : ℕ → Row
@@ -91,7 +92,7 @@ joined_from rows seq (k ∷ ks) = rows seq k ++ joined_from rows (seq + 1) ks
 
 -- ---- the tables
 
--- the tables of a register have these rows, each once and in any order, and no others
+-- the tables of a register beside `received` have these rows, each once and in any order, and no others
 pub record HasRows (db : Database) (old_style : ℕ)
     (kept_are finding_are filing_are fact_are amends_are : List Row) : Type 0 where
   pub declared : IsDeclared db.schema
@@ -111,11 +112,15 @@ pub record IsCompleted (r : Request) : Type 0 where
   pub body : length r.body ≤ max_body_len
 
 -- The rows stand for these requests, each the first of its filer and key, in order and with its outcome. The first
--- `old_style` of them were kept before there were problem details.
+-- `old_style` of them were kept before there were problem details. There is a list of the moments at which they came,
+-- with a place for each; which moments they are is said by `Received` alone.
 pub record StandsFor (db : Database) (old_style : ℕ) (F : List Request) : Type 0 where
   pub distinct : firsts F ≡ F
   pub completed : AllByRecursion IsCompleted F
   pub within : old_style ≤ length F
+  pub moments : List (Option ℕ)
+  pub one_each : length moments ≡ length F
+  pub received : Received db moments
   pub rows : HasRows db old_style (counted_from kept_row 1 (kept F)) (joined_from finding_rows 1 (kept F))
       (joined_from filing_rows 1 (kept F)) (joined_from fact_rows 1 (kept F))
       (joined_from amends_rows 1 (kept F))

@@ -48,6 +48,11 @@ migrated_table = keyed (codes "migrated") 9 (optional (codes "id") Integer ∷ n
 abbrev pub amends_table : Table
 amends_table = keyed (codes "amends") 10 (optional (codes "seq") Integer ∷ needed (codes "target") Integer ∷ []) [] []
 
+-- the moments at which kept requests came, of those that came since there are moments
+abbrev pub received_table : Table
+received_table =
+    keyed (codes "received") 11 (optional (codes "seq") Integer ∷ needed (codes "moment") Integer ∷ []) [] []
+
 -- the tables of a register in every form; the trees between them are those of the indexes that SQLite makes for their
 -- keys
 abbrev pub common_tables : List Table
@@ -55,7 +60,7 @@ common_tables = meta_table ∷ kept_table ∷ finding_table ∷ filing_table ∷
 
 -- the tables of a register
 abbrev pub register_tables : List Table
-register_tables = common_tables ++ migrated_table ∷ amends_table ∷ []
+register_tables = common_tables ++ migrated_table ∷ amends_table ∷ received_table ∷ []
 
 -- the tables of a register come first, and others may follow
 abbrev pub IsDeclared : Schema → Type 0

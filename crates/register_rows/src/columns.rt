@@ -37,3 +37,10 @@ pub(crate) mod amends {
 pub mod migrated {
     pub const LAST: usize = 1;
 }
+
+/// Those of `received`.
+pub mod received {
+    pub const SEQ: usize = 0;
+
+    pub const MOMENT: usize = 1;
+}

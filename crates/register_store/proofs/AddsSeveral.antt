@@ -1,12 +1,13 @@
 -- A store to which several requests are added.
 use Rattle.std.proofs.Common.{◌≡◌, ◌≤◌, ◌+◌, ◌-◌, suc, false, List, [], ◌∷◌, ◌++◌, All, length, map, IsTrue, sym, ap}
-use Rattle.std.proofs.Common.{subst, ◌∙◌, arith, refl, Result, Ok, Err, IsErr}
+use Rattle.std.proofs.Common.{ℕ, subst, ◌∙◌, arith, refl, Option, Result, Ok, Err, IsErr}
 use Rattle.std.specs.Prelude.{Vec}
 use Rattle.std.specs.declared.alloc.Global.{Global}
 use Rattle.sqlite.specs.Store.{Ghosts}
 use Rattle.sqlite.specs.Effect.{Database}
 use Rattle.sqlite.specs.Held.{Held, state}
 use Rattle.sqlite.specs.State.{State, Survives}
+use Rattle.sqlite.specs.Tree.{Trees}
 use Rattle.sqlite.proofs.StateLemmas.{survives_weaker}
 use Rattle.filing_model.specs.Request.{Request}
 use Rattle.filing_model.specs.Register.{judged, kept, register}
@@ -18,14 +19,18 @@ use Rattle.table_rows.proofs.StepLemmas.{nothing_yet}
 use Rattle.register_rows.specs.Catalogue.{Entry}
 use Rattle.register_rows.specs.Outcomes.{outcome_of}
 use Rattle.register_rows.proofs.MoreRequests.{kept_length}
-use Rattle.register_tables.specs.Registers.{IsRegisterOf, LeavesOnly, LeavesRegister}
+use Rattle.register_rows.specs.Received.{Received}
+use Rattle.register_tables.specs.Registers.{IsRegisterOf, LeavesOnly, LeavesOnlyReceived, LeavesReceived}
+use Rattle.register_tables.specs.Registers.{LeavesRegister}
 use Rattle.register_store.specs.declared.outcome.NewRow.{NewRow}
 use Rattle.register_store.specs.NewRows.{AreNew, IsKeepable, IsNew, request_of}
 use Rattle.register_store.specs.Changes.{Adds, AddsAll, AddsTo}
 use Rattle.register_store.specs.Outcomes.{number_past, outcomes_behind}
-use Rattle.register_store.specs.Calls.{AddsRequest, AddsRequests, IsOnly, KeepsRows}
+use Rattle.register_store.specs.Calls.{AddsMoments, AddsRequest, AddsRequests, IsOnly, KeepsRows}
+use Rattle.register_store.specs.Moments.{HasMoments, moments_of}
 use Rattle.register_store.specs.Store.{StoreParts, shows, ForNew, HasRequests, SurvivesAs}
-use Rattle.register_store.proofs.SeveralLemmas.{outcome_is, outcomes_are, past_is, register_of_all, requests_many}
+use Rattle.register_store.proofs.SeveralLemmas.{moments_many, outcome_is, outcomes_are, past_is, received_of_all}
+use Rattle.register_store.proofs.SeveralLemmas.{register_of_all, requests_many}
 use Rattle.register_store.proofs.StoreLemmas.{leaves}
 
 -- the number of the next filing
@@ -70,7 +75,55 @@ module _ {S : Type 0} (g : Ghosts S) (store : StoreParts S) (rows : List NewRow)
           (lasts trees left ∙ ap (λ (d : Database). d.trees) (sym adds.committed)),
     )
 
+  module _ (F : List Request) (moments : List (Option ℕ)) (was : HasRequests g store F)
+      (had : HasMoments g store moments) where
+    received_all : (after : Database) → IsTrue (shows g store).is_open
+        → AddsAll (store.kept + 1) (store.filings + 1) rows (shows g store).now after
+        → Received after (moments ++ moments_of rows)
+    received_all after alive adds =
+        received_of_all store.old_style rows _ _ _ _ _ (store.kept + 1) (store.filings + 1) (shows g store).now after
+        moments (was.stands.now alive).rows.rows (omega (arith, had.one_each)) (had.stands.now alive) adds
+
+    pub moments_stand : (new : State) → new.in_transaction ≡ false
+        → Adds (store.kept + 1) (store.filings + 1) rows (shows g store) new
+        → HasCommitted (λ db. Received db (moments ++ moments_of rows)) new
+    moments_stand new idle a =
+        record { autocommit = idle; now = λ _. received_all new.now a.was_open a.adds; committed = λ _. a.committed }
+
+    pub moments_kept : store.kept + length rows ≡ length (moments ++ moments_of rows)
+    moments_kept = omega (arith, had.one_each, moments_many moments rows)
+
+    left_with : AreNew F rows → (trees : Trees) (after : Database) → trees ≡ after.trees
+        → IsTrue (shows g store).is_open
+        → AddsAll (store.kept + 1) (store.filings + 1) rows (shows g store).now after
+        → LeavesReceived store.old_style (F ++ map request_of rows) (moments ++ moments_of rows) trees
+    left_with fresh trees after is alive adds = record {
+      db = after;
+      is = is;
+      register = register_all F was fresh after alive adds;
+      one_each = omega (arith, moments_many moments rows, requests_many F rows, had.one_each, was.kept_is);
+      received = received_all after alive adds;
+    }
+
+    pub durable_with : AreNew F rows → (conn : Held S)
+        → Adds (store.kept + 1) (store.filings + 1) rows (shows g store) (state g conn) → IsLasting (state g conn)
+        → IsTrue (state g conn).is_open
+        × LeavesOnlyReceived (state g conn) store.old_style (F ++ map request_of rows) (moments ++ moments_of rows)
+    durable_with fresh conn adds lasts = (
+      adds.is_open,
+      λ trees left. left_with fresh trees (state g conn).now (lasts trees left) adds.was_open adds.adds,
+    )
+
   -- what a crash may leave of the call
+  pub crash_with : (new : State)
+      → Survives (shows g store) new (AddsTo (store.kept + 1) (store.filings + 1) rows (shows g store).now)
+      → Survives (shows g store) new (λ trees. (F : List Request) (moments : List (Option ℕ)) → HasRequests g store F
+      → HasMoments g store moments → IsTrue (shows g store).is_open → AreNew F rows
+      → LeavesReceived store.old_style (F ++ map request_of rows) (moments ++ moments_of rows) trees)
+  crash_with new =
+      survives_weaker (shows g store) new _ _
+      (λ _ trees a F moments was had alive fresh. left_with F moments was had fresh trees a.db a.is alive a.adds)
+
   pub crash_all : (new : State)
       → Survives (shows g store) new (AddsTo (store.kept + 1) (store.filings + 1) rows (shows g store).now)
       → Survives (shows g store) new (λ trees. (F : List Request) → HasRequests g store F
@@ -109,6 +162,19 @@ keeps_none g store room same rows (Err fault) refused = record {
   crash = survives_weaker (shows g store) (shows g store) _ _ (λ _ trees none. absurd none)
       (nothing_yet (shows g store));
   durable = λ clean F had fresh. tt;
+}
+
+-- and the moments that it had
+pub dates_none : {S : Type 0} (g : Ghosts S) (store : StoreParts S) (room : List Entry) → room ≡ store.catalogue
+    → (rows : List NewRow) (result : Result (Unit {0}) StoreFault) → IsErr result
+    → AddsMoments g rows store (record store { catalogue = room }) result
+dates_none g store room same rows (Ok done) refused = absurd cc
+dates_none g store room same rows (Err fault) refused = record {
+  added = λ clean F had moments dated. tt;
+  same = λ clean F had moments dated. record { stands = dated.stands; one_each = dated.one_each };
+  crash = survives_weaker (shows g store) (shows g store) _ _ (λ _ trees none. absurd none)
+      (nothing_yet (shows g store));
+  durable = λ clean F had moments dated fresh. tt;
 }
 
 -- ---- one request

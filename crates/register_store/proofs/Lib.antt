@@ -1,6 +1,7 @@
 pub mod Adding
 pub mod AddsSeveral
 pub mod CatalogueLemmas
+pub mod DateLemmas
 pub mod FactLemmas
 pub mod FiledRows
 pub mod FiledSteps

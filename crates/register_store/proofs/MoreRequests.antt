@@ -1,6 +1,6 @@
 -- The rows of a list of requests with one more.
 use Rattle.std.proofs.Common.{◌≡◌, ℕ, ◌+◌, suc, false, List, [], ◌∷◌, ◌++◌, append-nil, append_assoc, length}
-use Rattle.std.proofs.Common.{length-append, sym, ap, ◌∙◌, arith}
+use Rattle.std.proofs.Common.{length-append, Some, sym, ap, ◌∙◌, arith}
 use Rattle.sqlite.specs.Order.{Row}
 use Rattle.sqlite.specs.Effect.{Database}
 use Rattle.filing_model.specs.Request.{Request, has_key}
@@ -24,9 +24,9 @@ joined_push rows at (x ∷ ks) k =
     ∙ ap (λ n. (rows at x ++ joined_from rows (at + 1) ks) ++ rows n k) (omega arith)
 
 module _ (old_style : ℕ) (F : List Request) (r : Request) (new : has_key F r ≡ false) (completed : IsCompleted r) where
-  pub stands_for_more : (old after : Database) → StandsFor old old_style F
-      → AddsRows (suc (length F)) (judged (kept F) r) old after → StandsFor after old_style (F ++ r ∷ [])
-  stands_for_more old after stands adds =
+  pub stands_for_more : (moment : ℕ) (old after : Database) → StandsFor old old_style F
+      → AddsRows (suc (length F)) (judged (kept F) r) moment old after → StandsFor after old_style (F ++ r ∷ [])
+  stands_for_more moment old after stands adds =
       let ks = kept F in
       let k = judged (kept F) r in
       let at : 1 + length ks ≡ suc (length F) = omega (arith, kept_length F stands.distinct) in
@@ -50,12 +50,20 @@ module _ (old_style : ℕ) (F : List Request) (r : Request) (new : has_key F r �
         distinct = firsts_new F r new ∙ ap (λ front. front ++ r ∷ []) stands.distinct;
         completed = all_push IsCompleted F r stands.completed completed;
         within = omega (arith, stands.within, length-append F (r ∷ []));
+        moments = stands.moments ++ Some moment ∷ [];
+        one_each = omega (
+          arith,
+          stands.one_each,
+          length-append stands.moments (Some moment ∷ []),
+          length-append F (r ∷ []),
+        );
+        received = adds.received stands.rows.declared stands.moments (ap suc stands.one_each) stands.received;
         rows = rw (kept_is, finding_is, filing_is, fact_is, amends_is) has;
       }
 
-  pub register_of_more : (old after : Database) → IsRegisterOf old_style F old
-      → AddsRows (suc (length F)) (judged (kept F) r) old after → IsRegisterOf old_style (F ++ r ∷ []) after
-  register_of_more old after register adds = record {
+  pub register_of_more : (moment : ℕ) (old after : Database) → IsRegisterOf old_style F old
+      → AddsRows (suc (length F)) (judged (kept F) r) moment old after → IsRegisterOf old_style (F ++ r ∷ []) after
+  register_of_more moment old after register adds = record {
     sound = adds.sound register.rows.rows.declared register.sound;
-    rows = stands_for_more old after register.rows adds;
+    rows = stands_for_more moment old after register.rows adds;
   }

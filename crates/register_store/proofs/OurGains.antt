@@ -10,9 +10,10 @@ use Rattle.table_rows.specs.Tables.{schema_with}
 use Rattle.table_rows.proofs.GainLemmas.{inside, gained, cast_int, cast_null, cast_maybe}
 use Rattle.table_rows.proofs.InsertLemmas.{inserts}
 use Rattle.register_rows.specs.Schema.{register_tables, kept_table, finding_table, filing_table, fact_table}
-use Rattle.register_rows.specs.Schema.{amends_table}
+use Rattle.register_rows.specs.Schema.{amends_table, received_table}
 use Rattle.register_tables.specs.Gains.{GainsRows}
 use Rattle.register_store.proofs.Texts.{insert_kept, insert_finding, insert_filing, insert_fact, insert_amends}
+use Rattle.register_store.proofs.Texts.{insert_received, inserts_received}
 use Rattle.register_store.proofs.Texts.{inserts_amends, inserts_kept, inserts_finding, inserts_filing, inserts_fact}
 use Rattle.register_store.proofs.Texts.{plain_inserts}
 
@@ -73,6 +74,16 @@ module _ (old new : State) where
       insert_amends _ old new count d.is means.0 means.1 ran in
       gained register_tables amends_table _ (Int seq ∷ Int target ∷ []) old.now new.now d i
       (λ row is. rw (is, cast_int seq, cast_int target) refl))
+
+  pub received_gains : (seq moment : ℤ) (count : ℕ)
+      → ExecutesInside 0 insert_received (Int seq ∷ Int moment ∷ []) old new (Ok count)
+      → GainsRows received_table ((Int seq ∷ Int moment ∷ []) ∷ []) old new
+  received_gains seq moment count = inside register_tables received_table _ insert_received _ old new count (λ ran d.
+      let means = inserts_received d.tables d.indexes d.views in
+      let i = inserts (schema_with register_tables d.tables d.indexes d.views) 7 _ _ _ _ _ _ _ refl _ 3 (λ _. refl)
+      insert_received _ old new count d.is means.0 means.1 ran in
+      gained register_tables received_table _ (Int seq ∷ Int moment ∷ []) old.now new.now d i
+      (λ row is. rw (is, cast_int seq, cast_int moment) refl))
 
 -- a value that may be absent, as a row has it
 pub held_as : {A B : Type 0} (value : B → Value) (f : A → B) (o : Option A)

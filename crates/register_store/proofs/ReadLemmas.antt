@@ -7,12 +7,13 @@ use Rattle.sqlite.specs.State.{State, Shown}
 use Rattle.table_rows.specs.Reading.{ReadsRows}
 use Rattle.table_rows.proofs.ReadingLemmas.{reads_rows}
 use Rattle.register_rows.specs.Schema.{common_tables, register_tables, kept_table, fact_table, amends_table}
+use Rattle.register_rows.specs.Schema.{received_table}
 use Rattle.register_store.specs.Found.{has_seq, unsorted, target_alone}
 use Rattle.register_tables.specs.Reads.{Knows, KnowsAll, by_first, by_second}
 use Rattle.register_store.specs.Reads.{has_filer, filer_alone, said}
 use Rattle.register_tables.proofs.ReadTexts.{columns, equals}
 use Rattle.register_store.proofs.ReadTexts.{places_of, filer_at, target_at, facts_said, asks_places_of, asks_filer}
-use Rattle.register_store.proofs.ReadTexts.{asks_target, asks_said}
+use Rattle.register_store.proofs.ReadTexts.{asks_moment, asks_target, asks_said, moment_at}
 use Rattle.table_rows.specs.Picking.{has_number}
 
 module _ (old new : State) (knows : Knows old) (rows : List Row) where
@@ -44,3 +45,10 @@ module _ (old new : State) (knows : KnowsAll old) (rows : List Row) where
       reads_rows register_tables amends_table target_at (equals 0) (columns (2 ∷ [])) [] asks_target (Int seq ∷ []) old
       new knows (has_seq seq) (λ _. refl) unsorted (λ _. refl)
       target_alone (λ _. refl) (λ _. refl) rows h
+
+  pub reads_moment : (seq : ℤ) → Shown moment_at (Int seq ∷ []) old new rows
+      → ReadsRows received_table (has_seq seq) by_first by_second rows old new
+  reads_moment seq h =
+      reads_rows register_tables received_table moment_at (equals 0) (columns (2 ∷ [])) (col 1 0 ∷ []) asks_moment
+      (Int seq ∷ []) old new knows (has_seq seq) (λ _. refl) by_first (λ _. refl)
+      by_second (λ _. refl) (λ _. refl) rows h

@@ -15,7 +15,7 @@ use Rattle.table_rows.proofs.TextLemmas.{IsQueryText}
 use Rattle.register_rows.specs.Schema.{common_tables, register_tables, HasCommon, IsDeclared}
 use Rattle.register_tables.proofs.ReadTexts.{columns, equals, on_ours}
 use Rattle.register_store.specs.declared.rows.TheConstants.{TARGET_AT}
-use Rattle.register_store.specs.declared.select.reads.TheConstants.{FACTS_OF_FILING, FILER_AT, PLACES_OF}
+use Rattle.register_store.specs.declared.select.reads.TheConstants.{FACTS_OF_FILING, FILER_AT, MOMENT_AT, PLACES_OF}
 
 abbrev pub places_of : List ℕ
 places_of = PLACES_OF.now
@@ -25,6 +25,9 @@ filer_at = FILER_AT.now
 
 abbrev pub target_at : List ℕ
 target_at = TARGET_AT.now
+
+abbrev pub moment_at : List ℕ
+moment_at = MOMENT_AT.now
 
 abbrev pub facts_said : List ℕ
 facts_said = FACTS_OF_FILING.now
@@ -40,6 +43,10 @@ query_filer = refl
 pub query_target : IsQueryText target_at
 unfolding everything
 query_target = refl
+
+pub query_moment : IsQueryText moment_at
+unfolding everything
+query_moment = refl
 
 pub query_said : IsQueryText facts_said
 unfolding everything
@@ -76,6 +83,16 @@ module _ (tables : List Table) (indexes : List Index) (views : List View) where
   target_text : Asks whole_schema target_at (one_table 10 (equals 0) (columns (2 ∷ [])) (by_each []))
   unfolding understood everything
   target_text = record { names = codes "target" ∷ []; is = refl; plain = (refl, refl); listing = refl }
+
+  moment_text : Asks whole_schema moment_at (one_table 11 (equals 0) (columns (2 ∷ [])) (by_each (col 1 0 ∷ [])))
+  unfolding understood everything
+  moment_text = record { names = codes "moment" ∷ []; is = refl; plain = (refl, refl); listing = refl }
+
+pub asks_moment : (s : Schema) → IsDeclared s
+    → Asks s moment_at (one_table 11 (equals 0) (columns (2 ∷ [])) (by_each (col 1 0 ∷ [])))
+asks_moment s d =
+    subst (λ t. Asks t moment_at (one_table 11 (equals 0) (columns (2 ∷ [])) (by_each (col 1 0 ∷ [])))) (sym d.is)
+    (moment_text d.tables d.indexes d.views)
 
 pub asks_target : (s : Schema) → IsDeclared s
     → Asks s target_at (one_table 10 (equals 0) (columns (2 ∷ [])) (by_each []))

@@ -1,10 +1,11 @@
 -- Several requests, one behind another.
 use Rattle.std.proofs.Common.{◌≡◌, ◌≤◌, ℕ, suc, ◌+◌, List, [], ◌∷◌, ◌++◌, append-nil, append_assoc, length, map}
-use Rattle.std.proofs.Common.{length-append, refl, sym, ap, subst, ◌∙◌, arith, IsTrue, All}
+use Rattle.std.proofs.Common.{length-append, refl, sym, ap, subst, ◌∙◌, arith, IsTrue, All, Option, Some}
 use Rattle.std.specs.List.{drop-map}
 use Rattle.std.specs.Prelude.{drop}
 use Rattle.std.proofs.Math.Seq.{drop-append_seam}
 use Rattle.std.proofs.lemmas.List.{map-append}
+use Rattle.sqlite.specs.Order.{Row}
 use Rattle.sqlite.specs.Effect.{Database}
 use Rattle.sqlite.specs.State.{State}
 use Rattle.key_string.specs.Key.{IsKey}
@@ -13,10 +14,12 @@ use Rattle.filing_model.specs.Register.{Kept, Outcome, judged, kept, register}
 use Rattle.filing_model.proofs.Keeping.{kept_new}
 use Rattle.filing_model.proofs.Lists.{length-map}
 use Rattle.register_rows.specs.Outcomes.{outcome_of, filings_by}
-use Rattle.register_rows.specs.Register.{IsCompleted}
+use Rattle.register_rows.specs.Received.{Received}
+use Rattle.register_rows.specs.Register.{HasRows, IsCompleted}
 use Rattle.register_rows.proofs.MoreRequests.{judged_as, registered_more}
 use Rattle.register_tables.specs.Registers.{IsRegisterOf}
 use Rattle.register_store.specs.declared.outcome.NewRow.{NewRow}
+use Rattle.register_store.specs.Moments.{moments_of}
 use Rattle.register_store.specs.NewRows.{AreNew, IsKeepable, IsNew, request_of}
 use Rattle.register_store.specs.Outcomes.{kept_new as kept_row, number_after, number_past, outcomes_behind}
 use Rattle.register_store.specs.Outcomes.{outcomes_from}
@@ -38,13 +41,13 @@ outcomes_more number (first ∷ rows) row =
 
 adds_more : (seq number : ℕ) (rows : List NewRow) (row : NewRow) (old mid new : Database)
     → AddsAll seq number rows old mid → IsKey row.key.now
-    → AddsRows (seq + length rows) (kept_row (number_past number rows) row) mid new
+    → AddsRows (seq + length rows) (kept_row (number_past number rows) row) row.moment.milliseconds mid new
     → AddsAll seq number (rows ++ row ∷ []) old new
 adds_more seq number [] row old mid new all key one = (
   new,
   key,
-  subst (λ db. AddsRows seq (kept_row number row) db new) all
-      (subst (λ n. AddsRows n (kept_row number row) mid new) (omega arith) one),
+  subst (λ db. AddsRows seq (kept_row number row) row.moment.milliseconds db new) all
+      (subst (λ n. AddsRows n (kept_row number row) row.moment.milliseconds mid new) (omega arith) one),
   refl,
 )
 adds_more seq number (first ∷ rows) row old mid new all key one = (
@@ -52,17 +55,18 @@ adds_more seq number (first ∷ rows) row old mid new all key one = (
   all.1,
   all.2,
   adds_more (seq + 1) (number_after number first) rows row all.0 mid new all.3 key
-      (subst (λ n. AddsRows n (kept_row (number_past (number_after number first) rows) row) mid new) (omega arith) one),
+      (subst (λ n. AddsRows n (kept_row (number_past (number_after number first) rows) row) row.moment.milliseconds mid
+      new) (omega arith) one),
 )
 
 pub inside_more : (seq number : ℕ) (rows : List NewRow) (row : NewRow) (place next : ℕ) (old mid new : State)
     → place ≡ seq + length rows → next ≡ number_past number rows → AddsAllInside seq number rows old mid
-    → IsKey row.key.now → AddsInside place (kept_row next row) mid new
+    → IsKey row.key.now → AddsInside place (kept_row next row) row.moment.milliseconds mid new
     → AddsAllInside seq number (rows ++ row ∷ []) old new
 inside_more seq number rows row place next old mid new at then' all key one = record {
   adds = adds_more seq number rows row old.now mid.now new.now all.adds key
-      (subst (λ n. AddsRows (seq + length rows) (kept_row n row) mid.now new.now) then'
-      (subst (λ n. AddsRows n (kept_row next row) mid.now new.now) at one.adds));
+      (subst (λ n. AddsRows (seq + length rows) (kept_row n row) row.moment.milliseconds mid.now new.now) then'
+      (subst (λ n. AddsRows n (kept_row next row) row.moment.milliseconds mid.now new.now) at one.adds));
   inside = one.inside;
   committed = one.committed ∙ all.committed;
 }
@@ -195,12 +199,33 @@ register_of_all old_style F (row ∷ rows) seq number old new may fresh at next 
     let r = request_of row in
     let mid = adds.0 in
     let here =
-    subst (λ o. AddsRows (suc (length F)) (record { request = r; outcome = o }) old mid)
+    subst (λ o. AddsRows (suc (length F)) (record { request = r; outcome = o }) row.moment.milliseconds old mid)
     (outcome_is F row fresh.0 number next)
-    (subst (λ n. AddsRows n (kept_row number row) old mid) at adds.2) in
+    (subst (λ n. AddsRows n (kept_row number row) row.moment.milliseconds old mid) at adds.2) in
     subst (λ G. IsRegisterOf old_style G new) (requests_next F row rows)
     (register_of_all old_style (F ++ r ∷ []) rows (seq + 1) (number_after number row) mid new
     (λ k d low. may (suc k) d (omega (arith, low))) fresh.1
     (omega (arith, at, length-append F (r ∷ []))) (next_is F row fresh.0 number next)
-    (register_of_more old_style F r fresh.0.key (completed_of row (may 0 row (omega arith)) adds.1) old mid was here)
+    (register_of_more old_style F r fresh.0.key (completed_of row (may 0 row (omega arith)) adds.1)
+    row.moment.milliseconds old mid was here)
     adds.3)
+
+-- ---- their moments
+
+pub moments_many : (moments : List (Option ℕ)) (rows : List NewRow)
+    → length (moments ++ moments_of rows) ≡ length moments + length rows
+moments_many moments rows =
+    length-append moments (moments_of rows)
+    ∙ ap (λ n. length moments + n) (length-map (λ (row : NewRow). Some row.moment.milliseconds) rows)
+
+pub received_of_all : (old_style : ℕ) (rows : List NewRow) (ks fs gs hs ts : List Row) (seq number : ℕ)
+    (old new : Database) (moments : List (Option ℕ)) → HasRows old old_style ks fs gs hs ts → seq ≡ suc (length moments)
+    → Received old moments → AddsAll seq number rows old new → Received new (moments ++ moments_of rows)
+received_of_all old_style [] ks fs gs hs ts seq number old new moments has at had adds =
+    subst (Received new) (sym (append-nil moments)) (subst (λ db. Received db moments) (sym adds) had)
+received_of_all old_style (row ∷ rows) ks fs gs hs ts seq number old new moments has at had adds =
+    let moment = Some row.moment.milliseconds in
+    subst (Received new) (append_assoc moments (moment ∷ []) (moments_of rows))
+    (received_of_all old_style rows _ _ _ _ _ (seq + 1) (number_after number row) adds.0 new (moments ++ moment ∷ [])
+    (adds.2.rows old_style ks fs gs hs ts has) (omega (arith, at, length-append moments (moment ∷ [])))
+    (adds.2.received has.declared moments (sym at) had) adds.3)

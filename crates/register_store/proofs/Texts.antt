@@ -14,7 +14,7 @@ use Rattle.sqlite.proofs.Callers.{IsPlain, command_of}
 use Rattle.table_rows.specs.Tables.{schema_with}
 use Rattle.register_rows.specs.Schema.{register_tables}
 use Rattle.register_store.specs.declared.rows.TheConstants.{INSERT_AMENDS, INSERT_FACT, INSERT_FILING, INSERT_FINDING}
-use Rattle.register_store.specs.declared.rows.TheConstants.{INSERT_KEPT}
+use Rattle.register_store.specs.declared.rows.TheConstants.{INSERT_KEPT, INSERT_RECEIVED}
 
 abbrev pub insert_kept : List ℕ
 insert_kept = INSERT_KEPT.now
@@ -30,6 +30,9 @@ insert_fact = INSERT_FACT.now
 
 abbrev pub insert_amends : List ℕ
 insert_amends = INSERT_AMENDS.now
+
+abbrev pub insert_received : List ℕ
+insert_received = INSERT_RECEIVED.now
 
 module _ (tables : List Table) (indexes : List Index) (views : List View) where
   abbrev schema : Schema
@@ -64,3 +67,8 @@ module _ (tables : List Table) (indexes : List Index) (views : List View) where
       ≡ Insert 6 (Values (col 0 0 ∷ lit Null ∷ col 0 1 ∷ []) 3)) × IsPlain (understood schema insert_amends)
   unfolding understood everything
   inserts_amends = (refl, (refl, refl))
+
+  pub inserts_received : (command_of (understood schema insert_received)
+      ≡ Insert 7 (Values (col 0 0 ∷ lit Null ∷ col 0 1 ∷ []) 3)) × IsPlain (understood schema insert_received)
+  unfolding understood everything
+  inserts_received = (refl, (refl, refl))

@@ -1,6 +1,6 @@
 -- What the calls of a store do.
 use Rattle.std.specs.Prelude.{◌≡◌, ◌↔◌, ◌+◌, ◌++◌, ◌∷◌, [], ℕ, List, take, map, length, option_map, Option}
-use Rattle.std.specs.Prelude.{Result, Ok, Err}
+use Rattle.std.specs.Prelude.{None, replicate, Result, Ok, Err}
 use Rattle.std.specs.Prelude.{Vec, IsTrue, IfOk, IfErr, IfSome, OnOk, OnErr}
 use Rattle.std.specs.Result.{result_map_both}
 use Rattle.std.specs.declared.alloc.Global.{Global}
@@ -23,6 +23,7 @@ use Rattle.register_store.specs.declared.outcome.KeptRow.{KeptRow}
 use Rattle.register_store.specs.declared.outcome.NewRow.{NewRow}
 use Rattle.filing_model.specs.declared.outcome.Outcome.{Outcome}
 use Rattle.register_tables.specs.Earlier.{IsAlone, IsEarlierOf, ForEarlier}
+use Rattle.register_store.specs.Moments.{ForMoments, HasMoments, IsDurableWith, SurvivesWith, moments_of}
 use Rattle.register_store.specs.NewRows.{AreNew, request_of}
 use Rattle.register_store.specs.Outcomes.{kept_as, outcomes_behind}
 use Rattle.register_tables.specs.Refusals.{GivesBackMaking, GivesBackMigrating, GivesBackOpening, GivesUpMaking}
@@ -30,7 +31,7 @@ use Rattle.register_tables.specs.Refusals.{GivesUpMigrating, GivesUpOpening}
 use Rattle.register_rows.specs.Schema.{is_taken, IsDeclared}
 use Rattle.register_store.specs.Store.{StoreParts, shows, ForNew, ForRequests, HandsOut, HasRequests}
 use Rattle.register_store.specs.Store.{IsDurableAs, SurvivesAs}
-use Rattle.register_tables.specs.Registers.{ForRows, IsRegisterOf, LeavesRegister}
+use Rattle.register_tables.specs.Registers.{ForRows, IsRegisterOf, LeavesReceived, LeavesRegister}
 
 -- ---- a store is handed out
 
@@ -79,6 +80,9 @@ pub record MigratesStore {S : Type 0} (g : Ghosts S) (conn : Held S) (result : R
   pub crash : IfOk result (λ store. Survives (state g conn) (shows g store)
       (λ trees. ForEarlier g conn (λ _ old_style F. LeavesRegister old_style F trees)))
   pub durable : HandsOut g result (λ store. ForEarlier g conn (λ _. IsDurableAs g store))
+  -- None of the requests has a moment.
+  pub undated : HandsOut g result (λ store. ForEarlier g conn (λ _ _ F.
+      HasMoments g store (replicate (length F) None)))
 
 -- ---- a store is handed out, or the connection comes back
 
@@ -110,6 +114,7 @@ pub record MigratesOrGivesBack {S : Type 0} (g : Ghosts S) (conn : Held S)
 -- could leave before.
 pub record KeepsStore {S : Type 0} (g : Ghosts S) (old new : StoreParts S) : Type 0 where
   pub same : ForRequests g old new (HasRequests g new)
+  pub moments : ForMoments g old new (λ _. HasMoments g new)
   pub counts : (new.kept ≡ old.kept) × (new.filings ≡ old.filings) × (new.catalogue ≡ old.catalogue)
   pub old_style : new.old_style ≡ old.old_style
   pub crash : CommitsNothing (shows g old) (shows g new)
@@ -171,6 +176,20 @@ pub record AddsRequests {S : Type 0} (g : Ghosts S) (rows : List NewRow) (old ne
       → LeavesRegister old.old_style (F ++ map request_of rows) trees)
   pub durable : ForRequests g old new (λ F. AreNew F rows
       → OnOk result (IsDurableAs g new old.old_style (F ++ map request_of rows)))
+
+-- What `add` and `add_all` do with the moments of these requests, beside what `AddsRequests` says: each that is kept
+-- has its own, and those before keep theirs.
+pub record AddsMoments {S X : Type 0} (g : Ghosts S) (rows : List NewRow) (old new : StoreParts S)
+    (result : Result X StoreFault) : Type 0 where
+  pub added : ForMoments g old new (λ _ moments. OnOk result (HasMoments g new (moments ++ moments_of rows)))
+  -- A refusal changes nothing.
+  pub same : ForMoments g old new (λ _ moments. OnErr result (HasMoments g new moments))
+  -- A crash in the call leaves what one before it could leave, or all these requests with their moments; one after Ok,
+  -- these.
+  pub crash : SurvivesWith g old new (λ F moments trees. AreNew F rows
+      → LeavesReceived old.old_style (F ++ map request_of rows) (moments ++ moments_of rows) trees)
+  pub durable : ForMoments g old new (λ F moments. AreNew F rows
+      → OnOk result (IsDurableWith g new old.old_style (F ++ map request_of rows) (moments ++ moments_of rows)))
 
 -- the one outcome of several, or the same fault
 abbrev pub IsOnly : Result (Vec Outcome Global) StoreFault → Result Outcome StoreFault → Type 0

@@ -1,5 +1,6 @@
 -- What is written for requests that are to be kept.
-use Rattle.std.specs.Prelude.{◌≡◌, ℕ, ◌+◌, false, Option, List, [], ◌∷◌, ◌++◌, Result, IsTrue, IfOk, OnOk, OnErr}
+use Rattle.std.specs.Prelude.{◌≡◌, ℕ, suc, ◌+◌, false, Option, Some, List, [], ◌∷◌, ◌++◌, length, Result, IsTrue, IfOk}
+use Rattle.std.specs.Prelude.{OnOk, OnErr}
 use Rattle.std.specs.Borrow.{MutBor}
 use Rattle.sqlite.specs.Store.{Ghosts}
 use Rattle.sqlite.specs.Held.{Held, state}
@@ -16,25 +17,28 @@ use Rattle.table_rows.specs.Leaving.{OnlyWrites}
 use Rattle.table_rows.specs.Standing.{IsLasting, AddsNothing}
 use Rattle.register_store.specs.declared.outcome.NewRow.{NewRow}
 use Rattle.register_store.specs.Outcomes.{kept_new, number_after, number_past}
+use Rattle.register_rows.specs.Received.{Received}
 use Rattle.register_rows.specs.Schema.{IsDeclared}
 use Rattle.register_rows.specs.Register.{HasRows, kept_row, finding_rows, filing_rows, fact_rows, amends_rows}
 use Rattle.register_tables.specs.Gains.{GainsRows}
 
--- the tables gain the rows of the kept request at this place, whatever rows they had
-pub record AddsRows (seq : ℕ) (k : Kept) (old new : Database) : Type 0 where
+-- the tables gain the rows of the kept request at this place, which came at this moment, whatever rows they had
+pub record AddsRows (seq : ℕ) (k : Kept) (moment : ℕ) (old new : Database) : Type 0 where
   pub rows : (old_style : ℕ) (ks fs gs hs ts : List Row) → HasRows old old_style ks fs gs hs ts
       → HasRows new old_style (ks ++ kept_row seq k ∷ []) (fs ++ finding_rows seq k) (gs ++ filing_rows seq k)
       (hs ++ fact_rows seq k) (ts ++ amends_rows seq k)
+  pub received : IsDeclared old.schema → (moments : List (Option ℕ)) → suc (length moments) ≡ seq
+      → Received old moments → Received new (moments ++ Some moment ∷ [])
   pub sound : IsDeclared old.schema → IsDatabase old → IsDatabase new
 
 -- the tables gain these rows inside a transaction, which goes on
-pub record AddsInside (seq : ℕ) (k : Kept) (old new : State) : Type 0 where
-  pub adds : AddsRows seq k old.now new.now
+pub record AddsInside (seq : ℕ) (k : Kept) (moment : ℕ) (old new : State) : Type 0 where
+  pub adds : AddsRows seq k moment old.now new.now
   pub inside : IsTrue new.in_transaction
   pub committed : new.committed ≡ old.committed
 
--- if the disk is clean at the end, an answer says that the rows of this request, with this target and this outcome,
--- were added
+-- if the disk is clean at the end, an answer says that the rows of this request, with this target, this outcome and its
+-- moment, were added
 abbrev pub AddsAs : {X E : Type 0} → ℕ → Option ℕ → NewRow → Outcome → State → State → Result X E → Type 0
 AddsAs seq target row outcome old new result =
     HasCleanDisk new
@@ -42,13 +46,13 @@ AddsAs seq target row outcome old new result =
       request =
           the_request row.filer.now row.key.now target row.body.now;
       outcome = outcome;
-    }) old new)
+    }) row.moment.milliseconds old new)
 
 -- the tables gain the rows of these requests, one behind another, from this place and this number on
 abbrev pub AddsAll : ℕ → ℕ → List NewRow → Database → Database → Type 0
 AddsAll seq number [] old new = new ≡ old
 AddsAll seq number (row ∷ rows) old new =
-    (mid : Database) × IsKey row.key.now × AddsRows seq (kept_new number row) old mid
+    (mid : Database) × IsKey row.key.now × AddsRows seq (kept_new number row) row.moment.milliseconds old mid
     × AddsAll (seq + 1) (number_after number row) rows mid new
 
 -- they gain them inside a transaction, which goes on

@@ -2,6 +2,7 @@ pub mod Calls
 pub mod Changes
 pub mod Files
 pub mod Found
+pub mod Moments
 pub mod NewRows
 pub mod Numbered
 pub mod Outcomes

@@ -17,6 +17,7 @@ mod write;
 pub use filing_model::{Completed, Outcome, Registered};
 pub use kept_body::KeptBody;
 pub use outcome::{KeptRow, NewRow};
+pub use register_rows::Moment;
 pub use register_tables::{
     Counts, CreateFault, Earlier, OpenFault, Unwatched, Watch, make_register, migrate_register,
     read_register,

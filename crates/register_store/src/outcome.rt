@@ -8,6 +8,7 @@ ghost use Rattle.register_store.specs.Outcomes.{outcomes_from};
 use crate::kept_body::KeptBody;
 use filing_model::{Outcome, Style};
 use key_string::KeyText;
+use register_rows::Moment;
 use std::alloc::{AllocError, Global};
 use xbrl_report::Judged;
 
@@ -22,7 +23,8 @@ pub struct KeptRow {
 }
 
 /// A request that is to be kept: a filer code, a key that the filer has not used, the number of the filing that it is
-/// to replace, if any, and a body of at most 1,048,576 bytes, with what `judge_amendment` answers of them.
+/// to replace, if any, and a body of at most 1,048,576 bytes, with what `judge_amendment` answers of them, and the
+/// moment at which it came.
 #[derive(Clone, Copy)]
 pub struct NewRow<'a> {
     pub filer: &'a str,
@@ -30,6 +32,7 @@ pub struct NewRow<'a> {
     pub target: Option<u64>,
     pub body: &'a [u8],
     pub judged: &'a Judged,
+    pub moment: Moment,
 }
 
 /// What becomes of a report that was judged so, if the next filing has this number.

@@ -12,13 +12,15 @@ ghost use Rattle.table_rows.specs.Rows.{counted_from};
 ghost use Rattle.table_rows.specs.Reading.{ReadsRows};
 ghost use Rattle.register_tables.specs.Reads.{Knows, KnowsAll, by_second, has_texts};
 ghost use Rattle.register_store.specs.Found.{has_seq, unsorted, found_in, pair_in, target_alone};
+ghost use Rattle.register_rows.specs.Received.{IsMoment, received_row};
 ghost use Rattle.register_rows.specs.Schema.{kept_table, finding_table, filing_table, fact_table, amends_table};
+ghost use Rattle.register_rows.specs.Schema.{received_table};
 ghost use Rattle.key_string.specs.Key.{IsKey};
 ghost use Rattle.register_tables.specs.Gains.{GainsRows};
 ghost use Rattle.register_store.specs.Changes.{InsertsRow};
 
 use crate::outcome::NewRow;
-use register_rows::RowItem;
+use register_rows::{Moment, RowItem};
 use sqlite::{Alter, Connection, Error, Row, Transaction, params};
 use table_rows::{run, select};
 use xbrl_report::{Fact, Finding};
@@ -88,6 +90,27 @@ pub(crate) fn insert_amends<S: Alter>(
         result }
 {
     run(tx, INSERT_AMENDS, params![seq as i64, target as i64])
+}
+
+const INSERT_RECEIVED: &str = "INSERT INTO received VALUES (?1, ?2)";
+
+/// Adds the row that says at which moment the request at this place came.
+pub(crate) fn insert_received<S: Alter>(
+    tx: &mut Transaction<'_, S>,
+    seq: u64,
+    moment: Moment,
+) -> Result<(), Error>
+    requires { seq < 2 ^ 63 }
+    ensures within { IsMoment moment.milliseconds }
+    ensures inserts { InsertsRow S.Store received_table (received_row seq moment.milliseconds) tx.old.conn
+        tx.new.conn result }
+{
+    let milliseconds = moment.milliseconds();
+    run(
+        tx,
+        INSERT_RECEIVED,
+        params![seq as i64, milliseconds as i64],
+    )
 }
 
 /// What has a row of its own in a table.

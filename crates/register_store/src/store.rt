@@ -1,12 +1,13 @@
 //! The store of a register: its connection, and how much it holds.
 
-ghost use Rattle.std.specs.Prelude.{◌≡◌, ◌≤◌, ◌<◌, ◌^◌, ◌+◌, All, true, length, Ok};
+ghost use Rattle.std.specs.Prelude.{◌≡◌, ◌≤◌, ◌<◌, ◌^◌, ◌+◌, ◌∷◌, [], All, true, length, Ok, option_map};
+ghost use Rattle.register_rows.specs.Catalogue.{entry_numbered};
 ghost use Rattle.key_string.specs.Filer.{is_filer};
 ghost use Rattle.http_messages.specs.Head.{max_body_len};
 ghost use Rattle.http_messages.specs.Posting.{IsTarget};
 ghost use Rattle.xbrl_report.specs.Judgement.{HasFacts};
-ghost use Rattle.register_store.specs.Calls.{AddsRequest, AddsRequests, CreatesOrGivesBack, CreatesStore, FindsRow};
-ghost use Rattle.register_store.specs.Calls.{KeepsRows};
+ghost use Rattle.register_store.specs.Calls.{AddsMoments, AddsRequest, AddsRequests, CreatesOrGivesBack, CreatesStore};
+ghost use Rattle.register_store.specs.Calls.{FindsRow, KeepsRows};
 ghost use Rattle.register_store.specs.Calls.{MigratesOrGivesBack, MigratesStore, OpensOrGivesBack, OpensStore};
 ghost use Rattle.register_store.specs.NewRows.{IsKeepable};
 ghost use Rattle.table_rows.specs.Standing.{IsAtRest};
@@ -209,31 +210,33 @@ impl<S: Alter> Store<S> {
         )
     }
 
-    /// Keeps a request, in one transaction, and answers its outcome: a valid report takes the next number, and any
-    /// other is refused with all its findings. What the clauses say of the rows holds if the filer and key are not kept
-    /// yet, and if the report was judged by whether the filing that it is to replace, if any, is free after the kept
-    /// requests.
+    /// Keeps a request with its moment, in one transaction, and answers its outcome: a valid report takes the next
+    /// number, and any other is refused with all its findings. What the clauses say of the rows holds if the filer and
+    /// key are not kept yet, and if the report was judged by whether the filing that it is to replace, if any, is free
+    /// after the kept requests.
     pub fn add(&mut self, row: &NewRow<'_>) -> Result<Outcome, StoreFault>
         requires filer { is_filer row.now.filer.now ≡ true }
         requires body { length row.now.body.now ≤ max_body_len }
         requires target { IsTarget row.now.target }
         requires facts { HasFacts row.now.body.now row.now.judged.now }
         requires few { self.old.kept < 2 ^ 62 }
-        ensures { AddsRequest S.Store row.now self.old self.new result }
+        ensures adds { AddsRequest S.Store row.now self.old self.new result }
+        ensures moments { AddsMoments S.Store (row.now ∷ []) self.old self.new result }
     {
         let outcome = outcome_of(self.alloc, row.judged, self.filings + 1)?;
         self.keep(from_ref(row))?;
         Ok(outcome)
     }
 
-    /// Keeps requests, in one transaction, and answers their outcomes, in order: all are kept, one behind another, or
-    /// none. What the clauses say of the rows holds if each filer and key are kept neither yet nor by a row before, and
-    /// if each report was judged by whether the filing that it is to replace, if any, is free after the kept requests
-    /// and the rows before it.
+    /// Keeps requests with their moments, in one transaction, and answers their outcomes, in order: all are kept, one
+    /// behind another, or none. What the clauses say of the rows holds if each filer and key are kept neither yet nor
+    /// by a row before, and if each report was judged by whether the filing that it is to replace, if any, is free
+    /// after the kept requests and the rows before it.
     pub fn add_all(&mut self, rows: &[NewRow<'_>]) -> Result<Vec<Outcome>, StoreFault>
         requires rows { All IsKeepable rows.now }
         requires few { self.old.kept + length rows.now ≤ 2 ^ 62 }
-        ensures { AddsRequests S.Store rows.now self.old self.new result }
+        ensures adds { AddsRequests S.Store rows.now self.old self.new result }
+        ensures moments { AddsMoments S.Store rows.now self.old self.new result }
     {
         let outcomes = outcomes_of(self.alloc, rows, self.filings + 1)?;
         self.keep(rows)?;
@@ -245,7 +248,8 @@ impl<S: Alter> Store<S> {
     fn keep(&mut self, rows: &[NewRow<'_>]) -> Result<(), StoreFault>
         requires rows { All IsKeepable rows.now }
         requires few { self.old.kept + length rows.now ≤ 2 ^ 62 }
-        ensures { KeepsRows S.Store rows.now self.old self.new result }
+        ensures keeps { KeepsRows S.Store rows.now self.old self.new result }
+        ensures moments { AddsMoments S.Store rows.now self.old self.new result }
     {
         self.catalogue.reserve(rows.len())?;
         let next = keep_all(&mut self.conn, self.kept + 1, self.filings + 1, rows)?;
@@ -274,6 +278,17 @@ impl<S: Alter> Store<S> {
         ensures { result ≡ Ok self.now.old_style }
     {
         Ok(self.old_style)
+    }
+
+    /// The place of the kept request that was registered under this number, where the first one is at 1, if there is
+    /// such a filing.
+    pub fn place_of(&self, number: u64) -> Option<u64>
+        ensures { result ≡ option_map (λ line. line.seq) (entry_numbered self.now.catalogue number) }
+    {
+        match self.catalogue.line(number) {
+            Some(line) => Some(line.seq()),
+            None => None,
+        }
     }
 
     /// The connection.

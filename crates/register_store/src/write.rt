@@ -1,4 +1,5 @@
-//! Requests are kept, in one transaction: the row of each, and those of its findings or of its filing and its facts.
+//! Requests are kept, in one transaction: the row of each, that of its moment, and those of its findings or of its
+//! filing and its facts.
 
 ghost use Rattle.std.specs.Prelude.{◌≡◌, ◌<◌, ◌^◌, ◌+◌, All, false, length, None, Some, IsTrue, IfOk, OnOk};
 ghost use Rattle.sqlite.specs.Held.{state};
@@ -15,11 +16,11 @@ ghost use Rattle.register_store.specs.NewRows.{IsKeepable};
 ghost use Rattle.register_store.specs.Outcomes.{number_past};
 
 use crate::outcome::{NewRow, filings_of};
-use crate::rows::{insert_amends, insert_filing, insert_items, insert_kept};
+use crate::rows::{insert_amends, insert_filing, insert_items, insert_kept, insert_received};
 use sqlite::{Alter, Connection, Error, Transaction};
 use xbrl_report::{Fact, Finding, Judged};
 
-/// Writes a refused request at its place, with its findings, beside the filing that it is to replace.
+/// Writes a refused request at its place, with its moment and its findings, beside the filing that it is to replace.
 fn write_refused<S: Alter>(
     tx: &mut Transaction<'_, S>,
     seq: u64,
@@ -33,11 +34,12 @@ fn write_refused<S: Alter>(
         (state S.Store tx.old.conn.now) (state S.Store tx.new.conn.now) result }
 {
     insert_kept(tx, seq, row, None)?;
+    insert_received(tx, seq, row.moment)?;
     insert_items(tx, seq, findings)
 }
 
-/// Writes a registered request at its place, with its filing of this number and the facts of its report, beside the
-/// filing that it is to replace.
+/// Writes a registered request at its place, with its moment, its filing of this number and the facts of its report,
+/// beside the filing that it is to replace.
 fn write_accepted<S: Alter>(
     tx: &mut Transaction<'_, S>,
     seq: u64,
@@ -54,6 +56,7 @@ fn write_accepted<S: Alter>(
         (state S.Store tx.old.conn.now) (state S.Store tx.new.conn.now) result }
 {
     insert_kept(tx, seq, row, Some(number))?;
+    insert_received(tx, seq, row.moment)?;
     insert_filing(tx, number, seq)?;
     insert_items(tx, number, facts)
 }

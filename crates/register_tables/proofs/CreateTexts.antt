@@ -9,9 +9,9 @@ use Rattle.sqlite_catalog.specs.Listing.{automatic}
 use Rattle.table_rows.specs.Tables.{no_schema}
 use Rattle.table_rows.proofs.CreateLemmas.{IsCreation}
 use Rattle.register_tables.specs.Making.{create_meta, create_kept, create_finding, create_filing, create_fact}
-use Rattle.register_tables.specs.Making.{create_migrated, create_amends}
+use Rattle.register_tables.specs.Making.{create_migrated, create_amends, create_received}
 use Rattle.register_rows.specs.Schema.{meta_table, kept_table, finding_table, filing_table, fact_table, migrated_table}
-use Rattle.register_rows.specs.Schema.{amends_table}
+use Rattle.register_rows.specs.Schema.{amends_table, received_table}
 
 abbrev pub first_schema : Schema
 first_schema = created no_schema meta_table
@@ -30,6 +30,9 @@ fifth_schema = created fourth_schema fact_table
 
 abbrev pub sixth_schema : Schema
 sixth_schema = created fifth_schema migrated_table
+
+abbrev pub seventh_schema : Schema
+seventh_schema = created sixth_schema amends_table
 
 pub creates_meta : IsCreation no_schema create_meta meta_table
 unfolding understood everything
@@ -58,6 +61,10 @@ creates_migrated = record { command = refl; statement = refl; defined = refl; pl
 pub creates_amends : IsCreation sixth_schema create_amends (record amends_table { tree = 0 })
 unfolding understood everything
 creates_amends = record { command = refl; statement = refl; defined = refl; plain = (refl, refl) }
+
+pub creates_received : IsCreation seventh_schema create_received (record received_table { tree = 0 })
+unfolding understood everything
+creates_received = record { command = refl; statement = refl; defined = refl; plain = (refl, refl) }
 
 -- the indexes that SQLite makes for the keys
 abbrev pub own_indexes : List Index

@@ -17,10 +17,10 @@ use Rattle.table_rows.proofs.SelectLemmas.{one_table}
 use Rattle.table_rows.proofs.ReadingLemmas.{by_each}
 use Rattle.table_rows.proofs.FailLemmas.{IsWhole, failure_cause}
 use Rattle.register_tables.specs.Opening.{all_meta, all_kept, all_findings, all_filings, all_facts, all_migrated}
-use Rattle.register_tables.specs.Opening.{all_amends}
+use Rattle.register_tables.specs.Opening.{all_amends, all_received}
 use Rattle.register_rows.specs.Schema.{common_tables, register_tables, HasCommon, IsDeclared}
 use Rattle.register_tables.proofs.ReadTexts.{columns, asks_meta, asks_kept, asks_findings, asks_filings, asks_facts}
-use Rattle.register_tables.proofs.ReadTexts.{asks_migrated, asks_amends}
+use Rattle.register_tables.proofs.ReadTexts.{asks_migrated, asks_amends, asks_received}
 
 -- under the declared tables each of the five texts is one statement without a parameter
 module _ (tables : List Table) (indexes : List Index) (views : List View) where
@@ -94,6 +94,10 @@ module _ (tables : List Table) (indexes : List Index) (views : List View) where
   unfolding understood everything
   amends_whole = record { tail = le_refl _; unnamed = refl; typed = refl }
 
+  received_whole : IsWhole whole_schema all_received (one_table 11 [] (columns (0 ∷ 2 ∷ [])) (by_each (col 1 0 ∷ [])))
+  unfolding understood everything
+  received_whole = record { tail = le_refl _; unnamed = refl; typed = refl }
+
 module _ (old new : State) (d : IsDeclared old.now.schema) (unlimited : old.step_limit ≡ None) (e : Error) where
   pub migrated_fails : FailsToQuery all_migrated [] old new e → cause_of e ≡ Other → ⊥
   migrated_fails = failure_cause all_migrated 9 [] _ _ old new (asks_migrated old.now.schema d)
@@ -104,3 +108,8 @@ module _ (old new : State) (d : IsDeclared old.now.schema) (unlimited : old.step
   amends_fail = failure_cause all_amends 10 [] _ _ old new (asks_amends old.now.schema d)
       (subst (λ t. IsWhole t all_amends (one_table 10 [] (columns (0 ∷ 2 ∷ [])) (by_each (col 1 0 ∷ [])))) (sym d.is)
       (amends_whole d.tables d.indexes d.views)) unlimited e
+
+  pub received_fail : FailsToQuery all_received [] old new e → cause_of e ≡ Other → ⊥
+  received_fail = failure_cause all_received 11 [] _ _ old new (asks_received old.now.schema d)
+      (subst (λ t. IsWhole t all_received (one_table 11 [] (columns (0 ∷ 2 ∷ [])) (by_each (col 1 0 ∷ [])))) (sym d.is)
+      (received_whole d.tables d.indexes d.views)) unlimited e

@@ -78,7 +78,7 @@ is_first = op2 (Compare Eq Binary) (col 1 0) (lit (Int (pos 1))) ∷ []
 
 -- its rowid, and then the row as it becomes
 abbrev raised_columns : List Term
-raised_columns = col 1 0 ∷ col 1 0 ∷ lit Null ∷ col 1 2 ∷ lit (Int (pos 4)) ∷ []
+raised_columns = col 1 0 ∷ col 1 0 ∷ lit Null ∷ col 1 2 ∷ lit (Int (pos 5)) ∷ []
 
 abbrev raise_query : Query
 raise_query = one_table 0 is_first raised_columns []
@@ -101,10 +101,10 @@ matches_it : (form : ℕ) → matches (form_row form) ≡ true
 matches_it form = last_term (at_ints false Eq (pos 1) (pos 1))
 
 abbrev change : Row → Output
-change w = ([], column w 0 ∷ column w 0 ∷ Null ∷ column w 1 ∷ Int (pos 4) ∷ [])
+change w = ([], column w 0 ∷ column w 0 ∷ Null ∷ column w 1 ∷ Int (pos 5) ∷ [])
 
 abbrev became : Row
-became = Null ∷ Text (codes "register") ∷ Int (pos 4) ∷ []
+became = Null ∷ Text (codes "register") ∷ Int (pos 5) ∷ []
 
 abbrev stored : Row
 stored = Int (pos 1) ∷ became
@@ -151,12 +151,12 @@ raises form old new count has held h =
     let w = runs_as raise_form [] old new whole_schema has raise_command raise_is raise_plain count h in
     let u = updated whole_schema 0 meta_table refl (
       refl,
-      (refl, (refl, (refl, (refl, (refl, (refl, tt)))))),
+      (refl, (refl, (refl, (refl, (refl, (refl, (refl, tt))))))),
     ) raise_query [] old
     (statement_of raise_form (understood whole_schema raise_form)) w.tally new.now has w.changed 1 became
     (one_row form old.now.trees held) in
     let cast_is : cast_row meta_table (Int (pos 1) ∷ became) ≡ stored =
-    rw (cast_int (pos 1), cast_int (pos 4), cast_null) refl in
+    rw (cast_int (pos 1), cast_int (pos 5), cast_null) refl in
     let rows : new.now.trees 0 ≡ stored ∷ [] = rw (cast_is, left_none form old.now.trees held) at u.rows in
     record {
       schema_is = u.schema_is;

@@ -1,5 +1,6 @@
 -- What an opening reads of a database, and what it says of one that stands.
 use Rattle.std.proofs.Common.{◌≡◌, ℕ, List, [], ◌∷◌, map, length, refl, sym, ap, subst, ◌∙◌, IsPermutation}
+use Rattle.std.proofs.Common.{◌+◌, arith}
 use Rattle.std.specs.List.{AllByRecursion}
 use Rattle.std.proofs.lemmas.List.Sorted.{IsPermutation-refl, IsPermutation-sym}
 use Rattle.sqlite.specs.Order.{Row}
@@ -19,16 +20,21 @@ use Rattle.table_rows.proofs.OrderLemmas.{counted_rise}
 use Rattle.table_rows.proofs.ReadingLemmas.{reads_rows}
 use Rattle.register_rows.specs.Audit.{OtherRows, AreRowsOf}
 use Rattle.register_tables.specs.Opening.{all_meta, all_kept, all_findings, all_filings, all_facts, all_migrated}
-use Rattle.register_tables.specs.Opening.{all_amends, row_texts, new_texts, Later, SaysOldStyle, IsRead, AreRead}
+use Rattle.register_tables.specs.Opening.{all_amends, all_received, row_texts, new_texts, Later}
+use Rattle.register_tables.specs.Opening.{SaysOldStyle, IsRead, AreRead}
 use Rattle.register_rows.specs.Register.{meta_row, migrated_row, kept_row, amends_rows, joined_from}
 use Rattle.register_tables.specs.Registers.{IsRegisterOf}
 use Rattle.register_tables.specs.Reads.{Knows, every, whole, by_first}
 use Rattle.register_rows.specs.Schema.{IsDeclared, HasCommon, common_tables, register_tables, meta_table, kept_table}
 use Rattle.register_rows.specs.Schema.{finding_table, filing_table, fact_table, migrated_table, amends_table}
+use Rattle.register_rows.specs.Schema.{received_table}
+use Rattle.register_rows.specs.Dates.{SaysMoments}
+use Rattle.register_rows.specs.Received.{received_row, received_rows}
 use Rattle.register_tables.proofs.ReadTexts.{columns, asks_meta, asks_findings, asks_filings, asks_facts, asks_migrated}
-use Rattle.register_tables.proofs.ReadTexts.{asks_amends}
+use Rattle.register_tables.proofs.ReadTexts.{asks_amends, asks_received}
 use Rattle.register_tables.proofs.ReadLemmas.{reads_kept}
 use Rattle.register_tables.proofs.ListLemmas.{filter_every, map_whole, amends_rise}
+use Rattle.register_rows.proofs.MomentLemmas.{length-all_moments}
 use Rattle.register_rows.proofs.MoreRequests.{kept_length}
 use Rattle.register_tables.proofs.RisingLemmas.{by_both, findings_rise, filings_rise, facts_rise}
 use Rattle.register_rows.proofs.SegmentLemmas.{length_counted}
@@ -88,6 +94,13 @@ module _ (old new : State) (rows : List Row) (d : IsDeclared old.now.schema) whe
   got_amends h =
       let r = reads_rows register_tables amends_table all_amends [] (columns (0 ∷ 2 ∷ [])) (col 1 0 ∷ []) asks_amends []
       old new (λ _. d) every (λ _. refl) by_first (λ _. refl) whole (λ _. refl) (λ _. refl) rows h in
+      (r.same, gets _ _ rows old new r)
+
+  pub got_received : Shown all_received [] old new rows
+      → IsUnchanged old new × Gets received_table by_first rows old.now
+  got_received h =
+      let r = reads_rows register_tables received_table all_received [] (columns (0 ∷ 2 ∷ [])) (col 1 0 ∷ [])
+      asks_received [] old new (λ _. d) every (λ _. refl) by_first (λ _. refl) whole (λ _. refl) (λ _. refl) rows h in
       (r.same, gets _ _ rows old new r)
 
 -- ---- one query after another
@@ -179,31 +192,39 @@ module _ {S : Type 0} (g : Ghosts S) where
         },
       )
 
--- ---- the two others
+-- ---- the three others
 
-pub record Two (later : Later) (db : Database) : Type 0 where
+pub record Three (later : Later) (db : Database) : Type 0 where
   pub migrated_is : Gets migrated_table by_first later.migrated db
   pub amends_is : Gets amends_table by_first later.amends db
+  pub received_is : Gets received_table by_first later.received db
 
 pub still_ours : (old new : State) → IsUnchanged old new → IsDeclared old.now.schema → IsDeclared new.now.schema
 still_ours old new same = subst (λ (db : Database). IsDeclared db.schema) (sym same.0.now_is)
 
 module _ {S : Type 0} (g : Ghosts S) where
-  pub got_two : (a e : Held S) (later : Later) → IsDeclared (state g a).now.schema
-      → AreRead g new_texts a e (later.migrated ∷ later.amends ∷ [])
-      → IsUnchanged (state g a) (state g e) × Two later (state g a).now
-  got_two a e later d h =
+  pub got_three : (a e : Held S) (later : Later) → IsDeclared (state g a).now.schema
+      → AreRead g new_texts a e (later.migrated ∷ later.amends ∷ later.received ∷ [])
+      → IsUnchanged (state g a) (state g e) × Three later (state g a).now
+  got_three a e later d h =
       let b = h.0 in
-      let last = h.2.0 in
+      let c = h.2.0 in
+      let last = h.2.2.0 in
       let one = got_migrated (state g a) (state g b) later.migrated d h.1.shown in
       let two =
-      got_amends (state g b) (state g last) later.amends (still_ours (state g a) (state g b) one.0 d) h.2.1.shown in
-      let to_last = unchanged_then (state g a) (state g b) (state g last) one.0 two.0 in (
-        subst (λ x. IsUnchanged (state g a) (state g x)) h.2.2 to_last,
+      got_amends (state g b) (state g c) later.amends (still_ours (state g a) (state g b) one.0 d) h.2.1.shown in
+      let to_c = unchanged_then (state g a) (state g b) (state g c) one.0 two.0 in
+      let three =
+      got_received (state g c) (state g last) later.received (still_ours (state g a) (state g c) to_c d)
+      h.2.2.1.shown in
+      let to_last = unchanged_then (state g a) (state g c) (state g last) to_c three.0 in (
+        subst (λ x. IsUnchanged (state g a) (state g x)) h.2.2.2 to_last,
         record {
           migrated_is = one.1;
           amends_is =
               subst (Gets amends_table by_first later.amends) one.0.0.now_is two.1;
+          received_is =
+              subst (Gets received_table by_first later.received) to_c.0.now_is three.1;
         },
       )
 
@@ -219,7 +240,7 @@ module _ (old_style : ℕ) (F : List Request) (db : Database) (is : IsRegisterOf
   one_meta rows r = r.ordered (meta_row ∷ []) is.rows.rows.meta_is (tt, tt)
 
   -- the rows of `amends` are those of the requests
-  pub are_amends : (later : Later) → Two later db → later.amends ≡ joined_from amends_rows 1 (kept F)
+  pub are_amends : (later : Later) → Three later db → later.amends ≡ joined_from amends_rows 1 (kept F)
   are_amends later r = r.amends_is.ordered _ is.rows.rows.amends_is (amends_rise 1 (kept F))
 
   pub are_rows : (kept_are : List Row) (others : OtherRows) → Four kept_are others db
@@ -234,11 +255,26 @@ module _ (old_style : ℕ) (F : List Request) (db : Database) (is : IsRegisterOf
     amends_is = amends;
   }
 
-  pub says_old_style : (later : Later) → Two later db → SaysOldStyle (length F) old_style later
+  pub says_old_style : (later : Later) → Three later db → SaysOldStyle (length F) old_style later
   says_old_style later r = record {
     migrated_is = r.migrated_is.ordered (migrated_row old_style ∷ []) is.rows.rows.migrated_is (tt, tt);
     within = is.rows.within;
   }
+
+  pub says_moments : (later : Later) → Three later db → SaysMoments (length F) later.received is.rows.moments
+  says_moments later r =
+      let m = is.rows.received in
+      let all = ap length m.is in
+      let parts = length-all_moments m.undated m.dated in
+      record {
+        undated = m.undated;
+        dated = m.dated;
+        is = m.is;
+        one_each = omega (arith, all, parts, is.rows.one_each);
+        within = m.within;
+        rows_are = r.received_is.ordered (received_rows m.undated m.dated) m.rows
+            (counted_rise received_row by_first (λ _ _. refl) (m.undated + 1) m.dated);
+      }
 
 -- one row of `migrated` says one number
 pub same_old_style : (m n count most : ℕ) (later : Later) → SaysOldStyle count m later → SaysOldStyle most n later

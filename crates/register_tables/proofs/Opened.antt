@@ -25,18 +25,24 @@ use Rattle.register_tables.specs.Faults.{table_fault, table_fault_by}
 use Rattle.register_tables.specs.Opening.{all_meta, row_texts, new_texts, table_texts, Later, SaysOldStyle, AreDamaged}
 use Rattle.register_tables.specs.Opening.{IsRead, AreRead, StopsFor, IsRefused, IsRefusedAfter}
 use Rattle.register_tables.specs.Reads.{by_first}
+use Rattle.register_rows.specs.Dates.{SaysMoments}
 use Rattle.register_rows.specs.Register.{meta_row}
 use Rattle.register_rows.specs.Schema.{IsDeclared, HasCommon, meta_table}
 use Rattle.register_tables.specs.Registers.{IsRegisterOf}
 use Rattle.register_tables.specs.Walk.{AreCounted}
 use Rattle.register_tables.proofs.CommonLemmas.{has_common}
 use Rattle.register_tables.proofs.FailLemmas.{meta_fails, kept_fails, findings_fail, filings_fail, facts_fail}
-use Rattle.register_tables.proofs.FailLemmas.{migrated_fails, amends_fail}
-use Rattle.register_tables.proofs.OpenLemmas.{Gets, Four, Two, got_meta, got_migrated, got_amends, got_two, got_four}
+use Rattle.register_tables.proofs.FailLemmas.{migrated_fails, amends_fail, received_fail}
+use Rattle.register_tables.proofs.OpenLemmas.{Gets, Four, Three, got_meta, got_migrated, got_amends, got_received}
+use Rattle.register_tables.proofs.OpenLemmas.{got_three, got_four, says_moments}
 use Rattle.register_tables.proofs.OpenLemmas.{one_meta, are_amends, are_rows, rows_many, says_old_style, still_ours}
 use Rattle.register_tables.proofs.OpenLemmas.{next_kept, next_findings, next_filings, reads_on}
-use Rattle.register_tables.proofs.ReadTexts.{query_meta, query_migrated, query_amends}
+use Rattle.register_tables.proofs.ReadTexts.{query_meta, query_migrated, query_amends, query_received}
 use Rattle.register_tables.proofs.WalkOpens.{counted_register, counted_only}
+
+-- the rows of the tables that an earlier form did not have
+abbrev rows_read : Later → List (List Row)
+rows_read later = later.migrated ∷ later.amends ∷ later.received ∷ []
 
 -- ---- some queries, and then others
 
@@ -64,7 +70,7 @@ module _ {S : Type 0} (g : Ghosts S) where
 -- ---- why it refuses
 
 module _ {S : Type 0} (g : Ghosts S) (a b : Held S) (one : IsRead g all_meta a b (meta_row ∷ [])) where
-  -- where `migrated` or `amends` cannot be read
+  -- where `migrated`, `amends` or `received` cannot be read
   pub unread : (e : Held S) (error : Error) → StopsFor g (cause_of error) new_texts b e
       → IsRefused g (table_fault error) a e
   unread e error stops = go (cause_of error) (stops_first g (cause_of error) new_texts row_texts b e stops)
@@ -75,49 +81,49 @@ module _ {S : Type 0} (g : Ghosts S) (a b : Held S) (one : IsRead g all_meta a b
       go cause.Other h = (b, one, inl (refl, h))
 
   -- and where they were read
-  pub refused_after : (c e : Held S) (later : Later) → AreRead g new_texts b c (later.migrated ∷ later.amends ∷ [])
+  pub refused_after : (c e : Held S) (later : Later) → AreRead g new_texts b c (rows_read later)
       → (why : OpenFault) → IsRefusedAfter g later why c e → IsRefused g why a e
-  refused_after c e later two fault.NotOurs h = absurd h
-  refused_after c e later two (fault.Damaged row) (inl stops) = (
+  refused_after c e later three fault.NotOurs h = absurd h
+  refused_after c e later three (fault.Damaged row) (inl stops) = (
     b,
     one,
     inl (
       stops.0,
-      stops_later g cause.Other new_texts row_texts b c e (later.migrated ∷ later.amends ∷ [])
-          two stops.1,
+      stops_later g cause.Other new_texts row_texts b c e (rows_read later)
+          three stops.1,
     ),
   )
-  refused_after c e later two (fault.Damaged row) (inr found) = (
+  refused_after c e later three (fault.Damaged row) (inr found) = (
     b,
     one,
     inr (
       later,
       found.0,
       found.1,
-      read_then g new_texts row_texts b c e (later.migrated ∷ later.amends ∷ [])
-          (found.0 ∷ found.1.finding ∷ found.1.filing ∷ found.1.fact ∷ []) two found.2,
+      read_then g new_texts row_texts b c e (rows_read later)
+          (found.0 ∷ found.1.finding ∷ found.1.filing ∷ found.1.fact ∷ []) three found.2,
       found.3,
       found.4,
     ),
   )
-  refused_after c e later two fault.Memory (inl stops) =
+  refused_after c e later three fault.Memory (inl stops) =
       inl (inr (
         b,
         meta_row ∷ [],
         one,
-        stops_later g cause.Memory new_texts row_texts b c e (later.migrated ∷ later.amends ∷ []) two stops,
+        stops_later g cause.Memory new_texts row_texts b c e (rows_read later) three stops,
       ))
-  refused_after c e later two fault.Memory (inr read) =
+  refused_after c e later three fault.Memory (inr read) =
       inr (
-        (meta_row ∷ []) ∷ (later.migrated ∷ later.amends ∷ []) ++ read.0,
-        (b, one, read_then g new_texts row_texts b c e (later.migrated ∷ later.amends ∷ []) read.0 two read.1),
+        (meta_row ∷ []) ∷ (rows_read later) ++ read.0,
+        (b, one, read_then g new_texts row_texts b c e (rows_read later) read.0 three read.1),
       )
-  refused_after c e later two fault.Disk stops =
+  refused_after c e later three fault.Disk stops =
       inr (
         b,
         meta_row ∷ [],
         one,
-        stops_later g cause.Disk new_texts row_texts b c e (later.migrated ∷ later.amends ∷ []) two stops,
+        stops_later g cause.Disk new_texts row_texts b c e (rows_read later) three stops,
       )
 
 -- ---- refusals of a database that stands
@@ -149,10 +155,10 @@ module _ {S : Type 0} (g : Ghosts S) where
             ])
       ]
 
-  six_stop : (a last : Held S) → IsDeclared (state g a).now.schema → a.step_limit ≡ None
+  seven_stop : (a last : Held S) → IsDeclared (state g a).now.schema → a.step_limit ≡ None
       → StopsFor g cause.Other table_texts a last → ⊥
-  six_stop a last d unlimited (inl h) = migrated_fails (state g a) (state g last) d unlimited h.0 h.1 h.2
-  six_stop a last d unlimited (inr p) =
+  seven_stop a last d unlimited (inl h) = migrated_fails (state g a) (state g last) d unlimited h.0 h.1 h.2
+  seven_stop a last d unlimited (inr p) =
       let b = p.0 in
       let d_b = still_ours (state g a) (state g b) (got_migrated (state g a) (state g b) p.1 d p.2.shown).0 d in
       let limit_b : b.step_limit ≡ None = p.2.limit ∙ unlimited in
@@ -161,19 +167,32 @@ module _ {S : Type 0} (g : Ghosts S) where
         | inr q ↦ (
             let c = q.0 in
             let d_c = still_ours (state g b) (state g c) (got_amends (state g b) (state g c) q.1 d_b q.2.shown).0 d_b in
-            four_stop c last (has_common (state g c).now.schema d_c) (q.2.limit ∙ limit_b) q.3)
+            let limit_c : c.step_limit ≡ None = q.2.limit ∙ limit_b in
+            elim q.3 [
+              | inl h ↦ received_fail (state g c) (state g last) d_c limit_c h.0 h.1 h.2
+              | inr r ↦ (
+                  let e = r.0 in
+                  let d_e = still_ours (state g c) (state g e)
+                  (got_received (state g c) (state g e) r.1 d_c r.2.shown).0 d_c in
+                  four_stop e last (has_common (state g e).now.schema d_e) (r.2.limit ∙ limit_c) r.3)
+            ])
       ]
 
   not_damaged : (old_style : ℕ) (F : List Request) (db : Database) → IsRegisterOf old_style F db
-      → (later : Later) (kept_are : List Row) (others : OtherRows) → others.amends ≡ later.amends → Two later db
+      → (later : Later) (kept_are : List Row) (others : OtherRows) → others.amends ≡ later.amends → Three later db
       → Four kept_are others db
       → (row : ℕ) → AreDamaged kept_are others later row → ⊥
-  not_damaged old_style F db is later kept_are others same two four row (inl unsound) =
-      unsound.0 F (are_rows old_style F db is kept_are others four (same ∙ are_amends old_style F db is later two))
-  not_damaged old_style F db is later kept_are others same two four row (inr h) =
-      let are = are_rows old_style F db is kept_are others four (same ∙ are_amends old_style F db is later two) in
+  not_damaged old_style F db is later kept_are others same three four row (inl unsound) =
+      unsound.0 F (are_rows old_style F db is kept_are others four (same ∙ are_amends old_style F db is later three))
+  not_damaged old_style F db is later kept_are others same three four row (inr h) =
+      let are = are_rows old_style F db is kept_are others four (same ∙ are_amends old_style F db is later three) in
       let many : length F ≡ length kept_are = sym (rows_many kept_are F are.distinct are.kept_is) in
-      h.2 old_style (subst (λ n. SaysOldStyle n old_style later) many (says_old_style old_style F db is later two))
+      elim h.1 [
+        | inl unsaid ↦ unsaid.1 old_style (subst (λ n. SaysOldStyle n old_style later) many
+            (says_old_style old_style F db is later three))
+        | inr undated ↦ undated.1 is.rows.moments (subst (λ n. SaysMoments n later.received is.rows.moments) many
+            (says_moments old_style F db is later three))
+      ]
 
   -- its rows are neither those of something else nor damaged
   pub by_memory_or_disk : (why : OpenFault) (a last : Held S) → a.step_limit ≡ None → IsRefused g why a last
@@ -189,7 +208,7 @@ module _ {S : Type 0} (g : Ghosts S) where
       h.1.shown).1))
   by_memory_or_disk (fault.Damaged row) a last unlimited h old_style F is =
       absurd (elim h.2 [
-        | inl stops ↦ six_stop mid last d (h.1.limit
+        | inl stops ↦ seven_stop mid last d (h.1.limit
             ∙ unlimited) stops.1
         | inr found ↦ whole found.0 found.1 found.2 found.3 found.4 found.5
       ])
@@ -208,29 +227,30 @@ module _ {S : Type 0} (g : Ghosts S) where
       here = subst (IsRegisterOf old_style F) (sym same.0.now_is) is
 
       whole : (later : Later) (kept_are : List Row) (others : OtherRows)
-          → AreRead g table_texts mid last (later.migrated ∷ later.amends ∷ kept_are ∷ others.finding ∷ others.filing
-          ∷ others.fact ∷ []) → others.amends ≡ later.amends → AreDamaged kept_are others later row → ⊥
+          → AreRead g table_texts mid last (later.migrated ∷ later.amends ∷ later.received ∷ kept_are ∷ others.finding
+          ∷ others.filing ∷ others.fact ∷ []) → others.amends ≡ later.amends → AreDamaged kept_are others later row → ⊥
       whole later kept_are others read agree damaged =
-          let c = read.2.0 in
-          let two = got_two g mid c later d (read.0, read.1, (c, read.2.1, refl)) in
-          let d_c = still_ours (state g mid) (state g c) two.0 d in
-          let four = got_four g c last kept_are others (has_common (state g c).now.schema d_c) read.2.2 in
-          not_damaged old_style F (state g mid).now here later kept_are others agree two.1
-          (subst (Four kept_are others) two.0.0.now_is four.1) row damaged
+          let c = read.2.2.0 in
+          let three =
+          got_three g mid c later d (read.0, read.1, (read.2.0, read.2.1, (c, read.2.2.1, refl))) in
+          let d_c = still_ours (state g mid) (state g c) three.0 d in
+          let four = got_four g c last kept_are others (has_common (state g c).now.schema d_c) read.2.2.2 in
+          not_damaged old_style F (state g mid).now here later kept_are others agree three.1
+          (subst (Four kept_are others) three.0.0.now_is four.1) row damaged
   by_memory_or_disk fault.Memory a last unlimited h old_style F is = inl refl
   by_memory_or_disk fault.Disk a last unlimited h old_style F is = inr refl
 
 -- ---- what is found
 
 module _ {S : Type 0} (g : Ghosts S) (a b c e : Held S) (later : Later) (one : IsRead g all_meta a b (meta_row ∷ []))
-    (two : AreRead g new_texts b c (later.migrated ∷ later.amends ∷ []))
+    (three : AreRead g new_texts b c (rows_read later))
     (after : IsUnchanged (state g c) (state g e)) where
   pub same_all : IsUnchanged (state g a) (state g e)
   same_all =
       let first = query_same all_meta query_meta [] (state g a) (state g b) (meta_row ∷ []) one.shown in
       unchanged_then (state g a) (state g c) (state g e)
-      (reads_on g new_texts (query_migrated, (query_amends, tt)) a b c first (later.migrated ∷ later.amends ∷ [])
-      two) after
+      (reads_on g new_texts (query_migrated, (query_amends, (query_received, tt))) a b c first (rows_read later)
+      three) after
 
   module _ (d : IsDeclared (state g a).now.schema) (live : IsLive (state g a)) (idle : a.in_transaction ≡ false)
       (settled : IsTrue (state g a).is_open → (state g a).now ≡ (state g a).committed)
@@ -238,14 +258,14 @@ module _ {S : Type 0} (g : Ghosts S) (a b c e : Held S) (later : Later) (one : I
     got_one : IsUnchanged (state g a) (state g b) × Gets meta_table by_first (meta_row ∷ []) (state g a).now
     got_one = got_meta (state g a) (state g b) (meta_row ∷ []) (has_common (state g a).now.schema d) one.shown
 
-    got_others : IsUnchanged (state g b) (state g c) × Two later (state g b).now
-    got_others = got_two g b c later (still_ours (state g a) (state g b) got_one.0 d) two
+    got_others : IsUnchanged (state g b) (state g c) × Three later (state g b).now
+    got_others = got_three g b c later (still_ours (state g a) (state g b) got_one.0 d) three
 
     to_c : IsUnchanged (state g a) (state g c)
     to_c = unchanged_then (state g a) (state g b) (state g c) got_one.0 got_others.0
 
-    both : Two later (state g a).now
-    both = subst (Two later) got_one.0.0.now_is got_others.1
+    both : Three later (state g a).now
+    both = subst (Three later) got_one.0.0.now_is got_others.1
 
     it : AreCounted counts later (state g a).now
     it = subst (AreCounted counts later) to_c.0.now_is

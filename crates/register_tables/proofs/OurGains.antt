@@ -20,7 +20,7 @@ module _ (old new : State) where
       let i = inserts (schema_with register_tables d.tables d.indexes d.views) 0 _ _ _ _ _ _ _ refl _ 4 (λ _. refl)
       insert_meta _ old new count d.is means.0 means.1 h.0 in
       let g = gained register_tables meta_table _ meta_row old.now new.now d i
-      (λ row is. rw (is, cast_int (pos 1), cast_int (pos 4)) refl) in
+      (λ row is. rw (is, cast_int (pos 1), cast_int (pos 5)) refl) in
       (record { gains = λ _. g; inside = h.1.mode; committed = h.1.committed_is }, i.sound)
 
   -- the row that says that no request was kept before there were problem details

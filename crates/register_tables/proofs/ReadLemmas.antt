@@ -6,9 +6,10 @@ use Rattle.sqlite.specs.State.{State, Shown}
 use Rattle.table_rows.specs.Reading.{ReadsRows}
 use Rattle.table_rows.proofs.ReadingLemmas.{reads_rows}
 use Rattle.register_rows.specs.Schema.{common_tables, register_tables, kept_table, amends_table}
-use Rattle.register_tables.specs.Opening.{all_kept, all_amends}
+use Rattle.register_rows.specs.Schema.{received_table}
+use Rattle.register_tables.specs.Opening.{all_kept, all_amends, all_received}
 use Rattle.register_tables.specs.Reads.{Knows, KnowsAll, every, whole, by_first}
-use Rattle.register_tables.proofs.ReadTexts.{columns, asks_kept, asks_amends}
+use Rattle.register_tables.proofs.ReadTexts.{columns, asks_kept, asks_amends, asks_received}
 
 module _ (old new : State) (knows : Knows old) (rows : List Row) where
   pub reads_kept : Shown all_kept [] old new rows → ReadsRows kept_table every by_first whole rows old new
@@ -21,3 +22,8 @@ module _ (old new : State) (knows : KnowsAll old) (rows : List Row) where
   reads_amends h =
       reads_rows register_tables amends_table all_amends [] (columns (0 ∷ 2 ∷ [])) (col 1 0 ∷ []) asks_amends [] old new
       knows every (λ _. refl) by_first (λ _. refl) whole (λ _. refl) (λ _. refl) rows h
+
+  pub reads_received : Shown all_received [] old new rows → ReadsRows received_table every by_first whole rows old new
+  reads_received h =
+      reads_rows register_tables received_table all_received [] (columns (0 ∷ 2 ∷ [])) (col 1 0 ∷ []) asks_received []
+      old new knows every (λ _. refl) by_first (λ _. refl) whole (λ _. refl) (λ _. refl) rows h

@@ -17,7 +17,7 @@ use Rattle.table_rows.proofs.ReadingLemmas.{by_each}
 use Rattle.table_rows.proofs.QueryLemmas.{Asks}
 use Rattle.table_rows.proofs.TextLemmas.{IsQueryText}
 use Rattle.register_tables.specs.Opening.{all_meta, all_kept, all_findings, all_filings, all_facts, all_migrated}
-use Rattle.register_tables.specs.Opening.{all_amends}
+use Rattle.register_tables.specs.Opening.{all_amends, all_received}
 use Rattle.register_rows.specs.Schema.{common_tables, register_tables, HasCommon, IsDeclared}
 
 -- each is a SELECT
@@ -49,6 +49,10 @@ query_migrated = refl
 pub query_amends : IsQueryText all_amends
 unfolding everything
 query_amends = refl
+
+pub query_received : IsQueryText all_received
+unfolding everything
+query_received = refl
 
 -- the columns of the row from this place on
 abbrev pub columns : List ℕ → List Term
@@ -118,6 +122,10 @@ module _ (tables : List Table) (indexes : List Index) (views : List View) where
   unfolding understood everything
   amends_text = record { names = codes "seq" ∷ codes "target" ∷ []; is = refl; plain = (refl, refl); listing = refl }
 
+  received_text : Asks whole_schema all_received (one_table 11 [] (columns (0 ∷ 2 ∷ [])) (by_each (col 1 0 ∷ [])))
+  unfolding understood everything
+  received_text = record { names = codes "seq" ∷ codes "moment" ∷ []; is = refl; plain = (refl, refl); listing = refl }
+
 pub asks_migrated : (s : Schema) → IsDeclared s
     → Asks s all_migrated (one_table 9 [] (columns (0 ∷ 2 ∷ [])) (by_each (col 1 0 ∷ [])))
 asks_migrated s d =
@@ -129,6 +137,12 @@ pub asks_amends : (s : Schema) → IsDeclared s
 asks_amends s d =
     subst (λ t. Asks t all_amends (one_table 10 [] (columns (0 ∷ 2 ∷ [])) (by_each (col 1 0 ∷ [])))) (sym d.is)
     (amends_text d.tables d.indexes d.views)
+
+pub asks_received : (s : Schema) → IsDeclared s
+    → Asks s all_received (one_table 11 [] (columns (0 ∷ 2 ∷ [])) (by_each (col 1 0 ∷ [])))
+asks_received s d =
+    subst (λ t. Asks t all_received (one_table 11 [] (columns (0 ∷ 2 ∷ [])) (by_each (col 1 0 ∷ [])))) (sym d.is)
+    (received_text d.tables d.indexes d.views)
 
 -- the same of any schema that begins with the tables of every form
 pub on_ours : (text : List ℕ) (q : Query) → ((tables : List Table) (indexes : List Index) (views : List View)

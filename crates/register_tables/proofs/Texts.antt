@@ -20,7 +20,7 @@ module _ (tables : List Table) (indexes : List Index) (views : List View) where
   schema = schema_with register_tables tables indexes views
 
   pub inserts_meta : (command_of (understood schema insert_meta)
-      ≡ Insert 0 (Values (lit (Int (pos 1)) ∷ lit Null ∷ lit (Text (codes "register")) ∷ lit (Int (pos 4)) ∷ []) 4))
+      ≡ Insert 0 (Values (lit (Int (pos 1)) ∷ lit Null ∷ lit (Text (codes "register")) ∷ lit (Int (pos 5)) ∷ []) 4))
       × IsPlain (understood schema insert_meta)
   unfolding understood everything
   inserts_meta = (refl, (refl, refl))

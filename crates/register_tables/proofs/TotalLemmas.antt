@@ -1,5 +1,5 @@
 -- What the four tables stand for, walked over or read whole.
-use Rattle.std.proofs.Common.{◌≡◌, ◌⊎◌, inl, inr, ◌≤◌, ℕ, List, [], ◌∷◌, length, refl, sym, ap, subst, ◌∙◌}
+use Rattle.std.proofs.Common.{◌≡◌, ◌⊎◌, inl, inr, ◌≤◌, ℕ, Option, List, [], ◌∷◌, length, refl, sym, ap, subst, ◌∙◌}
 use Rattle.sqlite.specs.Order.{Row}
 use Rattle.sqlite.specs.Effect.{Database}
 use Rattle.sqlite.specs.Store.{Ghosts}
@@ -18,10 +18,12 @@ use Rattle.register_tables.specs.declared.opening.Counts.{Counts}
 use Rattle.register_tables.specs.declared.opening.walk.Totals.{Totals}
 use Rattle.register_rows.specs.Audit.{OtherRows, IsVerdict}
 use Rattle.register_rows.specs.Catalogue.{view_lines}
+use Rattle.register_rows.specs.Dates.{SaysMoments}
 use Rattle.register_rows.proofs.CatalogueLemmas.{catalogue_many}
 use Rattle.register_tables.specs.Faults.{table_fault, table_fault_by}
 use Rattle.register_tables.specs.Opening.{all_kept, all_findings, all_filings, all_facts, row_texts, AreRead, StopsFor}
-use Rattle.register_tables.specs.Opening.{AreWhole, HasNoTotals, Later, SaysOldStyle, SaysNothing, IsRefusedAfter}
+use Rattle.register_tables.specs.Opening.{AreWhole, HasNoTotals, Later, SaysOldStyle, IsBesideDamaged}
+use Rattle.register_tables.specs.Opening.{IsRefusedAfter}
 use Rattle.register_rows.specs.Schema.{HasCommon}
 use Rattle.register_tables.specs.Walk.{AreAllOf, Amounts, AreTotals, AreCounted}
 use Rattle.register_tables.proofs.OpenLemmas.{got_four, reads_on, rows_many}
@@ -102,17 +104,20 @@ module _ {S : Type 0} (g : Ghosts S) (amends : List Row) where
     no_totals_before fault.Memory (inr read) = inr (read.0, are_read_before g a b e same limit read.0 read.1)
     no_totals_before fault.Disk stops = stops_before g a b e same limit low cause.Disk stops
 
--- with the row of `migrated`
+-- with the rows of the other tables
 pub counted_with : (counts : Counts) (totals : Totals) (later : Later) (db : Database) → Amounts totals later.amends db
     → (counts.kept ≡ totals.kept) × (counts.filings ≡ totals.filings) × (counts.catalogue ≡ totals.catalogue)
-    × SaysOldStyle counts.kept counts.old_style later → AreCounted counts later db
-counted_with counts totals later db amounts told = record {
+    → SaysOldStyle counts.kept counts.old_style later
+    × ((moments : List (Option ℕ)) × SaysMoments counts.kept later.received moments) → AreCounted counts later db
+counted_with counts totals later db amounts told says = record {
   requests = amounts.requests;
   are = amounts.are;
   kept_is = told.0 ∙ amounts.kept_is;
   filings_is = told.1 ∙ amounts.filings_is;
   catalogue_is = ap (λ c. view_lines c) told.2 ∙ amounts.catalogue_is;
-  old_style_is = told.3;
+  old_style_is = says.0;
+  moments = says.1.0;
+  moments_are = says.1.1;
 }
 
 module _ {S : Type 0} (g : Ghosts S) (later : Later) (a e : Held S) where
@@ -123,19 +128,18 @@ module _ {S : Type 0} (g : Ghosts S) (later : Later) (a e : Held S) where
   refused_totals fault.Memory h = h
   refused_totals fault.Disk h = h
 
-  -- the tables are sound, but not the row of `migrated`
-  pub refused_unsaid : (totals : Totals) → AreWhole g later.amends totals a e → SaysNothing totals.kept later
-      → IsRefusedAfter g later (fault.Damaged 0) a e
-  refused_unsaid totals whole none =
+  -- the tables are sound, but not those beside them
+  pub refused_beside : (totals : Totals) (row : ℕ) → AreWhole g later.amends totals a e
+      → IsBesideDamaged totals.kept later row → IsRefusedAfter g later (fault.Damaged row) a e
+  refused_beside totals row whole damaged =
       inr (
         whole.kept,
         whole.others,
         whole.read,
         whole.amends_is,
         inr (
-          refl,
           (whole.sound.0, whole.sound.1),
-          subst (λ n. SaysNothing n later) whole.kept_is none,
+          subst (λ n. IsBesideDamaged n later row) whole.kept_is damaged,
         ),
       )
 

@@ -27,12 +27,13 @@ use Rattle.register_tables.specs.Reads.{by_first}
 use Rattle.table_rows.specs.Picking.{has_number, IsStopped}
 use Rattle.register_rows.specs.Register.{meta_row, kept_row, amends_rows, joined_from}
 use Rattle.register_rows.specs.Schema.{IsDeclared, meta_table, kept_table, finding_table, filing_table, fact_table}
-use Rattle.register_rows.specs.Schema.{migrated_table, amends_table}
+use Rattle.register_rows.specs.Schema.{migrated_table, amends_table, received_table}
 use Rattle.register_tables.specs.Registers.{IsRegisterOf}
 use Rattle.register_tables.specs.Walk.{AreCounted, AreAllOf}
-use Rattle.register_tables.proofs.OpenLemmas.{Gets, Four, Two, is_read, are_amends, says_old_style}
+use Rattle.register_tables.proofs.OpenLemmas.{Gets, Four, Three, is_read, are_amends, says_old_style}
 use Rattle.register_tables.proofs.OpenLemmas.{same_old_style}
 use Rattle.register_tables.proofs.ReadTexts.{query_kept}
+use Rattle.register_rows.proofs.MomentLemmas.{length-all_moments}
 use Rattle.register_rows.proofs.StepsOfTargets.{same_requests}
 
 -- ---- why the walk stopped
@@ -143,13 +144,26 @@ only_these F amends db are G distinct held targets =
 
 module _ (db : Database) (counts : Counts) (later : Later) (counted : AreCounted counts later db) where
   pub counted_register : IsDatabase db → IsDeclared db.schema → Gets meta_table by_first (meta_row ∷ []) db
-      → Two later db → IsRegisterOf counts.old_style counted.requests db
-  counted_register sound declared meta two = record {
+      → Three later db → IsRegisterOf counts.old_style counted.requests db
+  counted_register sound declared meta three = record {
     sound = sound;
     rows = record {
       distinct = counted.are.distinct;
       completed = counted.are.completed;
       within = subst (λ n. counts.old_style ≤ n) counted.kept_is counted.old_style_is.within;
+      moments = counted.moments;
+      one_each =
+          ap length counted.moments_are.is ∙ length-all_moments counted.moments_are.undated counted.moments_are.dated
+          ∙ counted.moments_are.one_each ∙ counted.kept_is;
+      received =
+          record {
+            undated = counted.moments_are.undated;
+            dated = counted.moments_are.dated;
+            is = counted.moments_are.is;
+            within = counted.moments_are.within;
+            rows =
+                subst (TableHas db received_table) counted.moments_are.rows_are three.received_is.held;
+          };
       rows = record {
         declared = declared;
         meta_is = meta.held;
@@ -157,17 +171,17 @@ module _ (db : Database) (counts : Counts) (later : Later) (counted : AreCounted
         finding_is = counted.are.finding_is;
         filing_is = counted.are.filing_is;
         fact_is = counted.are.fact_is;
-        migrated_is = subst (TableHas db migrated_table) counted.old_style_is.migrated_is two.migrated_is.held;
-        amends_is = subst (TableHas db amends_table) counted.are.amends_is two.amends_is.held;
+        migrated_is = subst (TableHas db migrated_table) counted.old_style_is.migrated_is three.migrated_is.held;
+        amends_is = subst (TableHas db amends_table) counted.are.amends_is three.amends_is.held;
       };
     };
   }
 
-  pub counted_only : Two later db → (old_style : ℕ) (F : List Request) → IsRegisterOf old_style F db
+  pub counted_only : Three later db → (old_style : ℕ) (F : List Request) → IsRegisterOf old_style F db
       → (counts.old_style ≡ old_style) × (counted.requests ≡ F)
-  counted_only two old_style F is = (
+  counted_only three old_style F is = (
     same_old_style counts.old_style old_style counts.kept (length F) later counted.old_style_is
-        (says_old_style old_style F db is later two),
+        (says_old_style old_style F db is later three),
     only_these counted.requests later.amends db counted.are F is.rows.distinct is.rows.rows.kept_is
-        (are_amends old_style F db is later two),
+        (are_amends old_style F db is later three),
   )

@@ -4,6 +4,7 @@ use Rattle.std.specs.List.{list_any}
 use Rattle.sqlite.specs.Change.{created}
 use Rattle.sqlite.specs.Effect.{Database, IsDatabase}
 use Rattle.sqlite.specs.Held.{Held, state}
+use Rattle.sqlite.specs.Order.{Row}
 use Rattle.sqlite.specs.Schema.{Schema}
 use Rattle.sqlite.specs.Store.{Ghosts}
 use Rattle.sqlite.specs.Table.{Table}
@@ -12,25 +13,28 @@ use Rattle.filing_model.specs.Request.{Request}
 use Rattle.table_rows.specs.Rows.{TableHas}
 use Rattle.table_rows.specs.Tables.{BeginsWith, no_schema}
 use Rattle.register_tables.specs.declared.migrate.earlier.Earlier.{Earlier}
-use Rattle.register_tables.specs.declared.migrate.earlier.Earlier.TheVariants.{Second, Third}
+use Rattle.register_tables.specs.declared.migrate.earlier.Earlier.TheVariants.{Second, Third, Fourth}
 use Rattle.register_rows.specs.Register.{form_row, migrated_row}
-use Rattle.register_rows.specs.Schema.{common_tables, meta_table, migrated_table, amends_table}
+use Rattle.register_rows.specs.Schema.{common_tables, meta_table, migrated_table, amends_table, received_table}
 use Rattle.register_tables.specs.Walk.{AreAllOf}
 
 -- the number in the row of `intake_meta`
 abbrev pub form_number : Earlier → ℕ
 form_number Second = 2
 form_number Third = 3
+form_number Fourth = 4
 
 -- the tables of a register in this form
 abbrev pub tables_of : Earlier → List Table
 tables_of Second = common_tables
 tables_of Third = common_tables ++ migrated_table ∷ []
+tables_of Fourth = common_tables ++ migrated_table ∷ amends_table ∷ []
 
 -- the tables of a register that this form lacks
 abbrev pub lacking : Earlier → List Table
-lacking Second = migrated_table ∷ amends_table ∷ []
-lacking Third = amends_table ∷ []
+lacking Second = migrated_table ∷ amends_table ∷ received_table ∷ []
+lacking Third = amends_table ∷ received_table ∷ []
+lacking Fourth = received_table ∷ []
 
 -- whether the name of a table that this form lacks is in use
 abbrev pub is_blocked : Schema → Earlier → Bool
@@ -46,16 +50,25 @@ abbrev pub IsAlone : Earlier → Schema → Type 0
 IsAlone form schema = schema ≡ made_from no_schema (tables_of form)
 
 -- Of so many kept requests the first `old_style` were kept before there were problem details: in the second form all,
--- and in the third as many as the one row of `migrated` says.
+-- and later as many as the one row of `migrated` says.
 abbrev pub HasOldStyle : Earlier → Database → ℕ → ℕ → Type 0
 HasOldStyle Second db old_style kept = old_style ≡ kept
 HasOldStyle Third db old_style kept = TableHas db migrated_table (migrated_row old_style ∷ []) × (old_style ≤ kept)
+HasOldStyle Fourth db old_style kept = TableHas db migrated_table (migrated_row old_style ∷ []) × (old_style ≤ kept)
 
--- the rows stand for these requests, in this form; none is to replace a filing, as there is no `amends`
+-- These are the rows of `amends`. Before the fourth form there is no such table, and no request is to replace a filing.
+abbrev pub HasTargets : Earlier → Database → List Row → Type 0
+HasTargets Second db amends_are = amends_are ≡ []
+HasTargets Third db amends_are = amends_are ≡ []
+HasTargets Fourth db amends_are = TableHas db amends_table amends_are
+
+-- the rows stand for these requests, in this form
 pub record StandsForEarlier (form : Earlier) (db : Database) (old_style : ℕ) (F : List Request) : Type 0 where
   pub declared : BeginsWith (tables_of form) db.schema
   pub meta_is : TableHas db meta_table (form_row (form_number form) ∷ [])
-  pub are : AreAllOf F [] db
+  pub amends : List Row
+  pub targets : HasTargets form db amends
+  pub are : AreAllOf F amends db
   pub old_style_is : HasOldStyle form db old_style (length F)
 
 -- a database, as SQLite's files have one, whose rows stand for these requests in this form

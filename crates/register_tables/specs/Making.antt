@@ -8,7 +8,8 @@ use Rattle.table_rows.specs.Standing.{IsLasting, AddsNothing}
 use Rattle.table_rows.specs.Statements.{Statement, plain, AreTreesOf}
 use Rattle.register_tables.specs.declared.schema.create.TheConstants.{CREATE_AMENDS, CREATE_FACT, CREATE_FILING}
 use Rattle.register_tables.specs.declared.schema.create.TheConstants.{CREATE_FINDING, CREATE_KEPT, CREATE_META}
-use Rattle.register_tables.specs.declared.schema.create.TheConstants.{CREATE_MIGRATED, INSERT_META, INSERT_NO_OLD_STYLE}
+use Rattle.register_tables.specs.declared.schema.create.TheConstants.{CREATE_MIGRATED, CREATE_RECEIVED, INSERT_META}
+use Rattle.register_tables.specs.declared.schema.create.TheConstants.{INSERT_NO_OLD_STYLE}
 use Rattle.register_tables.specs.Registers.{IsRegisterOf}
 
 abbrev pub create_meta : List ℕ
@@ -32,6 +33,9 @@ create_migrated = CREATE_MIGRATED.now
 abbrev pub create_amends : List ℕ
 create_amends = CREATE_AMENDS.now
 
+abbrev pub create_received : List ℕ
+create_received = CREATE_RECEIVED.now
+
 abbrev pub insert_meta : List ℕ
 insert_meta = INSERT_META.now
 
@@ -43,7 +47,8 @@ insert_none_old_style = INSERT_NO_OLD_STYLE.now
 abbrev pub making : List Statement
 making =
     plain create_meta ∷ plain create_kept ∷ plain create_finding ∷ plain create_filing ∷ plain create_fact
-    ∷ plain create_migrated ∷ plain create_amends ∷ plain insert_meta ∷ plain insert_none_old_style ∷ []
+    ∷ plain create_migrated ∷ plain create_amends ∷ plain create_received ∷ plain insert_meta
+    ∷ plain insert_none_old_style ∷ []
 
 -- What the making of a register that has no request does, in one transaction.
 pub record MakesRegister {S E : Type 0} (g : Ghosts S) (old new : Held S) (result : Result (Unit {0}) E) : Type 0 where

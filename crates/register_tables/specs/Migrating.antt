@@ -1,6 +1,6 @@
 -- What a migration reads and writes, and why a database is not migrated.
-use Rattle.std.specs.Prelude.{◌≡◌, ◌≢◌, ◌⊎◌, ◌≤◌, ℕ, pos, false, List, [], ◌∷◌, length, Result, IsTrue}
-use Rattle.std.specs.Prelude.{IfOk, IfErr, OnOk, OnErr}
+use Rattle.std.specs.Prelude.{◌≡◌, ◌≢◌, ◌⊎◌, ◌≤◌, ℕ, pos, false, List, [], ◌∷◌, length, replicate, Result, IsTrue}
+use Rattle.std.specs.Prelude.{IfOk, IfErr, OnOk, OnErr, None}
 use Rattle.sqlite.specs.Order.{Row}
 use Rattle.sqlite.specs.Store.{Ghosts}
 use Rattle.sqlite.specs.Held.{Held, state}
@@ -17,7 +17,7 @@ use Rattle.table_rows.specs.declared.cause.Cause.{Cause}
 use Rattle.table_rows.specs.declared.cause.Cause.TheVariants as cause
 use Rattle.register_tables.specs.declared.migrate.TheConstants.{INSERT_OLD_STYLE, RAISE_FORM}
 use Rattle.register_tables.specs.declared.migrate.earlier.Earlier.{Earlier}
-use Rattle.register_tables.specs.declared.migrate.earlier.Earlier.TheVariants.{Second, Third}
+use Rattle.register_tables.specs.declared.migrate.earlier.Earlier.TheVariants.{Second, Third, Fourth}
 use Rattle.register_tables.specs.declared.fault.OpenFault.{OpenFault}
 use Rattle.register_tables.specs.declared.fault.OpenFault.TheVariants as fault
 use Rattle.register_tables.specs.declared.opening.Counts.{Counts}
@@ -25,28 +25,38 @@ use Rattle.register_tables.specs.declared.opening.walk.Totals.{Totals}
 use Rattle.register_rows.specs.Catalogue.{catalogue_of, view_lines}
 use Rattle.register_tables.specs.Earlier.{form_number, is_blocked, ForEarlier, IsAlone, IsEarlierOf}
 use Rattle.register_tables.specs.Faults.{table_fault, IsFailure}
-use Rattle.register_tables.specs.Making.{create_migrated, create_amends}
+use Rattle.register_tables.specs.Making.{create_migrated, create_amends, create_received}
 use Rattle.register_tables.specs.Opening as opening
-use Rattle.register_tables.specs.Opening.{all_meta, all_migrated, AreWithin, IsRead, StopsFor, HasNoTotals}
+use Rattle.register_tables.specs.Opening.{all_meta, all_migrated, all_amends, AreWithin, IsRead, AreRead, StopsFor}
+use Rattle.register_tables.specs.Opening.{HasNoTotals}
+use Rattle.register_rows.specs.Received.{Received}
 use Rattle.register_rows.specs.Register.{form_row, migrated_row}
-use Rattle.register_tables.specs.Registers.{IsRegisterOf, LeavesOnly}
+use Rattle.register_tables.specs.Registers.{IsRegisterOf, LeavesOnly, LeavesOnlyReceived}
 use Rattle.register_tables.specs.Walk.{AreTotals}
 
 -- ---- what is read
 
--- of so many kept requests these were kept before there were problem details: all, or as many as the row of `migrated`
--- says that was read
-abbrev pub ReadsOldStyle : {S : Type 0} → Ghosts S → Earlier → ℕ → ℕ → Held S → Held S → Type 0
-ReadsOldStyle g Second old_style kept old new = (old ≡ new) × (old_style ≡ kept)
-ReadsOldStyle g Third old_style kept old new =
-    IsRead g all_migrated old new (migrated_row old_style ∷ []) × (old_style ≤ kept)
+-- the tables that the fourth form has beside those of every form
+abbrev pub beside_texts : List (List ℕ)
+beside_texts = all_migrated ∷ all_amends ∷ []
+
+-- What is read beside the four tables: of so many kept requests these were kept before there were problem details, all,
+-- or as many as the row of `migrated` says that was read; and these are the rows of `amends`, if there is that table.
+abbrev pub ReadsBeside : {S : Type 0} → Ghosts S → Earlier → ℕ → ℕ → List Row → Held S → Held S → Type 0
+ReadsBeside g Second old_style kept amends old new = (old ≡ new) × (old_style ≡ kept) × (amends ≡ [])
+ReadsBeside g Third old_style kept amends old new =
+    IsRead g all_migrated old new (migrated_row old_style ∷ []) × (old_style ≤ kept) × (amends ≡ [])
+ReadsBeside g Fourth old_style kept amends old new =
+    AreRead g beside_texts old new ((migrated_row old_style ∷ []) ∷ amends ∷ []) × (old_style ≤ kept)
 
 -- a register in this form holds so much
 pub record IsCounted {S : Type 0} (g : Ghosts S) (form : Earlier) (counts : Counts) (old new : Held S) : Type 0 where
   pub mid : Held S
-  pub old_style_is : ReadsOldStyle g form counts.old_style counts.kept old mid
-  pub totals_are : AreTotals [] (record { kept = counts.kept; filings = counts.filings; catalogue = counts.catalogue })
-      (state g mid) (state g new)
+  pub amends : List Row
+  pub beside_are : ReadsBeside g form counts.old_style counts.kept amends old mid
+  pub totals_are : AreTotals amends
+      (record { kept = counts.kept; filings = counts.filings; catalogue = counts.catalogue }) (state g mid)
+      (state g new)
 
 -- a register in this form was found, and holds so much
 pub record IsSurveyed {S : Type 0} (g : Ghosts S) (form : Earlier) (counts : Counts) (old new : Held S) : Type 0 where
@@ -78,6 +88,11 @@ HasNoCounts {S} g Third why old new =
     ⊎ ((mid : Held S) × (rows : List Row) × IsRead g all_migrated old mid rows
     × (HasNoTotals g [] why mid new ⊎ ((why ≡ fault.Damaged 0) × (totals : Totals)
     × AreTotals [] totals (state g mid) (state g new) × SaysNone totals.kept rows)))
+HasNoCounts {S} g Fourth why old new =
+    ((error : Error) × (why ≡ table_fault error) × StopsFor g (cause_of error) beside_texts old new)
+    ⊎ ((mid : Held S) × (migrated amends : List Row) × AreRead g beside_texts old mid (migrated ∷ amends ∷ [])
+    × (HasNoTotals g amends why mid new ⊎ ((why ≡ fault.Damaged 0) × (totals : Totals)
+    × AreTotals amends totals (state g mid) (state g new) × SaysNone totals.kept migrated)))
 
 -- no register in an earlier form was found
 abbrev pub IsNotSurveyed : {S : Type 0} → Ghosts S → OpenFault → Held S → Held S → Type 0
@@ -96,8 +111,10 @@ raise_form = RAISE_FORM.now
 -- the statements that upgrade a register of this form, with so many requests from before there were problem details
 abbrev pub migrating : Earlier → ℕ → List Statement
 migrating Second old_style =
-    plain create_migrated ∷ plain create_amends ∷ (insert_old_style, Int (pos old_style) ∷ []) ∷ plain raise_form ∷ []
-migrating Third old_style = plain create_amends ∷ plain raise_form ∷ []
+    plain create_migrated ∷ plain create_amends ∷ plain create_received
+    ∷ (insert_old_style, Int (pos old_style) ∷ []) ∷ plain raise_form ∷ []
+migrating Third old_style = plain create_amends ∷ plain create_received ∷ plain raise_form ∷ []
+migrating Fourth old_style = plain create_received ∷ plain raise_form ∷ []
 
 -- ---- the whole
 
@@ -116,11 +133,12 @@ pub record MigratesTo {S : Type 0} (g : Ghosts S) (old : Held S) (trees : Trees)
   pub surveyed : IsSurveyed g form counts old mid
   pub written : AreTreesOf g (migrating form counts.old_style) mid trees
 
--- the rows stood for requests in this form, and stand for the same in the present form
+-- the rows stood for requests in this form, and stand for the same in the present form, with no moments
 pub record Migrates {S : Type 0} (g : Ghosts S) (form : Earlier) (counts : Counts) (old new : Held S) : Type 0 where
   pub requests : List Request
   pub were : IsEarlierOf form counts.old_style requests (state g old).now
   pub are : HasCommitted (IsRegisterOf counts.old_style requests) (state g new)
+  pub undated : HasCommitted (λ db. Received db (replicate (length requests) None)) (state g new)
   pub kept_is : counts.kept ≡ length requests
   pub filings_is : counts.filings ≡ length (register requests)
   pub catalogue_is : view_lines counts.catalogue ≡ catalogue_of requests
@@ -173,3 +191,7 @@ pub record MigratesRegister {S : Type 0} (g : Ghosts S) (old new : Held S) (resu
   pub durable : HasCleanDisk (state g new)
       → OnOk result (ForEarlier g old (λ _ old_style F. IsTrue (state g new).is_open
       × LeavesOnly (state g new) old_style F))
+  -- None of the requests has a moment then.
+  pub undated : HasCleanDisk (state g new)
+      → OnOk result (ForEarlier g old (λ _ old_style F.
+      LeavesOnlyReceived (state g new) old_style F (replicate (length F) None)))

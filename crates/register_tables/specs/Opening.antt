@@ -14,6 +14,7 @@ use Rattle.filing_model.specs.Register.{register}
 use Rattle.table_rows.specs.Standing.{HasCommitted, CommitsNothing, StaysOnOk, KeepsOnErr}
 use Rattle.register_tables.specs.declared.select.reads.TheConstants.{ALL_AMENDS, ALL_FACTS, ALL_FILINGS, ALL_FINDINGS}
 use Rattle.register_tables.specs.declared.select.reads.TheConstants.{ALL_KEPT, ALL_META, ALL_MIGRATED}
+use Rattle.register_tables.specs.declared.select.reads.TheConstants.{ALL_RECEIVED}
 use Rattle.register_tables.specs.declared.opening.Counts.{Counts}
 use Rattle.register_tables.specs.declared.opening.walk.Totals.{Totals}
 use Rattle.register_rows.specs.declared.verdict.Verdict.TheVariants as verdict
@@ -21,6 +22,7 @@ use Rattle.register_tables.specs.declared.fault.OpenFault.{OpenFault}
 use Rattle.register_tables.specs.declared.fault.OpenFault.TheVariants as fault
 use Rattle.register_rows.specs.Audit.{AreRowsOf, OtherRows, IsVerdict}
 use Rattle.register_rows.specs.Catalogue.{catalogue_of, view_lines}
+use Rattle.register_rows.specs.Dates.{SaysNoMoments, IsUndatedAt}
 use Rattle.register_tables.specs.Faults.{IsFailure}
 use Rattle.register_rows.specs.Register.{meta_row, migrated_row}
 use Rattle.register_rows.specs.Schema.{IsDeclared}
@@ -49,13 +51,16 @@ all_migrated = ALL_MIGRATED.now
 abbrev pub all_amends : List ℕ
 all_amends = ALL_AMENDS.now
 
+abbrev pub all_received : List ℕ
+all_received = ALL_RECEIVED.now
+
 -- the tables with the rows of kept requests
 abbrev pub row_texts : List (List ℕ)
 row_texts = all_kept ∷ all_findings ∷ all_filings ∷ all_facts ∷ []
 
 -- those that an earlier form did not have
 abbrev pub new_texts : List (List ℕ)
-new_texts = all_migrated ∷ all_amends ∷ []
+new_texts = all_migrated ∷ all_amends ∷ all_received ∷ []
 
 -- the tables beside `intake_meta`
 abbrev pub table_texts : List (List ℕ)
@@ -112,6 +117,7 @@ HasNoTotals g amends fault.Disk old new = StopsFor g cause.Disk row_texts old ne
 pub record Later : Type 0 where
   pub migrated : List Row
   pub amends : List Row
+  pub received : List Row
 
 -- of so many kept requests the first `old_style` keep the answers of an earlier version
 pub record SaysOldStyle (kept old_style : ℕ) (later : Later) : Type 0 where
@@ -122,12 +128,21 @@ pub record SaysOldStyle (kept old_style : ℕ) (later : Later) : Type 0 where
 abbrev pub SaysNothing : ℕ → Later → Type 0
 SaysNothing kept later = (old_style : ℕ) → SaysOldStyle kept old_style later → ⊥
 
--- why the rows stand for no register: the first kept row that is not sound, or 0; and 0 also if the five tables are
--- sound, but not `migrated`
+-- The row of `migrated` says no such number, and the row to report is 0; or it says one, and the rows of `received` are
+-- those of no moments.
+abbrev pub IsBesideDamaged : ℕ → Later → ℕ → Type 0
+IsBesideDamaged kept later row =
+    ((row ≡ 0) × SaysNothing kept later)
+    ⊎ (((old_style : ℕ) × SaysOldStyle kept old_style later) × SaysNoMoments kept later.received
+    × IsUndatedAt kept later.received row)
+
+-- Why the rows stand for no register: the first kept row that is not sound, or 0; and 0 also if the five tables are
+-- sound, but not `migrated`. If that is sound too, it is the first kept row that has no moment and should have one, or
+-- 0 if there are more moments than kept rows.
 abbrev pub AreDamaged : List Row → OtherRows → Later → ℕ → Type 0
 AreDamaged kept others later row =
-    IsVerdict kept others (verdict.Damaged row) ⊎ ((row ≡ 0) × ((F : List Request) × AreRowsOf kept others F)
-    × SaysNothing (length kept) later)
+    IsVerdict kept others (verdict.Damaged row)
+    ⊎ (((F : List Request) × AreRowsOf kept others F) × IsBesideDamaged (length kept) later row)
 
 -- ---- why a database is not opened
 
@@ -142,8 +157,8 @@ abbrev pub IsDamagedAt : {S : Type 0} → Ghosts S → ℕ → Held S → Held S
 IsDamagedAt g row old new =
     ((row ≡ 0) × StopsFor g cause.Other table_texts old new)
     ⊎ ((later : Later) × (kept : List Row) × (others : OtherRows)
-    × AreRead g table_texts old new (later.migrated ∷ later.amends ∷ kept ∷ others.finding ∷ others.filing ∷ others.fact
-    ∷ []) × (others.amends ≡ later.amends) × AreDamaged kept others later row)
+    × AreRead g table_texts old new (later.migrated ∷ later.amends ∷ later.received ∷ kept ∷ others.finding
+    ∷ others.filing ∷ others.fact ∷ []) × (others.amends ≡ later.amends) × AreDamaged kept others later row)
 
 -- the rows of `intake_meta` are the one row, and then this row is damaged
 abbrev pub IsDamaged : {S : Type 0} → Ghosts S → ℕ → Held S → Held S → Type 0
@@ -161,11 +176,11 @@ IsRefusedAfter g later fault.Memory old new =
     StopsFor g cause.Memory row_texts old new ⊎ ((rows : List (List Row)) × AreRead g row_texts old new rows)
 IsRefusedAfter g later fault.Disk old new = StopsFor g cause.Disk row_texts old new
 
--- the seven queries show their rows
+-- the eight queries show their rows
 abbrev pub AreAllRead : {S : Type 0} → Ghosts S → Held S → Held S → Type 0
 AreAllRead g old new = (rows : List (List Row)) × AreRead g (all_meta ∷ table_texts) old new rows
 
--- What a refusal says of the database. The cause is the disk if it failed under one of the seven queries. It is memory
+-- What a refusal says of the database. The cause is the disk if it failed under one of the eight queries. It is memory
 -- if memory ran out under one of them, or if none failed and the rows were looked through.
 abbrev pub IsRefused : {S : Type 0} → Ghosts S → OpenFault → Held S → Held S → Type 0
 IsRefused g fault.NotOurs old new = IsNoRegister g old new

@@ -1,5 +1,5 @@
 -- What a walk over a register's tables finds, one kept request after another.
-use Rattle.std.specs.Prelude.{◌≡◌, ◌≤◌, ℕ, ◌+◌, suc, List, [], ◌∷◌, ◌++◌, length, filter}
+use Rattle.std.specs.Prelude.{◌≡◌, ◌≤◌, ℕ, ◌+◌, suc, List, [], ◌∷◌, ◌++◌, length, filter, Option}
 use Rattle.std.specs.List.{AllByRecursion}
 use Rattle.sqlite.specs.Order.{Row}
 use Rattle.sqlite.specs.Effect.{Database}
@@ -14,6 +14,7 @@ use Rattle.register_tables.specs.declared.opening.Counts.{Counts}
 use Rattle.register_tables.specs.Opening.{Later, SaysOldStyle}
 use Rattle.register_tables.specs.Reads.{has_texts}
 use Rattle.register_rows.specs.Catalogue.{catalogue_of, view_lines}
+use Rattle.register_rows.specs.Dates.{SaysMoments}
 use Rattle.register_rows.specs.Outcomes.{filings_by}
 use Rattle.register_rows.specs.Register.{IsCompleted, kept_row, finding_rows, filing_rows, fact_rows, amends_rows}
 use Rattle.register_rows.specs.Register.{joined_from}
@@ -83,8 +84,8 @@ pub record AreTotals (amends_are : List Row) (totals : Totals) (old new : State)
   pub same : IsUnchanged old new
   pub amounts : HasCommon old.now.schema → Amounts totals amends_are old.now
 
--- the same holds of these counts, and the row of `migrated` says how many requests were kept before there were problem
--- details
+-- the same holds of these counts, the row of `migrated` says how many requests were kept before there were problem
+-- details, and the rows of `received` are those of moments
 pub record AreCounted (counts : Counts) (later : Later) (db : Database) : Type 0 where
   pub requests : List Request
   pub are : AreAllOf requests later.amends db
@@ -92,3 +93,5 @@ pub record AreCounted (counts : Counts) (later : Later) (db : Database) : Type 0
   pub filings_is : counts.filings ≡ length (register requests)
   pub catalogue_is : view_lines counts.catalogue ≡ catalogue_of requests
   pub old_style_is : SaysOldStyle counts.kept counts.old_style later
+  pub moments : List (Option ℕ)
+  pub moments_are : SaysMoments counts.kept later.received moments

@@ -24,7 +24,8 @@ pub enum OpenFault {
     #[error("not a register")]
     NotOurs,
     /// The rows are those of no register: the kept row at this place, counted from 1, is the first that is not sound;
-    /// at 0 rows of the other tables are left over, or a table cannot be read.
+    /// or the first that has no moment and should have one; at 0 rows of the other tables are left over, or a table
+    /// cannot be read.
     #[error("damaged at row {row}")]
     Damaged { row: u64 },
     /// No memory was left.

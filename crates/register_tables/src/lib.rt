@@ -14,4 +14,4 @@ pub use migrate::migrate_register;
 pub use opening::watch::{Unwatched, Watch};
 pub use opening::{Counts, read_register};
 pub use schema::create::make_register;
-pub use select::reads::{amends_rows, kept_rows};
+pub use select::reads::{amends_rows, kept_rows, received_rows};

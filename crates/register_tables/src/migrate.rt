@@ -10,7 +10,7 @@ pub(crate) mod earlier;
 use crate::fault::OpenFault;
 use crate::migrate::earlier::{Earlier, read_earlier};
 use crate::opening::Counts;
-use crate::schema::create::{CREATE_AMENDS, CREATE_MIGRATED};
+use crate::schema::create::{CREATE_AMENDS, CREATE_MIGRATED, CREATE_RECEIVED};
 use crate::schema::names;
 use sqlite::{Alter, Connection, Error, params};
 use std::alloc::Global;
@@ -27,7 +27,7 @@ fn write_fault(error: Error) -> OpenFault
 
 const INSERT_OLD_STYLE: &str = "INSERT INTO migrated VALUES (1, ?1)";
 
-const RAISE_FORM: &str = "UPDATE intake_meta SET form = 4 WHERE id = 1";
+const RAISE_FORM: &str = "UPDATE intake_meta SET form = 5 WHERE id = 1";
 
 /// Writes what a register of this form lacks, in one transaction.
 fn write<S: Alter>(conn: &mut Connection<S>, form: Earlier, old_style: u64) -> Result<(), Error>
@@ -41,6 +41,7 @@ fn write<S: Alter>(conn: &mut Connection<S>, form: Earlier, old_style: u64) -> R
             &[
                 Statement::plain(CREATE_MIGRATED),
                 Statement::plain(CREATE_AMENDS),
+                Statement::plain(CREATE_RECEIVED),
                 Statement {
                     text: INSERT_OLD_STYLE,
                     params: params![old_style as i64],
@@ -52,6 +53,14 @@ fn write<S: Alter>(conn: &mut Connection<S>, form: Earlier, old_style: u64) -> R
             conn,
             &[
                 Statement::plain(CREATE_AMENDS),
+                Statement::plain(CREATE_RECEIVED),
+                Statement::plain(RAISE_FORM),
+            ],
+        ),
+        Earlier::Fourth => write_all(
+            conn,
+            &[
+                Statement::plain(CREATE_RECEIVED),
                 Statement::plain(RAISE_FORM),
             ],
         ),

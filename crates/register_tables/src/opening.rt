@@ -2,17 +2,21 @@
 //! them sound, by an audit of the tables read whole (`docs/DECISIONS.md`, "A register is audited in three ways").
 
 ghost use Rattle.std.specs.Prelude.{◌≡◌, ◌≤◌, ◌<◌, ◌⊎◌, ◌↔◌, ◌∷◌, [], ℕ, length, false, Err, IsTrue, IfOk, IfErr};
-ghost use Rattle.std.specs.Prelude.{IfSome, OnOk, None, Option};
+ghost use Rattle.std.specs.Prelude.{IfSome, OnOk, None, Option, List};
 ghost use Rattle.filing_model.specs.Register.{register};
 ghost use Rattle.sqlite.specs.Held.{state};
 ghost use Rattle.sqlite.specs.declared.types.Value.TheVariants.{Int};
+ghost use Rattle.sqlite.specs.Order.{Row};
 ghost use Rattle.sqlite.specs.State.{HasCleanDisk};
 ghost use Rattle.table_rows.specs.Leaving.{OnlyQueries, OnlyReads};
 ghost use Rattle.table_rows.specs.Causes.{cause_of};
 ghost use Rattle.register_tables.specs.Faults.{meta_fault, table_fault};
 ghost use Rattle.register_tables.specs.Opening.{all_meta, new_texts, IsRead, AreRead, StopsFor, HasNoTotals};
 ghost use Rattle.register_tables.specs.Opening.{SaysOldStyle, SaysNothing, IsRefused, IsRefusedAfter};
+ghost use Rattle.register_tables.specs.Opening.{IsBesideDamaged};
 ghost use Rattle.register_tables.specs.Opening.{AreWithin, ReadsRegister};
+ghost use Rattle.register_tables.specs.LaterRows.{ForLater, later_rows};
+ghost use Rattle.register_rows.specs.Dates.{AreDates, SaysMoments};
 ghost use Rattle.register_rows.specs.Register.{meta_row, migrated_row};
 ghost use Rattle.register_rows.specs.Schema.{HasCommon};
 ghost use Rattle.register_tables.specs.Walk.{AreCounted};
@@ -28,7 +32,7 @@ use crate::opening::walk::Totals;
 use crate::opening::watch::Watch;
 use crate::select::reads;
 use register_rows::columns::migrated;
-use register_rows::{Catalogue, Cell, is_row, number_at};
+use register_rows::{Catalogue, Cell, Dates, is_row, number_at};
 use sqlite::{Alter, Connection, Error, Row};
 use std::alloc::Global;
 use table_rows::{Cause, is_settled};
@@ -63,7 +67,7 @@ fn is_register(rows: &[Row]) -> bool
             &[
                 Cell::Int(1),
                 Cell::Text(b"register".as_slice()),
-                Cell::Int(4),
+                Cell::Int(5),
             ],
         ),
         _ => false,
@@ -90,24 +94,32 @@ fn read_meta<S: Alter>(conn: &mut Connection<S>) -> Result<(), OpenFault>
     }
 }
 
-/// The rows of the tables that an earlier form did not have, each in the order of its key.
+/// What is kept of the rows of the tables that an earlier form did not have, each in the order of its key.
 #[derive(Drop)]
 pub(crate) struct Later {
     migrated: Vec<Row>,
     amends: Vec<Row>,
+    received: Dates,
 }
 
 fn read_later<S: Alter>(conn: &mut Connection<S>) -> Result<Later, Error>
     ensures read { HasCleanDisk (state S.Store conn.new)
         → IfOk result (λ later.
-        AreRead S.Store new_texts conn.old conn.new (later.migrated.items ∷ later.amends.items ∷ [])) }
+        (received : List Row) × AreDates received later.received
+        × AreRead S.Store new_texts conn.old conn.new
+        (later.migrated.items ∷ later.amends.items ∷ received ∷ [])) }
     ensures failed { HasCleanDisk (state S.Store conn.new)
         → IfErr result (λ error. StopsFor S.Store (cause_of error) new_texts conn.old conn.new) }
     ensures leaves { OnlyQueries S.Store conn.old conn.new result }
 {
     let migrated = reads::migrated_rows(conn)?;
     let amends = reads::amends_rows(conn)?;
-    Ok(Later { migrated, amends })
+    let received = reads::received_rows(conn)?;
+    Ok(Later {
+        migrated,
+        amends,
+        received: Dates::of(&received),
+    })
 }
 
 /// How much a register holds: how many requests are kept, how many of them are registered, how many were kept before
@@ -136,9 +148,8 @@ pub(crate) fn number_of(row: &Row, kept: u64) -> Option<u64>
 /// The number in the row of `migrated`, if that has one row and the number is at most that of the kept requests.
 fn old_style_in(kept: u64, later: &Later) -> Option<u64>
     ensures some { IfSome result (λ old_style.
-        SaysOldStyle kept old_style (record { migrated = later.now.migrated.items; amends = later.now.amends.items })) }
-    ensures none { result ≡ None
-        → SaysNothing kept (record { migrated = later.now.migrated.items; amends = later.now.amends.items }) }
+        (received : List Row) → SaysOldStyle kept old_style (later_rows later.now received)) }
+    ensures none { result ≡ None → (received : List Row) → SaysNothing kept (later_rows later.now received) }
 {
     match later.migrated.as_slice() {
         [row] => number_of(row, kept),
@@ -146,23 +157,29 @@ fn old_style_in(kept: u64, later: &Later) -> Option<u64>
     }
 }
 
-/// How much a register holds with these totals, if the row of `migrated` fits them.
-fn counts_of(totals: Totals, later: &Later) -> Option<Counts>
-    ensures some { IfSome result (λ counts.
+/// How much a register holds with these totals, if the rows of `migrated` and of `received` fit them, and otherwise
+/// the row to report.
+fn counts_of(totals: Totals, later: &Later) -> Result<Counts, u64>
+    ensures told { IfOk result (λ counts.
         (counts.kept ≡ totals.kept) × (counts.filings ≡ totals.filings) × (counts.catalogue ≡ totals.catalogue)
-        × SaysOldStyle counts.kept counts.old_style (record {
-          migrated = later.now.migrated.items;
-          amends = later.now.amends.items;
-        })) }
-    ensures none { result ≡ None
-        → SaysNothing totals.kept (record { migrated = later.now.migrated.items; amends = later.now.amends.items }) }
+        × ((received : List Row) → SaysOldStyle counts.kept counts.old_style (later_rows later.now received))
+        × ForLater later.now (λ rows.
+        (moments : List (Option ℕ)) × SaysMoments counts.kept rows.received moments)) }
+    ensures refused { IfErr result (λ row.
+        ForLater later.now (λ rows. IsBesideDamaged totals.kept rows row)) }
 {
-    Some(Counts {
-        kept: totals.kept,
-        filings: totals.filings,
-        old_style: old_style_in(totals.kept, later)?,
-        catalogue: totals.catalogue,
-    })
+    match old_style_in(totals.kept, later) {
+        Some(old_style) => match later.received.first_undated(totals.kept) {
+            None => Ok(Counts {
+                kept: totals.kept,
+                filings: totals.filings,
+                old_style,
+                catalogue: totals.catalogue,
+            }),
+            Some(row) => Err(row),
+        },
+        None => Err(0),
+    }
 }
 
 /// Counts what the rows stand for, with one kept request in memory at a time. `None` says nothing of the rows: the
@@ -176,8 +193,7 @@ fn count_one_by_one<S: Alter, W: Watch>(
     ensures found { HasCleanDisk (state S.Store conn.new) → HasCommon (state S.Store conn.old).now.schema
         → IfOk result (λ found.
         IfSome found (λ counts.
-        AreCounted counts (record { migrated = later.now.migrated.items; amends = later.now.amends.items })
-        (state S.Store conn.old).now)) }
+        ForLater later.now (λ rows. AreCounted counts rows (state S.Store conn.old).now))) }
     ensures few { IfOk result (λ found.
         IfSome found AreWithin) }
     ensures refused { HasCleanDisk (state S.Store conn.new)
@@ -185,7 +201,10 @@ fn count_one_by_one<S: Alter, W: Watch>(
     ensures leaves { OnlyReads S.Store conn.old conn.new result }
 {
     match count_walked(alloc, conn, &later.amends, watch)? {
-        Some(totals) => Ok(counts_of(totals, later)),
+        Some(totals) => match counts_of(totals, later) {
+            Ok(counts) => Ok(Some(counts)),
+            Err(_) => Ok(None),
+        },
         None => Ok(None),
     }
 }
@@ -200,15 +219,11 @@ fn count_all<S: Alter, W: Watch>(
     ensures counted { HasCleanDisk (state S.Store conn.new)
         → IfOk result (λ counts.
         HasCommon (state S.Store conn.old).now.schema
-        → AreCounted counts (record { migrated = later.now.migrated.items; amends = later.now.amends.items })
-        (state S.Store conn.old).now) }
+        → ForLater later.now (λ rows. AreCounted counts rows (state S.Store conn.old).now)) }
     ensures few { IfOk result AreWithin }
     ensures refused { HasCleanDisk (state S.Store conn.new)
         → IfErr result (λ fault.
-        IsRefusedAfter S.Store (record {
-          migrated = later.now.migrated.items;
-          amends = later.now.amends.items;
-        }) fault conn.old conn.new) }
+        ForLater later.now (λ rows. IsRefusedAfter S.Store rows fault conn.old conn.new)) }
     ensures leaves { OnlyReads S.Store conn.old conn.new result }
 {
     if let Some(counts) = count_one_by_one(alloc, conn, later, watch)? {
@@ -216,8 +231,8 @@ fn count_all<S: Alter, W: Watch>(
     }
     let totals = count_whole(alloc, conn, &later.amends)?;
     match counts_of(totals, later) {
-        Some(counts) => Ok(counts),
-        None => Err(OpenFault::Damaged { row: 0 }),
+        Ok(counts) => Ok(counts),
+        Err(row) => Err(OpenFault::Damaged { row }),
     }
 }
 

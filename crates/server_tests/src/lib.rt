@@ -5,6 +5,8 @@
 #[cfg(test)]
 mod examples;
 #[cfg(test)]
+mod files_in_use;
+#[cfg(test)]
 mod intake;
 #[cfg(test)]
 mod server;
@@ -12,5 +14,3 @@ mod server;
 mod stores;
 #[cfg(test)]
 mod streams;
-#[cfg(test)]
-mod taken;

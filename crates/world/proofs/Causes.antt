@@ -9,7 +9,7 @@ use Rattle.table_rows.specs.declared.fault.StoreFault.TheVariants as store
 use Rattle.outbox_tables.specs.declared.fault.OutboxFault.{OutboxFault}
 use Rattle.outbox_tables.specs.declared.fault.OutboxFault.TheVariants as outbox
 use Rattle.outbox_process.specs.Process.{IsNotOpened}
-use Rattle.outbox_process.specs.declared.begun.Beginning.TheVariants.{Found}
+use Rattle.outbox_process.specs.declared.beginning.Beginning.TheVariants.{Found}
 use Rattle.outbox_process.specs.declared.fault.OpeningFault.{OpeningFault}
 use Rattle.outbox_process.specs.declared.fault.OpeningFault.TheVariants as opening
 use Rattle.world.specs.Causes.{closing_cause, files_cause, outbox_cause, outbox_opening_cause}

@@ -27,7 +27,7 @@ use Rattle.database_places.specs.Places.{IsHonest}
 use Rattle.intake_process.specs.declared.fault.OpeningFault.{OpeningFault}
 use Rattle.intake_process.specs.declared.fault.OpeningFault.TheVariants as opening
 use Rattle.intake_process.specs.declared.process.Answered.{Answered}
-use Rattle.intake_process.specs.Begun.{HoldsAs}
+use Rattle.intake_process.specs.Beginning.{HoldsAs}
 use Rattle.intake_process.specs.Process.{IsNotOpened, IsLeftBy, KeepsBy, AnswersBy}
 use Rattle.database_places.specs.Places as place
 use Rattle.world.specs.Causes.{register_cause, opening_cause, close_cause}

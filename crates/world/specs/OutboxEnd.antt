@@ -9,7 +9,7 @@ use Rattle.database_places.specs.declared.drawer.Drawer.{Drawer}
 use Rattle.outbox_tables.specs.Entries.{contents_of}
 use Rattle.outbox_core.specs.OutboxParts.{OutboxParts}
 use Rattle.outbox_process.specs.Process.{KeepsBy, IsLeftOpen, IsNotOpened}
-use Rattle.outbox_process.specs.declared.begun.Beginning.TheVariants.{Found}
+use Rattle.outbox_process.specs.declared.beginning.Beginning.TheVariants.{Found}
 use Rattle.outbox_process.specs.declared.fault.OpeningFault.{OpeningFault}
 use Rattle.outbox_process.specs.declared.process.OutboxProcess.{OutboxProcess}
 use Rattle.world.specs.Causes.{outbox_opening_cause, close_cause}

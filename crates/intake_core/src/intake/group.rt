@@ -5,16 +5,16 @@ ghost use Rattle.std.specs.Prelude.{IsTrue, IfOk, OnOk, None, MatchResult};
 ghost use Rattle.std.specs.List.{AllZip, zip};
 ghost use Rattle.filing_model.specs.Request.{Request, has_key};
 ghost use Rattle.intake_core.specs.Calls.{IsRequest};
-ghost use Rattle.intake_core.specs.Group.{AddsResults, DecidesEach};
-ghost use Rattle.intake_core.specs.Together.{AddsGroup, AnswersGroup, AreNewBehind, AreRowsOf, IsJudgedAlone};
-ghost use Rattle.intake_core.specs.Together.{KeepsFirst};
-ghost use Rattle.intake_core.specs.Together.{LooksUp, RefusesGroup};
+ghost use Rattle.intake_core.specs.Group.{DecidesEach};
+ghost use Rattle.intake_core.specs.Moments.{DatesEach};
+ghost use Rattle.intake_core.specs.Together.{AddsGroup, AddsResults, AnswersGroup, AreNewBehind, AreRowsOf};
+ghost use Rattle.intake_core.specs.Together.{IsJudgedAlone, KeepsFirst, LooksUp, RefusesGroup, in_milliseconds};
 ghost use Rattle.intake_core.specs.Held.{store_of, limit_of, shows, has_stopped, ForRequests, HoldsRequests, IsClean};
 
 use super::{Intake, Unavailable};
 use filing_model::{Answer, Outcome, Style};
 use intake_answers::{Request, answer_by, name_of};
-use register_store::{NewRow, StoreFault};
+use register_store::{Moment, NewRow, StoreFault};
 use sqlite::Alter;
 use std::alloc::{AllocError, Global};
 use xbrl_report::{Judged, judge_amendment};
@@ -38,14 +38,16 @@ fn has_key(requests: &[Request<'_>], request: &Request<'_>) -> bool
         && other.key.as_str() == request.key.as_str())
 }
 
-/// The rows of requests that were judged so.
+/// The rows of requests that came at these moments and were judged so.
 fn rows_of<'a>(
     alloc: Global,
     requests: &'a [Request<'a>],
+    moments: &[Moment],
     judged: &'a [Judged],
 ) -> Result<Vec<NewRow<'a>>, AllocError>
-    requires { length judged.now ≡ length requests.now }
-    ensures { IfOk result (λ rows. AreRowsOf requests.now judged.now rows.items) }
+    requires moments { length moments.now ≡ length requests.now }
+    requires judged { length judged.now ≡ length requests.now }
+    ensures { IfOk result (λ rows. AreRowsOf requests.now moments.now judged.now rows.items) }
 {
     let mut rows = Vec::new(alloc);
     for (at, request) in requests.iter().enumerate() {
@@ -55,6 +57,7 @@ fn rows_of<'a>(
             target: request.target,
             body: request.body,
             judged: &judged[at],
+            moment: moments[at],
         })?;
     }
     Ok(rows)
@@ -62,22 +65,26 @@ fn rows_of<'a>(
 
 impl<S: Alter> Intake<S> {
     /// Decides requests in their order, as `submit` decides each, but keeps those that are new and replace nothing with
-    /// one commit, as far as no repeat and no request with a target comes between. Answers what each request gets. If
-    /// there is no memory for the answers, nothing is decided.
+    /// one commit, as far as no repeat and no request with a target comes between. Each came at the moment at its
+    /// place. Answers what each request gets. If there is no memory for the answers, nothing is decided.
     pub fn submit_all(
         &mut self,
         requests: &[Request<'_>],
+        moments: &[Moment],
     ) -> Result<Vec<Result<Answer, Unavailable>>, AllocError>
-        requires { All IsRequest requests.now }
+        requires requests { All IsRequest requests.now }
+        requires moments { length moments.now ≡ length requests.now }
         ensures each { IfOk result (λ results. length results.items ≡ length requests.now) }
         ensures decides { MatchResult result (λ results.
             DecidesEach S.Store (zip requests.now results.items) self.old self.new) (λ _. self.new ≡ self.old) }
+        ensures dates { IfOk result (λ results.
+            DatesEach S.Store (zip requests.now results.items) (in_milliseconds moments.now) self.old self.new) }
     {
         let mut results = Vec::with_capacity(self.alloc, requests.len())?;
         for at in 0..requests.len() {
             // Those before `results.len()` were decided together with one before them.
             if at == results.len() {
-                self.submit_next(&requests[at..], &mut results);
+                self.submit_next(&requests[at..], &moments[at..], &mut results);
             }
         }
         Ok(results)
@@ -88,38 +95,46 @@ impl<S: Alter> Intake<S> {
     fn submit_next(
         &mut self,
         requests: &[Request<'_>],
+        moments: &[Moment],
         results: &mut Vec<Result<Answer, Unavailable>>,
     )
         requires requests { All IsRequest requests.now }
+        requires moments { length moments.now ≡ length requests.now }
         requires some { 0 < length requests.now }
         requires room { vec_len results.old + length requests.now ≤ vec_capacity results.old }
         ensures { (count : ℕ) × (0 < count) × (count ≤ length requests.now)
-            × AddsResults S.Store (take count requests.now) self.old self.new results.old results.new }
+            × AddsResults S.Store (take count requests.now) (take count (in_milliseconds moments.now)) self.old self.new
+            results.old results.new }
     {
         if self.is_down {
-            return self.submit_each(requests, results);
+            return self.submit_each(requests, moments, results);
         }
-        match self.keep_first(requests) {
+        match self.keep_first(requests, moments) {
             Together::Kept(outcomes) => {
                 self.answer_group(&requests[..outcomes.len()], outcomes, results)
             }
-            Together::Alone(count) => self.submit_each(&requests[..count], results),
+            Together::Alone(count) => {
+                self.submit_each(&requests[..count], &moments[..count], results)
+            }
             Together::Failed(count) => self.refuse_group(&requests[..count], results),
         }
     }
 
-    /// Decides each of these requests by itself.
+    /// Decides each of these requests by itself, as it came at its moment.
     fn submit_each(
         &mut self,
         requests: &[Request<'_>],
+        moments: &[Moment],
         results: &mut Vec<Result<Answer, Unavailable>>,
     )
         requires requests { All IsRequest requests.now }
+        requires moments { length moments.now ≡ length requests.now }
         requires room { vec_len results.old + length requests.now ≤ vec_capacity results.old }
-        ensures { AddsResults S.Store requests.now self.old self.new results.old results.new }
+        ensures { AddsResults S.Store requests.now (in_milliseconds moments.now) self.old self.new results.old
+            results.new }
     {
-        for request in requests {
-            let result = self.submit_request(request);
+        for (at, request) in requests.iter().enumerate() {
+            let result = self.submit_request(request, moments[at]);
             results.push_reserved(result);
         }
     }
@@ -140,10 +155,11 @@ impl<S: Alter> Intake<S> {
     }
 
     /// Keeps the first of these requests, and those behind it that may be kept with one commit.
-    fn keep_first(&mut self, requests: &[Request<'_>]) -> Together
+    fn keep_first(&mut self, requests: &[Request<'_>], moments: &[Moment]) -> Together
         requires requests { All IsRequest requests.now }
+        requires moments { length moments.now ≡ length requests.now }
         requires some { 0 < length requests.now }
-        ensures { KeepsFirst S.Store requests.now self.old self.new result }
+        ensures { KeepsFirst S.Store requests.now (in_milliseconds moments.now) self.old self.new result }
     {
         match self.judge_group(requests) {
             // What could not be looked up or judged is tried again by each request for itself.
@@ -153,7 +169,7 @@ impl<S: Alter> Intake<S> {
                 if count == 0 {
                     return Together::Alone(1);
                 }
-                match self.keep_group(&requests[..count], &judged) {
+                match self.keep_group(&requests[..count], &moments[..count], &judged) {
                     Ok(outcomes) => Together::Kept(outcomes),
                     Err(StoreFault::Memory) => Together::Alone(count),
                     Err(StoreFault::Store) => Together::Failed(count),
@@ -162,18 +178,20 @@ impl<S: Alter> Intake<S> {
         }
     }
 
-    /// Keeps these requests, which were judged so, with one commit: all of them, or none.
+    /// Keeps these requests, which came at these moments and were judged so, with one commit: all of them, or none.
     fn keep_group(
         &mut self,
         requests: &[Request<'_>],
+        moments: &[Moment],
         judged: &[Judged],
     ) -> Result<Vec<Outcome>, StoreFault>
         requires requests { All IsRequest requests.now }
+        requires moments { length moments.now ≡ length requests.now }
         requires judged { AllZip IsJudgedAlone requests.now judged.now }
         requires limit { (store_of self.old).kept + length requests.now ≤ limit_of self.old }
-        ensures { AddsGroup S.Store requests.now self.old self.new result }
+        ensures { AddsGroup S.Store requests.now (in_milliseconds moments.now) self.old self.new result }
     {
-        let rows = rows_of(self.alloc, requests, judged)?;
+        let rows = rows_of(self.alloc, requests, moments, judged)?;
         self.store.add_all(&rows)
     }
 

@@ -2,15 +2,22 @@
 
 use register_export::Form;
 
+/// A digest of the first requests, so many, that was published.
+#[derive(Clone, Copy)]
+pub struct Published {
+    pub count: u64,
+    pub bytes: [u8; 32],
+}
+
 /// What is done with a register that is there.
 #[derive(Clone, Copy)]
 pub enum Errand<'a> {
-    /// Show the filings of a filer.
-    List { filer: &'a str },
-    /// Show the facts of a filing.
-    Show { number: u64 },
-    /// Say whether the register is sound.
-    Check,
+    /// Show the filings of a filer, or when each was received.
+    List { filer: &'a str, moments: bool },
+    /// Show the facts of a filing, and before them when it was received, if that is asked for.
+    Show { number: u64, moments: bool },
+    /// Say whether the register is sound, and has the requests of a digest that was published, if one is given.
+    Check { against: Option<Published> },
     /// Upgrade a register of an earlier version to this version.
     Migrate,
     /// Write out all facts, or those of one filer.

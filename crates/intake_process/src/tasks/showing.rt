@@ -1,11 +1,16 @@
 //! Prints the facts of a filing.
 
-ghost use Rattle.std.specs.Prelude.{◌≡◌, string_bytes, IfOk};
-ghost use Rattle.intake_process.specs.Lines.{fact_lines};
-ghost use Rattle.intake_process.specs.Tasks.{ShowsFiling};
+ghost use Rattle.std.specs.Prelude.{◌≡◌, string_bytes, IfOk, IfErr};
+ghost use Rattle.intake_process.specs.Lines.{fact_lines, shown_lines};
+ghost use Rattle.register_store.specs.Calls.{KeepsStore};
+ghost use Rattle.register_store.specs.Moments.{ForMoments};
+ghost use Rattle.filing_model.specs.Register.{kept};
+ghost use Rattle.register_moments.specs.Moments.{moment_of};
+ghost use Rattle.intake_process.specs.Tasks.{IsReadingFault, ShowsFiling};
 ghost use Rattle.intake_process.specs.declared.tasks.showing.ShowFault.TheVariants as fault;
 ghost use Rattle.intake_process.specs.declared.tasks.text.TextFault.TheVariants as text;
 
+use crate::tasks::dating::{moment_line, received};
 use crate::tasks::text::{TextFault, print};
 use intake_answers::fact_line;
 use register_store::{Store, StoreFault};
@@ -50,22 +55,48 @@ impl From<TextFault> for ShowFault {
     }
 }
 
-/// Prints the facts of the filing of this number, each as a line.
+/// Prints the facts of the filing of this number, each as a line, and before them when it was received, if that is
+/// asked for.
 pub fn show<S: Alter, O: Write>(
     alloc: Global,
     register: &mut Store<S>,
     number: u64,
+    moments: bool,
     output: &mut O,
 ) -> Result<(), ShowFault>
-    ensures { ShowsFiling S.Store number (O.contents output.old) (O.contents output.new) register.old register.new
-        result }
+    ensures { ShowsFiling S.Store number moments (O.contents output.old) (O.contents output.new) register.old
+        register.new result }
 {
     let Some(facts) = register.facts(number)? else {
         return Err(ShowFault::NoFiling);
     };
-    let text = fact_lines(alloc, &facts)?;
+    let text = shown_lines(alloc, register, number, moments, &facts)?;
     print(output, text.as_bytes())?;
     Ok(())
+}
+
+/// What is printed of the filing of this number, which has these facts.
+fn shown_lines<S: Alter>(
+    alloc: Global,
+    register: &mut Store<S>,
+    number: u64,
+    moments: bool,
+    facts: &[Fact],
+) -> Result<String, ShowFault>
+    ensures lines { ForMoments S.Store register.old register.new (λ requests received. IfOk result (λ text.
+        string_bytes text ≡ shown_lines moments number (moment_of (kept requests) received number) facts.now)) }
+    ensures keeps { KeepsStore S.Store register.old register.new }
+    ensures fault { IfErr result IsReadingFault }
+{
+    if !moments {
+        let text = fact_lines(alloc, facts)?;
+        return Ok(text);
+    }
+    let received = received(register, number)?;
+    let mut text = moment_line(alloc, number, received)?;
+    let lines = fact_lines(alloc, facts)?;
+    text.push_str(lines.as_str())?;
+    Ok(text)
 }
 
 /// A line for each fact.

@@ -4,9 +4,12 @@ ghost use Rattle.std.specs.Prelude.{◌≡◌, ◌++◌, option_map, IfOk, OnOk}
 ghost use Rattle.std.specs.Fmt.{decimal, signed_decimal};
 ghost use Rattle.serde_json.specs.Data.{Data, string};
 ghost use Rattle.serde_json.specs.Written.{compact_text};
-ghost use Rattle.register_export.specs.Fields.{absent, doubled, field_or_absent, object_field, quoted, text_field};
+ghost use Rattle.register_store.specs.Moments.{milliseconds_of};
+ghost use Rattle.register_export.specs.Fields.{absent, doubled, field_or_absent, moment_field, object_field, quoted};
+ghost use Rattle.register_export.specs.Fields.{text_field};
 
 use crate::facts::record::Form;
+use register_moments::{Moment, moment_text};
 use serde_json::json;
 use std::alloc::{AllocError, Global};
 
@@ -92,6 +95,21 @@ pub(crate) fn text_or_absent(
 {
     match value {
         Some(value) => text(alloc, form, value),
+        None => absent(alloc, form),
+    }
+}
+
+/// A moment in UTC, or no value.
+pub(crate) fn moment_or_absent(
+    alloc: Global,
+    form: Form,
+    value: Option<Moment>,
+) -> Result<Vec<u8>, AllocError>
+    ensures { IfOk result (λ field.
+        field.items ≡ field_or_absent form (moment_field form) (milliseconds_of value)) }
+{
+    match value {
+        Some(moment) => text(alloc, form, moment_text(alloc, moment)?.as_str()),
         None => absent(alloc, form),
     }
 }

@@ -5,7 +5,10 @@ ghost use Rattle.register_export.specs.Fields.{csv_record, fields, first_line, j
 ghost use Rattle.register_export.specs.Fields.{view_head};
 
 use crate::facts::aspects::{Aspects, read_aspects};
-use crate::facts::field::{integer_or_absent, number, number_or_absent, text, text_or_absent};
+use crate::facts::field::{
+    integer_or_absent, moment_or_absent, number, number_or_absent, text, text_or_absent,
+};
+use register_moments::Moment;
 use std::alloc::{AllocError, Global};
 use xbrl_report::Fact;
 
@@ -18,13 +21,15 @@ pub enum Form {
     JsonLines,
 }
 
-/// What a record says of the filing of a fact: its number, who filed it, under which key, and which filing replaces it.
+/// What a record says of the filing of a fact: its number, who filed it, under which key, which filing replaces it, and
+/// when it was received, if that is known.
 #[derive(Clone, Copy)]
 pub struct Head<'a> {
     pub number: u64,
     pub filer: &'a str,
     pub key: &'a str,
     pub replaced_by: Option<u64>,
+    pub received: Option<Moment>,
 }
 
 /// The fields of a record, as they are written.
@@ -39,6 +44,7 @@ pub(crate) struct Fields {
     value: Vec<u8>,
     decimals: Vec<u8>,
     replaced_by: Vec<u8>,
+    received: Vec<u8>,
 }
 
 /// What is written before the first record.
@@ -47,7 +53,8 @@ pub fn first_line(form: Form) -> &'static str
 {
     match form {
         Form::Csv => {
-            "number,filer,key,id,concept,entity,period,unit,language,note_id,dimensions,value,decimals,replaced_by\r\n"
+            "number,filer,key,id,concept,entity,period,unit,language,note_id,dimensions,value,decimals,replaced_by,\
+            received\r\n"
         }
         Form::JsonLines => "",
     }
@@ -83,6 +90,7 @@ fn fields_of(alloc: Global, form: Form, head: &Head<'_>, fact: &Fact) -> Result<
         value: text_or_absent(alloc, form, fact.value.as_deref())?,
         decimals: integer_or_absent(alloc, form, fact.decimals)?,
         replaced_by: number_or_absent(alloc, form, head.replaced_by)?,
+        received: moment_or_absent(alloc, form, head.received)?,
     })
 }
 
@@ -114,6 +122,7 @@ fn csv_record(alloc: Global, fields: &Fields) -> Result<Vec<u8>, AllocError>
     append(&mut line, ",", &fields.value)?;
     append(&mut line, ",", &fields.decimals)?;
     append(&mut line, ",", &fields.replaced_by)?;
+    append(&mut line, ",", &fields.received)?;
     line.extend_from_slice(b"\r\n")?;
     Ok(line)
 }
@@ -138,6 +147,7 @@ fn json_line(alloc: Global, fields: &Fields) -> Result<Vec<u8>, AllocError>
     append(&mut line, ",\"value\":", &fields.value)?;
     append(&mut line, ",\"decimals\":", &fields.decimals)?;
     append(&mut line, ",\"replaced_by\":", &fields.replaced_by)?;
+    append(&mut line, ",\"received\":", &fields.received)?;
     line.extend_from_slice(b"}\n")?;
     Ok(line)
 }

@@ -1,14 +1,15 @@
 //! A filing with its facts.
 
 ghost use Rattle.std.specs.Prelude.{◌≡◌, option_map, IfOk};
-ghost use Rattle.filing_model.specs.Register.{register};
+ghost use Rattle.filing_model.specs.Register.{kept, register};
 ghost use Rattle.table_rows.specs.Leaving.{MayRead};
 ghost use Rattle.register_rows.specs.Catalogue.{catalogue_of, view_lines};
 ghost use Rattle.register_store.specs.Numbered.{filing_numbered};
-ghost use Rattle.register_store.specs.Store.{ForRegister};
+ghost use Rattle.register_moments.specs.Dated.{ForDated};
 ghost use Rattle.register_export.specs.Filings.{whole};
 
-use crate::walk::sent::{Sent, sent_at};
+use crate::walk::sent::{Dated, Sent, dated_at};
+use register_moments::Moment;
 use register_rows::Catalogue;
 use sqlite::{Alter, Connection};
 use std::alloc::Global;
@@ -16,8 +17,8 @@ use std::marker::Model;
 use table_rows::StoreFault;
 use xbrl_report::{Fact, Judged, Report, judge};
 
-/// A filing with its facts: its number, who filed it, under which key, which filing it replaces, and which one replaces
-/// it.
+/// A filing with its facts: its number, who filed it, under which key, which filing it replaces, which one replaces it,
+/// and when it was received, if that is known.
 #[derive(Drop)]
 pub struct WholeFiling {
     pub number: u64,
@@ -25,11 +26,13 @@ pub struct WholeFiling {
     pub key: String,
     pub replaces: Option<u64>,
     pub replaced_by: Option<u64>,
+    pub received: Option<Moment>,
     report: Report,
 }
 
 impl Model for WholeFiling {
     ghost use Rattle.std.specs.Prelude.{string_bytes};
+    ghost use Rattle.register_store.specs.Moments.{milliseconds_of};
     ghost use Rattle.register_export.specs.Filings.{FilingParts};
 
     ghost Value = { FilingParts };
@@ -41,6 +44,7 @@ impl Model for WholeFiling {
       replaces =
           f.replaces;
       replaced_by = f.replaced_by;
+      received = milliseconds_of f.received;
       facts = f.report.facts;
     } };
 }
@@ -62,15 +66,17 @@ pub fn filing_at<S: Alter>(
     catalogue: &Catalogue,
     number: u64,
 ) -> Result<Option<WholeFiling>, StoreFault>
-    ensures found { ForRegister S.Store conn.old conn.new (λ _ F.
+    ensures found { ForDated S.Store conn.old conn.new (λ F moments.
         view_lines catalogue.now ≡ catalogue_of F
-        → IfOk result (λ filing. filing ≡ option_map (whole (register F)) (filing_numbered number (register F)))) }
+        → IfOk result (λ filing.
+        filing ≡ option_map (whole (kept F) moments) (filing_numbered number (register F)))) }
     ensures leaves { MayRead S.Store conn.old conn.new result }
 {
     let Some(line) = catalogue.line(number) else {
         return Ok(None);
     };
-    let Sent { filer, key, body } = sent_at(conn, line.seq())?;
+    let Dated { sent, received } = dated_at(conn, line.seq())?;
+    let Sent { filer, key, body } = sent;
     match judge(alloc, filer.as_str(), &body)? {
         Judged::Valid(report) => Ok(Some(WholeFiling {
             number,
@@ -78,6 +84,7 @@ pub fn filing_at<S: Alter>(
             key,
             replaces: line.replaces(),
             replaced_by: line.replaced_by(),
+            received,
             report,
         })),
         // A report of a filing is valid.

@@ -5,10 +5,13 @@ ghost use Rattle.sqlite.specs.Order.{Row};
 ghost use Rattle.filing_model.specs.Register.{Kept, kept};
 ghost use Rattle.table_rows.specs.Leaving.{OnlyReads};
 ghost use Rattle.register_store.specs.Found.{IsPlaced};
+ghost use Rattle.register_store.specs.Moments.{milliseconds_of, moment_in};
 ghost use Rattle.register_store.specs.Store.{ForRegister};
+ghost use Rattle.register_moments.specs.Dated.{ForDated};
 ghost use Rattle.register_export.specs.Sent.{sent_in, sent_of};
 
 use crate::walk::reads::sent_rows;
+use register_moments::{Moment, moment_at};
 use sqlite::{Alter, Connection, Row};
 use std::marker::Model;
 use table_rows::StoreFault;
@@ -66,6 +69,26 @@ fn sent_in_row<S: Alter>(conn: &mut Connection<S>, seq: i64) -> Result<Sent, Sto
 {
     let rows = sent_rows(conn, seq)?;
     read_first(&rows)
+}
+
+/// What a kept request sent, and when it was received, if that is known.
+#[derive(Drop)]
+pub(crate) struct Dated {
+    pub(crate) sent: Sent,
+    pub(crate) received: Option<Moment>,
+}
+
+/// What was sent by the kept request at this place, counted from 1, and when it was received.
+pub(crate) fn dated_at<S: Alter>(conn: &mut Connection<S>, place: u64) -> Result<Dated, StoreFault>
+    ensures found { ForDated S.Store conn.old conn.new (λ F moments.
+        (k : Kept) → IsPlaced 1 place (kept F) k
+        → IfOk result (λ dated. (dated.sent ≡ sent_of k.request)
+        × (milliseconds_of dated.received ≡ moment_in moments place))) }
+    ensures leaves { OnlyReads S.Store conn.old conn.new result }
+{
+    let received = moment_at(conn, place)?;
+    let sent = sent_at(conn, place)?;
+    Ok(Dated { sent, received })
 }
 
 /// What was sent by the kept request at this place, counted from 1. Nothing is written.

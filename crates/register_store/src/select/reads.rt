@@ -5,9 +5,9 @@ ghost use Rattle.sqlite.specs.Held.{state};
 ghost use Rattle.sqlite.specs.State.{HasCleanDisk};
 ghost use Rattle.table_rows.specs.Leaving.{OnlyQueries};
 ghost use Rattle.table_rows.specs.Reading.{ReadsRows};
-ghost use Rattle.register_rows.specs.Schema.{kept_table, fact_table};
+ghost use Rattle.register_rows.specs.Schema.{kept_table, fact_table, received_table};
 ghost use Rattle.register_store.specs.Found.{has_seq};
-ghost use Rattle.register_tables.specs.Reads.{Knows, by_first, by_second};
+ghost use Rattle.register_tables.specs.Reads.{Knows, KnowsAll, by_first, by_second};
 ghost use Rattle.register_store.specs.Reads.{has_filer, filer_alone, said};
 ghost use Rattle.table_rows.specs.Picking.{has_number};
 
@@ -56,4 +56,17 @@ pub(crate) fn facts_of_filing<S: Alter>(
     ensures leaves { OnlyQueries S.Store conn.old conn.new result }
 {
     select(conn, FACTS_OF_FILING, params![number as i64])
+}
+
+const MOMENT_AT: &str = "SELECT moment FROM received WHERE seq = ?1 ORDER BY seq";
+
+/// The moment of the kept request at this place, if it has one.
+pub(crate) fn moment_at<S: Alter>(conn: &mut Connection<S>, seq: i64) -> Result<Vec<Row>, Error>
+    ensures read { HasCleanDisk (state S.Store conn.new) → KnowsAll (state S.Store conn.old)
+        → IfOk result (λ rows.
+        ReadsRows received_table (has_seq seq) by_first by_second rows.items (state S.Store conn.old)
+        (state S.Store conn.new)) }
+    ensures leaves { OnlyQueries S.Store conn.old conn.new result }
+{
+    select(conn, MOMENT_AT, params![seq])
 }

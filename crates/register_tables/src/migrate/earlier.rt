@@ -6,11 +6,12 @@ ghost use Rattle.sqlite.specs.Held.{state};
 ghost use Rattle.sqlite.specs.State.{HasCleanDisk};
 ghost use Rattle.register_tables.specs.Earlier.{form_number};
 ghost use Rattle.register_tables.specs.Migrating.{IsCounted, IsSurveyed, IsNotSurveyed, HasNoForm, HasNoCounts};
-ghost use Rattle.register_tables.specs.Migrating.{SaysNone};
-ghost use Rattle.register_tables.specs.Opening.{AreWithin, all_meta, IsRead, HasNoTotals};
+ghost use Rattle.register_tables.specs.Migrating.{SaysNone, beside_texts};
+ghost use Rattle.register_tables.specs.Opening.{AreWithin, all_meta, IsRead, AreRead, StopsFor, HasNoTotals};
 ghost use Rattle.register_tables.specs.Walk.{AreTotals};
 ghost use Rattle.register_rows.specs.Register.{form_row, migrated_row};
-ghost use Rattle.table_rows.specs.Leaving.{OnlyReads};
+ghost use Rattle.table_rows.specs.Causes.{cause_of};
+ghost use Rattle.table_rows.specs.Leaving.{OnlyQueries, OnlyReads};
 
 use crate::fault::OpenFault;
 use crate::opening::totals::{count_walked, count_whole};
@@ -19,7 +20,7 @@ use crate::opening::watch::Unwatched;
 use crate::opening::{Counts, meta_fault, number_of, table_fault};
 use crate::select::reads;
 use register_rows::{Cell, is_row};
-use sqlite::{Alter, Connection, Row};
+use sqlite::{Alter, Connection, Error, Row};
 use std::alloc::Global;
 
 /// The forms in which earlier versions kept registers.
@@ -29,6 +30,8 @@ pub enum Earlier {
     Second,
     /// With `migrated`, whose row says how many of the kept requests are, from the first on.
     Third,
+    /// With `amends` too, which has the filings that kept requests are to replace.
+    Fourth,
 }
 
 impl Earlier {
@@ -39,6 +42,7 @@ impl Earlier {
         match self {
             Earlier::Second => 2,
             Earlier::Third => 3,
+            Earlier::Fourth => 4,
         }
     }
 }
@@ -65,6 +69,8 @@ fn form_of(row: &Row) -> Option<Earlier>
         Some(Earlier::Second)
     } else if has_form(row, Earlier::Third) {
         Some(Earlier::Third)
+    } else if has_form(row, Earlier::Fourth) {
+        Some(Earlier::Fourth)
     } else {
         None
     }
@@ -98,18 +104,22 @@ fn read_form<S: Alter>(conn: &mut Connection<S>) -> Result<Earlier, OpenFault>
     }
 }
 
-/// Counts what the four tables stand for.
-fn count_four<S: Alter>(alloc: Global, conn: &mut Connection<S>) -> Result<Totals, OpenFault>
+/// Counts what the four tables stand for, if `amends` has these rows.
+fn count_four<S: Alter>(
+    alloc: Global,
+    conn: &mut Connection<S>,
+    amends: &[Row],
+) -> Result<Totals, OpenFault>
     ensures counted { HasCleanDisk (state S.Store conn.new)
-        → IfOk result (λ totals. AreTotals [] totals (state S.Store conn.old) (state S.Store conn.new)) }
+        → IfOk result (λ totals. AreTotals amends.now totals (state S.Store conn.old) (state S.Store conn.new)) }
     ensures few { IfOk result (λ totals. (totals.kept ≤ 2 ^ 62) × (totals.filings ≤ totals.kept)) }
     ensures refused { HasCleanDisk (state S.Store conn.new)
-        → IfErr result (λ fault. HasNoTotals S.Store [] fault conn.old conn.new) }
+        → IfErr result (λ fault. HasNoTotals S.Store amends.now fault conn.old conn.new) }
     ensures leaves { OnlyReads S.Store conn.old conn.new result }
 {
-    match count_walked(alloc, conn, &[], &mut Unwatched)? {
+    match count_walked(alloc, conn, amends, &mut Unwatched)? {
         Some(totals) => Ok(totals),
-        None => count_whole(alloc, conn, &[]),
+        None => count_whole(alloc, conn, amends),
     }
 }
 
@@ -133,7 +143,7 @@ fn count_second<S: Alter>(alloc: Global, conn: &mut Connection<S>) -> Result<Cou
         → IfErr result (λ fault. HasNoCounts S.Store Earlier.Second fault conn.old conn.new) }
     ensures leaves { OnlyReads S.Store conn.old conn.new result }
 {
-    let totals = count_four(alloc, conn)?;
+    let totals = count_four(alloc, conn, &[])?;
     Ok(Counts {
         kept: totals.kept,
         filings: totals.filings,
@@ -142,7 +152,7 @@ fn count_second<S: Alter>(alloc: Global, conn: &mut Connection<S>) -> Result<Cou
     })
 }
 
-/// How much is held in the third form with these totals, if the rows of `migrated` fit them.
+/// How much is held in a form with `migrated` with these totals, if the rows of `migrated` fit them.
 fn counts_with(totals: Totals, migrated: &[Row]) -> Result<Counts, OpenFault>
     ensures told { IfOk result (λ counts.
         (counts.kept ≡ totals.kept) × (counts.filings ≡ totals.filings) × (counts.catalogue ≡ totals.catalogue)
@@ -171,8 +181,46 @@ fn count_third<S: Alter>(alloc: Global, conn: &mut Connection<S>) -> Result<Coun
 {
     match reads::migrated_rows(conn) {
         Ok(migrated) => {
-            let totals = count_four(alloc, conn)?;
+            let totals = count_four(alloc, conn, &[])?;
             counts_with(totals, &migrated)
+        }
+        Err(error) => Err(table_fault(error)),
+    }
+}
+
+/// The rows of the tables that the fourth form has beside those of every form, each in the order of its key.
+#[derive(Drop)]
+struct Beside {
+    migrated: Vec<Row>,
+    amends: Vec<Row>,
+}
+
+fn read_beside<S: Alter>(conn: &mut Connection<S>) -> Result<Beside, Error>
+    ensures read { HasCleanDisk (state S.Store conn.new)
+        → IfOk result (λ beside.
+        AreRead S.Store beside_texts conn.old conn.new (beside.migrated.items ∷ beside.amends.items ∷ [])) }
+    ensures failed { HasCleanDisk (state S.Store conn.new)
+        → IfErr result (λ error. StopsFor S.Store (cause_of error) beside_texts conn.old conn.new) }
+    ensures leaves { OnlyQueries S.Store conn.old conn.new result }
+{
+    let migrated = reads::migrated_rows(conn)?;
+    let amends = reads::amends_rows(conn)?;
+    Ok(Beside { migrated, amends })
+}
+
+/// How much is held in the fourth form.
+fn count_fourth<S: Alter>(alloc: Global, conn: &mut Connection<S>) -> Result<Counts, OpenFault>
+    ensures counted { HasCleanDisk (state S.Store conn.new)
+        → IfOk result (λ counts. IsCounted S.Store Earlier.Fourth counts conn.old conn.new) }
+    ensures few { IfOk result AreWithin }
+    ensures refused { HasCleanDisk (state S.Store conn.new)
+        → IfErr result (λ fault. HasNoCounts S.Store Earlier.Fourth fault conn.old conn.new) }
+    ensures leaves { OnlyReads S.Store conn.old conn.new result }
+{
+    match read_beside(conn) {
+        Ok(beside) => {
+            let totals = count_four(alloc, conn, &beside.amends)?;
+            counts_with(totals, &beside.migrated)
         }
         Err(error) => Err(table_fault(error)),
     }
@@ -200,6 +248,7 @@ fn count_in<S: Alter>(
     match form {
         Earlier::Second => count_second(alloc, conn),
         Earlier::Third => count_third(alloc, conn),
+        Earlier::Fourth => count_fourth(alloc, conn),
     }
 }
 

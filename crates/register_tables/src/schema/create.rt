@@ -39,7 +39,10 @@ pub(crate) const CREATE_MIGRATED: &str =
 pub(crate) const CREATE_AMENDS: &str =
     "CREATE TABLE amends (seq INTEGER PRIMARY KEY, target INTEGER NOT NULL) STRICT";
 
-const INSERT_META: &str = "INSERT INTO intake_meta VALUES (1, 'register', 4)";
+pub(crate) const CREATE_RECEIVED: &str =
+    "CREATE TABLE received (seq INTEGER PRIMARY KEY, moment INTEGER NOT NULL) STRICT";
+
+const INSERT_META: &str = "INSERT INTO intake_meta VALUES (1, 'register', 5)";
 
 const INSERT_NO_OLD_STYLE: &str = "INSERT INTO migrated VALUES (1, 0)";
 
@@ -58,6 +61,7 @@ fn make<S: Alter>(conn: &mut Connection<S>) -> Result<(), Error>
             Statement::plain(CREATE_FACT),
             Statement::plain(CREATE_MIGRATED),
             Statement::plain(CREATE_AMENDS),
+            Statement::plain(CREATE_RECEIVED),
             Statement::plain(INSERT_META),
             Statement::plain(INSERT_NO_OLD_STYLE),
         ],

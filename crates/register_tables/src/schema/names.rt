@@ -20,6 +20,7 @@ pub fn is_taken(schema: &Schema) -> bool
         || is_used(schema, b"fact")
         || is_used(schema, b"migrated")
         || is_used(schema, b"amends")
+        || is_used(schema, b"received")
 }
 
 /// Whether a table, an index or a view has the name of a table that a register in this form lacks.
@@ -27,7 +28,12 @@ pub fn is_blocked(schema: &Schema, form: Earlier) -> bool
     ensures { result ≡ is_blocked schema.now form }
 {
     match form {
-        Earlier::Second => is_used(schema, b"migrated") || is_used(schema, b"amends"),
-        Earlier::Third => is_used(schema, b"amends"),
+        Earlier::Second => {
+            is_used(schema, b"migrated")
+                || is_used(schema, b"amends")
+                || is_used(schema, b"received")
+        }
+        Earlier::Third => is_used(schema, b"amends") || is_used(schema, b"received"),
+        Earlier::Fourth => is_used(schema, b"received"),
     }
 }

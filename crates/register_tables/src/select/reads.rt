@@ -4,9 +4,9 @@ ghost use Rattle.std.specs.Prelude.{[], IfOk};
 ghost use Rattle.sqlite.specs.Held.{state};
 ghost use Rattle.sqlite.specs.State.{HasCleanDisk, Shown};
 ghost use Rattle.table_rows.specs.Leaving.{OnlyQueries};
-ghost use Rattle.register_rows.specs.Schema.{kept_table, amends_table};
+ghost use Rattle.register_rows.specs.Schema.{kept_table, amends_table, received_table};
 ghost use Rattle.register_tables.specs.Opening.{all_meta, all_kept, all_findings, all_filings, all_facts, all_migrated};
-ghost use Rattle.register_tables.specs.Opening.{all_amends};
+ghost use Rattle.register_tables.specs.Opening.{all_amends, all_received};
 ghost use Rattle.register_tables.specs.Reads.{Knows, KnowsAll, FailsOnErr, ReadsWhole};
 
 use sqlite::{Alter, Connection, Error, Row};
@@ -99,4 +99,19 @@ pub fn amends_rows<S: Alter>(conn: &mut Connection<S>) -> Result<Vec<Row>, Error
     ensures leaves { OnlyQueries S.Store conn.old conn.new result }
 {
     select(conn, ALL_AMENDS, &[])
+}
+
+const ALL_RECEIVED: &str = "SELECT seq, moment FROM received ORDER BY seq";
+
+/// The rows of `received`, by `seq`.
+pub fn received_rows<S: Alter>(conn: &mut Connection<S>) -> Result<Vec<Row>, Error>
+    ensures shown { HasCleanDisk (state S.Store conn.new)
+        → IfOk result (λ rows. Shown all_received [] (state S.Store conn.old) (state S.Store conn.new) rows.items) }
+    ensures failed { FailsOnErr all_received (state S.Store conn.old) (state S.Store conn.new) result }
+    ensures read { HasCleanDisk (state S.Store conn.new) → KnowsAll (state S.Store conn.old)
+        → IfOk result (λ rows.
+        ReadsWhole received_table rows.items (state S.Store conn.old) (state S.Store conn.new)) }
+    ensures leaves { OnlyQueries S.Store conn.old conn.new result }
+{
+    select(conn, ALL_RECEIVED, &[])
 }

@@ -28,7 +28,8 @@ const AMENDED: &[Request] = &[
     ("k-3", false, SMALLEST, 3),
 ];
 
-/// Rows that judging does not give, rows of no request, more rows of a request than are its own, and other registers.
+/// Rows that judging does not give, rows of no request, more rows of a request than are its own, moments that are
+/// missing, and other registers.
 /// The long body is the smallest report.
 const OF_TWO: &[Case] = &[
     (
@@ -120,6 +121,47 @@ const OF_TWO: &[Case] = &[
         "DELETE FROM fact; UPDATE migrated SET last = 3",
         Some(OpenFault::Damaged { row: 1 }),
     ),
+    ("DROP TABLE received", Some(OpenFault::Damaged { row: 0 })),
+    ("DELETE FROM received", None),
+    ("DELETE FROM received WHERE seq = 1", None),
+    (
+        "DELETE FROM received WHERE seq = 2",
+        Some(OpenFault::Damaged { row: 2 }),
+    ),
+    (
+        "INSERT INTO received VALUES (3, 0)",
+        Some(OpenFault::Damaged { row: 0 }),
+    ),
+    (
+        "INSERT INTO received VALUES (0, 0)",
+        Some(OpenFault::Damaged { row: 0 }),
+    ),
+    (
+        "UPDATE received SET seq = 3 WHERE seq = 2",
+        Some(OpenFault::Damaged { row: 2 }),
+    ),
+    (
+        "UPDATE received SET seq = 0 WHERE seq = 1",
+        Some(OpenFault::Damaged { row: 1 }),
+    ),
+    ("UPDATE received SET moment = 253402300799999", None),
+    (
+        "UPDATE received SET moment = 253402300800000 WHERE seq = 1",
+        Some(OpenFault::Damaged { row: 1 }),
+    ),
+    (
+        "UPDATE received SET moment = -1 WHERE seq = 2",
+        Some(OpenFault::Damaged { row: 2 }),
+    ),
+    (
+        "UPDATE received SET moment = -1; UPDATE migrated SET last = 3",
+        Some(OpenFault::Damaged { row: 0 }),
+    ),
+    (
+        "UPDATE received SET moment = -1; UPDATE finding SET code = 2 WHERE seq = 2",
+        Some(OpenFault::Damaged { row: 2 }),
+    ),
+    ("UPDATE intake_meta SET form = 4", Some(OpenFault::NotOurs)),
     ("UPDATE intake_meta SET form = 3", Some(OpenFault::NotOurs)),
     ("UPDATE intake_meta SET form = 2", Some(OpenFault::NotOurs)),
     ("UPDATE intake_meta SET form = 9", Some(OpenFault::NotOurs)),
@@ -176,15 +218,15 @@ const OF_AMENDED: &[Case] = &[
 /// No table is left, or that of the form alone, which is the present one or an earlier one.
 const OF_NONE: &[Case] = &[
     (
-        "DROP TABLE intake_meta; DROP TABLE kept; DROP TABLE finding; DROP TABLE filing; DROP TABLE fact; DROP TABLE migrated; DROP TABLE amends",
+        "DROP TABLE intake_meta; DROP TABLE kept; DROP TABLE finding; DROP TABLE filing; DROP TABLE fact; DROP TABLE migrated; DROP TABLE amends; DROP TABLE received",
         Some(OpenFault::NotOurs),
     ),
     (
-        "DROP TABLE kept; DROP TABLE finding; DROP TABLE filing; DROP TABLE fact; DROP TABLE migrated; DROP TABLE amends",
+        "DROP TABLE kept; DROP TABLE finding; DROP TABLE filing; DROP TABLE fact; DROP TABLE migrated; DROP TABLE amends; DROP TABLE received",
         Some(OpenFault::Damaged { row: 0 }),
     ),
     (
-        "DROP TABLE kept; DROP TABLE finding; DROP TABLE filing; DROP TABLE fact; DROP TABLE migrated; DROP TABLE amends; UPDATE intake_meta SET form = 2",
+        "DROP TABLE kept; DROP TABLE finding; DROP TABLE filing; DROP TABLE fact; DROP TABLE migrated; DROP TABLE amends; DROP TABLE received; UPDATE intake_meta SET form = 2",
         Some(OpenFault::NotOurs),
     ),
 ];

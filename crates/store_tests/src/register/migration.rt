@@ -16,7 +16,23 @@ struct Form {
     sql: &'static str,
     /// How many of its two requests were kept before the migration.
     old_style: u64,
+    /// These two requests, and one that comes later.
+    requests: [Request; 3],
 }
+
+/// The requests of a form in which none replaces a filing, and one that comes later.
+const THREE: [Request; 3] = [
+    ("k-1", false, SMALLEST, 1),
+    ("k-2", false, "", 0),
+    ("k-3", false, "{}", 0),
+];
+
+/// The same, of which the second is to replace filing 1.
+const REPLACING: [Request; 3] = [
+    ("k-1", false, SMALLEST, 1),
+    ("k-2", true, "", 0),
+    ("k-3", false, "{}", 0),
+];
 
 /// The tables of every form, with the smallest report and a refused empty body, which is no JSON text.
 const TABLES: &str =
@@ -25,18 +41,26 @@ const TABLES: &str =
 const SECOND: &Form = &Form {
     sql: "INSERT INTO intake_meta VALUES (1, 'register', 2)",
     old_style: 2,
+    requests: THREE,
 };
 
 const THIRD: &Form = &Form {
     sql: "CREATE TABLE migrated (id INTEGER PRIMARY KEY, last INTEGER NOT NULL) STRICT; INSERT INTO migrated VALUES (1, 1); INSERT INTO intake_meta VALUES (1, 'register', 3)",
     old_style: 1,
+    requests: THREE,
+};
+
+const FOURTH: &Form = &Form {
+    sql: "CREATE TABLE migrated (id INTEGER PRIMARY KEY, last INTEGER NOT NULL) STRICT; CREATE TABLE amends (seq INTEGER PRIMARY KEY, target INTEGER NOT NULL) STRICT; INSERT INTO migrated VALUES (1, 1); INSERT INTO amends VALUES (2, 1); INSERT INTO intake_meta VALUES (1, 'register', 4)",
+    old_style: 1,
+    requests: REPLACING,
 };
 
 /// A form, a statement on its tables, why a migration is refused then, and a statement that undoes the first.
 type Case = (&'static Form, &'static str, OpenFault, &'static str);
 
 /// Another form, a name in use, and damage, which is reported before a name is.
-static CASES: [Case; 13] = [
+static CASES: [Case; 24] = [
     (
         SECOND,
         "UPDATE intake_meta SET form = 1",
@@ -45,15 +69,39 @@ static CASES: [Case; 13] = [
     ),
     (
         SECOND,
-        "UPDATE intake_meta SET form = 4",
+        "UPDATE intake_meta SET form = 5",
         OpenFault::NotOurs,
         "UPDATE intake_meta SET form = 2",
     ),
     (
         SECOND,
-        "UPDATE intake_meta SET form = 5",
+        "UPDATE intake_meta SET form = 6",
         OpenFault::NotOurs,
         "UPDATE intake_meta SET form = 2",
+    ),
+    (
+        SECOND,
+        "UPDATE intake_meta SET form = 4",
+        OpenFault::Damaged { row: 0 },
+        "UPDATE intake_meta SET form = 2",
+    ),
+    (
+        THIRD,
+        "UPDATE intake_meta SET form = 4",
+        OpenFault::Damaged { row: 0 },
+        "UPDATE intake_meta SET form = 3",
+    ),
+    (
+        FOURTH,
+        "UPDATE intake_meta SET form = 5",
+        OpenFault::NotOurs,
+        "UPDATE intake_meta SET form = 4",
+    ),
+    (
+        FOURTH,
+        "UPDATE intake_meta SET form = 3",
+        OpenFault::NotOurs,
+        "UPDATE intake_meta SET form = 4",
     ),
     (
         SECOND,
@@ -78,6 +126,24 @@ static CASES: [Case; 13] = [
         "CREATE TABLE amends (id INTEGER PRIMARY KEY) STRICT",
         OpenFault::NotOurs,
         "DROP TABLE amends",
+    ),
+    (
+        SECOND,
+        "CREATE TABLE received (id INTEGER PRIMARY KEY) STRICT",
+        OpenFault::NotOurs,
+        "DROP TABLE received",
+    ),
+    (
+        THIRD,
+        "CREATE INDEX Received ON kept (body)",
+        OpenFault::NotOurs,
+        "DROP INDEX Received",
+    ),
+    (
+        FOURTH,
+        "CREATE VIEW received AS SELECT seq FROM kept",
+        OpenFault::NotOurs,
+        "DROP VIEW received",
     ),
     (
         SECOND,
@@ -115,13 +181,30 @@ static CASES: [Case; 13] = [
         OpenFault::Damaged { row: 2 },
         "UPDATE migrated SET last = 1; UPDATE finding SET code = 1",
     ),
-];
-
-/// The requests of each form, and one that comes later.
-static THREE: [Request; 3] = [
-    ("k-1", false, SMALLEST, 1),
-    ("k-2", false, "", 0),
-    ("k-3", false, "{}", 0),
+    (
+        FOURTH,
+        "UPDATE migrated SET last = 3",
+        OpenFault::Damaged { row: 0 },
+        "UPDATE migrated SET last = 1",
+    ),
+    (
+        FOURTH,
+        "INSERT INTO amends VALUES (3, 1)",
+        OpenFault::Damaged { row: 0 },
+        "DELETE FROM amends WHERE seq = 3",
+    ),
+    (
+        FOURTH,
+        "DROP TABLE amends",
+        OpenFault::Damaged { row: 0 },
+        "CREATE TABLE amends (seq INTEGER PRIMARY KEY, target INTEGER NOT NULL) STRICT; INSERT INTO amends VALUES (2, 1)",
+    ),
+    (
+        FOURTH,
+        "UPDATE finding SET code = 2; CREATE TABLE received (id INTEGER PRIMARY KEY) STRICT",
+        OpenFault::Damaged { row: 2 },
+        "UPDATE finding SET code = 1; DROP TABLE received",
+    ),
 ];
 
 /// The statements of a form in a database; `None` if one is refused.
@@ -158,9 +241,13 @@ fn found<S: Alter + Drop>(
 }
 
 /// The register after its migration and a new request, which is refused; `None` if either has another answer.
-fn continued<S: Alter + Drop>(alloc: Global, conn: Connection<S>) -> Option<Connection<S>> {
+fn continued<S: Alter + Drop>(
+    alloc: Global,
+    conn: Connection<S>,
+    form: &Form,
+) -> Option<Connection<S>> {
     let mut intake = intake_over(alloc, migrate(alloc, conn).ok()?);
-    match submit(alloc, &mut intake, THREE[2]) {
+    match submit(alloc, &mut intake, form.requests[2]) {
         Ok((0, false)) => Some(intake.into_store().into_conn()),
         _ => None,
     }
@@ -180,8 +267,9 @@ fn refused<S: Fresh>(alloc: Global, case: &Case) -> Option<Connection<S>> {
 /// Whether a migration is refused as the case says, and is made once the statement is undone, so the rows were left.
 /// The register keeps a new request as one of after.
 fn is_left<S: Fresh>(alloc: Global, case: &Case) -> Option<bool> {
-    let conn: Connection<S> = continued(alloc, refused(alloc, case)?)?;
-    let (_, has) = found(alloc, conn, case.0, &THREE)?;
+    let form = case.0;
+    let conn: Connection<S> = continued(alloc, refused(alloc, case)?, form)?;
+    let (_, has) = found(alloc, conn, form, &form.requests)?;
     Some(has)
 }
 
@@ -216,16 +304,18 @@ fn migrated_again<S: Fresh>(alloc: Global, form: &Form) -> Result<Store<S>, Open
 /// Whether a migration that is made again if memory was refused gives the register.
 fn survives_refusals<S: Fresh>(alloc: Global, form: &Form) -> Option<bool> {
     let mut store: Store<S> = migrated_again(alloc, form).ok()?;
-    let is_kept = matches!(holds_again(alloc, &mut store, &THREE[..2]), Ok(true));
+    let is_kept = matches!(
+        holds_again(alloc, &mut store, &form.requests[..2]),
+        Ok(true)
+    );
     Some(is_kept && store.old_style_count() == Ok(form.old_style))
 }
 
 #[test]
 fn refused_memory_changes_nothing(rt: HostRuntime) {
-    assert_eq!(rt;
-        survives_refusals::<MemStore>(rt.alloc(), SECOND),
-        Some(true)
-    );
+    for form in [SECOND, FOURTH] {
+        assert_eq!(rt; survives_refusals::<MemStore>(rt.alloc(), form), Some(true));
+    }
 }
 
 impl Trial for Form {
@@ -250,7 +340,7 @@ impl Trial for Form {
         answered: bool,
     ) -> Option<(Connection<S>, bool)> {
         let (conn, fault) = migrated(alloc, conn)?;
-        let (conn, has) = found(alloc, conn, self, &THREE[..2])?;
+        let (conn, has) = found(alloc, conn, self, &self.requests[..2])?;
         let is_old_or_new = matches!(fault, Some(OpenFault::NotOurs))
             || !answered && fault.is_none();
         Some((conn, has && is_old_or_new))
@@ -259,7 +349,7 @@ impl Trial for Form {
 
 #[test]
 fn a_stop_leaves_the_register_of_before_or_after(rt: HostRuntime) {
-    for form in [SECOND, THIRD] {
+    for form in [SECOND, THIRD, FOURTH] {
         hold(&rt, rt.alloc(), form);
     }
 }

@@ -19,16 +19,16 @@ use Rattle.gateway_server.proofs.decide.file.Goals as goal
 pub returns-in-Ok-clause-decided : goal.returns-in-Ok-clause-decided
 returns-in-Ok-clause-decided g c = λ clean before h.
     let r : Request = the_request c.args.filer.now c.args.key.now c.args.target c.args.body.now in
-    let told = c.in-Ok.ensures.answer clean before h in (
+    let told = c.in-Ok.ensures.decides.answer clean before h in (
       firsts (before ++ r ∷ []),
       told.1,
-      old_style_in-after before r c.args.intake.now c.submit.new.self c.in-Ok.ensures.setting.old_style h,
+      old_style_in-after before r c.args.intake.now c.submit.new.self c.in-Ok.ensures.decides.setting.old_style h,
       record {
         fit = ⊎_elim
             (λ (known : has_key before r ≡ true). inl known)
             (λ (new : has_key before r ≡ false). inr (omega (
               arith,
-              c.in-Ok.ensures.room clean before h new,
+              c.in-Ok.ensures.decides.room clean before h new,
               firsts_short before,
             )))
             (cases_Bool (has_key before r));
@@ -49,8 +49,8 @@ pub returns-in-Err-clause-decided : goal.returns-in-Err-clause-decided
 returns-in-Err-clause-decided g c = λ clean before h.
     let r : Request = the_request c.args.filer.now c.args.key.now c.args.target c.args.body.now in (
       before,
-      c.in-Err.ensures.err clean before h,
-      ap (λ n. take n before) c.in-Err.ensures.setting.old_style,
+      c.in-Err.ensures.decides.err clean before h,
+      ap (λ n. take n before) c.in-Err.ensures.decides.setting.old_style,
       Decides-filed_unavailable (limit_of c.args.intake.now) (old_style_in c.args.intake.now before) before r
           c.unavailable.result c.unavailable.ensures,
     )

@@ -17,7 +17,9 @@ use Rattle.gateway_server.proofs.serving.serve_arrival.Goals as goal
 
 pub returns-in-Ok-Message-clause-serves : goal.returns-in-Ok-Message-clause-serves
 returns-in-Ok-Message-clause-serves g c = λ clean now kept.
-    let served = c.serve_message.ensures.serves clean now kept in (
+    let held = rw c.date.ensures.rest at c.date.ensures.holds now kept in
+    let serves = rw c.date.ensures.rest at c.serve_message.ensures.serves in
+    let served = serves clean now held in (
       served.0,
       served.1,
       served.2,
@@ -31,6 +33,11 @@ returns-in-Ok-Message-clause-serves g c = λ clean now kept.
           (with_written ended (g.W.Sink.written c.next.new.writer)) c.args.inbox.now c.next.new.self
           c.args.marks.now.items h c.next.ensures.reads arrival.1 interim),
     )
+
+pub returns-in-Ok-Message-clause-setting : goal.returns-in-Ok-Message-clause-setting
+returns-in-Ok-Message-clause-setting g c =
+    let kept = rw c.date.ensures.rest at c.serve_message.ensures.setting in
+    record { clean = kept.clean; limit = kept.limit; old_style = kept.old_style }
 
 pub returns-in-Ok-Refuse-clause-serves : goal.returns-in-Ok-Refuse-clause-serves
 returns-in-Ok-Refuse-clause-serves g c = λ clean now kept. (

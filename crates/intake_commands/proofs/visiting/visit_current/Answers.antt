@@ -1,4 +1,4 @@
-use Rattle.std.proofs.Common.{◌≡◌, ℕ, List, Option, sym, subst}
+use Rattle.std.proofs.Common.{◌≡◌, ℕ, List, Option, None, sym, subst}
 use Rattle.sqlite_disk.specs.declared.Disk.{Ghosts}
 use Rattle.intake_process.specs.declared.tasks.errand.Errand.{Errand}
 use Rattle.intake_process.specs.declared.visiting.Visited.{Visited}
@@ -37,7 +37,7 @@ returns-in-Err g c =
       _,
       _,
       c.visit-done.result,
-      same_pages Check _ _ pages _ _ old new c.visit-done.result c.end_refused.ensures.same c.visit-done.ensures,
+      same_pages (Check None) _ _ pages _ _ old new c.visit-done.result c.end_refused.ensures.same c.visit-done.ensures,
       subst (λ done. IsCurrentTold c.args.name c.args.not_earlier done out out' c.end_refused.result) (sym c.in-Err.is)
           (subst (λ why. IsFaultTold c.args.name Migrate why out out' c.end_refused.result) c.refusal_of.ensures
           c.end_refused.ensures.told),

@@ -1,5 +1,5 @@
 use Rattle.std.proofs.Common.{refl, sym, ◌∙◌, subst, inl, inr}
-use Rattle.outbox_process.specs.declared.begun.Beginning.TheVariants.{Found}
+use Rattle.outbox_process.specs.declared.beginning.Beginning.TheVariants.{Found}
 use Rattle.outbox_process.specs.Process.{parts, PerformsErrand}
 use Rattle.outbox_commands.proofs.Opened.{refused, opened}
 use Rattle.outbox_commands.proofs.errand.run_errand.Goals as goal

@@ -1,5 +1,5 @@
 use Rattle.std.proofs.Common.{refl, ◌∙◌, inl, inr}
-use Rattle.outbox_process.specs.declared.begun.Beginning.TheVariants.{Made}
+use Rattle.outbox_process.specs.declared.beginning.Beginning.TheVariants.{Made}
 use Rattle.outbox_process.specs.Process.{parts}
 use Rattle.outbox_commands.proofs.Opened.{refused, opened}
 use Rattle.outbox_commands.proofs.tasks.init.Goals as goal

@@ -1,5 +1,5 @@
 use Rattle.std.proofs.Common.{◌∙◌, sym, inl, inr}
-use Rattle.outbox_process.specs.declared.begun.Beginning.TheVariants.{Migrated}
+use Rattle.outbox_process.specs.declared.beginning.Beginning.TheVariants.{Migrated}
 use Rattle.outbox_process.specs.Process.{parts}
 use Rattle.outbox_commands.specs.Tasks.{is_current}
 use Rattle.outbox_commands.proofs.Current.{not_migrated, wanted, unwanted}

@@ -1,4 +1,4 @@
-use Rattle.std.proofs.Common.{◌≡◌, ◌≤◌, ℕ, List, length, take}
+use Rattle.std.proofs.Common.{◌≡◌, ◌≤◌, ℕ, List, Option, length, take}
 use Rattle.sqlite.specs.Held.{state}
 use Rattle.sqlite.specs.State.{HasCleanDisk}
 use Rattle.table_rows.specs.Leaving.{Leaves}
@@ -6,6 +6,7 @@ use Rattle.table_rows.specs.Leaving.Ending.{Passed}
 use Rattle.table_rows.specs.Standing.{HasCommitted}
 use Rattle.filing_model.specs.Request.{Request}
 use Rattle.filing_model.specs.Register.{kept}
+use Rattle.register_rows.specs.Received.{Received}
 use Rattle.register_tables.specs.Registers.{IsRegisterOf}
 use Rattle.register_digest.specs.Digest.{IsDigestOf, rows_of}
 use Rattle.register_digest.specs.Views.{bytes_of, count_of}
@@ -18,5 +19,7 @@ invariant-loop-at g l =
       leaves : Leaves Passed old now;
       counted : count_of l.digest ≡ l.at;
       digested : HasCleanDisk now → (old_style : ℕ) (F : List Request) → HasCommitted (IsRegisterOf old_style F) old
-          → l.count ≤ length (kept F) → IsDigestOf (count_of l.digest) (bytes_of l.digest) (take l.at (rows_of F));
+          → (moments : List (Option ℕ)) → length moments ≡ length F → HasCommitted (λ db. Received db moments) old
+          → l.count ≤ length (kept F) → l.count ≤ length moments
+          → IsDigestOf (count_of l.digest) (bytes_of l.digest) (take l.at (rows_of F moments));
     }

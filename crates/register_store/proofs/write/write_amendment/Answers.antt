@@ -15,8 +15,8 @@ returns-clause-adds g c clean =
     let row = c.args.row.now in
     let was_clean : HasCleanDisk mid = omega (arith, c.write_judged.ensures.leaves.survives.clean) in
     let one = c.in_ok-insert_amends.ensures.gains was_clean in
-    IfOk-weaker c.write_judged.result _ _ (λ _ two. adds_amends c.args.seq c.args.target row.filer.now row.key.now
-    row.body.now (outcome_of c.args.number row.judged.now) first mid last one two)
+    IfOk-weaker c.write_judged.result _ _ (λ _ two. adds_amends c.args.seq c.args.target row.moment.milliseconds
+    row.filer.now row.key.now row.body.now (outcome_of c.args.number row.judged.now) first mid last one two)
     (c.write_judged.ensures.adds clean)
 
 pub returns-clause-leaves : goal.returns-clause-leaves

@@ -11,13 +11,23 @@ pub returns-clause-adds : goal.returns-clause-adds
 returns-clause-adds g c clean =
     let first = state g.S.Store c.args.tx.now.conn.now in
     let mid = state g.S.Store c.insert_kept.new.tx.conn.now in
+    let next = state g.S.Store c.insert_received.new.tx.conn.now in
     let last = state g.S.Store c.insert_items.new.tx.conn.now in
     let row = c.args.row.now in
-    let was_clean : HasCleanDisk mid = omega (arith, c.insert_items.ensures.leaves.survives.clean) in
+    let late : HasCleanDisk next = omega (arith, c.insert_items.ensures.leaves.survives.clean) in
+    let was_clean : HasCleanDisk mid = omega (arith, c.insert_received.ensures.inserts.leaves.survives.clean, late) in
     let one = c.in_ok-insert_kept.ensures.inserts.gains was_clean in
-    IfOk-weaker c.insert_items.result _ _ (λ _ two. adds_refused c.args.seq
-    (the_request row.filer.now row.key.now None row.body.now) refl c.args.findings.now first mid last one two)
-    (c.insert_items.ensures.gains clean one.inside)
+    let two = c.in_ok-insert_received.ensures.inserts.gains late in
+    IfOk-weaker c.insert_items.result _ _ (λ _ three. adds_refused c.args.seq
+    (the_request row.filer.now row.key.now None row.body.now) refl row.moment.milliseconds
+    c.insert_received.ensures.within c.args.findings.now first mid next last one two three)
+    (c.insert_items.ensures.gains clean two.inside)
+
+pub returns-in_err-insert_received-clause-leaves : goal.returns-in_err-insert_received-clause-leaves
+returns-in_err-insert_received-clause-leaves g c =
+    writes_then c.insert_kept.ensures.inserts.leaves c.insert_received.ensures.inserts.leaves
 
 pub returns-clause-leaves : goal.returns-clause-leaves
-returns-clause-leaves g c = writes_then c.insert_kept.ensures.inserts.leaves c.insert_items.ensures.leaves
+returns-clause-leaves g c =
+    writes_then (writes_then c.insert_kept.ensures.inserts.leaves c.insert_received.ensures.inserts.leaves)
+    c.insert_items.ensures.leaves

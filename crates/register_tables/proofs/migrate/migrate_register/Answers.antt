@@ -1,4 +1,6 @@
-use Rattle.std.proofs.Common.{◌≡◌, inl, inr, not, true, false, Err, IsTrue, refl, sym, ap, ◌∙◌, rules, arith}
+use Rattle.std.proofs.Common.{◌≡◌, inl, inr, not, true, false, None, Err, IsTrue, refl, sym, ap, ◌∙◌, rules, arith}
+use Rattle.std.proofs.Common.{length}
+use Rattle.std.proofs.lemmas.List.{length-replicate}
 use Rattle.sqlite.specs.Held.{state}
 use Rattle.sqlite.specs.State.{HasCleanDisk}
 use Rattle.sqlite.proofs.StateLemmas.{survives_then, survives_weaker}
@@ -7,7 +9,8 @@ use Rattle.register_tables.specs.Earlier.{is_blocked, ForEarlier}
 use Rattle.register_tables.specs.Migrating.{IsMigrated, MigratesTo}
 use Rattle.register_tables.specs.Opening.{IsCounted}
 use Rattle.register_tables.proofs.NotSurveyed.{survey_sound}
-use Rattle.register_tables.proofs.Surveyed.{to_end, migrates, migrates_only, not_blocked, adds_nothing, nothing_then}
+use Rattle.register_tables.proofs.Surveyed.{to_end, migrates, migrates_only, current_only, not_blocked}
+use Rattle.register_tables.proofs.Surveyed.{adds_nothing, nothing_then}
 use Rattle.register_tables.proofs.migrate.migrate_register.Goals as goal
 
 pub returns-then-is_blocked : goal.returns-then-is_blocked
@@ -38,6 +41,7 @@ returns-then-is_blocked g c = record {
   crash = survives_weaker (state g.S.Store c.args.conn.now) (state g.S.Store c.read_earlier.new.conn) _ _
       (λ _ db none. absurd none) c.read_earlier.ensures.leaves.survives;
   durable = λ clean. tt;
+  undated = λ clean. tt;
 }
 
 pub returns-in-Ok : goal.returns-in-Ok
@@ -99,6 +103,19 @@ returns-in-Ok g c =
               register = found.1.now alive;
             },
           );
+      undated = λ clean form old_style F alone is trees left.
+          let done = ran clean in
+          let stands =
+          current_only g.S.Store c.args.conn.now c.write.new.conn done.0 form c.in_ok-found.found.counts done.1
+          c.write.ensures.autocommit old_style F alone is in
+          let current = stands.now (c.in-Ok.ensures.written clean).is_open in
+          record {
+            db = (state g.S.Store c.write.new.conn).now;
+            is = c.in-Ok.ensures.durable clean trees left;
+            register = current.register;
+            one_each = length-replicate (length F) None;
+            received = current.undated;
+          };
     }
 
 pub returns-in-Err : goal.returns-in-Err
@@ -145,6 +162,7 @@ returns-in-Err g c = record {
       })
       c.read_earlier.ensures.leaves.survives c.write.ensures.crash;
   durable = λ clean. tt;
+  undated = λ clean. tt;
 }
 
 pub returns-in_err-found : goal.returns-in_err-found
@@ -165,4 +183,5 @@ returns-in_err-found g c =
       crash = survives_weaker (state g.S.Store c.args.conn.now) (state g.S.Store c.read_earlier.new.conn) _ _
           (λ _ db none. absurd none) c.read_earlier.ensures.leaves.survives;
       durable = λ clean. tt;
+      undated = λ clean. tt;
     })

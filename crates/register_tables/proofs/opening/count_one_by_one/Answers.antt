@@ -1,16 +1,22 @@
-use Rattle.std.proofs.lemmas.Option.{IfSome_then}
+use Rattle.std.proofs.Common.{◌≤◌, ◌^◌, [], sym, subst, arith}
 use Rattle.sqlite.specs.Held.{state}
-use Rattle.register_tables.specs.Opening.{Later as Rows}
-use Rattle.register_tables.specs.declared.opening.Later.{Later}
+use Rattle.register_tables.specs.LaterRows.{later_rows}
 use Rattle.register_tables.proofs.TotalLemmas.{counted_with}
 use Rattle.register_tables.proofs.opening.count_one_by_one.Goals as goal
 
-abbrev rows_of : Later → Rows
-rows_of l = record { migrated = l.migrated.items; amends = l.amends.items }
-
-pub returns-in-Some-clause-found : goal.returns-in-Some-clause-found
-returns-in-Some-clause-found g c clean d =
+pub returns-in-Ok-clause-found : goal.returns-in-Ok-clause-found
+returns-in-Ok-clause-found g c clean d received are =
     let totals = rw (c.in-Some.is, c.deref.ensures.value) at c.in_ok-totals.ensures.counted clean in
-    IfSome_then c.counts_of.result c.counts_of.ensures.some
-    (λ counts h. counted_with counts c.in-Some.totals (rows_of c.args.later.now) (state g.S.Store c.args.conn.now).now
-    (totals.amounts d) h)
+    let told = c.in-Ok.ensures.told in
+    counted_with c.in-Ok.counts c.in-Some.totals (later_rows c.args.later.now received)
+    (state g.S.Store c.args.conn.now).now (totals.amounts d) (told.0, told.1, told.2)
+    (told.3 received, told.4 received are)
+
+pub returns-in-Ok-clause-few : goal.returns-in-Ok-clause-few
+returns-in-Ok-clause-few g c =
+    let few = rw c.in-Some.is at c.in_ok-totals.ensures.few in
+    let told = c.in-Ok.ensures.told in (
+      subst (λ n. n ≤ 2 ^ 62) (sym told.0) few.0,
+      omega (arith, few.1, told.0, told.1),
+      (told.3 []).within,
+    )

@@ -1,23 +1,36 @@
-use Rattle.std.proofs.Common.{inl, inr, refl, Err, rules, ◌≡◌}
+use Rattle.std.proofs.Common.{inl, inr, refl, Err, rules, subst, ◌≡◌}
 use Rattle.sqlite.specs.Held.{state}
 use Rattle.sqlite.specs.State.{HasCleanDisk}
+use Rattle.register_rows.specs.Dates.{AreDates}
 use Rattle.register_tables.proofs.OpenLemmas.{is_read}
 use Rattle.table_rows.proofs.LeavingLemmas.{asked_then, clean_before}
 use Rattle.register_tables.proofs.opening.read_later.Goals as goal
 
 pub returns-clause-read : goal.returns-clause-read
 returns-clause-read g c clean =
+    let second : HasCleanDisk (state g.S.Store c.amends_rows.new.conn) =
+    clean_before c.received_rows.ensures.leaves clean in
     let first : HasCleanDisk (state g.S.Store c.migrated_rows.new.conn) =
-    clean_before c.amends_rows.ensures.leaves clean in (
-      c.migrated_rows.new.conn,
-      is_read g.S.Store _ c.args.conn.now c.migrated_rows.new.conn c.in_ok-migrated.migrated.items
-          (c.in_ok-migrated.ensures.shown first) c.migrated_rows.ensures.leaves.survives.limit,
+    clean_before c.amends_rows.ensures.leaves second in (
+      c.in_ok-received.received.items,
+      subst (λ rows. AreDates rows c.of.result) c.deref.ensures.value c.of.ensures,
       (
-        c.amends_rows.new.conn,
-        is_read g.S.Store _ c.migrated_rows.new.conn c.amends_rows.new.conn
-            c.in_ok-amends.amends.items (c.in_ok-amends.ensures.shown clean)
-            c.amends_rows.ensures.leaves.survives.limit,
-        refl,
+        c.migrated_rows.new.conn,
+        is_read g.S.Store _ c.args.conn.now c.migrated_rows.new.conn c.in_ok-migrated.migrated.items
+            (c.in_ok-migrated.ensures.shown first) c.migrated_rows.ensures.leaves.survives.limit,
+        (
+          c.amends_rows.new.conn,
+          is_read g.S.Store _ c.migrated_rows.new.conn c.amends_rows.new.conn
+              c.in_ok-amends.amends.items (c.in_ok-amends.ensures.shown second)
+              c.amends_rows.ensures.leaves.survives.limit,
+          (
+            c.received_rows.new.conn,
+            is_read g.S.Store _ c.amends_rows.new.conn c.received_rows.new.conn
+                c.in_ok-received.received.items (c.in_ok-received.ensures.shown clean)
+                c.received_rows.ensures.leaves.survives.limit,
+            refl,
+          ),
+        ),
       ),
     )
 
@@ -38,3 +51,30 @@ pub returns-in_err-amends-clause-leaves : goal.returns-in_err-amends-clause-leav
 returns-in_err-amends-clause-leaves g c =
     let told : c.from_residual-in_err-amends.result ≡ Err c.in_err-amends.field-0.0 = search rules in
     rw told (asked_then c.in_ok-migrated.ensures.leaves c.in_err-amends.ensures.leaves)
+
+pub returns-in_err-received-clause-failed : goal.returns-in_err-received-clause-failed
+returns-in_err-received-clause-failed g c clean =
+    let second : HasCleanDisk (state g.S.Store c.amends_rows.new.conn) =
+    clean_before c.received_rows.ensures.leaves clean in
+    let first : HasCleanDisk (state g.S.Store c.migrated_rows.new.conn) =
+    clean_before c.amends_rows.ensures.leaves second in
+    let told : c.from_residual-in_err-received.result ≡ Err c.in_err-received.field-0.0 = search rules in
+    rw told (inr (
+      c.migrated_rows.new.conn,
+      c.in_ok-migrated.migrated.items,
+      is_read g.S.Store _ c.args.conn.now c.migrated_rows.new.conn c.in_ok-migrated.migrated.items
+          (c.in_ok-migrated.ensures.shown first) c.migrated_rows.ensures.leaves.survives.limit,
+      inr (
+        c.amends_rows.new.conn,
+        c.in_ok-amends.amends.items,
+        is_read g.S.Store _ c.migrated_rows.new.conn c.amends_rows.new.conn c.in_ok-amends.amends.items
+            (c.in_ok-amends.ensures.shown second) c.amends_rows.ensures.leaves.survives.limit,
+        inl (c.in_err-received.field-0.0, c.in_err-received.ensures.failed clean, refl),
+      ),
+    ))
+
+pub returns-in_err-received-clause-leaves : goal.returns-in_err-received-clause-leaves
+returns-in_err-received-clause-leaves g c =
+    let told : c.from_residual-in_err-received.result ≡ Err c.in_err-received.field-0.0 = search rules in
+    rw told (asked_then (asked_then c.in_ok-migrated.ensures.leaves c.in_ok-amends.ensures.leaves)
+    c.in_err-received.ensures.leaves)

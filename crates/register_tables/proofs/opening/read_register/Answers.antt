@@ -4,13 +4,10 @@ use Rattle.sqlite.specs.Held.{state}
 use Rattle.sqlite.specs.State.{HasCleanDisk}
 use Rattle.table_rows.proofs.LeavingLemmas.{asked_then, clean_before, keeps_commit}
 use Rattle.register_tables.proofs.Calls.{kept_on_err, on_answer, same_on_ok}
-use Rattle.register_tables.specs.Opening.{Later as Rows, IsRefused}
-use Rattle.register_tables.specs.declared.opening.Later.{Later}
+use Rattle.register_tables.specs.LaterRows.{later_rows}
+use Rattle.register_tables.specs.Opening.{IsRefused}
 use Rattle.register_tables.proofs.Opened.{finds, counts_them, refused_after, by_memory_or_disk, unread}
 use Rattle.register_tables.proofs.opening.read_register.Goals as goal
-
-abbrev rows_of : Later → Rows
-rows_of l = record { migrated = l.migrated.items; amends = l.amends.items }
 
 pub returns-in-Ok : goal.returns-in-Ok
 returns-in-Ok g c =
@@ -22,32 +19,35 @@ returns-in-Ok g c =
     λ clean.
     let mid : HasCleanDisk (state g.S.Store c.read_later.new.conn) = clean_before c.count_all.ensures.leaves clean in
     let first : HasCleanDisk (state g.S.Store c.read_meta.new.conn) = clean_before c.read_later.ensures.leaves mid in
+    let read = c.in-Ok.ensures.read mid in
     IfErr-weaker c.count_all.result _ _ (λ fault h. refused_after g.S.Store c.args.conn.now c.read_meta.new.conn
-    (c.in_ok-read_meta.ensures.read first) c.read_later.new.conn c.count_all.new.conn (rows_of c.in-Ok.later)
-    (c.in-Ok.ensures.read mid) fault h) (c.count_all.ensures.refused clean) in
+    (c.in_ok-read_meta.ensures.read first) c.read_later.new.conn c.count_all.new.conn
+    (later_rows c.in-Ok.later read.0) read.2 fault (h read.0 read.1)) (c.count_all.ensures.refused clean) in
     record {
       found = λ clean d.
           let mid : HasCleanDisk (state g.S.Store c.read_later.new.conn) =
           clean_before c.count_all.ensures.leaves clean in
           let first : HasCleanDisk (state g.S.Store c.read_meta.new.conn) =
           clean_before c.read_later.ensures.leaves mid in
+          let read = c.in-Ok.ensures.read mid in
           on_answer c.count_all.result _ _ c.count_all.ensures.leaves clean
           (λ same counts h. finds g.S.Store c.args.conn.now c.read_meta.new.conn c.read_later.new.conn
-          c.count_all.new.conn (rows_of c.in-Ok.later) (c.in_ok-read_meta.ensures.read first)
-          (c.in-Ok.ensures.read mid) same
-          d c.is_settled.ensures.live c.requires.autocommit (c.is_settled.ensures.settled settled) counts h)
+          c.count_all.new.conn (later_rows c.in-Ok.later read.0) (c.in_ok-read_meta.ensures.read first)
+          read.2 same d c.is_settled.ensures.live c.requires.autocommit (c.is_settled.ensures.settled settled) counts
+          (λ common. h common read.0 read.1))
           (c.count_all.ensures.counted clean);
       only = λ clean.
           let mid : HasCleanDisk (state g.S.Store c.read_later.new.conn) =
           clean_before c.count_all.ensures.leaves clean in
           let first : HasCleanDisk (state g.S.Store c.read_meta.new.conn) =
           clean_before c.read_later.ensures.leaves mid in
+          let read = c.in-Ok.ensures.read mid in
           on_answer c.count_all.result _ _ c.count_all.ensures.leaves clean
           (λ same counts h old_style F is. counts_them g.S.Store c.args.conn.now c.read_meta.new.conn
-          c.read_later.new.conn c.count_all.new.conn (rows_of c.in-Ok.later) (c.in_ok-read_meta.ensures.read first)
-          (c.in-Ok.ensures.read mid) same
-          is.rows.rows.declared c.is_settled.ensures.live c.requires.autocommit (c.is_settled.ensures.settled settled)
-          counts h old_style F is) (c.count_all.ensures.counted clean);
+          c.read_later.new.conn c.count_all.new.conn (later_rows c.in-Ok.later read.0)
+          (c.in_ok-read_meta.ensures.read first) read.2 same is.rows.rows.declared c.is_settled.ensures.live
+          c.requires.autocommit (c.is_settled.ensures.settled settled) counts (λ common. h common read.0 read.1)
+          old_style F is) (c.count_all.ensures.counted clean);
       few = c.count_all.ensures.few;
       refused = refused;
       sound = λ clean. IfErr-weaker c.count_all.result _ _

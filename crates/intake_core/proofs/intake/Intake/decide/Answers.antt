@@ -1,5 +1,5 @@
 use Rattle.std.proofs.Common.{◌≡◌, List, take, false, Some, None, IsTrue, IfOk, true≢false, refl, sym, ap, ◌∙◌, subst}
-use Rattle.std.proofs.Common.{arith}
+use Rattle.std.proofs.Common.{arith, rules}
 use Rattle.sqlite.specs.State.{HasCleanDisk}
 use Rattle.sqlite.proofs.StateLemmas.{survives_then, survives_weaker}
 use Rattle.filing_model.specs.Request.{Request, has_key}
@@ -10,10 +10,15 @@ use Rattle.filing_model.specs.declared.served.Style.{Style}
 use Rattle.filing_model.proofs.Answers.{answer_kept}
 use Rattle.filing_model.proofs.Keeping.{kept_has_key}
 use Rattle.register_store.specs.Outcomes.{kept_as}
+use Rattle.register_store.proofs.StoreLemmas.{refused_so}
 use Rattle.register_store.specs.Store.{shows, HasRequests}
-use Rattle.register_tables.specs.Registers.{LeavesRegister}
+use Rattle.register_rows.specs.declared.moment.Moment.{Moment}
+use Rattle.register_tables.specs.Registers.{LeavesReceived, LeavesRegister}
 use Rattle.intake_answers.specs.Answered.{IsAnswerTo}
 use Rattle.intake_core.specs.Held.{HoldsRequests, old_style_in, with_request}
+use Rattle.intake_core.specs.Moments.{HoldsMoments, with_moment}
+use Rattle.register_store.specs.Moments as register
+use Rattle.intake_core.proofs.Dating.{moment_repeat}
 use Rattle.intake_core.proofs.Deciding.{has_key-none, HoldsRequests-asked, HoldsRequests-repeat}
 use Rattle.intake_core.proofs.intake.Intake.decide.Given.{Over}
 use Rattle.intake_core.proofs.intake.Intake.decide.Goals.{In-Some, In-None}
@@ -171,3 +176,97 @@ returns-in-None-clause-crash g c =
     let still = (c.in_ok-row.ensures.durable cleaned requests h.rows).0 in
     subst (λ n. LeavesRegister n (with_request requests r) trees) keeps.old_style (left requests asked still fresh))
     c.find.ensures.keeps.crash kept.crash
+
+pub returns-in-Some-clause-dated : goal.returns-in-Some-clause-dated
+returns-in-Some-clause-dated g c =
+    let r = c.args.request.now in
+    let m = c.args.moment.milliseconds in
+    let at_row = (goal.at.returns-in-Some-clause-dated g c).In-Some in
+    let rest = c.repeat.ensures.rest in
+    record {
+      dated = λ clean requests h moments had _.
+          let cleaned : HasCleanDisk (shows g.S.Store c.find.new.self) =
+          subst (λ s. HasCleanDisk (shows g.S.Store s)) rest.store clean in
+          let is = found g at_row cleaned requests h.rows in
+          let known = kept_has_key requests r (kept_as r.filer r.key c.in-Some.row) is.0 in
+          subst (HoldsMoments g.S.Store c.repeat.new.self) (sym (moment_repeat requests r m moments known))
+          (subst (λ s. register.HasMoments g.S.Store s moments) (sym rest.store)
+          (c.in_ok-row.ensures.keeps.moments cleaned requests h.rows moments had));
+      same = λ clean requests h moments had. tt;
+      crash = rw rest.store
+          (survives_weaker (shows g.S.Store c.args.self.now.store) (shows g.S.Store c.find.new.self) _ _
+          (λ clean trees none. absurd none) c.find.ensures.keeps.crash);
+      next = ap (λ (t : Moment). t.milliseconds) rest.moment;
+    }
+
+pub returns-in-Some-clause-received : goal.returns-in-Some-clause-received
+returns-in-Some-clause-received g c =
+    rw c.repeat.ensures.rest.store
+    (survives_weaker (shows g.S.Store c.args.self.now.store) (shows g.S.Store c.find.new.self) _ _
+    (λ clean trees none. absurd none) c.find.ensures.keeps.crash)
+
+pub returns-in-None-clause-dated : goal.returns-in-None-clause-dated
+returns-in-None-clause-dated g c =
+    let r = c.args.request.now in
+    let m = c.args.moment.milliseconds in
+    let at_none = (goal.at.returns-in-None-clause-dated g c).In-None in
+    let keeps = c.in_ok-row.ensures.keeps in
+    let kept = c.keep.ensures.kept in
+    let dated = c.keep.ensures.dated in
+    record {
+      dated = λ clean requests h moments had _.
+          let cleaned = kept.setting.clean clean in
+          let asked =
+          HoldsRequests-asked requests c.args.self.now _ h refl keeps.old_style (keeps.same cleaned requests h.rows) in
+          dated.dated clean requests asked moments (keeps.moments cleaned requests h.rows moments had)
+          (new g at_none cleaned requests h.rows);
+      same = λ clean requests h moments had.
+          let cleaned = kept.setting.clean clean in
+          let asked =
+          HoldsRequests-asked requests c.args.self.now _ h refl keeps.old_style (keeps.same cleaned requests h.rows) in
+          dated.same clean requests asked moments (keeps.moments cleaned requests h.rows moments had);
+      crash = survives_then (shows g.S.Store c.args.self.now.store) (shows g.S.Store c.find.new.self)
+          (shows g.S.Store c.keep.new.self.store) _ _ _
+          (λ clean trees none. absurd none)
+          (λ clean trees left requests moments h had alive _.
+          let cleaned = kept.setting.clean clean in
+          let fresh = new g at_none cleaned requests h.rows in
+          let asked =
+          HoldsRequests-asked requests c.args.self.now _ h refl keeps.old_style (keeps.same cleaned requests h.rows) in
+          let still = (c.in_ok-row.ensures.durable cleaned requests h.rows).0 in
+          subst (λ n. LeavesReceived n (with_request requests r) (with_moment requests r m moments) trees)
+          keeps.old_style
+          (left requests moments asked (keeps.moments cleaned requests h.rows moments had) still fresh))
+          c.find.ensures.keeps.crash dated.crash;
+      next = dated.next;
+    }
+
+pub returns-in-None-clause-received : goal.returns-in-None-clause-received
+returns-in-None-clause-received g c =
+    let r = c.args.request.now in
+    let m = c.args.moment.milliseconds in
+    let at_none = (goal.at.returns-in-None-clause-received g c).In-None in
+    let keeps = c.in_ok-row.ensures.keeps in
+    let kept = c.keep.ensures.kept in
+    survives_then (shows g.S.Store c.args.self.now.store) (shows g.S.Store c.find.new.self)
+    (shows g.S.Store c.keep.new.self.store) _ _ _
+    (λ clean trees none. absurd none)
+    (λ clean trees left requests moments h had.
+    let cleaned = kept.setting.clean clean in
+    let fresh = new g at_none cleaned requests h.rows in
+    let asked =
+    HoldsRequests-asked requests c.args.self.now _ h refl keeps.old_style (keeps.same cleaned requests h.rows) in
+    let still = (c.in_ok-row.ensures.durable cleaned requests h.rows).0 in
+    subst (λ n. LeavesReceived n (with_request requests r) (with_moment requests r m moments) trees) keeps.old_style
+    (left requests moments asked (keeps.moments cleaned requests h.rows moments had) still fresh))
+    c.find.ensures.keeps.crash c.keep.ensures.dated.crash
+
+pub returns-in_err-row-clause-dated : goal.returns-in_err-row-clause-dated
+returns-in_err-row-clause-dated g c = record {
+  dated = λ clean requests h moments had _. search rules;
+  same = λ clean requests h moments had.
+      refused_so c.from_residual.result (c.find.ensures.keeps.moments clean requests h.rows moments had);
+  crash = survives_weaker (shows g.S.Store c.args.self.now.store) (shows g.S.Store c.find.new.self) _ _
+      (λ clean trees none. absurd none) c.find.ensures.keeps.crash;
+  next = refl;
+}

@@ -1,8 +1,10 @@
-use Rattle.std.proofs.Common.{◌≡◌, Option, Some, None, false, not, true≢false, refl, sym, ap, ◌∙◌, subst}
+use Rattle.std.proofs.Common.{◌≡◌, Option, Some, None, false, not, true≢false, refl, rules, sym, ap, ◌∙◌, subst}
 use Rattle.std.specs.Option.{is_some}
 use Rattle.filing_model.specs.Request.{Request}
 use Rattle.filing_model.specs.Register.{kept}
 use Rattle.filing_model.specs.Answer.{kept_for}
+use Rattle.register_rows.specs.declared.moment.Moment.{Moment}
+use Rattle.intake_core.proofs.Dating.{HoldsMoments-same}
 use Rattle.intake_core.proofs.Deciding.{has_key-none}
 use Rattle.intake_core.proofs.intake.Intake.is_new.Goals as goal
 
@@ -20,3 +22,33 @@ returns-clause-new g c = λ clean requests h is.
           (sym (rw none at (c.in_ok-row.ensures.found clean requests held.rows parts.target parts.body.now)))),
       (c.in_ok-row.ensures.durable clean requests held.rows).0,
     )
+
+pub returns-clause-looks : goal.returns-clause-looks
+returns-clause-looks g c = record {
+  same = search rules;
+  moments = record {
+    same = λ clean requests h moments had.
+        c.in_ok-row.ensures.keeps.moments clean requests (c.recall.ensures.same requests h).rows moments
+        (HoldsMoments-same c.args.self.now c.recall.new.self moments c.recall.ensures.rest.store had);
+    next = ap (λ (t : Moment). t.milliseconds) c.recall.ensures.rest.moment;
+  };
+  setting = search rules;
+  stopped = search rules;
+  count = search rules;
+  crash = search rules;
+}
+
+pub returns-in_err-row-clause-looks : goal.returns-in_err-row-clause-looks
+returns-in_err-row-clause-looks g c = record {
+  same = search rules;
+  moments = record {
+    same = λ clean requests h moments had.
+        c.find.ensures.keeps.moments clean requests (c.recall.ensures.same requests h).rows moments
+        (HoldsMoments-same c.args.self.now c.recall.new.self moments c.recall.ensures.rest.store had);
+    next = ap (λ (t : Moment). t.milliseconds) c.recall.ensures.rest.moment;
+  };
+  setting = search rules;
+  stopped = search rules;
+  count = search rules;
+  crash = search rules;
+}

@@ -1,19 +1,24 @@
-use Rattle.std.proofs.Common.{◌≡◌, Bool, List, take, ◌++◌, ◌∷◌, [], false, IsTrue, rules, sym, ap, ◌∙◌, subst}
+use Rattle.std.proofs.Common.{◌≡◌, Bool, List, take, ◌++◌, ◌∷◌, [], false, Option, Some, ℕ, IsTrue, rules, sym, ap, ◌∙◌}
+use Rattle.std.proofs.Common.{subst}
 use Rattle.std.proofs.lemmas.List.{take-append-le}
 use Rattle.sqlite.specs.State.{HasCleanDisk}
 use Rattle.sqlite.proofs.StateLemmas.{survives_weaker}
 use Rattle.xbrl_report.specs.Judgement.{IsAmendmentJudgement}
-use Rattle.filing_model.specs.Request.{Request}
+use Rattle.filing_model.specs.Request.{Request, firsts}
 use Rattle.filing_model.specs.Answer.{answer_by}
 use Rattle.filing_model.specs.Style.{style_of, HasStyle}
 use Rattle.filing_model.specs.declared.served.Style.{Style}
 use Rattle.filing_model.specs.declared.served.Style.TheVariants.{Problem}
 use Rattle.filing_model.specs.Views.{the_request, view_outcome}
 use Rattle.filing_model.proofs.Answers.{answer_new}
-use Rattle.register_tables.specs.Registers.{LeavesRegister}
+use Rattle.register_tables.specs.Registers.{LeavesReceived, LeavesRegister}
 use Rattle.register_store.specs.Store.{shows}
+use Rattle.register_store.proofs.StoreLemmas.{refused_so}
 use Rattle.intake_answers.specs.Cache.{IsNameIfAny}
+use Rattle.register_rows.specs.declared.moment.Moment.{Moment}
 use Rattle.intake_core.specs.Held.{old_style_of, old_style_in}
+use Rattle.intake_core.specs.Moments.{HoldsMoments}
+use Rattle.intake_core.proofs.Dating.{HoldsMoments-same, moment_new}
 use Rattle.intake_core.proofs.Deciding.{IsKeptIn-new, HoldsRequests-more, HoldsRequests-new, firsts-more, style_of-new}
 use Rattle.intake_core.proofs.intake.Intake.keep_judged.Given.{Over}
 use Rattle.intake_core.proofs.intake.Intake.keep_judged.Goals.{In_ok-judged}
@@ -92,4 +97,55 @@ returns-in_err-outcome-clause-kept g c =
           (sym (firsts-more requests r h.firsts' given.0))
           (left requests h.rows alive given.0 (fair g at_judged _ given.1))) c.add.ensures.added.crash;
       is_open = search rules;
+    })
+
+pub returns-clause-dated : goal.returns-clause-dated
+returns-clause-dated g c =
+    let at_judged = (goal.at.returns-clause-dated g c).In_ok-judged in
+    let r : Request = asked g at_judged in
+    let m = c.args.moment.milliseconds in
+    rw (← c.request.view_is) (record {
+      dated = λ clean requests h moments had given.
+          let cleaned : HasCleanDisk (shows g.S.Store c.add.new.self.store) =
+          subst (λ s. HasCleanDisk (shows g.S.Store s)) c.remember.ensures.rest.store clean in
+          let added = c.in_ok-outcome.ensures.moments.added cleaned requests h.rows moments had in
+          HoldsMoments-same c.add.new.self c.remember.new.self _ c.remember.ensures.rest.store
+          (subst (HoldsMoments g.S.Store c.add.new.self) (sym (moment_new requests r m moments given.0)) added);
+      same = λ clean requests h moments had. tt;
+      crash =
+          rw c.remember.ensures.rest.store
+          (survives_weaker (shows g.S.Store c.args.self.now.store) (shows g.S.Store c.add.new.self.store) _ _
+          (λ clean trees left requests moments h had alive given.
+          subst (λ ms. LeavesReceived (old_style_of c.args.self.now) (firsts (requests ++ r ∷ [])) ms trees)
+          (sym (moment_new requests r m moments given.0))
+          (subst (λ (rs : List Request). LeavesReceived (old_style_of c.args.self.now) rs (moments ++ Some m
+          ∷ []) trees)
+          (sym (firsts-more requests r h.firsts' given.0))
+          (left requests moments h.rows had alive
+          (record { key = given.0; judged = fair g at_judged _ given.1 }, tt)))) c.add.ensures.moments.crash);
+      next =
+          ap (λ (t : Moment). t.milliseconds) (c.remember.ensures.rest.moment ∙ c.in_ok-outcome.ensures.rest.3);
+    })
+
+pub returns-in_err-outcome-clause-dated : goal.returns-in_err-outcome-clause-dated
+returns-in_err-outcome-clause-dated g c =
+    let at_judged = (goal.at.returns-in_err-outcome-clause-dated g c).In_ok-judged in
+    let r : Request = asked g at_judged in
+    let m = c.args.moment.milliseconds in
+    rw (← c.request.view_is) (record {
+      dated = λ clean requests h moments had given. search rules;
+      same = λ clean requests h moments had.
+          refused_so c.from_residual-in_err-outcome.result
+          (c.in_err-outcome.ensures.moments.same clean requests h.rows moments had);
+      crash =
+          survives_weaker (shows g.S.Store c.args.self.now.store) (shows g.S.Store c.add.new.self.store) _ _
+          (λ clean trees left requests moments h had alive given.
+          subst (λ ms. LeavesReceived (old_style_of c.args.self.now) (firsts (requests ++ r ∷ [])) ms trees)
+          (sym (moment_new requests r m moments given.0))
+          (subst (λ (rs : List Request). LeavesReceived (old_style_of c.args.self.now) rs (moments ++ Some m
+          ∷ []) trees)
+          (sym (firsts-more requests r h.firsts' given.0))
+          (left requests moments h.rows had alive
+          (record { key = given.0; judged = fair g at_judged _ given.1 }, tt)))) c.add.ensures.moments.crash;
+      next = search rules;
     })

@@ -1,28 +1,37 @@
-use Rattle.std.proofs.Common.{◌≡◌, List, take, length, sym, subst}
+use Rattle.std.proofs.Common.{◌≡◌, List, take, length, sym, subst, ◌∙◌, arith}
 use Rattle.std.proofs.Math.Seq.{take-length}
+use Rattle.std.proofs.lemmas.List.{take_all, take-map}
 use Rattle.filing_model.specs.Request.{Request}
-use Rattle.intake_core.specs.Group.{AddsResults}
+use Rattle.register_rows.specs.declared.moment.Moment.{Moment}
 use Rattle.intake_core.specs.declared.intake.group.Together.TheVariants.{Kept, Alone, Failed}
-use Rattle.intake_core.specs.Together.{AnswersGroup, KeepsFirst}
+use Rattle.intake_core.specs.Together.{AddsResults, AnswersGroup, KeepsFirst, in_milliseconds}
+use Rattle.intake_core.proofs.Dating.{length_milliseconds}
 use Rattle.intake_core.proofs.Together.{together_alone, together_failed, together_kept}
 use Rattle.intake_core.proofs.intake.Intake.submit_next.Goals as goal
 use Rattle.std.proofs.Common.{rules}
 
 pub returns-then-self : goal.returns-then-self
 returns-then-self g c =
-    let all = c.args.requests.now in (
+    let all = c.args.requests.now in
+    let ms = in_milliseconds c.args.moments.now in
+    let whole : take (length all) ms ≡ ms =
+    take_all (length all) ms (omega (arith, length_milliseconds c.args.moments.now, c.requires.moments)) in (
       length all,
       c.requires.some,
       search rules,
-      subst (λ (rs : List Request). AddsResults g.S.Store rs c.args.self.now c.submit_each.new.self c.args.results.now
-          c.submit_each.new.results) (sym (take-length all)) c.submit_each.ensures,
+      subst (λ (rs : List Request). AddsResults g.S.Store rs (take (length all) ms) c.args.self.now
+          c.submit_each.new.self c.args.results.now c.submit_each.new.results) (sym (take-length all))
+          (subst (λ ms. AddsResults g.S.Store all ms c.args.self.now c.submit_each.new.self c.args.results.now
+          c.submit_each.new.results) (sym whole) c.submit_each.ensures),
     )
 
 pub returns-in-Kept : goal.returns-in-Kept
 returns-in-Kept g c =
     let all = c.args.requests.now in
     let count = length c.in-Kept.outcomes.items in
-    let keeps : KeepsFirst g.S.Store all c.args.self.now c.keep_first.new.self (Kept c.in-Kept.outcomes) =
+    let ms = in_milliseconds c.args.moments.now in
+    let long_ms : length ms ≡ length all = length_milliseconds c.args.moments.now ∙ c.requires.moments in
+    let keeps : KeepsFirst g.S.Store all ms c.args.self.now c.keep_first.new.self (Kept c.in-Kept.outcomes) =
     rw c.in-Kept.is at c.keep_first.ensures in
     let many : c.len.result ≡ count = search rules in
     let answers : AnswersGroup g.S.Store (take count all) c.in-Kept.outcomes.items c.keep_first.new.self
@@ -30,7 +39,7 @@ returns-in-Kept g c =
       count,
       keeps.some.0,
       keeps.some.1,
-      together_kept all c.args.self.now c.keep_first.new.self c.answer_group.new.self c.args.results.now
+      together_kept all ms long_ms c.args.self.now c.keep_first.new.self c.answer_group.new.self c.args.results.now
           c.answer_group.new.results c.if-self.false c.in-Kept.outcomes keeps answers,
     )
 
@@ -38,24 +47,31 @@ pub returns-in-Alone : goal.returns-in-Alone
 returns-in-Alone g c =
     let all = c.args.requests.now in
     let count = c.in-Alone.count in
-    let keeps : KeepsFirst g.S.Store all c.args.self.now c.keep_first.new.self (Alone count) =
+    let ms = in_milliseconds c.args.moments.now in
+    let long_ms : length ms ≡ length all = length_milliseconds c.args.moments.now ∙ c.requires.moments in
+    let keeps : KeepsFirst g.S.Store all ms c.args.self.now c.keep_first.new.self (Alone count) =
     rw c.in-Alone.is at c.keep_first.ensures in (
       count,
       keeps.some.0,
       keeps.some.1,
-      together_alone all c.args.self.now c.keep_first.new.self c.submit_each-in-Alone.new.self c.args.results.now
-          c.submit_each-in-Alone.new.results c.if-self.false count keeps c.submit_each-in-Alone.ensures,
+      together_alone all ms long_ms c.args.self.now c.keep_first.new.self c.submit_each-in-Alone.new.self
+          c.args.results.now c.submit_each-in-Alone.new.results c.if-self.false count keeps
+          (subst (λ ms. AddsResults g.S.Store (take count all) ms c.keep_first.new.self c.submit_each-in-Alone.new.self
+          c.args.results.now c.submit_each-in-Alone.new.results)
+          (sym (take-map (λ (t : Moment). t.milliseconds) count c.args.moments.now)) c.submit_each-in-Alone.ensures),
     )
 
 pub returns-in-Failed : goal.returns-in-Failed
 returns-in-Failed g c =
     let all = c.args.requests.now in
     let count = c.in-Failed.count in
-    let keeps : KeepsFirst g.S.Store all c.args.self.now c.keep_first.new.self (Failed count) =
+    let ms = in_milliseconds c.args.moments.now in
+    let long_ms : length ms ≡ length all = length_milliseconds c.args.moments.now ∙ c.requires.moments in
+    let keeps : KeepsFirst g.S.Store all ms c.args.self.now c.keep_first.new.self (Failed count) =
     rw c.in-Failed.is at c.keep_first.ensures in (
       count,
       keeps.some.0,
       keeps.some.1,
-      together_failed all c.args.self.now c.keep_first.new.self c.refuse_group.new.self c.args.results.now
+      together_failed all ms long_ms c.args.self.now c.keep_first.new.self c.refuse_group.new.self c.args.results.now
           c.refuse_group.new.results c.if-self.false count keeps c.refuse_group.ensures,
     )

@@ -51,7 +51,7 @@ returns-in-Some g c =
       (
         c.in-Some.piece.items,
         ap (λ (seen : Seen). seen.given) is,
-        ap Some (c.new.ensures ∙ ap (λ (bytes : Vec ℕ Global). bytes.items) c.into_bytes.ensures),
+        ap Some (c.new-reader.ensures ∙ ap (λ (bytes : Vec ℕ Global). bytes.items) c.into_bytes.ensures),
         ap Some c.new-writer.ensures.text,
       ),
     )

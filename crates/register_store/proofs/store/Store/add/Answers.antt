@@ -7,11 +7,11 @@ use Rattle.register_store.proofs.SeveralLemmas.{outcome_is}
 use Rattle.register_store.proofs.StoreLemmas.{refused_so}
 use Rattle.register_store.proofs.store.Store.add.Goals as goal
 
-pub returns : goal.returns
-returns g c =
+pub returns-clause-adds : goal.returns-clause-adds
+returns-clause-adds g c =
     let row = c.args.row.now in
-    let kept = rw c.from_ref.ensures.value at c.keep.ensures in
-    let done = rw c.from_ref.ensures.value at c.in_ok-keep.ensures in
+    let kept = rw c.from_ref.ensures.value at c.keep.ensures.keeps in
+    let done = rw c.from_ref.ensures.value at c.in_ok-keep.ensures.keeps in
     let told = c.in_ok-outcome.ensures
     ∙ ap (λ (s : StoreParts _). outcome_of (s.filings + 1) row.judged.now) c.self.view_is in
     record {
@@ -28,10 +28,28 @@ returns g c =
       durable = λ clean F was new_key is. done.durable clean F was (record { key = new_key; judged = is }, tt);
     }
 
-pub returns-in_err-keep : goal.returns-in_err-keep
-returns-in_err-keep g c =
-    let kept = rw c.from_ref.ensures.value at c.keep.ensures in
-    let failed = c.in_err-keep.ensures in record {
+pub returns-clause-moments : goal.returns-clause-moments
+returns-clause-moments g c =
+    let kept = rw c.from_ref.ensures.value at c.keep.ensures.moments in
+    let done = rw c.from_ref.ensures.value at c.in_ok-keep.ensures.moments in
+    record { added = done.added; same = λ clean F was moments had. tt; crash = kept.crash; durable = done.durable }
+
+pub returns-in_err-keep-clause-moments : goal.returns-in_err-keep-clause-moments
+returns-in_err-keep-clause-moments g c =
+    let kept = rw c.from_ref.ensures.value at c.keep.ensures.moments in
+    let failed = c.in_err-keep.ensures.moments in
+    record {
+      added = λ clean F was moments had. search rules;
+      same = λ clean F was moments had.
+          refused_so c.from_residual-in_err-keep.result (failed.same clean F was moments had);
+      crash = kept.crash;
+      durable = λ clean F was moments had fresh. search rules;
+    }
+
+pub returns-in_err-keep-clause-adds : goal.returns-in_err-keep-clause-adds
+returns-in_err-keep-clause-adds g c =
+    let kept = rw c.from_ref.ensures.value at c.keep.ensures.keeps in
+    let failed = c.in_err-keep.ensures.keeps in record {
       added = λ clean F was new_key is. search rules;
       same = λ clean F was. refused_so c.from_residual-in_err-keep.result (failed.same clean F was);
       count = search rules;

@@ -1,15 +1,16 @@
-use Rattle.std.proofs.Common.{◌+◌, ◌-◌, ap, ◌∙◌, arith, rules}
+use Rattle.std.proofs.Common.{◌+◌, ◌-◌, ap, sym, ◌∙◌, arith, rules}
 use Rattle.sqlite.specs.Held.{state}
 use Rattle.register_rows.specs.Catalogue.{view_lines}
 use Rattle.register_store.specs.Store.{StoreParts}
-use Rattle.register_store.proofs.AddsSeveral.{crash_all, durable_all, filings_all, keeps_none, kept_all, placed_first}
+use Rattle.register_store.proofs.AddsSeveral.{crash_all, crash_with, dates_none, durable_all, durable_with, filings_all}
+use Rattle.register_store.proofs.AddsSeveral.{keeps_none, kept_all, moments_kept, moments_stand, placed_first}
 use Rattle.register_store.proofs.AddsSeveral.{stands_all, within_all}
 use Rattle.register_store.proofs.SeveralLemmas.{past_least, past_most}
-use Rattle.register_store.proofs.StoreLemmas.{has_kept, refused_so}
+use Rattle.register_store.proofs.StoreLemmas.{has_dated, has_kept, refused_so}
 use Rattle.register_store.proofs.store.Store.keep.Goals as goal
 
-pub returns : goal.returns
-returns g c =
+pub returns-clause-keeps : goal.returns-clause-keeps
+returns-clause-keeps g c =
     let rows = c.args.rows.now in
     let may = c.requires.rows in
     let store : StoreParts _ =
@@ -48,8 +49,8 @@ returns g c =
           (c.in_ok-next.ensures.durable clean));
     }
 
-pub returns-in_err-next : goal.returns-in_err-next
-returns-in_err-next g c =
+pub returns-in_err-next-clause-keeps : goal.returns-in_err-next-clause-keeps
+returns-in_err-next-clause-keeps g c =
     let rows = c.args.rows.now in
     let store : StoreParts _ =
     record {
@@ -75,10 +76,66 @@ returns-in_err-next g c =
       durable = λ clean F has fresh. search rules;
     }
 
-pub returns-in_err-reserve : goal.returns-in_err-reserve
-returns-in_err-reserve g c =
+pub returns-in_err-reserve-clause-keeps : goal.returns-in_err-reserve-clause-keeps
+returns-in_err-reserve-clause-keeps g c =
     rw (← c.self.view_is) (keeps_none g.S.Store _ (view_lines c.reserve.new.self) c.reserve.ensures.same c.args.rows.now
     c.from_residual.result c.from_residual.ensures.0)
+
+pub returns-clause-moments : goal.returns-clause-moments
+returns-clause-moments g c =
+    let rows = c.args.rows.now in
+    let may = c.requires.rows in
+    let store : StoreParts _ =
+    record {
+      conn = c.self.inside.conn;
+      kept = c.self.inside.kept;
+      filings = c.self.inside.filings;
+      old_style =
+          c.self.inside.old_style;
+      catalogue = view_lines c.self.inside.catalogue;
+    } in
+    record {
+      added = λ clean F. rw (← c.self.view_is) (λ was moments had. record {
+        stands = moments_stand g.S.Store store rows may F moments was had (state g.S.Store c.keep_all.new.conn)
+            c.keep_all.ensures.autocommit (c.in_ok-next.ensures.adds clean);
+        one_each = sym (moments_kept g.S.Store store rows may F moments was had);
+      });
+      same = λ clean F was moments had. tt;
+      crash =
+          rw (← c.self.view_is) (crash_with g.S.Store store rows may (state g.S.Store c.keep_all.new.conn)
+          c.keep_all.ensures.crash);
+      durable = λ clean F.
+          rw (← c.self.view_is) (λ was moments had fresh. durable_with g.S.Store store rows may F moments was had fresh
+          c.keep_all.new.conn (c.in_ok-next.ensures.adds clean) (c.in_ok-next.ensures.durable clean));
+    }
+
+pub returns-in_err-next-clause-moments : goal.returns-in_err-next-clause-moments
+returns-in_err-next-clause-moments g c =
+    let store : StoreParts _ =
+    record {
+      conn = c.self.inside.conn;
+      kept = c.self.inside.kept;
+      filings = c.self.inside.filings;
+      old_style =
+          c.self.inside.old_style;
+      catalogue = view_lines c.self.inside.catalogue;
+    } in
+    record {
+      added = λ clean F was moments had. search rules;
+      same = λ clean F. rw (← c.self.view_is) (λ was moments had.
+          refused_so c.from_residual-in_err-next.result
+          (has_dated g.S.Store _ (view_lines c.reserve.new.self) c.reserve.ensures.same c.keep_all.new.conn moments had
+          c.keep_all.ensures.autocommit (c.in_err-next.ensures.neither clean)));
+      crash =
+          rw (← c.self.view_is) (crash_with g.S.Store store c.args.rows.now c.requires.rows
+          (state g.S.Store c.keep_all.new.conn) c.keep_all.ensures.crash);
+      durable = λ clean F was moments had fresh. search rules;
+    }
+
+pub returns-in_err-reserve-clause-moments : goal.returns-in_err-reserve-clause-moments
+returns-in_err-reserve-clause-moments g c =
+    rw (← c.self.view_is) (dates_none g.S.Store _ (view_lines c.reserve.new.self) c.reserve.ensures.same
+    c.args.rows.now c.from_residual.result c.from_residual.ensures.0)
 
 pub overflow_sub-self : goal.overflow_sub-self
 overflow_sub-self g c =

@@ -1,7 +1,9 @@
-use Rattle.std.proofs.Common.{sym, ◌∙◌, subst, rules}
+use Rattle.std.proofs.Common.{◌≡◌, length, replicate, None, sym, ◌∙◌, subst, rules}
+use Rattle.std.proofs.lemmas.List.{length-replicate}
 use Rattle.sqlite.specs.Held.{state}
 use Rattle.sqlite.proofs.StateLemmas.{survives_weaker}
 use Rattle.table_rows.specs.Standing.{HasCommitted}
+use Rattle.register_rows.specs.Received.{Received}
 use Rattle.register_tables.specs.Refusals.{GivesBackMigrating}
 use Rattle.register_tables.specs.Registers.{IsRegisterOf}
 use Rattle.register_tables.proofs.Surveyed.{old_style_within, leaves_migrated}
@@ -40,7 +42,16 @@ returns-in-Ok g c = record {
     crash = survives_weaker (state g.S.Store c.args.conn) (state g.S.Store c.migrate_register.new.conn) _ _
         (λ _ trees m form old_style F alone is. leaves_migrated g.S.Store c.args.conn trees m form old_style F alone is)
         c.migrate_register.ensures.crash;
-    durable = search rules;
+    durable = λ clean form old_style F alone is. c.in-Ok.ensures.durable clean form old_style F alone is;
+    undated = λ clean form old_style F alone is.
+        let m = c.in-Ok.ensures.migrated clean form alone in
+        let many : length m.requests ≡ length F =
+        sym m.kept_is ∙ (c.in-Ok.ensures.only clean form old_style F alone is).2 in
+        record {
+          stands = subst (λ n. HasCommitted (λ db. Received db (replicate n None))
+              (state g.S.Store c.migrate_register.new.conn)) many m.undated;
+          one_each = length-replicate (length F) None ∙ sym (c.in-Ok.ensures.only clean form old_style F alone is).2;
+        };
   };
   back = search rules;
 }
@@ -63,6 +74,7 @@ returns-in-Err g c =
         refused = (c.migrate_register.new.conn, back);
         crash = search rules;
         durable = search rules;
+        undated = search rules;
       };
       back = back;
     }

@@ -11,3 +11,9 @@ returns-in-Third-clause-counted g c clean = rw c.in-Third.is (c.count_third.ensu
 
 pub returns-in-Third-clause-refused : goal.returns-in-Third-clause-refused
 returns-in-Third-clause-refused g c clean = rw c.in-Third.is (c.count_third.ensures.refused clean)
+
+pub returns-in-Fourth-clause-counted : goal.returns-in-Fourth-clause-counted
+returns-in-Fourth-clause-counted g c clean = rw c.in-Fourth.is (c.count_fourth.ensures.counted clean)
+
+pub returns-in-Fourth-clause-refused : goal.returns-in-Fourth-clause-refused
+returns-in-Fourth-clause-refused g c clean = rw c.in-Fourth.is (c.count_fourth.ensures.refused clean)

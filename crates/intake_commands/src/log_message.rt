@@ -1,0 +1,80 @@
+//! What standard error says while a register is served.
+
+use std::fmt;
+use std::io::Write;
+
+/// The text for a register whose database refused a call.
+const DOWN: &str = concat!(
+    "the database failed, as on a full disk: what was answered is kept; ",
+    "it is opened again before the next request, and until it is open a request gets 503",
+);
+
+/// What becomes of requests until then.
+const PAUSED: &str = "and until then a request gets 503 at once";
+
+/// What is reported of a register that is served, each as a line.
+#[derive(Clone, Copy)]
+pub(crate) enum LogMessage {
+    /// Connections are taken.
+    Ready {
+        port: u16,
+        kept: u64,
+        filings: u64,
+        /// How long the opening took.
+        milliseconds: u128,
+    },
+    /// The database refused a call.
+    Down,
+    /// The register failed again, and is left alone for so long.
+    Paused {
+        seconds: u64,
+    },
+    /// The register keeps as many keys as it may, and a new one was turned away.
+    Full {
+        limit: u64,
+    },
+    /// It was opened again.
+    OpenAgain,
+    /// All connections were served; this is their number.
+    Served {
+        connections: u32,
+    },
+}
+
+impl fmt::Display for LogMessage {
+    fn fmt<W: fmt::Write>(&self, f: &mut fmt::Formatter<W>) -> fmt::Result {
+        match self {
+            LogMessage::Ready {
+                port,
+                kept,
+                filings,
+                milliseconds,
+            } => write!(
+                f,
+                "serving 127.0.0.1:{port}: {kept} kept, {filings} filings, opened in {milliseconds} ms"
+            ),
+            LogMessage::Down => f.write_str(DOWN),
+            LogMessage::Paused { seconds } => write!(
+                f,
+                "the database failed again: it is opened in {seconds} s at the earliest, {PAUSED}"
+            ),
+            LogMessage::Full { limit } => write!(
+                f,
+                "the register is full: --limit is {limit}, and a report with a new key gets 503"
+            ),
+            LogMessage::OpenAgain => f.write_str("the database is open again"),
+            LogMessage::Served { connections } => write!(
+                f,
+                "ended after {connections} connections"
+            ),
+        }
+    }
+}
+
+impl LogMessage {
+    /// Writes the text as a line.
+    pub(crate) fn tell<E: Write>(&self, errors: &mut E) {
+        // Nothing is left to be done if this text can't be written.
+        let _ = writeln!(errors, "intake: {self}");
+    }
+}

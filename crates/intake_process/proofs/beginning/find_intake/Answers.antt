@@ -1,0 +1,17 @@
+use Rattle.std.proofs.Common.{subst, ap, ◌∙◌}
+use Rattle.sqlite.specs.State.{HasCleanDisk}
+use Rattle.register_store.specs.Store.{shows}
+use Rattle.intake_process.proofs.beginning.find_intake.Goals as goal
+
+pub returns-in-Ok-clause-found : goal.returns-in-Ok-clause-found
+returns-in-Ok-clause-found g c = λ clean old_style F firsts_are is.
+    let opened = subst (λ s. HasCleanDisk (shows g.S.Store s)) c.new.ensures.store clean in
+    let only = c.in-Ok.ensures.outcome.only opened old_style F is in (
+      record {
+        holds = c.new.ensures.holds F firsts_are only.1;
+        limit_is = c.new.ensures.limit;
+        old_style_is =
+            ap (λ s. s.old_style) c.new.ensures.store ∙ only.0;
+      },
+      (c.totals_of-totals.ensures.0 ∙ only.1.kept_is, c.totals_of-totals.ensures.1 ∙ only.1.filings_is),
+    )

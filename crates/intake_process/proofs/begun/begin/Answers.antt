@@ -1,4 +1,0 @@
-use Rattle.intake_process.proofs.begun.begin.Goals as goal
-
-pub returns-in-Found-clause-found : goal.returns-in-Found-clause-found
-returns-in-Found-clause-found g c = λ found. c.find_intake.ensures.found

@@ -1,0 +1,42 @@
+-- An outbox that begins over a database. Clauses on its entries hold if the disk is clean.
+use Rattle.std.specs.Prelude.{◌≡◌, ℕ, List}
+use Rattle.sqlite.specs.Store.{Ghosts}
+use Rattle.sqlite.specs.Held.{Held, state}
+use Rattle.sqlite.specs.State.{HasCleanDisk}
+use Rattle.table_rows.specs.Tables.{no_schema}
+use Rattle.outbox_tables.specs.Earlier.{ForEarlier}
+use Rattle.outbox_tables.specs.Entries.{Contents, empty}
+use Rattle.outbox_tables.specs.Rows.{IsOutboxOf}
+use Rattle.outbox_core.specs.OutboxParts.{OutboxParts, shows, HasEntries}
+use Rattle.outbox_process.specs.declared.beginning.Beginning.{Beginning}
+use Rattle.outbox_process.specs.declared.beginning.Beginning.TheVariants.{Found, Made, Migrated}
+
+-- the outbox has this filer and these entries
+abbrev pub HasContents : {S : Type 0} → Ghosts S → OutboxParts S → Contents → Type 0
+HasContents g outbox it = HasEntries g outbox it.entries × (outbox.filer ≡ it.filer)
+
+-- the outbox has the filer and the entries of the database's rows
+abbrev pub FindsOutbox : {S : Type 0} → Ghosts S → Held S → OutboxParts S → Type 0
+FindsOutbox g conn outbox = HasCleanDisk (shows g outbox) → (it : Contents) → IsOutboxOf it (state g conn).now
+    → HasContents g outbox it
+
+-- nothing was declared in the database, and the outbox is this filer's, and has no entry yet
+abbrev pub MakesOutbox : {S : Type 0} → Ghosts S → List ℕ → Held S → OutboxParts S → Type 0
+MakesOutbox g filer conn outbox =
+    (conn.schema ≡ no_schema) × (HasCleanDisk (shows g outbox) → HasContents g outbox (empty filer))
+
+-- the outbox has what the rows of the version before had, if their tables were alone in the database
+abbrev pub MigratesEarlier : {S : Type 0} → Ghosts S → Held S → OutboxParts S → Type 0
+MigratesEarlier g conn outbox = HasCleanDisk (shows g outbox)
+    → HasCleanDisk (state g conn) × ForEarlier (state g conn) (HasContents g outbox)
+
+-- the outbox has what the rows of the version before had, and the rows were no outbox of this version
+abbrev pub MigratesOutbox : {S : Type 0} → Ghosts S → Held S → OutboxParts S → Type 0
+MigratesOutbox g conn outbox =
+    HasCleanDisk (shows g outbox) → ForEarlier (state g conn) (HasContents g outbox)
+    × ((it : Contents) → ¬ IsOutboxOf it (state g conn).now)
+
+abbrev pub BeginsOutbox : {S : Type 0} → Ghosts S → Beginning → Held S → OutboxParts S → Type 0
+BeginsOutbox g Found conn outbox = FindsOutbox g conn outbox
+BeginsOutbox g (Made filer) conn outbox = MakesOutbox g filer.now conn outbox
+BeginsOutbox g Migrated conn outbox = MigratesOutbox g conn outbox

@@ -1,0 +1,4 @@
+pub mod Dated
+pub mod Moments
+pub mod Reading
+pub mod Text

@@ -1,0 +1,13 @@
+use Rattle.std.proofs.lemmas.Result.{IfOk-weaker}
+use Rattle.sqlite.specs.Held.{state}
+use Rattle.register_tables.proofs.ReadTexts.{query_received}
+use Rattle.register_tables.proofs.ReadLemmas.{reads_received}
+use Rattle.register_tables.proofs.select.reads.received_rows.Goals as goal
+
+pub returns-clause-read : goal.returns-clause-read
+returns-clause-read g c clean knows =
+    IfOk-weaker c.select.result _ _ (λ rows h. reads_received (state g.S.Store c.args.conn.now)
+    (state g.S.Store c.select.new.conn) knows rows.items h) (c.select.ensures.shown clean)
+
+pub select-requires : goal.select-requires
+select-requires g c = query_received
