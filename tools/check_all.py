@@ -27,6 +27,7 @@ CHECKS = [
     (["tools/check_programs.py"], 2),
     (["tools/check_schedules.py"], 1),
     (["tools/check_stops.py"], 15),
+    (["tools/check_upgrades.py"], 5),
     (["tools/check_digest.py"], 1),
     (["tools/check_export.py"], 1),
     (["tools/check_pages_of_register.py"], 2),

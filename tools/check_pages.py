@@ -15,7 +15,8 @@ QUESTIONS and no others, and each links to a section with the words there.
 Every block of commands in README.md, docs/FIRST_DAYS.md and docs/OPERATIONS.md is one that bash can read, and either
 runs here as it is written, or needs root, or needs the kit. Those that need root are played by
 tools/check_first_days.py. An example that runs is a row in EXAMPLES. With --programs each option that a page gives to
-intake or outbox has to be in their help. Ports 8080 and 8081 of 127.0.0.1 have to be free.
+intake or outbox has to be in their help, and each example of a finding in docs/PROTOCOL.md has that finding. Ports 8080
+and 8081 of 127.0.0.1 have to be free.
 
 Status 1 if something fails.
 """
@@ -77,7 +78,7 @@ QUESTIONS = {
     "A certificate expires": ("Renewal", "Expiry", "-checkend"),
     "The hourly copy failed": ("`journalctl -u berruzpil-snapshot@register`", "`register.tried`"),
     "The register is full": ("1,000,000 keys", "LIMIT=", "MemoryMax="),
-    "The clock is wrong": ("log of nginx", "names of copies", "certificate", "receipts"),
+    "The clock is wrong": ("moments in the register", "log of nginx", "names of copies", "certificate", "receipts"),
     "An entry stays open": ("75", "Never make a new key"),
     "How do I restart an intake?": ("`systemctl restart berruzpil-intake`", "SIGTERM", "`register-new"),
     "Does it serve?": ("`/health`", "`intake-health", "answered 503"),
@@ -85,7 +86,7 @@ QUESTIONS = {
     "How do I restore one?": ("register-restore", "lost-filings", "`outbox-restore"),
     "How do I upgrade?": ("intake migrate", "`has this version already`", "Going back"),
     "How do I move to another machine?": ("To move to another machine", "one writer", "`intake check`"),
-    "Who filed late?": ("Who filed late", "julianday(received)", "`register-receipts"),
+    "Who filed late?": ("Who filed late", "SELECT * FROM late", "INSERT INTO deadline"),
     "Who has not filed?": ("Who has not filed yet", "missing"),
     "Two filers want one code": ("One code is one filer", "`key-reused`"),
     "How are logs rotated?": ("`logrotate-berruzpil`", "ten years"),
@@ -494,6 +495,37 @@ def check_options(programs):
         trials.tell(f"{page}: options of programs", "; ".join(faults))
 
 
+def examples_of_findings():
+    """Each code of which docs/PROTOCOL.md shows an example, and the body of that example."""
+    report, *items = re.split(r" - (?=`[a-z-]+`: )", section_of("docs/PROTOCOL.md", "what-to-do-about-a-finding"))
+    kind, dimensions = re.search(r"short for `([^`]+)` and `\.\.` for `([^`]+)`", report).groups()
+    report, is_fact = report.rpartition("`..` for")[2].partition(": ")[2], False
+    for code, said in (re.match(r"`([a-z-]+)`: (.*)", item).groups() for item in items):
+        is_fact |= code == "fact"
+        shown = re.search(r"`([^`]+)`( of `facts`\.)?(?: A filer's program .*)?$", said)
+        text = shown.group(1).replace("{..", "{" + dimensions) if shown else ""
+        if code == "too-many":
+            text = report.replace('"f":FACT', ",".join(f'"{at}":{text}' for at in range(1_001)))
+        elif is_fact and shown:
+            text = report.replace("FACT", text)
+        if shown or said.endswith("The empty body."):
+            yield code, text.replace("{TYPE", "{" + kind)
+
+
+def check_findings(programs):
+    """Each example of a finding has that finding and no other."""
+    with tempfile.TemporaryDirectory() as folder:
+        report, codes, faults = pathlib.Path(folder, "report"), [], []
+        for code, text in examples_of_findings():
+            report.write_text(text, encoding="utf-8")
+            done = trials.run(programs / "outbox", "lint", "--filer", "ACME", report)
+            found = re.findall(r"(?m)^\S+: ([a-z-]+): ", done.stdout.decode())
+            codes.append(code)
+            faults += [] if found == [code] else [f"{code}: {found} of {text[:200]}"]
+    trials.tell(f"docs/PROTOCOL.md: {len(codes)} examples of findings",
+                "; ".join(faults) if len(set(codes)) == 25 else f"examples of {codes}")  # fmt: skip
+
+
 def main(words):
     if words and (len(words) != 2 or words[0] != "--programs"):
         print(__doc__, file=sys.stderr)
@@ -520,6 +552,7 @@ def main(words):
             play(example, programs)
     if programs:
         check_options(programs)
+        check_findings(programs)
     print(f"{len(trials.failures)} failed")
     return 1 if trials.failures else 0
 
