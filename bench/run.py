@@ -39,7 +39,7 @@ from reports import FACT, SMALLEST, WRONG, crowded, facts, report, wide
 
 # What each request may cost, in instructions: a tenth or so more than it does.
 COSTS = {
-    "393 bytes, new, in memory": 127_000,
+    "393 bytes, new, in memory": 136_000,
     "393 bytes, repeated, in memory": 7_000,
     "100 kB, new, in memory": 31_000_000,
     "100 kB, repeated, in memory": 115_000,
@@ -47,7 +47,7 @@ COSTS = {
     "150 findings, repeated, in memory": 146_000,
     "1,000 findings, new, in memory": 40_100_000,
     "1,000 findings, repeated, in memory": 4_500_000,
-    "393 bytes, new, on file": 353_000,
+    "393 bytes, new, on file": 392_000,
     "393 bytes, repeated and not remembered, on file": 48_000,
     "100 kB, repeated, on file": 233_000,
     "393 bytes, repeated, one after another on one connection": 15_600,
@@ -57,9 +57,9 @@ COSTS = {
     "list of 1,000 filings": 3_870_000,
     "one filing of 1,000": 39_700,
     "one filing of 10,000": 81_900,
-    "amendment after no other": 425_000,
-    "amendment after 1,000 others": 419_000,
-    "amendment after 10,000 others": 443_000,
+    "amendment after no other": 462_000,
+    "amendment after 1,000 others": 456_000,
+    "amendment after 10,000 others": 480_000,
     "opening, each small report": 173_000,
 }
 

@@ -197,6 +197,8 @@ class Files:
         for line in log.read_text(encoding="ascii").splitlines():
             if found := self.LINE.match(line):
                 call, words, result, opened = found.groups()
+                if call not in counts:
+                    raise ValueError(f"{call} is not known here")
                 counts[call] += 1
                 path = pathlib.Path(plain(opened or words.partition("<")[2].partition(">")[0]).decode())
                 if result.isdigit() and path.parent == self.folder:
@@ -212,9 +214,7 @@ class Files:
         last = int(words.rpartition(", ")[2])
         if call == "ftruncate":
             return "cut", name, last
-        if call == "pwrite64":
-            return "write", name, last, plain(words.split('"')[1])[:result]
-        raise ValueError(f"{call} is not known here")
+        return "write", name, last, plain(words.split('"')[1])[:result]
 
     def images(self):
         """The files in three forms: with all that was written; with what was synced; and with half of the rest."""

@@ -157,7 +157,7 @@ class Serving:
 
 class Peer:
     """A peer of an outbox that takes a request whole on each connection, answers it by the next of these acts,
-    and closes it."""
+    and closes it. During the last one it listens no more."""
 
     def __init__(self, *acts):
         self.listener = socket.create_server(("127.0.0.1", 0))
@@ -166,11 +166,12 @@ class Peer:
         threading.Thread(target=self.serve, daemon=True).start()
 
     def serve(self):
-        with self.listener:
-            for act in self.acts:
-                with self.listener.accept()[0] as connection:
-                    take_request(connection)
-                    act(connection)
+        for left in range(len(self.acts), 0, -1):
+            with self.listener.accept()[0] as connection:
+                if left == 1:
+                    self.listener.close()
+                take_request(connection)
+                self.acts[-left](connection)
 
 
 def take_request(connection):
