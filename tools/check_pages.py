@@ -38,6 +38,7 @@ import crate_table
 import trials
 import try_wrong_bodies
 from man_pages import commands_of, help_of, sections
+from odd_register import date_register
 
 ROOT = pathlib.Path(__file__).resolve().parent.parent
 README_WIDTH = 400
@@ -48,6 +49,8 @@ HANDFUL = 5
 WORDS = 42_000
 # Between these two lines docs/PROOF.md has how many wrong bodies there are.
 COUNTED, COUNTED_END = "<!-- counted by tools/try_wrong_bodies.py --count -->", "<!-- end of what is counted -->"
+# When the one request of a copy came, in milliseconds since 1970.
+MOMENT = 1_735_689_599_999
 # How many seconds a block of commands may take. Programs that were built without proof are slow.
 PATIENCE = 300
 # What a page says in too few or too old words, and what to write.
@@ -367,7 +370,7 @@ def prints_nothing(_, status, printed):
 
 def shows_a_digest(_, status, printed):
     """The digest of one request, by docs/PROTOCOL.md."""
-    row = f"1\nACME\n2024-annual-1\n-\n1\n-\n{hashlib.sha256(trials.REPORT).hexdigest()}\n".encode()
+    row = f"1\nACME\n2024-annual-1\n-\n1\n{MOMENT}\n{hashlib.sha256(trials.REPORT).hexdigest()}\n".encode()
     wanted = f"1 {hashlib.sha256(hashlib.sha256(b'').digest() + row).hexdigest()}"
     return None if not status and [it.strip() for it in printed] == [wanted] else f"status {status}, {printed}"
 
@@ -384,10 +387,11 @@ def make_copies(scratch):
 
 
 def make_copy(scratch):
-    """A register with one filing, which nothing has open."""
+    """A register with one filing, which came at MOMENT and which nothing has open."""
     scratch.serve("--db", "copy.db", "--port", "8081", "--connections", "1", "--new")
     trials.exchange(8081, trials.request("2024-annual-1", trials.REPORT))
     scratch.server.wait(60)
+    date_register(scratch.top / "copy.db", [MOMENT])
 
 
 def make_refused_entry(scratch):

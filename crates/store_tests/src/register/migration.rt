@@ -16,8 +16,8 @@ struct Form {
     sql: &'static str,
     /// How many of its two requests were kept before the migration.
     old_style: u64,
-    /// These two requests, and one that comes later.
-    requests: [Request; 3],
+    /// Whether the second of them was sent to replace filing 1.
+    replaces: bool,
 }
 
 /// The requests of a form in which none replaces a filing, and one that comes later.
@@ -34,6 +34,11 @@ const REPLACING: [Request; 3] = [
     ("k-3", false, "{}", 0),
 ];
 
+/// The two requests of a form, and one that comes later.
+fn requests_of(form: &Form) -> [Request; 3] {
+    if form.replaces { REPLACING } else { THREE }
+}
+
 /// The tables of every form, with the smallest report and a refused empty body, which is no JSON text.
 const TABLES: &str =
     "CREATE TABLE intake_meta (id INTEGER PRIMARY KEY, kind TEXT NOT NULL, form INTEGER NOT NULL) STRICT; CREATE TABLE kept (seq INTEGER PRIMARY KEY, filer TEXT NOT NULL, idem TEXT NOT NULL, body BLOB NOT NULL, number INTEGER, UNIQUE (filer, idem)) STRICT; CREATE TABLE finding (seq INTEGER NOT NULL, pos INTEGER NOT NULL, code INTEGER NOT NULL, place BLOB NOT NULL, PRIMARY KEY (seq, pos)) STRICT; CREATE TABLE filing (number INTEGER PRIMARY KEY, seq INTEGER NOT NULL UNIQUE) STRICT; CREATE TABLE fact (number INTEGER NOT NULL, pos INTEGER NOT NULL, id BLOB NOT NULL, concept BLOB NOT NULL, dimensions BLOB NOT NULL, value BLOB, decimals INTEGER, PRIMARY KEY (number, pos)) STRICT; INSERT INTO kept VALUES (1, 'ACME', 'k-1', x'7b22646f63756d656e74496e666f223a7b22646f63756d656e7454797065223a2268747470733a2f2f7862726c2e6f72672f323032312f7862726c2d6a736f6e222c227461786f6e6f6d79223a5b2274225d7d7d', 1); INSERT INTO filing VALUES (1, 1); INSERT INTO kept VALUES (2, 'ACME', 'k-2', x'', NULL); INSERT INTO finding VALUES (2, 1, 1, x'')";
@@ -41,19 +46,19 @@ const TABLES: &str =
 const SECOND: &Form = &Form {
     sql: "INSERT INTO intake_meta VALUES (1, 'register', 2)",
     old_style: 2,
-    requests: THREE,
+    replaces: false,
 };
 
 const THIRD: &Form = &Form {
     sql: "CREATE TABLE migrated (id INTEGER PRIMARY KEY, last INTEGER NOT NULL) STRICT; INSERT INTO migrated VALUES (1, 1); INSERT INTO intake_meta VALUES (1, 'register', 3)",
     old_style: 1,
-    requests: THREE,
+    replaces: false,
 };
 
 const FOURTH: &Form = &Form {
     sql: "CREATE TABLE migrated (id INTEGER PRIMARY KEY, last INTEGER NOT NULL) STRICT; CREATE TABLE amends (seq INTEGER PRIMARY KEY, target INTEGER NOT NULL) STRICT; INSERT INTO migrated VALUES (1, 1); INSERT INTO amends VALUES (2, 1); INSERT INTO intake_meta VALUES (1, 'register', 4)",
     old_style: 1,
-    requests: REPLACING,
+    replaces: true,
 };
 
 /// A form, a statement on its tables, why a migration is refused then, and a statement that undoes the first.
@@ -247,7 +252,7 @@ fn continued<S: Alter + Drop>(
     form: &Form,
 ) -> Option<Connection<S>> {
     let mut intake = intake_over(alloc, migrate(alloc, conn).ok()?);
-    match submit(alloc, &mut intake, form.requests[2]) {
+    match submit(alloc, &mut intake, requests_of(form)[2]) {
         Ok((0, false)) => Some(intake.into_store().into_conn()),
         _ => None,
     }
@@ -269,7 +274,7 @@ fn refused<S: Fresh>(alloc: Global, case: &Case) -> Option<Connection<S>> {
 fn is_left<S: Fresh>(alloc: Global, case: &Case) -> Option<bool> {
     let form = case.0;
     let conn: Connection<S> = continued(alloc, refused(alloc, case)?, form)?;
-    let (_, has) = found(alloc, conn, form, &form.requests)?;
+    let (_, has) = found(alloc, conn, form, &requests_of(form))?;
     Some(has)
 }
 
@@ -305,7 +310,7 @@ fn migrated_again<S: Fresh>(alloc: Global, form: &Form) -> Result<Store<S>, Open
 fn survives_refusals<S: Fresh>(alloc: Global, form: &Form) -> Option<bool> {
     let mut store: Store<S> = migrated_again(alloc, form).ok()?;
     let is_kept = matches!(
-        holds_again(alloc, &mut store, &form.requests[..2]),
+        holds_again(alloc, &mut store, &requests_of(form)[..2]),
         Ok(true)
     );
     Some(is_kept && store.old_style_count() == Ok(form.old_style))
@@ -340,7 +345,7 @@ impl Trial for Form {
         answered: bool,
     ) -> Option<(Connection<S>, bool)> {
         let (conn, fault) = migrated(alloc, conn)?;
-        let (conn, has) = found(alloc, conn, self, &self.requests[..2])?;
+        let (conn, has) = found(alloc, conn, self, &requests_of(self)[..2])?;
         let is_old_or_new = matches!(fault, Some(OpenFault::NotOurs))
             || !answered && fault.is_none();
         Some((conn, has && is_old_or_new))
