@@ -320,7 +320,7 @@ def try_readers(what, copies, out, run_script):
         status, said, _ = run_script("register-receipts", copy, log)
         lines = said.splitlines()
         hold(f"{what}: register-receipts of {name}", (status, lines[1].split(",")[-2:], len(lines)),
-             (0, ["2024-01-01T00:00:00Z", "acme"], 4))
+             (0, ["acme", "register"], 4))
         status, _, _ = run_script("register-receipts", "--into", out / "reading.db", copy, log)
         hold(f"{what}: register-receipts --into of {name}", (status, names(out)), (0, ["new.db", "reading.db"]))
         for it in ("new.db", "reading.db"):

@@ -7,6 +7,7 @@ docs/PROTOCOL.md has the text. Status 4 if the copy keeps fewer requests.
 """
 import contextlib
 import hashlib
+import pathlib
 import sqlite3
 import sys
 
@@ -30,7 +31,10 @@ def digest_of(rows):
 
 if __name__ == "__main__":
     until = int(sys.argv[2]) if len(sys.argv) > 2 else -1
-    with contextlib.closing(sqlite3.connect(f"file:{sys.argv[1]}?mode=ro", uri=True)) as copy:
+    path = pathlib.Path(sys.argv[1]).absolute()
+    # SQLite makes files beside one that is not said to be immutable, which a copy with a log is not.
+    how = "mode=ro" if path.with_name(f"{path.name}-wal").exists() else "immutable=1"
+    with contextlib.closing(sqlite3.connect(f"{path.as_uri()}?{how}", uri=True)) as copy:
         count, digest = digest_of(copy.execute(f"{KEPT} LIMIT ?", (until,)))
     if count < until:
         sys.exit(4)
