@@ -592,7 +592,7 @@ def several(page, supervisor, filer):
     hold("its copy",
          supervisor.paste("systemctl start berruzpil-snapshot@2025 && "
                           "cut -d' ' -f2,4- /var/lib/berruzpil/copies/2025.tried"),
-         (0, "0 restored: sound: 1 kept, 1 filings\n"))
+         (0, "0 restored: sound: 1 kept, 1 filings; as its digest says\n"))
     supervisor.paste("systemctl start berruzpil-metrics")
     numbers = supervisor.file(METRICS).read_text()
     found = [f'berruzpil_copy_filings{{register="{name}"}} ' in numbers for name in ("register", "2025")]

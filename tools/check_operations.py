@@ -565,7 +565,7 @@ def check_pause(folder):
 
 # ---- copies that are kept
 
-DIGESTED = "; it has the digest that lies beside the copy"
+DIGESTED = "; as its digest says"
 
 
 def digest_of(copy):
