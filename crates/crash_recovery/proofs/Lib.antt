@@ -4,4 +4,3 @@ mod Killing
 mod Leaving
 mod Outboxing
 mod Registering
-mod Grouping

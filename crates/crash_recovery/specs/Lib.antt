@@ -1,5 +1,4 @@
 pub mod Deciding
-pub mod Grouped
 pub mod Killed
 pub mod Left
 pub mod Outboxes

@@ -11,4 +11,3 @@ pub mod Ending
 pub mod Stopping
 pub mod Transitions
 pub mod Written
-pub mod Unanswered

@@ -5,4 +5,3 @@ pub mod Stopping
 pub mod Decided
 pub mod Answered
 pub mod Written
-pub mod Ahead

@@ -3,7 +3,6 @@
 //! turn.
 #![tactic(auto)]
 
-mod ahead;
 mod answer;
 mod decide;
 mod port;
@@ -11,7 +10,6 @@ mod port_fault;
 mod serving;
 mod stop;
 
-pub use ahead::decide_ahead;
 pub use filing_model::{Ended, Mark};
 pub use gateway_requests::completed;
 pub use intake_answers::fact_line;

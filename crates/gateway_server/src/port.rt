@@ -1,13 +1,13 @@
 //! A port, as a list of connections.
 
-ghost use Rattle.std.specs.Prelude.{◌≡◌, None, true, map, IfErr, OnOk};
+ghost use Rattle.std.specs.Prelude.{◌≡◌, None, true, IfErr, OnOk};
 ghost use Rattle.http_wire.specs.Wire.{wire};
 ghost use Rattle.gateway_server.specs.Progress.{IsReadToEnd};
-ghost use Rattle.gateway_server.specs.Ports.{Traffic, IsShutBy, Comes, Adds, HandsAhead};
+ghost use Rattle.gateway_server.specs.Ports.{Traffic, IsShutBy, Comes, Adds};
 
 use crate::serving::Served;
 use http_wire::{Sink, Source};
-use std::alloc::{AllocError, Global};
+use std::alloc::AllocError;
 use std::io;
 
 /// A port on which connections come, one after another.
@@ -18,8 +18,8 @@ pub trait Port {
     /// What writes on it.
     type Writer: Sink + Drop;
 
-    // What comes from here on, what came last, and the connections that are over, if that is known; whether no
-    // connection comes any more; and what was handed out ahead, if that is known.
+    // What comes from here on, what came last, and the connections that are over, if that is known; and whether no
+    // connection comes any more.
     ghost traffic: { Self → Traffic };
 
     /// Begins to listen. No connection comes on a port that isn't listened on. A port whose connections are known
@@ -36,14 +36,7 @@ pub trait Port {
     /// Waits for the next connection; `None` if none came, as when its peer gave it up first. A port that is shut gives
     /// none.
     fn accept(&mut self) -> io::Result<Option<(Self::Reader, Self::Writer)>>
-        ensures comes { Comes (wire Self.Reader.Source Self.Writer.Sink) (traffic self.old) (traffic self.new) result }
-        ensures ahead { (traffic self.new).ahead ≡ (traffic self.old).ahead };
-
-    /// Copies of whole requests that wait, if there are several: that of the connection that came last, and those of
-    /// connections that are still to come, which come later all the same. They are 64 at most, of 4 MiB together, and
-    /// nothing is waited for.
-    fn waiting(&mut self, alloc: Global) -> Vec<Vec<u8>>
-        ensures { HandsAhead (traffic self.old) (traffic self.new) (map (λ piece. piece.items) result.items) };
+        ensures { Comes (wire Self.Reader.Source Self.Writer.Sink) (traffic self.old) (traffic self.new) result };
 
     /// Takes back a connection that is over, and what became of it. If its input ended, it was read to its end.
     fn end(
@@ -55,7 +48,6 @@ pub trait Port {
         requires { IsReadToEnd (Self.Reader.left reader) served.ended }
         ensures coming { (traffic self.new).coming ≡ (traffic self.old).coming }
         ensures shut { (traffic self.old).is_shut ≡ true → (traffic self.new).is_shut ≡ true }
-        ensures ahead { (traffic self.new).ahead ≡ (traffic self.old).ahead }
         ensures over { OnOk result (Adds (traffic self.old).over (traffic self.new).over served
             (traffic self.old).given (Self.Reader.left reader) (Self.Writer.written writer)) }
         ensures refused { IfErr result (λ _. (traffic self.new).over ≡ (traffic self.old).over) };

@@ -1,6 +1,6 @@
 -- What was seen on a port after one more event.
-use Rattle.std.proofs.Common.{◌≡◌, ◌<◌, ◌-◌, ℕ, Bool, true, false, List, [], ◌∷◌, ◌++◌, length, take, drop, Some, None}
-use Rattle.std.proofs.Common.{refl, sym, ◌∙◌, ap, subst, arith, true≢false}
+use Rattle.std.proofs.Common.{◌≡◌, ◌-◌, ℕ, Bool, true, false, List, [], ◌∷◌, ◌++◌, length, take, drop, Some, None, refl}
+use Rattle.std.proofs.Common.{sym, ◌∙◌, ap, subst, arith, true≢false}
 use Rattle.std.specs.Prelude.{◌≢◌, Option, Result, Vec, is_some}
 use Rattle.std.specs.declared.alloc.Global.{Global}
 use Rattle.std.proofs.lemmas.List.{take-append-drop, length-append}
@@ -12,15 +12,13 @@ use Rattle.ready_connections.specs.declared.connection.Connection.{Connection as
 use Rattle.ready_connections.specs.declared.hall.Hall.{Hall}
 use Rattle.ready_connections.specs.declared.hall.Out.{Out}
 use Rattle.ready_connections.specs.declared.stream.Stream.{Ghosts}
-use Rattle.ready_connections.specs.Pieces.{Piece, IsWhole}
-use Rattle.ready_connections.specs.Waiting.{AreHeld, CameBehind, KeepsCame}
+use Rattle.ready_connections.specs.Pieces.{Piece}
 use Rattle.ready_connections.specs.Running.{IsRunning, IsOutOf, items_out_of, piece_of}
 use Rattle.ready_connections.specs.Streams.{Traffic}
 use Rattle.many_connections.specs.declared.event.Event.{Event}
 use Rattle.many_connections.specs.declared.event.Event.TheVariants.{Came, Over}
 use Rattle.many_connections.specs.Events.{Seen, read_but, and_given, after_event, seen_from, seen_after, IsServedAs}
-use Rattle.many_connections.specs.Events.{AreCopies, AreServedAs, Runs, RunsAhead}
-use Rattle.many_connections.proofs.Ahead.{ahead_done, ahead_on, all_front, all_join, copies_behind}
+use Rattle.many_connections.specs.Events.{AreServedAs, Runs}
 
 from_more : (seen : Seen) (events : List (Event × Bool)) (event : Event × Bool)
     → seen_from seen (events ++ event ∷ []) ≡ after_event (seen_from seen events) event.0
@@ -68,98 +66,55 @@ module _ {S N : Type 0} (s : Ghosts S N) where
   none_given done given (Some out) places is none = absurd (true≢false none)
 
   -- no piece came
-  no_piece : {E : Type 0} (seen : Seen) (old new : Hall S) (traffic traffic' : Option (Traffic S))
+  pub no_piece : {E : Type 0} (seen : Seen) (old new : Hall S) (traffic traffic' : Option (Traffic S))
       (result : Result (Option (Vec ℕ Global)) E) → is_some old.out ≡ false → items_out_of result ≡ None
       → ((done : List Piece) → IsRunning s done None old traffic → IsRunning s done (items_out_of result) new traffic')
-      → (runs : Runs s seen old traffic) → IsRunning s runs.pieces seen.given new traffic'
+      → Runs s seen old traffic → Runs s seen new traffic'
   no_piece seen old new traffic traffic' result free none on runs =
       let is = none_given runs.pieces seen.given old.out old.places.items runs.running.is_out free in
-      subst (λ g. IsRunning s runs.pieces g new traffic') (none ∙ sym is)
-      (on runs.pieces (subst (λ g. IsRunning s runs.pieces g old traffic) is runs.running))
+      record {
+        pieces = runs.pieces;
+        are = runs.are;
+        running =
+            subst (λ g. IsRunning s runs.pieces g new traffic') (none ∙ sym is)
+            (on runs.pieces (subst (λ g. IsRunning s runs.pieces g old traffic) is runs.running));
+      }
 
   -- a piece came
-  one_piece : {E : Type 0} (seen : Seen) (old new : Hall S) (traffic traffic' : Option (Traffic S))
+  pub one_piece : {E : Type 0} (seen : Seen) (old new : Hall S) (traffic traffic' : Option (Traffic S))
       (result : Result (Option (Vec ℕ Global)) E) (piece : Vec ℕ Global) → is_some old.out ≡ false
       → items_out_of result ≡ Some piece.items
       → ((done : List Piece) → IsRunning s done None old traffic → IsRunning s done (items_out_of result) new traffic')
-      → (runs : Runs s seen old traffic) → IsRunning s runs.pieces (Some piece.items) new traffic'
+      → Runs s seen old traffic → Runs s (after_event seen (Came piece)) new traffic'
   one_piece seen old new traffic traffic' result piece free one on runs =
       let is = none_given runs.pieces seen.given old.out old.places.items runs.running.is_out free in
-      subst (λ g. IsRunning s runs.pieces g new traffic') one
-      (on runs.pieces (subst (λ g. IsRunning s runs.pieces g old traffic) is runs.running))
-
-  -- no piece came
-  pub none_came : {E : Type 0} (seen : Seen) (old new : Hall S) (traffic traffic' : Option (Traffic S))
-      (ahead : List (List ℕ)) (result : Result (Option (Vec ℕ Global)) E) → is_some old.out ≡ false
-      → items_out_of result ≡ None
-      → ((done : List Piece) → IsRunning s done None old traffic → IsRunning s done (items_out_of result) new traffic')
-      → KeepsCame s old traffic new traffic' → RunsAhead s seen ahead old traffic → RunsAhead s seen ahead new traffic'
-  none_came seen old new traffic traffic' ahead result free none on keeps at = record {
-    runs = record {
-      pieces = at.runs.pieces;
-      are = at.runs.are;
-      running = no_piece seen old new traffic traffic' result free none on at.runs;
-    };
-    ahead_is = ahead_on s at.runs.pieces old new traffic traffic' ahead keeps at.ahead_is;
-  }
-
-  -- a piece came, and others were copied with it, or none
-  pub one_came : {E : Type 0} (seen : Seen) (old mid new : Hall S) (traffic traffic' : Option (Traffic S))
-      (handed was others copies : List (List ℕ)) (result : Result (Option (Vec ℕ Global)) E) (piece : Vec ℕ Global)
-      → is_some old.out ≡ false → items_out_of result ≡ Some piece.items
-      → ((done : List Piece) → IsRunning s done None old traffic → IsRunning s done (items_out_of result) mid traffic')
-      → KeepsCame s old traffic mid traffic'
-      → ((done : List Piece) (read : Option (List ℕ)) (known : Option (Traffic S)) → IsRunning s done read mid known
-      → IsRunning s done read new known)
-      → ((known : Option (Traffic S)) → KeepsCame s mid known new known) → AreHeld new.places.items others
-      → ((done : List Piece) (read : List ℕ) (known : Option (Traffic S)) → IsRunning s done (Some read) new known
-      → 0 < length others → IsWhole read)
-      → AreCopies piece.items others copies → RunsAhead s seen (handed ++ was) old traffic
-      → RunsAhead s (after_event seen (Came piece)) (handed ++ copies) new traffic'
-  one_came seen old mid new traffic traffic' handed was others copies result piece free one next kept looks still held
-      whole are at =
-      let came = one_piece seen old mid traffic traffic' result piece free one next at.runs in
-      let running = looks at.runs.pieces (Some piece.items) traffic' came in
-      let before = all_front (CameBehind s at.runs.pieces old traffic) handed was at.ahead_is in
       record {
-        runs = record { pieces = at.runs.pieces; are = at.runs.are; running = running };
-        ahead_is = all_join (CameBehind s at.runs.pieces new traffic') handed copies
-            (ahead_on s at.runs.pieces mid new traffic' traffic' handed (still traffic')
-            (ahead_on s at.runs.pieces old mid traffic traffic' handed kept before))
-            (copies_behind s at.runs.pieces piece.items others copies new traffic' running held
-            (whole at.runs.pieces piece.items traffic' running) are);
+        pieces = runs.pieces;
+        are = runs.are;
+        running =
+            subst (λ g. IsRunning s runs.pieces g new traffic') one
+            (on runs.pieces (subst (λ g. IsRunning s runs.pieces g old traffic) is runs.running));
       }
 
   given_back : (given : Option (List ℕ)) (over : List Connection) (old new : Hall S) (traffic : Option (Traffic S))
-      (ahead : List (List ℕ))
       (left : ℕ) (text output : Vec ℕ Global) (served : Served) (closes : Bool) → is_some old.out ≡ true
       → output ≡ text → (served.ended ≡ InputEnded → left ≡ 0) → (closes ≡ false → served.ended ≡ InputEnded)
       → (closes ≡ true → served.ended ≢ InputEnded)
       → ((done : List Piece) (read : List ℕ) (known : Option (Traffic S)) → IsRunning s done (Some read) old known
       → IsRunning s (done ++ piece_of old.out read output.items closes ∷ []) None new known)
-      → ((done : List Piece) (read : List ℕ) (known : Option (Traffic S)) → IsRunning s done (Some read) old known
-      → KeepsCame s old known new known)
-      → RunsAhead s (record { given = given; over = over }) ahead old traffic
-      → RunsAhead s (record { given = None; over = and_given given over left text.items served }) ahead new traffic
-  given_back None over old new traffic ahead left text output served closes is same at_end opened shut back keeps at =
-      absurd (nothing old.out at.runs.running.is_out is)
+      → Runs s (record { given = given; over = over }) old traffic
+      → Runs s (record { given = None; over = and_given given over left text.items served }) new traffic
+  given_back None over old new traffic left text output served closes is same at_end opened shut back runs =
+      absurd (nothing old.out runs.running.is_out is)
     where
-      nothing : (out : Option (Out S)) → IsOutOf s at.runs.pieces None out old.places.items → is_some out ≡ true → ⊥
+      nothing : (out : Option (Out S)) → IsOutOf s runs.pieces None out old.places.items → is_some out ≡ true → ⊥
       nothing None of is = true≢false (sym is)
       nothing (Some out) of is = of
-  given_back (Some bytes) over old new traffic ahead left text output served closes is same at_end opened shut back
-      keeps at =
-      let runs = at.runs in
-      let last = piece_of old.out bytes output.items closes in
+  given_back (Some bytes) over old new traffic left text output served closes is same at_end opened shut back runs =
       record {
-        runs = record {
-          pieces = runs.pieces ++ last ∷ [];
-          are = one_more runs.pieces over _ _ runs.are (served_as old.out);
-          running = back runs.pieces bytes traffic runs.running;
-        };
-        ahead_is = ahead_done s runs.pieces (last ∷ []) new traffic ahead
-            (ahead_on s runs.pieces old new traffic traffic ahead (keeps runs.pieces bytes traffic runs.running)
-            at.ahead_is);
+        pieces = runs.pieces ++ piece_of old.out bytes output.items closes ∷ [];
+        are = one_more runs.pieces over _ _ runs.are (served_as old.out);
+        running = back runs.pieces bytes traffic runs.running;
       }
     where
       none_left : served.ended ≡ InputEnded → drop (length bytes - left) bytes ≡ []
@@ -187,15 +142,13 @@ module _ {S N : Type 0} (s : Ghosts S N) where
       }
 
   -- the piece that was out is over
-  pub piece_back : (seen : Seen) (old new : Hall S) (traffic : Option (Traffic S)) (ahead : List (List ℕ)) (left : ℕ)
+  pub piece_back : (seen : Seen) (old new : Hall S) (traffic : Option (Traffic S)) (left : ℕ)
       (text output : Vec ℕ Global) (served : Served) (closes : Bool) → is_some old.out ≡ true → output ≡ text
       → (served.ended ≡ InputEnded → left ≡ 0) → (closes ≡ false → served.ended ≡ InputEnded)
       → (closes ≡ true → served.ended ≢ InputEnded)
       → ((done : List Piece) (read : List ℕ) (known : Option (Traffic S)) → IsRunning s done (Some read) old known
       → IsRunning s (done ++ piece_of old.out read output.items closes ∷ []) None new known)
-      → ((done : List Piece) (read : List ℕ) (known : Option (Traffic S)) → IsRunning s done (Some read) old known
-      → KeepsCame s old known new known)
-      → RunsAhead s seen ahead old traffic → RunsAhead s (after_event seen (Over left text served)) ahead new traffic
-  piece_back seen old new traffic ahead left text output served closes is same at_end opened shut back keeps at =
-      given_back seen.given seen.over old new traffic ahead left text output served closes is same at_end opened shut
-      back keeps at
+      → Runs s seen old traffic → Runs s (after_event seen (Over left text served)) new traffic
+  piece_back seen old new traffic left text output served closes is same at_end opened shut back runs =
+      given_back seen.given seen.over old new traffic left text output served closes is same at_end opened shut back
+      runs

@@ -1,4 +1,3 @@
 pub mod PieceLemmas
 pub mod Told
 pub mod Halls
-pub mod Came

@@ -9,4 +9,3 @@ pub mod NextTurn
 pub mod Bounds
 pub mod Places
 pub mod Running
-pub mod Waiting

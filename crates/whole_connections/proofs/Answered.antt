@@ -103,7 +103,7 @@ module _ (requests : Keeping) (turns : List Turn) (turn : ServeInTurn requests (
   known : Known
   known =
       let it = turns_among told.pieces done turns told.among are away in
-      elim (by_turns is_closing is_ended told.pieces it.0 told.in_turn it.2 it.3 it.4 told.asked) [
+      elim (by_turns is_closing is_ended told.pieces it.0 told.in_turn it.2 it.3 told.asked) [
         | inl same ↦
             inl (own_among requests (served_in turns) told.pieces (served_in it.0) turn
             (served_among_turns it.0 turns it.1) (subst (AreServedAs told.pieces) (all_served it.0 same) it.2)).0

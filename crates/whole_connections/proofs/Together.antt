@@ -40,6 +40,12 @@ own_among requests over pieces cs turn among are =
     let at = places_among requests cs over turn among in
     (record { cs = cs; at = at; served = subst (AreServedAs pieces) (sym at.pieces_are) are }, refl)
 
+pub own_of : (requests : Keeping) (over : List Connection) (pieces done : List Piece) → ServeInTurn requests over
+    → PiecesAreAmong pieces done → AreServedAs done over → Own requests over pieces
+own_of requests over pieces done turn among are =
+    let it = served_among pieces done over among are in
+    (own_among requests over pieces it.0 turn it.1 it.2).0
+
 module _ (requests : Keeping) (over : List Connection) (pieces : List Piece) (own : Own requests over pieces)
     (is_ended : Bool) where
   abbrev pub to : Standing
