@@ -28,7 +28,7 @@ import register_digest
 import trials
 from check_damaged_registers import COLUMNS, TABLES, create, rows_of_requests, tables_of
 from check_stops import Traced
-from odd_register import SENT, clock, report
+from odd_register import clock, make_odd_register
 from trials import INTAKE, NOT_A_REGISTER, SMALLEST, Serving, exchange, hold, request, run, said, statuses, tell
 
 FORMS = [2, 3, 4]
@@ -49,17 +49,6 @@ def make_by_sqlite(database, form):
             marks = ", ".join("?" * len(COLUMNS[table]))
             conn.executemany(f"INSERT INTO {table} VALUES ({marks})", rows[table])
         conn.commit()
-
-
-def make_by_program(database, program):
-    """A register that this build makes and fills with odd reports."""
-    serving = Serving(database, 1, "--new", program=program)
-    given = b""
-    for at, (filer, key, target, facts) in enumerate(SENT):
-        whose = filer if target is None else f"{filer}/{target}"
-        given += request(key, report(facts), whose, close=at + 1 == len(SENT))
-    exchange(serving.port, given)
-    serving.end()
 
 
 def rows_of(database, form):
@@ -141,7 +130,7 @@ def try_form(folder, form, every, before):
     begun = folder / f"form{form}"
     begun.mkdir()
     if before and form == 4:
-        make_by_program(begun / "register.db", before)
+        make_odd_register(begun / "register.db", program=before)
     else:
         make_by_sqlite(begun / "register.db", form)
     earlier, calls = Earlier(begun / "register.db", form), 0

@@ -4,7 +4,7 @@ import datetime
 import json
 import sqlite3
 
-from trials import Serving, exchange, request
+from trials import INTAKE, Serving, exchange, request
 
 ODD = [
     '<script>alert("1")</script>',
@@ -118,11 +118,11 @@ def date_register(database, moments):
         new.commit()
 
 
-def make_odd_register(database, more=()):
-    """Makes a register of these reports, and of more after them."""
+def make_odd_register(database, more=(), program=INTAKE):
+    """Makes a register of these reports, and of more after them, by this build of the intake."""
     sent = [*SENT, *more]
     parts = [sent[at : at + EACH] for at in range(0, len(sent), EACH)]
-    serving = Serving(database, len(parts), "--new")
+    serving = Serving(database, len(parts), "--new", program=program)
     for part in parts:
         given = b""
         for at, (filer, key, target, facts) in enumerate(part):

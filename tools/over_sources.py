@@ -1,12 +1,14 @@
 #!/usr/bin/env python3
 """Checks one crate by the prover, with the crates below it as sources, before these are proved.
 
-    tools/over_sources.py CRATE [FLAGS OF rattle check ..]     as --jobs 1, --only PATH, --allow-holes
+    tools/over_sources.py CRATE [FLAGS OF rattle check ..]     as --jobs 1, --only PATH, --allow-holes,
+                                                               --incremental DIR, which keeps what was checked there
 
 `rt check` first builds the libraries below a crate, and a library builds only when all of it is proved. So whoever
 changes a lower crate waits for its proofs before an upper one can be tried. Here the contracts of the lower crates are
-taken from their text, whether they are proved or not. It decides nothing: `rt ci` does. The more crates lie below, the
-more memory it takes, up to 6 GB and more.
+taken from their text, whether they are proved or not. It decides nothing: `rt ci` does. Functions of the lower crates
+that are called are checked too. So the more crates lie below, the longer it takes, half an hour and more, and the more
+memory, up to 7 GB.
 """
 import os
 import pathlib
