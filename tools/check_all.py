@@ -26,7 +26,7 @@ CHECKS = [
     (["tools/check_commands.py"], 1),
     (["tools/check_programs.py"], 2),
     (["tools/check_schedules.py"], 1),
-    (["tools/check_stops.py"], 15),
+    (["tools/check_stops.py"], 20),
     (["tools/check_upgrades.py"], 5),
     (["tools/check_digest.py"], 1),
     (["tools/check_export.py"], 1),

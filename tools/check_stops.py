@@ -1,7 +1,9 @@
 #!/usr/bin/env python3
 """Plays schedules with the built programs, and stops each end at each of its calls to the disk.
 
-    tools/check_stops.py [--every N] [SCHEDULE ..]
+    tools/check_stops.py [--every N] [--clients N] [--intake PROGRAM] [SCHEDULE ..]
+    tools/check_stops.py --planted [WORD ..]            whether `groups` sees each fault of its stand-in, or those with
+                                                        one of these words
 
 A schedule is one of SCHEDULES below: reports are put into outboxes and sent, requests are cut or repeated, replies are
 lost. It is played once without a stop, and once for each call of an end that changes its files: strace kills the run
@@ -10,12 +12,23 @@ and of the rest each second write. Each is opened again, and the schedule is pla
 What both ends show after the stop and at the end has to be what `drill` shows of the schedule with a stop before the
 request or after it; what was answered or printed before the stop has to be there.
 
-It takes the programs that `rt run` builds, sqlite3 of Python, and strace. Files are made again from what strace saw of
-the calls: no power is cut, and no file system loses anything by itself, as the last line says. With --every N it stops
-at each Nth call. Status 1 if something else is shown.
+Besides there is the schedule `groups`: 64 clients file at once, or as many as --clients says, and the intake is stopped
+at each call from their first request on. That it keeps several requests with one sync is held to the run without a
+stop. After a stop `intake check` finds each form sound, each report whose reply a client had read whole is there as
+that reply says, none is there twice, and the numbers are without a gap. Then the clients send all requests, those
+before the stop too, to an intake over it: each gets one answer, which is that of before if there was one, and each
+report is there once. With --planted the intake is tools/grouping_stand_in.py, which has one fault after the other: each
+has to make a check fail, and without a fault all have to pass.
+
+It takes the programs that `rt run` builds, or PROGRAM in place of the intake, sqlite3 of Python, and strace. Files are
+made again from what strace saw of the calls: no power is cut, and no file system loses anything by itself, as the last
+line says, beside what a stand-in replaced. With --every N it stops at each Nth call. Status 1 if something else is
+shown.
 """
 import argparse
+import collections
 import contextlib
+import os
 import pathlib
 import re
 import shutil
@@ -27,8 +40,9 @@ import tempfile
 import threading
 from dataclasses import dataclass, replace
 
+import grouping_stand_in
 import trials
-from trials import DRILL, INTAKE, OUTBOX, SMALLEST, free_port, run
+from trials import DRILL, OUTBOX, ROOT, SMALLEST, free_port, request, run
 
 REFUSED = SMALLEST.replace(b"2021", b"1999")
 # The calls by which a run changes its files, each with what makes strace look at it alone.
@@ -318,14 +332,19 @@ class Intake:
             self.port = free_port()
             words = ["serve", "--db", site.register / "register.db", "--port", self.port, "--connections", connections]
             self.process = subprocess.Popen(
-                [*map(str, [*under, INTAKE, *words])], stdout=subprocess.DEVNULL, stderr=subprocess.PIPE
+                [*map(str, [*under, trials.INTAKE, *words])], stdout=subprocess.DEVNULL, stderr=subprocess.PIPE
             )
             self.line = self.process.stderr.readline()
 
     def end(self, waits=False):
         if not waits:
             self.process.kill()
-        self.process.communicate(timeout=60)
+        try:
+            self.process.communicate(timeout=60)
+        except subprocess.TimeoutExpired:
+            # (strace passes it on)
+            self.process.terminate()
+            raise
         return self.process.returncode
 
 
@@ -358,7 +377,7 @@ class Relay:
     def carry(self):
         with contextlib.suppress(OSError), self.listener.accept()[0] as outbox:
             outbox.settimeout(60)
-            given, reply = whole_request(outbox), b""
+            given, reply = whole_message(outbox), b""
             for time in range(self.step.times if given else 0):
                 is_last = time + 1 == self.step.times
                 reply = ask(self.port, given[: self.step.request if is_last else None])
@@ -372,8 +391,8 @@ class Relay:
         self.thread.join(60)
 
 
-def whole_request(connection):
-    """A request to the end of its body, or nothing if its peer is gone before."""
+def whole_message(connection):
+    """A request or a reply to the end of its body, or nothing if its peer is gone before."""
     found = b""
     while not is_whole(found):
         more = connection.recv(65536)
@@ -399,14 +418,21 @@ def send(site, step, port, under=()):
 # ---- plays
 
 
-class Traced:
-    """A run under strace, which may be killed on its way into the call of this kind and number."""
+# How many microseconds a slow call takes longer.
+SLOW = 20_000
 
-    def __init__(self, folder, log, stop=None):
+
+class Traced:
+    """A run under strace, which may be killed on its way into the call of this kind and number. All calls of another
+    kind may be slow."""
+
+    def __init__(self, folder, log, stop=None, slow=None):
         self.files, self.log = Files(folder), log
         names = [folder, *(folder / name for name in ("register.db", "register.db-wal", "outbox.db", "outbox.db-wal"))]
         paths = [word for name in names for word in ("-P", name)]
         kill = ["-e", f"inject={stop[0]}:signal=SIGKILL:when={stop[1]}"] if stop else []
+        if slow:
+            kill += ["-e", f"inject={slow}:delay_enter={SLOW}"]
         self.under = [
             "strace", "-f", "-y", "-xx", "-s", "2000000", "-o", log, "-e", f"trace={','.join(CALLS + OTHERS)}", *paths,
             *kill,
@@ -571,26 +597,279 @@ class Trial:
         return counts
 
 
-def main():
+# ---- groups of requests
+
+
+# What a refused report gets; a registered one gets its number.
+REFUSAL = (
+    b'{"findings":[{"code":"document-type","place":"/documentInfo/documentType"}],"reason":"refused","status":422,'
+    b'"title":"Unprocessable Content","type":"about:blank"}'
+)
+REGISTERED = re.compile(rb'\{"number":([1-9]\d*),"status":"registered"\}')
+KEPT = """SELECT filer, idem, body, kept.number, filing.number, target FROM kept LEFT JOIN filing USING (seq)
+LEFT JOIN amends USING (seq)"""
+NUMBERS = "SELECT number FROM filing ORDER BY number"
+LAST = b"GET /filings/F0 HTTP/1.1\r\nHost: h\r\nConnection: close\r\n\r\n"
+
+
+@dataclass(frozen=True)
+class Report:
+    """What a client files, maybe to replace what it filed under another key."""
+
+    filer: str
+    key: str
+    body: bytes = SMALLEST
+    replaced_key: str | None = None
+
+    @property
+    def name(self):
+        return self.filer, self.key
+
+
+def reports_of(client, count):
+    """What a client of so many files, one after another: three reports, and a refused one before them or among them. Of
+    16 clients one files a report that a client of the other half files too, and another one replaces its first report:
+    such requests end a group."""
+    place = client % (count // 2)
+    filer = f"F{place % 4}"
+    found = [
+        Report(filer, f"{client}-first"),
+        Report(filer, f"{client}-second" if place % 16 else f"{place}-both"),
+        Report(filer, f"{client}-third", replaced_key=f"{client}-first" if client % 16 == 1 else None),
+    ]
+    found.insert(0 if client % 2 else 2, Report(filer, f"{client}-refused", REFUSED))
+    return found
+
+
+class Crowd:
+    """Clients that file at once, each on a connection of its own, and what they were told: by filer and key the number
+    of a registered report, or None of a refused one."""
+
+    def __init__(self, count, told=()):
+        self.count, self.told, self.wrong, self.lock = count, dict(told), [], threading.Lock()
+        self.reports = [report for client in range(count) for report in reports_of(client, count)]
+
+    def replaced(self, report):
+        """The number of what a report replaces; 0 if that is not known."""
+        return self.told.get((report.filer, report.replaced_key), 0) if report.replaced_key else None
+
+    def file(self, port):
+        """All connect, and file one report each, once all have read what they got for the one before, until they are
+        done or a connection ends; how many replies they read."""
+        read = []
+
+        def act(client, peer):
+            with contextlib.suppress(OSError, threading.BrokenBarrierError):
+                for report in reports_of(client, self.count):
+                    barrier.wait(60)
+                    target = self.replaced(report)
+                    peer.sendall(request(report.key, report.body, report.filer, close=False, replaces=target))
+                    if not (reply := whole_message(peer)):
+                        break
+                    read.append(report)
+                    if not self.note(report, reply):
+                        break
+                else:
+                    return
+            barrier.abort()
+
+        with contextlib.ExitStack() as held:
+            peers = []
+            with contextlib.suppress(OSError):
+                for _ in range(self.count):
+                    peers.append(held.enter_context(socket.create_connection(("127.0.0.1", port), timeout=60)))
+            barrier = threading.Barrier(max(1, len(peers)))
+            clients = [threading.Thread(target=act, args=it, daemon=True) for it in enumerate(peers)]
+            for it in clients:
+                it.start()
+            for it in clients:
+                it.join()
+        return len(read)
+
+    def note(self, report, reply):
+        """Whether a reply is what the report gets, and the same as before."""
+        head, _, content = reply.partition(b"\r\n\r\n")
+        number = REGISTERED.fullmatch(content)
+        wanted = b"HTTP/1.1 422 " if report.body == REFUSED else b"HTTP/1.1 201 "
+        found = int(number[1]) if number else None
+        with self.lock:
+            is_right = head.startswith(wanted) and (content == REFUSAL if report.body == REFUSED else bool(number))
+            before = self.told.setdefault(report.name, found) if is_right else None
+            if not is_right or before != found:
+                self.wrong.append(f"{report.name} got {reply!r}, and {before} before")
+                return False
+        return True
+
+    def fault(self, rows, numbers, is_done=False):
+        """What is wrong with what clients were told, and with what a register has; `is_done` if all was answered."""
+        if self.wrong:
+            return f"{self.wrong[0]} ({len(self.wrong)} in all)"
+        sent, counts = {it.name: it for it in self.reports}, collections.Counter(row[:2] for row in rows)
+        if twice := [name for name, count in counts.items() if count > 1]:
+            return f"kept twice: {twice}"
+        if numbers != list(range(1, len(numbers) + 1)):
+            return f"the numbers are {numbers}"
+        for filer, key, body, number, filing, target in rows:
+            report, is_valid = sent.get((filer, key)), number is not None
+            if not report or (body, is_valid) != (report.body, body != REFUSED):
+                return f"{(filer, key, body, number)} is kept"
+            if (filing, target) != (number, self.replaced(report)):
+                return f"{(filer, key, number)} is filing {filing}, and replaces {target}"
+        there = {row[:2]: row[3] for row in rows}
+        lost = {name: number for name, number in self.told.items() if there.get(name, 0) != number}
+        if lost:
+            return f"{len(lost)} of {len(self.told)} that were answered are not there so: {sorted(lost.items())[:3]}"
+        if is_done and (missing := sorted(sent.keys() - there.keys() | sent.keys() - self.told.keys())):
+            return f"not answered, or not there: {missing}"
+        return None
+
+
+class Grouping:
+    """Clients at once, and an intake that is stopped while it decides for them."""
+
+    def __init__(self, folder, clients, every):
+        self.folder, self.clients, self.every = folder, clients, every
+        self.begun, self.calls, self.missed = Site(folder / "begun", 0).make(), 0, 0
+
+    def stop_all(self, ends_at_first=False):
+        """Stops at each call that a run makes from its first request on, or at each Nth."""
+        opened, counts = self.run(None, "groups: without a stop")
+        for call, count in counts.items():
+            for number in range(opened[call] + 1, count + 1):
+                self.calls += 1
+                if self.calls % self.every == 0 and not (ends_at_first and trials.failures):
+                    self.run((call, number), f"groups: the intake stops at {call} {number}")
+        stops = self.calls // self.every
+        # A run is as long as its groups are many, and so may end before the call.
+        fault = None if 2 * self.missed <= stops else "too few"
+        trials.tell(f"groups: {stops - self.missed} of {stops} stops were reached", fault)
+
+    def run(self, stop, what):
+        """A run of the clients; gives how often each call was made before the first request, and in all."""
+        site = self.begun.copied(self.folder / "play")
+        # The disk is slow, so that requests come meanwhile.
+        slow = "pwrite64" if stop and stop[0] == "fdatasync" else "fdatasync"
+        traced = Traced(site.register, self.folder / "trace", stop, slow)
+        intake, crowd = Intake(site, self.clients + 1, traced.under), Crowd(self.clients)
+        opened = Files(site.register).read(traced.log)
+        answered = crowd.file(intake.port)
+        served = Files(site.register).read(traced.log)
+        # Its last connection: it ends after it, if it was not stopped.
+        ask(intake.port, LAST)
+        status = intake.end(waits=True)
+        counts = traced.counts()
+        if not stop:
+            syncs = served["fdatasync"] - opened["fdatasync"]
+            fault = None if 3 * syncs < len(crowd.reports) else "too many"
+            trials.tell(f"{what}: {len(crowd.reports)} requests took {syncs} syncs", fault)
+            trials.hold(f"{what}: status", status, 0)
+            trials.tell(f"{what}: what is there", self.fault(site, crowd, is_done=True))
+        self.missed += bool(stop) and status == 0
+        for form, image in traced.files.images() if stop else []:
+            copy = site.copied(self.folder / "image", site.register, image)
+            trials.tell(f"{what} after {answered} replies, with {form}", self.fault(copy, crowd))
+            shutil.rmtree(copy.folder)
+        shutil.rmtree(site.folder)
+        sys.stdout.flush()
+        return opened, counts
+
+    def fault(self, site, crowd, is_done=False):
+        """What is wrong with a register, and with what clients get of an intake over it that send all again."""
+        database = site.register / "register.db"
+        checked = run(trials.INTAKE, "check", "--db", database)
+        if checked.returncode:
+            return f"intake check: {checked.stdout + checked.stderr!r}"
+        kept, numbers = self.kept(site)
+        if checked.stdout != (sound := f"sound: {len(kept)} kept, {len(numbers)} filings\n".encode()):
+            return f"intake check: {checked.stdout!r} in place of {sound!r}"
+        if fault := crowd.fault(kept, numbers, is_done):
+            return fault
+        again = Crowd(self.clients, {row[:2]: row[3] for row in kept})
+        intake = Intake(site, self.clients)
+        again.file(intake.port)
+        if status := intake.end(waits=True):
+            return f"the intake ended with status {status} after all was sent again"
+        fault = again.fault(*self.kept(site), is_done=True)
+        return f"sent again: {fault}" if fault else None
+
+    @staticmethod
+    def kept(site):
+        """The requests that are kept, and the numbers of the filings."""
+        database = site.register / "register.db"
+        return site.rows(database, KEPT), [number for number, in site.rows(database, NUMBERS)]
+
+
+# ---- planted faults
+
+STAND_IN = ROOT / "tools" / "grouping_stand_in.py"
+
+
+def try_planted(words):
+    """Plays `groups` with the stand-in, without a fault and with each of its faults."""
+    for fault in ["", *grouping_stand_in.FAULTS]:
+        if words and not any(word in fault for word in words):
+            continue
+        options = ["--first", "--every", "4", "--clients", "16", "--intake", STAND_IN]
+        command = [sys.executable, __file__, *options, "groups"]
+        done = subprocess.run(command, capture_output=True, text=True, env={**os.environ, "FAULT": fault}, check=False)
+        failed = re.findall(r"(?m)^failed: (.{,200})", done.stdout)
+        if fault:
+            trials.tell(f"{fault}: seen by: {failed[:1]}", None if failed else f"no check fails: {done.stderr}")
+        else:
+            trials.tell("without a fault", "; ".join(failed) or done.stderr or None)
+        sys.stdout.flush()
+
+
+def words_of(words):
     parser = argparse.ArgumentParser(description=__doc__.partition("\n")[0])
     parser.add_argument("--every", type=int, default=1, metavar="N", help="stop at each Nth call")
-    parser.add_argument("schedules", nargs="*", choices=[[], *SCHEDULES], metavar="SCHEDULE")
-    given = parser.parse_args()
+    parser.add_argument("--clients", type=int, default=64, metavar="N", help="how many file at once, 16 to 64")
+    parser.add_argument("--intake", type=pathlib.Path, default=trials.INTAKE, metavar="PROGRAM", help="another build")
+    parser.add_argument("--first", action="store_true", help="stop no more after the first check that fails")
+    parser.add_argument("--planted", action="store_true", help="whether each planted fault is seen")
+    parser.add_argument("words", nargs="*", metavar="SCHEDULE", help=f"{' '.join(SCHEDULES)} groups")
+    given = parser.parse_args(words)
+    if not given.planted and (wrong := [it for it in given.words if it not in [*SCHEDULES, "groups"]]):
+        parser.error(f"there is no schedule {wrong[0]}")
+    if not 16 <= given.clients <= 64:
+        parser.error("16 to 64 clients")
+    if not given.planted and not given.intake.exists():
+        parser.error("build the program first: (cd crates/intake && rt run -- --version)")
+    return given
+
+
+def main(words):
+    given = words_of(words)
     if shutil.which("strace") is None:
         print("nothing was tried: strace is not installed")
-        sys.exit(77)
-    calls = 0
-    for name in given.schedules or SCHEDULES:
+        return 77
+    intake, calls = STAND_IN if given.planted else given.intake.resolve(), 0
+    ending = "what was not synced was lost by this script, and by no file system"
+    if intake != trials.INTAKE:
+        ending += f"; stand-ins: {intake} for the intake"
+    trials.INTAKE = intake
+    if given.planted:
+        try_planted(given.words)
+        print(f"{len(trials.failures)} failed; {ending}")
+        return 1 if trials.failures else 0
+    for name in given.words or [*SCHEDULES, "groups"]:
         with tempfile.TemporaryDirectory() as folder:
-            trial = Trial(name, pathlib.Path(folder).resolve(), given.every)
-            trial.prepare()
-            trial.stop_outboxes()
-            trial.stop_intakes()
+            place = pathlib.Path(folder).resolve()
+            if name == "groups":
+                trial = Grouping(place, given.clients, given.every)
+                try:
+                    trial.stop_all(given.first)
+                except (OSError, ValueError, sqlite3.Error, subprocess.TimeoutExpired) as fault:
+                    trials.tell("groups", repr(fault))
+            else:
+                trial = Trial(name, place, given.every)
+                trial.prepare()
+                trial.stop_outboxes()
+                trial.stop_intakes()
             calls += trial.calls
-    lost = "what was not synced was lost by this script, and by no file system"
-    print(f"{len(trials.failures)} failed after {calls} calls; {lost}")
-    sys.exit(1 if trials.failures else 0)
+    print(f"{len(trials.failures)} failed after {calls} calls; {ending}")
+    return 1 if trials.failures else 0
 
 
 if __name__ == "__main__":
-    main()
+    sys.exit(main(sys.argv[1:]))

@@ -146,9 +146,12 @@ class Line:
 
 
 class Serving:
+    # What it keeps reports in.
+    kind = Register
+
     def __init__(self, words):
         self.words = words
-        self.register = Register(words.db, words.new)
+        self.register = self.kind(words.db, words.new)
         if FAULT == "forgets keys at a start":
             self.register.kept.clear()
         self.listener = socket.create_server(("127.0.0.1", words.port), backlog=4096)

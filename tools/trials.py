@@ -135,11 +135,11 @@ class Serving:
     """An intake that serves a register, for so many connections. `under` are the words of a program that runs it, and
     what valgrind prints before the program's own first line, `ready`, is passed over. `program` is another build."""
 
-    def __init__(self, database, connections, *words, under=(), env=None, program=INTAKE):
+    def __init__(self, database, connections, *words, under=(), env=None, program=None):
         self.port = free_port()
         self.process = subprocess.Popen(
             [
-                *under, program, "serve", "--db", database, "--port", str(self.port),
+                *under, program or INTAKE, "serve", "--db", database, "--port", str(self.port),
                 "--connections", str(connections), *words,
             ],
             stdout=subprocess.PIPE,
