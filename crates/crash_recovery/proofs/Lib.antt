@@ -4,3 +4,4 @@ mod Killing
 mod Leaving
 mod Outboxing
 mod Registering
+mod Grouping

@@ -26,13 +26,13 @@ use Rattle.crash_recovery.specs.Registers.{HoldRegisterWithLog, HoldEitherRegist
 use Rattle.crash_recovery.proofs.Finding.{found_there}
 use Rattle.crash_recovery.proofs.Leaving.{ends_with_one, leaves_now}
 
-sound_if : (old_style : ℕ) (F : List Request) (trees : Trees) → LeavesRegister old_style F trees
+pub sound_if : (old_style : ℕ) (F : List Request) (trees : Trees) → LeavesRegister old_style F trees
     → (schema : Schema) × IsSound schema trees
 sound_if old_style F trees leaves =
     (leaves.db.schema, subst (IsSound leaves.db.schema) (sym leaves.is) leaves.register.sound)
 
 module _ {D : Type 0} (g : Ghosts D) where
-  hold : (files : Files D) (old_style : ℕ) (F : List Request) (trees : Trees) → LeavesRegister old_style F trees
+  pub hold : (files : Files D) (old_style : ℕ) (F : List Request) (trees : Trees) → LeavesRegister old_style F trees
       → ∥ HoldsDatabase (image_of g files) trees ∥₁ → HoldRegisterWithLog g files old_style F
   hold files old_style F trees leaves held =
       record {

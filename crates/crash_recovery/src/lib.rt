@@ -61,6 +61,7 @@ ghost use Rattle.intake_core.specs.declared.intake.Unavailable.{Unavailable};
 ghost use Rattle.intake_core.specs.Held.{store_of, old_style_of, HoldsRequests, with_request};
 ghost use Rattle.intake_core.specs.Held as intake;
 ghost use Rattle.intake_core.specs.Calls.{DecidesRequest};
+ghost use Rattle.intake_core.specs.Group.{Decided, DecidesEach};
 ghost use Rattle.outbox_tables.specs.Entries.{Contents};
 ghost use Rattle.outbox_tables.specs.Rows.{IsOutboxOf};
 ghost use Rattle.outbox_core.specs.declared.fault.PutFault.{PutFault};
@@ -78,6 +79,7 @@ ghost use Rattle.intake_process.specs.declared.beginning.Totals.{Totals};
 ghost use Rattle.intake_process.specs.Beginning.{AreTotals, FindsIntake, HoldsAs};
 ghost use Rattle.programs.specs.Happenings.{Killing, Serving, Situation};
 ghost use Rattle.crash_recovery.specs.Deciding.{HasRoom, IsDeciding, StopsAtRequest, StopsIn};
+ghost use Rattle.crash_recovery.specs.Grouped.{HoldSome};
 ghost use Rattle.crash_recovery.specs.Killed.{ComesOn, HappenedIn, cut_off, read_on};
 ghost use Rattle.crash_recovery.specs.Left.{AreLeftByKill, AreLeftByStop, EndsIn, FailsForCause, IsLastOf};
 ghost use Rattle.crash_recovery.specs.Left.{IsNumbered};
@@ -153,6 +155,15 @@ pub fn a_register_outlives_a_decision<D: Disk + Drop>()
         → DecidesRequest over_files r old new result → IsTrue (intake.shows over_files old).is_open
         → HoldsRequests over_files old requests → EndsIn (store_of new).conn files
         → HoldEitherRegister D.Disk files (old_style_of old) requests (with_request requests r) }
+{}
+
+/// A register that was open as `Intake::submit_all` began leaves its requests, or these and some of those that were to
+/// be decided, in their order, as if each of these had been decided by itself.
+pub fn a_register_outlives_a_group<D: Disk + Drop>()
+    ensures { IsHonest D.Disk → (decided : List Decided) (old new : Intake (Stored D D.Disk))
+        (requests : List Request) (files : Files D) → DecidesEach over_files decided old new
+        → IsTrue (intake.shows over_files old).is_open → HoldsRequests over_files old requests
+        → EndsIn (store_of new).conn files → HoldSome D.Disk files (old_style_of old) requests decided }
 {}
 
 /// A register that ends as a request that came on a connection is decided, and for which there is room, holds what the

@@ -48,7 +48,10 @@ fn after(bytes: &[u8], len: usize) -> &[u8]
 }
 
 /// The request that the bytes begin with, and how many bytes it takes.
-fn first_request(alloc: Global, bytes: &[u8]) -> Result<Option<(Message<'_>, usize)>, AllocError>
+pub fn first_request(
+    alloc: Global,
+    bytes: &[u8],
+) -> Result<Option<(Message<'_>, usize)>, AllocError>
     ensures some { IfOk result (λ found. IfSome found (λ p. BeginsRequest bytes.now (view_message p.0) p.1)) }
     ensures none { IfOk result (λ found.
         found ≡ None → (request : Spelled) (n : ℕ) → ¬ BeginsRequest bytes.now request n) }

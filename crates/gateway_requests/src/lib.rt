@@ -6,5 +6,5 @@ mod completion;
 mod path;
 mod route;
 
-pub use completion::completed;
+pub use completion::{completed, first_request};
 pub use route::{Rejection, Route, is_head, route_of};

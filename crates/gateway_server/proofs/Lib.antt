@@ -11,3 +11,4 @@ pub mod Ending
 pub mod Stopping
 pub mod Transitions
 pub mod Written
+pub mod Unanswered

@@ -5,3 +5,4 @@ pub mod Stopping
 pub mod Decided
 pub mod Answered
 pub mod Written
+pub mod Ahead

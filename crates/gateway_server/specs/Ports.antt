@@ -1,6 +1,7 @@
 -- What comes on a port and what becomes of its connections, as far as that is known; own rules.
-use Rattle.std.specs.Prelude.{◌≡◌, ℕ, Bool, true, false, List, [], ◌∷◌, ◌++◌, Option, Some, None}
+use Rattle.std.specs.Prelude.{◌≡◌, ◌≢◌, ◌≤◌, ℕ, Bool, true, false, List, [], ◌∷◌, ◌++◌, length, Option, Some, None}
 use Rattle.std.specs.Prelude.{Result, Ok, Err}
+use Rattle.std.specs.List.{sum_by}
 use Rattle.std.specs.Io.KnownBytes.{Consumes}
 use Rattle.http_wire.specs.Wire.{Wire}
 use Rattle.filing_model.specs.declared.served.Mark.{Mark}
@@ -19,12 +20,14 @@ pub record Connection : Type 0 where
   pub output : Output
 
 -- What contracts see of a port, if it is known: the bytes of each connection that comes from here on, the bytes of the
--- one that came last, and each that is over; and whether no connection comes any more.
+-- one that came last, and each that is over; whether no connection comes any more; and, if that is known, the bytes
+-- that were handed out ahead, before the connections on which they come.
 pub record Traffic : Type 0 where
   pub coming : Option (List (List ℕ))
   pub given : Option (List ℕ)
   pub over : Option (List Connection)
   pub is_shut : Bool
+  pub ahead : Option (List (List ℕ))
 
 -- a port whose connections are known is shut exactly if none of them is left
 abbrev pub IsShutBy : Option (List (List ℕ)) → Bool → Type 0
@@ -63,6 +66,29 @@ Comes shows old new (Ok (Some (reader, writer))) =
     × IsNew old.over new.given (shows reader writer)
 Comes shows old new (Ok None) = MayShut old new × (old.coming ≡ None)
 Comes shows old new (Err error) = MayShut old new × NoneIsLeft old.coming
+
+-- nothing, or all bytes of the connection that came last, if these are known
+abbrev pub IsGiven : Option (List ℕ) → List ℕ → Type 0
+IsGiven given copy = (bytes : List ℕ) → given ≡ Some bytes → copy ≢ [] → copy ≡ bytes
+
+-- how many times bytes are handed out ahead at most with one connection, and how many bytes
+abbrev pub most_ahead : ℕ
+most_ahead = 64
+
+abbrev pub most_ahead_len : ℕ
+most_ahead_len = 4194304
+
+-- these were handed out ahead, behind what was before, if that is known
+abbrev pub Follows : Option (List (List ℕ)) → Option (List (List ℕ)) → List (List ℕ) → Type 0
+Follows None after pieces = Unit {0}
+Follows (Some before) after pieces = after ≡ Some (before ++ pieces)
+
+-- These were handed out ahead, few and short, and nothing else changed.
+pub record HandsAhead (old new : Traffic) (pieces : List (List ℕ)) : Type 0 where
+  pub follow : Follows old.ahead new.ahead pieces
+  pub same : new ≡ record old { ahead = new.ahead }
+  pub few : length pieces ≤ most_ahead
+  pub short : sum_by length pieces ≤ most_ahead_len
 
 -- the known connections, and behind them these
 abbrev pub Grows : Option (List Connection) → Option (List Connection) → List Connection → Type 0

@@ -3,6 +3,7 @@
 //! turn.
 #![tactic(auto)]
 
+mod ahead;
 mod answer;
 mod decide;
 mod port;
@@ -10,6 +11,7 @@ mod port_fault;
 mod serving;
 mod stop;
 
+pub use ahead::{decide_ahead, files_first};
 pub use filing_model::{Ended, Mark};
 pub use gateway_requests::completed;
 pub use intake_answers::fact_line;

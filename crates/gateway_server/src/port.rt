@@ -1,13 +1,13 @@
 //! A port, as a list of connections.
 
-ghost use Rattle.std.specs.Prelude.{◌≡◌, None, true, IfErr, OnOk};
+ghost use Rattle.std.specs.Prelude.{◌≡◌, None, true, map, IfErr, OnOk};
 ghost use Rattle.http_wire.specs.Wire.{wire};
 ghost use Rattle.gateway_server.specs.Progress.{IsReadToEnd};
-ghost use Rattle.gateway_server.specs.Ports.{Traffic, IsShutBy, Comes, Adds};
+ghost use Rattle.gateway_server.specs.Ports.{Traffic, IsShutBy, IsGiven, Comes, Adds, HandsAhead};
 
 use crate::serving::Served;
 use http_wire::{Sink, Source};
-use std::alloc::AllocError;
+use std::alloc::{AllocError, Global};
 use std::io;
 
 /// A port on which connections come, one after another.
@@ -18,8 +18,8 @@ pub trait Port {
     /// What writes on it.
     type Writer: Sink + Drop;
 
-    // What comes from here on, what came last, and the connections that are over, if that is known; and whether no
-    // connection comes any more.
+    // What comes from here on, what came last, and the connections that are over, if that is known; whether no
+    // connection comes any more; and what was handed out ahead, if that is known.
     ghost traffic: { Self → Traffic };
 
     /// Begins to listen. No connection comes on a port that isn't listened on. A port whose connections are known
@@ -36,7 +36,25 @@ pub trait Port {
     /// Waits for the next connection; `None` if none came, as when its peer gave it up first. A port that is shut gives
     /// none.
     fn accept(&mut self) -> io::Result<Option<(Self::Reader, Self::Writer)>>
-        ensures { Comes (wire Self.Reader.Source Self.Writer.Sink) (traffic self.old) (traffic self.new) result };
+        ensures comes { Comes (wire Self.Reader.Source Self.Writer.Sink) (traffic self.old) (traffic self.new) result }
+        ensures ahead { (traffic self.new).ahead ≡ (traffic self.old).ahead };
+
+    /// The bytes of the connection that came last, if a look at other requests that wait may be worth it; otherwise
+    /// none.
+    fn given(&self) -> &[u8]
+        ensures { IsGiven (traffic self.now).given result.now };
+
+    /// Copies of whole requests that wait, if there are several: that of the connection that came last, and those of
+    /// connections that are still to come, which come later all the same. They are 64 at most, of 4 MiB together, and
+    /// nothing is waited for.
+    fn waiting(&mut self, alloc: Global) -> Vec<Vec<u8>>
+        ensures { HandsAhead (traffic self.old) (traffic self.new) (map (λ piece. piece.items) result.items) };
+
+    /// How many milliseconds passed since 1970-01-01T00:00:00Z by the clock of the system; 0 if the port looks at no
+    /// clock. No clause says that the clock is right.
+    fn moment(&self) -> u64 {
+        0
+    }
 
     /// Takes back a connection that is over, and what became of it. If its input ended, it was read to its end.
     fn end(
@@ -48,6 +66,7 @@ pub trait Port {
         requires { IsReadToEnd (Self.Reader.left reader) served.ended }
         ensures coming { (traffic self.new).coming ≡ (traffic self.old).coming }
         ensures shut { (traffic self.old).is_shut ≡ true → (traffic self.new).is_shut ≡ true }
+        ensures ahead { (traffic self.new).ahead ≡ (traffic self.old).ahead }
         ensures over { OnOk result (Adds (traffic self.old).over (traffic self.new).over served
             (traffic self.old).given (Self.Reader.left reader) (Self.Writer.written writer)) }
         ensures refused { IfErr result (λ _. (traffic self.new).over ≡ (traffic self.old).over) };

@@ -4,7 +4,7 @@ ghost use Rattle.std.specs.Prelude.{None, true};
 
 use gateway_server::{Port, Served};
 use http_wire::{Device, MemoryWriter};
-use std::alloc::AllocError;
+use std::alloc::{AllocError, Global};
 use std::io;
 
 /// A port on which no connection comes.
@@ -16,7 +16,7 @@ impl Port for NoPort {
 
     type Writer = MemoryWriter;
 
-    ghost traffic = { λ _. record { coming = None; given = None; over = None; is_shut = true } };
+    ghost traffic = { λ _. record { coming = None; given = None; over = None; is_shut = true; ahead = None } };
 
     fn listen(&mut self) -> io::Result<()> {
         Ok(())
@@ -28,6 +28,14 @@ impl Port for NoPort {
 
     fn accept(&mut self) -> io::Result<Option<(Device<&'static [u8]>, MemoryWriter)>> {
         Ok(None)
+    }
+
+    fn given(&self) -> &[u8] {
+        &[]
+    }
+
+    fn waiting(&mut self, alloc: Global) -> Vec<Vec<u8>> {
+        Vec::new(alloc)
     }
 
     fn end(

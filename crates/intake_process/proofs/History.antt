@@ -6,10 +6,11 @@ use Rattle.std.proofs.lemmas.List.{append-nil, append_assoc}
 use Rattle.sqlite_disk.specs.declared.Disk.{Ghosts}
 use Rattle.http_wire.specs.Wire.{Wire}
 use Rattle.intake_process.specs.declared.process.Answered.{Answered}
-use Rattle.intake_process.specs.declared.process.Outcome.TheVariants as outcome
 use Rattle.intake_process.specs.Process.{Parts, AnswersWire}
 use Rattle.intake_process.specs.Observing.{Notes}
 use Rattle.intake_process.specs.History.{Step, said_of, IsReady, IsOver, AreSteps, said_in, EndsIn, Passes}
+use Rattle.intake_process.specs.History.{LooksAhead}
+use Rattle.gateway_server.specs.Ports.{Traffic}
 
 -- ---- what an observer answered
 
@@ -57,31 +58,51 @@ module _ {D : Type 0} {g : Ghosts D} (limit : ℕ) where
       at_once (Some n) = (refl, refl)
 
   -- one connection was answered, and is over
-  pub one : (old ready last new : Parts g) (noted noted' : Option (List Bool)) (asked : Option Bool) (from to : Wire)
-      (answered : Answered) → IsReady limit asked old ready → AnswersWire from to ready last answered
+  pub one : (old ready decided last new : Parts g) (noted noted' : Option (List Bool)) (asked : Option Bool)
+      (port port' : Traffic) (from to : Wire) (answered : Answered) → IsReady limit asked old ready
+      → LooksAhead port port' ready decided → AnswersWire from to decided last answered
       → IsOver answered.outcome last new → Notes noted noted' (said_of asked)
       → Passes limit old new noted noted' (Some 1)
-  one old ready last new noted noted' asked from to answered readied answers over notes = record {
-    steps = record { asked = asked; ready = ready; answered = answered; last = last; after = new } ∷ [];
-    before = new;
-    said = [];
-    are = ((readied, (from, to, answers)), over, refl);
-    ends = (refl, refl);
-    notes = noted_as noted noted' _ _ (sym (append-nil (said_of asked)) ∙ sym (append-nil (said_of asked ++ []))) notes;
-  }
+  one old ready decided last new noted noted' asked port port' from to answered readied looks answers over
+      notes = record {
+        steps = record {
+          asked = asked;
+          ready = ready;
+          ahead = looks.pieces;
+          decided = decided;
+          answered = answered;
+          last = last;
+          after = new;
+        } ∷ [];
+        before = new;
+        said = [];
+        are = ((readied, looks.hands.few, looks.decides, (from, to, answers)), over, refl);
+        ends = (refl, refl);
+        notes = noted_as noted noted' _ _
+            (sym (append-nil (said_of asked)) ∙ sym (append-nil (said_of asked ++ []))) notes;
+      }
 
   -- one was answered, and the port failed then
-  pub cut : (old ready last : Parts g) (noted noted' : Option (List Bool)) (asked : Option Bool) (from to : Wire)
-      (answered : Answered) → IsReady limit asked old ready → AnswersWire from to ready last answered
+  pub cut : (old ready decided last : Parts g) (noted noted' : Option (List Bool)) (asked : Option Bool)
+      (port port' : Traffic) (from to : Wire) (answered : Answered) → IsReady limit asked old ready
+      → LooksAhead port port' ready decided → AnswersWire from to decided last answered
       → Notes noted noted' (said_of asked) → Passes limit old last noted noted' None
-  cut old ready last noted noted' asked from to answered readied answers notes = record {
+  cut old ready decided last noted noted' asked port port' from to answered readied looks answers notes = record {
     steps = [];
     before = old;
     said = said_of asked;
     are = refl;
     ends = inr (
-      record { asked = asked; ready = ready; answered = answered; last = last; after = last },
-      (readied, (from, to, answers)),
+      record {
+        asked = asked;
+        ready = ready;
+        ahead = looks.pieces;
+        decided = decided;
+        answered = answered;
+        last = last;
+        after = last;
+      },
+      (readied, looks.hands.few, looks.decides, (from, to, answers)),
       refl,
       refl,
     );

@@ -1,30 +1,38 @@
 -- Connections that are answered, one behind another.
-use Rattle.std.proofs.Common.{◌≡◌, ℕ, ◌+◌, Bool, List, [], ◌∷◌, ◌++◌, take, false, Option, Some, None, Ok, arith, refl}
-use Rattle.std.proofs.Common.{sym, ◌∙◌, ap, ap₂, subst}
+use Rattle.std.proofs.Common.{◌≡◌, ℕ, ◌+◌, Bool, List, [], ◌∷◌, ◌++◌, take, map, true, false, Option, Some, None}
+use Rattle.std.proofs.Common.{Ok, arith, refl, IsSome}
+use Rattle.std.proofs.Common.{sym, ◌∙◌, ap, subst}
+use Rattle.std.proofs.lemmas.List.{append-nil, append_assoc}
 use Rattle.std.specs.Prelude.{IfSome, option_map}
 use Rattle.sqlite_disk.specs.declared.Disk.{Ghosts}
 use Rattle.sqlite_disk.specs.declared.Files.{Files}
 use Rattle.sqlite_store.specs.declared.store.FileStore.{FileStore}
 use Rattle.sqlite.specs.Files.{over_files}
+use Rattle.sqlite.specs.Store as database
 use Rattle.http_wire.specs.Wire.{Wire}
 use Rattle.filing_model.specs.Request.{Request}
-use Rattle.filing_model.specs.Serving.{keeping, Serves}
+use Rattle.filing_model.specs.Serving.{Keeping, keeping, Serves}
 use Rattle.intake_core.specs.declared.intake.Intake.{Intake}
+use Rattle.intake_core.specs.Held.{limit_of, has_stopped, old_style_in}
 use Rattle.gateway_server.specs.Progress.{IsReadToEnd}
 use Rattle.gateway_server.specs.InTurn.{ServeInTurn, Came, AreCounted, AreTold}
-use Rattle.gateway_server.specs.Ports.{Connection, Traffic, MayShut, Takes, IsNew, connection_with}
+use Rattle.gateway_server.specs.Ahead.{AreDecidedAhead, DecidesAhead}
+use Rattle.gateway_server.specs.Ports.{Connection, Traffic, Follows, MayShut, Takes, IsNew, connection_with}
 use Rattle.gateway_server.proofs.Turns.{IsEndTold, came_none, told_none, came_one, counted_told, told_one, told_untold}
-use Rattle.gateway_server.proofs.Turns.{turns_join, came_join, counted_join, told_join, unchanged}
+use Rattle.gateway_server.proofs.Turns.{turns_join, came_join, counted_join, counted_none, told_join, unchanged}
+use Rattle.gateway_server.proofs.Unanswered.{decided_join, decides_more}
 use Rattle.table_rows.proofs.CleanLemmas.{always_clean}
 use Rattle.database_places.specs.Places.{IsHonest}
 use Rattle.intake_process.specs.declared.beginning.Totals.{Totals}
 use Rattle.intake_process.specs.declared.process.Answered.{Answered}
 use Rattle.intake_process.specs.declared.process.Closed.{Closed}
 use Rattle.intake_process.specs.Beginning.{HoldsAs}
-use Rattle.intake_process.specs.Process.{Parts, IsUnrefused, StaysUp, KeepsBy, Leaves, AnswersBy, AnswersWire}
+use Rattle.intake_process.specs.History.{LooksAhead}
+use Rattle.intake_process.specs.Process.{Parts, IsUnrefused, StaysUp, Keeps, KeepsBy, Leaves, AnswersBy, AnswersWire}
+use Rattle.intake_process.specs.Process.{DecidesBy, GoesAhead}
 use Rattle.intake_process.specs.Process.{IsUp, OpensProcess, ClosesProcess}
-use Rattle.intake_process.specs.Turns.{Turn, Served, TurnedAway, connection_of, connections_of, served_in}
-use Rattle.intake_process.specs.Turns.{AreTurnedAway, AreAnswered, AnswersSome}
+use Rattle.intake_process.specs.Turns.{Turn, Served, TurnedAway, Ahead, connections_of, served_in, ahead_in}
+use Rattle.intake_process.specs.Turns.{AreTurnedAway, AreAhead, NoneIsAway, AreAnswered, AnswersSome}
 use Rattle.intake_process.proofs.Up as up
 
 -- ---- some, and then more
@@ -33,19 +41,55 @@ served_join : (ts us : List Turn) → served_in (ts ++ us) ≡ served_in ts ++ s
 served_join [] us = refl
 served_join (Served c ∷ ts) us = ap (λ cs. c ∷ cs) (served_join ts us)
 served_join (TurnedAway c ∷ ts) us = served_join ts us
+served_join (Ahead c ∷ ts) us = ap (λ cs. c ∷ cs) (served_join ts us)
 
 connections_join : (ts us : List Turn) → connections_of (ts ++ us) ≡ connections_of ts ++ connections_of us
 connections_join [] us = refl
-connections_join (t ∷ ts) us = ap (λ cs. connection_of t ∷ cs) (connections_join ts us)
+connections_join (Served c ∷ ts) us = ap (λ cs. c ∷ cs) (connections_join ts us)
+connections_join (TurnedAway c ∷ ts) us = ap (λ cs. c ∷ cs) (connections_join ts us)
+connections_join (Ahead c ∷ ts) us = connections_join ts us
 
-none_away_join : (ts us : List Turn) → served_in ts ≡ connections_of ts → served_in us ≡ connections_of us
-    → served_in (ts ++ us) ≡ connections_of (ts ++ us)
-none_away_join ts us first second =
-    served_join ts us ∙ ap₂ (λ cs ds. cs ++ ds) first second ∙ sym (connections_join ts us)
+ahead_join : (ts us : List Turn) → ahead_in (ts ++ us) ≡ ahead_in ts ++ ahead_in us
+ahead_join [] us = refl
+ahead_join (Served c ∷ ts) us = ahead_join ts us
+ahead_join (TurnedAway c ∷ ts) us = ahead_join ts us
+ahead_join (Ahead c ∷ ts) us = ap (λ cs. c ∷ cs) (ahead_join ts us)
+
+none_away_join : (ts us : List Turn) → NoneIsAway ts → NoneIsAway us → NoneIsAway (ts ++ us)
+none_away_join [] us first second = second
+none_away_join (Served c ∷ ts) us first second = none_away_join ts us first second
+none_away_join (TurnedAway c ∷ ts) us first second = absurd first
+none_away_join (Ahead c ∷ ts) us first second = none_away_join ts us first second
+
+-- ---- what was handed out ahead
+
+pub follows_none : (old : Option (List (List ℕ))) → Follows old old []
+follows_none None = tt
+follows_none (Some before) = ap Some (sym (append-nil before))
+
+follows_join : (a b c : Option (List (List ℕ))) (first second : List (List ℕ)) → Follows a b first
+    → Follows b c second → Follows a c (first ++ second)
+follows_join None b c first second one two = tt
+follows_join (Some before) b c first second one two =
+    subst (λ x. Follows x c second) one two ∙ ap Some (append_assoc before first second)
+
+are_ahead_join : (a b c : Option (List (List ℕ))) (ts us : List Turn) → AreAhead a b ts → AreAhead b c us
+    → AreAhead a c (ts ++ us)
+are_ahead_join a b c ts us one two = (
+  one.0 ++ two.0,
+  follows_join a b c one.0 two.0 one.1 two.1,
+  subst (λ cs. AreDecidedAhead (one.0 ++ two.0) cs) (sym (ahead_join ts us))
+      (decided_join one.0 two.0 (ahead_in ts) (ahead_in us) one.2 two.2),
+)
+
+none_ahead : (old new : Option (List (List ℕ))) (ts : List Turn) → new ≡ old → ahead_in ts ≡ [] → AreAhead old new ts
+none_ahead old new ts same none =
+    ([], subst (λ n. Follows old n []) (sym same) (follows_none old), subst (AreDecidedAhead []) (sym none) tt)
 
 away_join : (ts us : List Turn) → AreTurnedAway ts → AreTurnedAway us → AreTurnedAway (ts ++ us)
 away_join [] us first second = second
 away_join (Served c ∷ ts) us first second = away_join ts us first second
+away_join (Ahead c ∷ ts) us first second = away_join ts us first second
 away_join (TurnedAway c ∷ ts) us first second = (first.0, away_join ts us first.1 second)
 
 told_turns : (old mid new : Option (List Connection)) (ts us : List Turn) (m : ℕ) (taken : Option ℕ)
@@ -65,6 +109,7 @@ answered_join limit was_clean before between after first mid last ts us m None a
       subst (ServeInTurn (keeping limit was_clean before after)) (sym (served_join ts us))
       (turns_join limit was_clean before between after (served_in ts) (served_in us) a.in_turn b.in_turn);
   away = away_join ts us a.away b.away;
+  ahead = are_ahead_join first.ahead mid.ahead last.ahead ts us a.ahead b.ahead;
   came = subst (Came first.coming last.coming) (sym (connections_join ts us))
       (came_join first.coming mid.coming last.coming (connections_of ts) (connections_of us) a.came b.came);
   counted = tt;
@@ -75,6 +120,7 @@ answered_join limit was_clean before between after first mid last ts us m (Some 
       subst (ServeInTurn (keeping limit was_clean before after)) (sym (served_join ts us))
       (turns_join limit was_clean before between after (served_in ts) (served_in us) a.in_turn b.in_turn);
   away = away_join ts us a.away b.away;
+  ahead = are_ahead_join first.ahead mid.ahead last.ahead ts us a.ahead b.ahead;
   came = subst (Came first.coming last.coming) (sym (connections_join ts us))
       (came_join first.coming mid.coming last.coming (connections_of ts) (connections_of us) a.came b.came);
   counted =
@@ -82,6 +128,62 @@ answered_join limit was_clean before between after first mid last ts us m (Some 
       (counted_join first.coming mid.coming (connections_of ts) (connections_of us) m n a.came a.counted b.counted);
   told = told_turns first.over mid.over last.over ts us m (Some n) a.told b.told;
 }
+
+-- ---- requests that are decided ahead
+
+abbrev ahead_turns : List Connection → List Turn
+ahead_turns cs = map Ahead cs
+
+ahead_served : (cs : List Connection) → served_in (ahead_turns cs) ≡ cs
+ahead_served [] = refl
+ahead_served (c ∷ cs) = ap (λ ds. c ∷ ds) (ahead_served cs)
+
+ahead_ahead : (cs : List Connection) → ahead_in (ahead_turns cs) ≡ cs
+ahead_ahead [] = refl
+ahead_ahead (c ∷ cs) = ap (λ ds. c ∷ ds) (ahead_ahead cs)
+
+ahead_comes : (cs : List Connection) → connections_of (ahead_turns cs) ≡ []
+ahead_comes [] = refl
+ahead_comes (c ∷ cs) = ahead_comes cs
+
+ahead_away : (cs : List Connection) → AreTurnedAway (ahead_turns cs)
+ahead_away [] = tt
+ahead_away (c ∷ cs) = ahead_away cs
+
+ahead_none : (cs : List Connection) → NoneIsAway (ahead_turns cs)
+ahead_none [] = tt
+ahead_none (c ∷ cs) = ahead_none cs
+
+-- they are turns in which nothing came
+ahead_answered : (port : Traffic) (after : Option (List (List ℕ))) (pieces : List (List ℕ)) (cs : List Connection)
+    (requests : Keeping) → Follows port.ahead after pieces → AreDecidedAhead pieces cs → ServeInTurn requests cs
+    → AreAnswered requests port (record port { ahead = after }) (ahead_turns cs) (Some 0)
+ahead_answered port after pieces cs requests follows decided turn = record {
+  in_turn = subst (ServeInTurn requests) (sym (ahead_served cs)) turn;
+  away = ahead_away cs;
+  ahead = (pieces, follows, subst (AreDecidedAhead pieces) (sym (ahead_ahead cs)) decided);
+  came = subst (Came port.coming port.coming) (sym (ahead_comes cs)) (came_none port.coming);
+  counted = subst (λ ds. AreCounted port.coming ds 0) (sym (ahead_comes cs)) (counted_none port.coming);
+  told = subst (λ ds. AreTold port.over port.over ds (Some 0)) (sym (ahead_comes cs)) (told_none port.over (Some 0));
+}
+
+zero_more : (taken : Option ℕ) → option_map (λ n. 0 + n) taken ≡ taken
+zero_more None = refl
+zero_more (Some n) = let same : 0 + n ≡ n = omega arith in ap Some same
+
+module _ {D : Type 0} {g : Ghosts D} where
+  by_more : (first second : List (List ℕ)) (old mid new : Option (Intake (FileStore D g)))
+      → DecidesBy {g = g} first old mid → DecidesBy {g = g} second mid new
+      → DecidesBy {g = g} (first ++ second) old new
+  by_more first second (Some old) mid new a b =
+      let on = subst (λ i. DecidesBy {g = g} second i new) a.1 b in
+      (on.0, on.1, decides_more first second old a.0 on.0 a.2 on.2)
+  by_more first second None mid new a b = subst (λ i. DecidesBy {g = g} second i new) a b
+
+  pub goes_on : (first second : List (List ℕ)) (old mid new : Parts g) → GoesAhead first old mid
+      → GoesAhead second mid new → GoesAhead (first ++ second) old new
+  goes_on first second old mid new a b =
+      (by_more first second old.intake mid.intake new.intake a.0 b.0, b.1 ∙ a.1, b.2 ∙ a.2, b.3 ∙ a.3)
 
 -- ---- what a process does
 
@@ -126,6 +228,7 @@ module _ {D : Type 0} {g : Ghosts D} (limit : ℕ) where
           record {
             in_turn = one.4.in_turn;
             away = one.4.away;
+            ahead = one.4.ahead;
             came = one.4.came;
             counted =
                 tt;
@@ -149,13 +252,14 @@ module _ {D : Type 0} {g : Ghosts D} (limit : ℕ) where
           record {
             in_turn = refl;
             away = tt;
+            ahead = none_ahead port.ahead port'.ahead [] (ap (λ (p : Traffic). p.ahead) same.0) refl;
             came = subst (λ coming. Came port.coming coming []) (sym (ap (λ (p : Traffic). p.coming) same.0))
                 (came_none port.coming);
             counted = counted;
             told = subst (λ over. AreTold port.over over [] taken) (sym (ap (λ (p : Traffic). p.over) same.0))
                 (told_none port.over taken);
           },
-          λ u. refl,
+          λ u. tt,
         );
     certain = λ certain. certain;
   }
@@ -175,16 +279,25 @@ module _ {D : Type 0} {g : Ghosts D} (limit : ℕ) where
   pub same : (process : Parts g) → Leaves limit process process
   same process = record { kept = λ was_clean requests keeps. keeps; certain = λ certain. certain }
 
+  -- Some were answered. None was turned away if this holds.
+  pub record AnswersIf (port port' : Traffic) (old new : Parts g) (taken : Option ℕ) (Holds : Type 0) : Type 0 where
+    pub answers : (old_style : ℕ) (before : List Request) → Keeps old limit old_style before → new.is_certain ≡ true
+        → (after : List Request) × KeepsBy new.intake new.lying limit old_style after
+        × (take old_style after ≡ take old_style before) × (turns : List Turn)
+        × AreAnswered (keeping limit (take old_style before) before after) port port' turns taken
+        × (Holds → NoneIsAway turns)
+    pub certain : new.is_certain ≡ true → old.is_certain ≡ true
+
   one_by : IsHonest g → (port mid port' : Traffic) (from to : Wire) (old new : Option (Intake (FileStore D g)))
       (lying lying' : Option (Option (Files D))) (is was : Bool) (calls calls' : ℕ) (answered : Answered)
       (taken : Option ℕ)
       → (port.is_shut ≡ false) × (mid.over ≡ port.over) × Takes port.coming mid.coming from.left
       × IsNew port.over mid.given from → AnswersBy from to old new answered → lying' ≡ lying → is ≡ was
-      → port'.coming ≡ mid.coming → IsEndTold mid port' to answered.served taken
-      → AnswersSome limit port port' (record { intake = old; lying = lying; is_certain = was; refused_calls = calls })
-      (record { intake = new; lying = lying'; is_certain = is; refused_calls = calls' }) taken
+      → port'.coming ≡ mid.coming → port'.ahead ≡ port.ahead → IsEndTold mid port' to answered.served taken
+      → AnswersIf port port' (record { intake = old; lying = lying; is_certain = was; refused_calls = calls })
+      (record { intake = new; lying = lying'; is_certain = is; refused_calls = calls' }) taken (IsSome old)
   one_by honest port mid port' from to (Some intake) new lying lying' is was calls calls' answered taken fresh by there
-      sure coming told = record {
+      sure coming same_ahead told = record {
         answers = λ was_clean before keeps certain.
             let kept = keeps (sym sure ∙ certain) in
             let some = by.2.serves in
@@ -210,18 +323,19 @@ module _ {D : Type 0} {g : Ghosts D} (limit : ℕ) where
               record {
                 in_turn = (t.0, serves, refl);
                 away = tt;
+                ahead = none_ahead port.ahead port'.ahead (Served c ∷ []) same_ahead refl;
                 came = subst (λ after. Came port.coming after (c ∷ [])) (sym coming)
                     (came_one port.coming mid.coming from.left to.left c fresh.2 s.read s.at_end s.limited);
                 counted = counted_told port.coming mid port' to answered.served c taken told;
                 told = told_one port mid port' from to answered.served s.got s.sent taken fresh.1 fresh.3 s.read s.wrote
                     told;
               },
-              λ u. refl,
+              λ u. tt,
             );
         certain = λ certain. sym sure ∙ certain;
       }
   one_by honest port mid port' from to None new lying lying' is was calls calls' answered taken fresh by there sure
-      coming told = record {
+      coming same_ahead told = record {
         answers = λ was_clean before keeps certain.
             let kept = keeps (sym sure ∙ certain) in
             let away = by.1 in
@@ -235,26 +349,121 @@ module _ {D : Type 0} {g : Ghosts D} (limit : ℕ) where
               record {
                 in_turn = refl;
                 away = (away.turned, tt);
+                ahead = none_ahead port.ahead port'.ahead (TurnedAway c ∷ []) same_ahead refl;
                 came = subst (λ after. Came port.coming after (c ∷ [])) (sym coming)
                     (came_one port.coming mid.coming from.left to.left c fresh.2 away.read away.at_end away.limited);
                 counted = counted_told port.coming mid port' to served c taken told;
                 told = told_one port mid port' from to served away.got away.sent taken fresh.1 fresh.3 away.read
                     away.wrote told;
               },
-              λ u. absurd u.up,
+              λ u. absurd (let h : false ≡ true = u in cc),
             );
         certain = λ certain. sym sure ∙ certain;
       }
 
-  -- one connection was answered, and, where that is told, it was told to the port
-  pub one : IsHonest g → (port mid port' : Traffic) (from to : Wire) (old new : Parts g) (answered : Answered)
-      (taken : Option ℕ) → (port.is_shut ≡ false) × (mid.over ≡ port.over) × Takes port.coming mid.coming from.left
-      × IsNew port.over mid.given from → AnswersWire from to old new answered
-      → port'.coming ≡ mid.coming → IsEndTold mid port' to answered.served taken
-      → AnswersSome limit port port' old new taken
-  one honest port mid port' from to old new answered taken fresh by coming told =
-      one_by honest port mid port' from to old.intake new.intake old.lying new.lying new.is_certain old.is_certain
-      old.refused_calls new.refused_calls answered taken fresh by.0 by.1 by.2 coming told
+  -- ---- requests that are decided ahead
+
+  ahead_by : IsHonest g → (port : Traffic) (after : Option (List (List ℕ))) (pieces : List (List ℕ))
+      (old new : Option (Intake (FileStore D g))) (lying lying' : Option (Option (Files D))) (is was : Bool)
+      (calls calls' : ℕ) → Follows port.ahead after pieces → DecidesBy pieces old new → lying' ≡ lying → is ≡ was
+      → AnswersIf port (record port { ahead = after })
+      (record { intake = old; lying = lying; is_certain = was; refused_calls = calls })
+      (record { intake = new; lying = lying'; is_certain = is; refused_calls = calls' }) (Some 0) (Unit {0})
+  ahead_by honest port after pieces (Some intake) new lying lying' is was calls calls' follows by there sure = record {
+    answers = λ was_clean before keeps certain.
+        let kept = keeps (sym sure ∙ certain) in
+        let t = by.2.decides (always_clean honest by.0.store.conn) before kept.0.holds in
+        let holds : HoldsAs over_files limit was_clean t.0 by.0 =
+        record {
+          holds = t.1;
+          limit_is = by.2.setting.limit ∙ kept.0.limit_is;
+          old_style_is = by.2.setting.old_style ∙ kept.0.old_style_is;
+        } in
+        let old_style_is = ap (λ n. take n before) kept.0.old_style_is in
+        let turn =
+        subst (λ es. ServeInTurn (keeping limit es before t.0) t.3.0)
+        old_style_is (subst (λ n. ServeInTurn (keeping n (take intake.store.old_style before) before t.0) t.3.0)
+        kept.0.limit_is t.3.2) in (
+          t.0,
+          subst (λ i. KeepsBy i lying' limit was_clean t.0) (sym by.1) (holds, there ∙ kept.1),
+          sym (ap (λ n. take n t.0) holds.old_style_is) ∙ t.2 ∙ old_style_is,
+          ahead_turns t.3.0,
+          ahead_answered port after pieces t.3.0 (keeping limit (take was_clean before) before t.0) follows t.3.1 turn,
+          λ u. ahead_none t.3.0,
+        );
+    certain = λ certain. sym sure ∙ certain;
+  }
+  ahead_by honest port after pieces None new lying lying' is was calls calls' follows by there sure = record {
+    answers = λ was_clean before keeps certain.
+        let kept = keeps (sym sure ∙ certain) in (
+          before,
+          subst (λ i. KeepsBy i lying' limit was_clean before) (sym by)
+              (subst (λ l. KeepsBy {g = g} None l limit was_clean before) (sym there) kept),
+          refl,
+          [],
+          ahead_answered port after pieces [] (keeping limit (take was_clean before) before before) follows tt refl,
+          λ u. tt,
+        );
+    certain = λ certain. sym sure ∙ certain;
+  }
+
+  -- a connection was answered behind them
+  behind_ahead : (first mid last : Traffic) (old between new : Parts g) (taken : Option ℕ) (Holds : Type 0)
+      → AnswersIf first mid old between (Some 0) (Unit {0}) → AnswersIf mid last between new taken Holds
+      → AnswersIf first last old new taken Holds
+  behind_ahead first mid last old between new taken Holds a b = record {
+    answers = λ was_clean before keeps certain.
+        let one = a.answers was_clean before keeps (b.certain certain) in
+        let two = b.answers was_clean one.0 (λ _. one.1) certain in (
+          two.0,
+          two.1,
+          two.2 ∙ one.2,
+          one.3 ++ two.3,
+          subst (λ k. AreAnswered (keeping limit (take was_clean before) before two.0) first last (one.3 ++ two.3) k)
+              (zero_more taken)
+              (answered_join limit (take was_clean before) before one.0 two.0 first mid last one.3 two.3 0 taken one.4
+              (subst (λ es. AreAnswered (keeping limit es one.0 two.0) mid last two.3 taken) one.2 two.4)),
+          λ h. none_away_join one.3 two.3 (one.5 tt) (two.5 h),
+        );
+    certain = λ certain. a.certain (b.certain certain);
+  }
+
+  -- One connection was answered, after requests were decided ahead; and, where that is told, it was told to the port.
+  pub one : IsHonest g → (port p1 p2 port' : Traffic) (from to : Wire) (old decided new : Parts g) (answered : Answered)
+      (taken : Option ℕ) → (port.is_shut ≡ false) × (p1.over ≡ port.over) × Takes port.coming p1.coming from.left
+      × IsNew port.over p1.given from → p1.ahead ≡ port.ahead → LooksAhead p1 p2 old decided
+      → AnswersWire from to decided new answered → port'.coming ≡ p2.coming → port'.ahead ≡ p2.ahead
+      → IsEndTold p2 port' to answered.served taken → AnswersSome limit port port' old new taken
+  one honest port p1 p2 port' from to old decided new answered taken fresh was looks by coming same_ahead told =
+      let is = looks.hands.same in
+      let go = looks.decides in
+      let follows = subst (λ a. Follows a p2.ahead looks.pieces) was looks.hands.follow in
+      let ahead =
+      ahead_by honest port p2.ahead looks.pieces old.intake decided.intake old.lying decided.lying decided.is_certain
+      old.is_certain old.refused_calls decided.refused_calls follows go.0 go.1 go.2 in
+      let behind =
+      one_by honest (record port { ahead = p2.ahead }) p2 port' from to decided.intake new.intake decided.lying
+      new.lying new.is_certain decided.is_certain decided.refused_calls new.refused_calls answered taken (
+        fresh.0,
+        ap (λ (p : Traffic). p.over) is ∙ fresh.1,
+        subst (λ c. Takes port.coming c from.left) (sym (ap (λ (p : Traffic). p.coming) is)) fresh.2,
+        subst (λ given. IsNew port.over given from) (sym (ap (λ (p : Traffic). p.given) is)) fresh.3,
+      ) by.0 by.1 by.2 coming same_ahead told in
+      let all =
+      behind_ahead port (record port { ahead = p2.ahead }) port' old decided new taken (IsSome decided.intake) ahead
+      behind in
+      record {
+        answers = λ old_style before keeps certain.
+            let it = all.answers old_style before keeps certain in (
+              it.0,
+              it.1,
+              it.2,
+              it.3,
+              it.4,
+              λ u. it.5 (up.stays_open looks.pieces old.intake decided.intake go.0 (up.is_some_up old.intake u.up)),
+            );
+        certain = all.certain;
+      }
 
   -- ---- a register that is opened, serves, and is closed
 

@@ -1,22 +1,26 @@
 -- What becomes of a process while the connections of a port are answered, one after another; own rules.
-use Rattle.std.specs.Prelude.{◌≡◌, ◌⊎◌, ◌++◌, ℕ, Bool, true, false, List, [], ◌∷◌, Option, Some, None, IsSome}
-use Rattle.std.specs.Prelude.{Result}
+use Rattle.std.specs.Prelude.{◌≡◌, ◌⊎◌, ◌≤◌, ◌++◌, ℕ, Bool, true, false, List, [], ◌∷◌, length, Option, Some}
+use Rattle.std.specs.Prelude.{None, IsSome, Result}
 use Rattle.sqlite_disk.specs.declared.Disk.{Ghosts}
 use Rattle.http_wire.specs.Wire.{Wire}
+use Rattle.gateway_server.specs.Ports.{Traffic, HandsAhead, most_ahead}
 use Rattle.intake_process.specs.declared.beginning.Totals.{Totals}
 use Rattle.intake_process.specs.declared.fault.OpeningFault.{OpeningFault}
 use Rattle.intake_process.specs.declared.process.Answered.{Answered}
 use Rattle.intake_process.specs.declared.process.Closed.{Closed}
 use Rattle.intake_process.specs.declared.process.Outcome.{Outcome}
 use Rattle.intake_process.specs.declared.process.Outcome.TheVariants as outcome
-use Rattle.intake_process.specs.Process.{Parts, OpensProcess, AnswersWire, ClosesProcess}
+use Rattle.intake_process.specs.Process.{Parts, OpensProcess, GoesAhead, AnswersWire, ClosesProcess}
 use Rattle.intake_process.specs.Observing.{Notes}
 
 -- What was asked for a connection, and what became of the process. `asked` is what the observer answered; `None` if the
--- register was open, so that it was not asked.
+-- register was open, so that it was not asked. `ahead` is what the port handed out ahead, of which requests were
+-- decided before the connection was answered.
 pub record Step {D : Type 0} (g : Ghosts D) : Type 0 where
   pub asked : Option Bool
   pub ready : Parts g
+  pub ahead : List (List ℕ)
+  pub decided : Parts g
   pub answered : Answered
   pub last : Parts g
   pub after : Parts g
@@ -39,11 +43,18 @@ IsOver {D} {g} outcome.Failed old new = (closed : Closed) × ClosesProcess g old
 IsOver outcome.Served old new = new ≡ old
 IsOver outcome.TurnedAway old new = new ≡ old
 
--- it was made ready for a connection, and answered it
+-- Some bytes were handed out ahead, and requests of them decided.
+pub record LooksAhead {D : Type 0} {g : Ghosts D} (port port' : Traffic) (old new : Parts g) : Type 0 where
+  pub pieces : List (List ℕ)
+  pub hands : HandsAhead port port' pieces
+  pub decides : GoesAhead pieces old new
+
+-- it was made ready for a connection, decided requests ahead, few at a time, and answered the connection
 abbrev pub IsAnswered : {D : Type 0} {g : Ghosts D} → ℕ → Parts g → Step g → Type 0
 IsAnswered limit old step =
     IsReady limit step.asked old step.ready
-    × ((from : Wire) × (to : Wire) × AnswersWire from to step.ready step.last step.answered)
+    × (length step.ahead ≤ most_ahead) × GoesAhead step.ahead step.ready step.decided
+    × ((from : Wire) × (to : Wire) × AnswersWire from to step.decided step.last step.answered)
 
 -- these connections were answered, one after another
 abbrev pub AreSteps : {D : Type 0} {g : Ghosts D} → ℕ → Parts g → List (Step g) → Parts g → Type 0

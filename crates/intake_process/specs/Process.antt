@@ -17,6 +17,7 @@ use Rattle.filing_model.specs.Request.{Request, firsts}
 use Rattle.register_store.specs.Files.{HoldRegister}
 use Rattle.intake_core.specs.declared.intake.Intake.{Intake}
 use Rattle.intake_core.specs.Held.{store_of, limit_of, has_stopped}
+use Rattle.gateway_server.specs.Ahead.{DecidesAhead}
 use Rattle.gateway_server.specs.Progress.{ServesToEnd}
 use Rattle.database_places.specs.Closing.{IsClosedIn, IsNotClosed, LieGivenUp}
 use Rattle.database_places.specs.Opening.{ComesFrom, OpensPlace}
@@ -136,6 +137,21 @@ pub record OpensProcess {D : Type 0} (g : Ghosts D) (has_to_be_there : Bool) (li
   pub doubtful : OnErr result (new.is_certain ≡ false)
   pub back : IfErr result (λ _. (there : Files D) → old.lying ≡ Some (Some there)
       → (files : Files D) × (new.lying ≡ Some (Some files)))
+
+-- ---- requests are decided ahead of the connections on which they come
+
+-- while the process is open the intake decides them; otherwise nothing is done
+abbrev pub DecidesBy : {D : Type 0} {g : Ghosts D} → List (List ℕ) → Option (Intake (FileStore D g))
+    → Option (Intake (FileStore D g)) → Type 0
+DecidesBy pieces (Some old) new = (intake : Intake _) × (new ≡ Some intake) × DecidesAhead over_files pieces old intake
+DecidesBy pieces None new = new ≡ None
+
+-- What deciding requests of these bytes ahead does. A call that the database refuses is counted with the connection
+-- that is answered next.
+abbrev pub GoesAhead : {D : Type 0} {g : Ghosts D} → List (List ℕ) → Parts g → Parts g → Type 0
+GoesAhead pieces old new =
+    DecidesBy pieces old.intake new.intake × (new.lying ≡ old.lying) × (new.is_certain ≡ old.is_certain)
+    × (new.refused_calls ≡ old.refused_calls)
 
 -- ---- it answers a connection
 

@@ -5,8 +5,9 @@ use Rattle.std.specs.Result.{result_ok}
 use Rattle.sqlite_disk.specs.declared.Disk.{Ghosts}
 use Rattle.filing_model.specs.Request.{Request}
 use Rattle.filing_model.specs.Serving.{Keeping, keeping}
+use Rattle.gateway_server.specs.Ahead.{AreDecidedAhead}
 use Rattle.gateway_server.specs.InTurn.{ServeInTurn, Came, AreCounted, AreTold}
-use Rattle.gateway_server.specs.Ports.{Connection, Traffic}
+use Rattle.gateway_server.specs.Ports.{Connection, Traffic, Follows}
 use Rattle.database_places.specs.Places.{IsHonest}
 use Rattle.intake_process.specs.declared.beginning.Totals.{Totals}
 use Rattle.intake_process.specs.declared.process.Closed.{Closed}
@@ -17,37 +18,71 @@ use Rattle.intake_process.specs.Process.{ClosesProcess}
 use Rattle.intake_process.specs.History.{Passes}
 use Rattle.intake_process.specs.Turning.{IsTurnedAway}
 
--- a connection that came: it was served, or turned away
+-- A connection that came: it was served, or turned away. Or a request that was decided ahead of the connection on which
+-- it comes: as a connection that was served, but whose reply was not written.
 pub data Turn : Type 0 where
   Served : Connection → Turn
   TurnedAway : Connection → Turn
+  Ahead : Connection → Turn
 
 abbrev pub connection_of : Turn → Connection
 connection_of (Served connection) = connection
 connection_of (TurnedAway connection) = connection
+connection_of (Ahead connection) = connection
 
+-- all of them, in their order
+abbrev pub all_in : List Turn → List Connection
+all_in turns = map connection_of turns
+
+-- those that came
 abbrev pub connections_of : List Turn → List Connection
-connections_of turns = map connection_of turns
+connections_of [] = []
+connections_of (Served connection ∷ turns) = connection ∷ connections_of turns
+connections_of (TurnedAway connection ∷ turns) = connection ∷ connections_of turns
+connections_of (Ahead connection ∷ turns) = connections_of turns
 
--- those that were served
+-- those whose requests were decided: that were served, or decided ahead
 abbrev pub served_in : List Turn → List Connection
 served_in [] = []
 served_in (Served connection ∷ turns) = connection ∷ served_in turns
 served_in (TurnedAway connection ∷ turns) = served_in turns
+served_in (Ahead connection ∷ turns) = connection ∷ served_in turns
+
+-- those that were decided ahead
+abbrev pub ahead_in : List Turn → List Connection
+ahead_in [] = []
+ahead_in (Served connection ∷ turns) = ahead_in turns
+ahead_in (TurnedAway connection ∷ turns) = ahead_in turns
+ahead_in (Ahead connection ∷ turns) = connection ∷ ahead_in turns
+
+-- none was turned away
+abbrev pub NoneIsAway : List Turn → Type 0
+NoneIsAway [] = Unit {0}
+NoneIsAway (Served connection ∷ turns) = NoneIsAway turns
+NoneIsAway (TurnedAway connection ∷ turns) = ⊥
+NoneIsAway (Ahead connection ∷ turns) = NoneIsAway turns
+
+-- What was read on those that were decided ahead are bytes that the port handed out ahead meanwhile, in their order,
+-- and none of them got a reply.
+abbrev pub AreAhead : Option (List (List ℕ)) → Option (List (List ℕ)) → List Turn → Type 0
+AreAhead before after turns =
+    (pieces : List (List ℕ)) × Follows before after pieces × AreDecidedAhead pieces (ahead_in turns)
 
 -- the others were turned away
 abbrev pub AreTurnedAway : List Turn → Type 0
 AreTurnedAway [] = Unit {0}
 AreTurnedAway (Served connection ∷ turns) = AreTurnedAway turns
+AreTurnedAway (Ahead connection ∷ turns) = AreTurnedAway turns
 AreTurnedAway (TurnedAway connection ∷ turns) =
     IsTurnedAway connection.read connection.output.marks connection.output.ended connection.output.bytes
     × AreTurnedAway turns
 
 -- These connections of a port were answered: the first that came, none left out. Those that were served were served in
--- turn, whatever was turned away between them.
+-- turn, together with what was decided ahead, whatever was turned away between them.
 pub record AreAnswered (requests : Keeping) (old new : Traffic) (turns : List Turn) (taken : Option ℕ) : Type 0 where
   pub in_turn : ServeInTurn requests (served_in turns)
   pub away : AreTurnedAway turns
+  pub ahead : AreAhead old.ahead new.ahead turns
   pub came : Came old.coming new.coming (connections_of turns)
   -- if the answer says how often the port was asked, these are as many, or fewer if those that come are not known
   pub counted : IfSome taken (AreCounted old.coming (connections_of turns))
@@ -64,7 +99,7 @@ pub record AnswersSome {D : Type 0} {g : Ghosts D} (limit : ℕ) (port port' : T
       → (after : List Request) × KeepsBy new.intake new.lying limit old_style after
       × (take old_style after ≡ take old_style before) × (turns : List Turn)
       × AreAnswered (keeping limit (take old_style before) before after) port port' turns taken
-      × (IsUnrefused old new → served_in turns ≡ connections_of turns)
+      × (IsUnrefused old new → NoneIsAway turns)
   pub certain : new.is_certain ≡ true → old.is_certain ≡ true
 
 -- the port was asked as often as it may be, or fewer times, since it is shut

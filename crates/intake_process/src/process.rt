@@ -1,6 +1,6 @@
 //! The process that an intake runs in.
 
-ghost use Rattle.std.specs.Prelude.{◌≡◌, ◌≤◌, ◌^◌, None, true, is_some, option_map};
+ghost use Rattle.std.specs.Prelude.{◌≡◌, ◌≤◌, ◌^◌, [], None, true, is_some, map, option_map};
 ghost use Rattle.std.specs.Borrow.{sem};
 ghost use Rattle.std.specs.Option.{option_copied_mut};
 ghost use Rattle.http_wire.specs.Wire.{wire};
@@ -11,9 +11,9 @@ use crate::beginning::{Totals, begin, parted};
 use crate::fault::OpeningFault;
 use crate::turning::turn_away;
 use database_places::{Opening, Place, close, give_up, open, remove_new_log};
-use gateway_server::{Served, serve};
+use gateway_server::{Served, decide_ahead, files_first, serve};
 use http_wire::{Sink, Source};
-use intake_core::Intake;
+use intake_core::{Intake, Moment};
 use sqlite::{Alter, Error, FileStore};
 use sqlite_disk::Disk;
 use std::alloc::Global;
@@ -88,7 +88,7 @@ pub struct IntakeProcess<D: Disk + Drop, P: Place<D> + Drop> {
 }
 
 impl<D: Disk + Drop, P: Place<D> + Drop> IntakeProcess<D, P> {
-    ghost use Rattle.intake_process.specs.Process.{parts, OpensProcess, AnswersWire, ClosesProcess};
+    ghost use Rattle.intake_process.specs.Process.{parts, OpensProcess, GoesAhead, AnswersWire, ClosesProcess};
     ghost use Rattle.intake_process.specs.Lending.{LendsIntake};
 
     /// The intake of the register that lies in this place, or will be made there. It is closed.
@@ -171,6 +171,28 @@ impl<D: Disk + Drop, P: Place<D> + Drop> IntakeProcess<D, P> {
                 }
                 Err(fault)
             }
+        }
+    }
+
+    /// Whether a piece asks to file a request that is the first of its filer and key, while the register is open.
+    /// Nothing is decided.
+    pub fn files_first(&mut self, alloc: Global, piece: &[u8]) -> bool
+        ensures { GoesAhead [] (parts P.lying self.old) (parts P.lying self.new) }
+    {
+        match &mut self.intake {
+            Some(intake) => files_first(alloc, piece, intake),
+            None => false,
+        }
+    }
+
+    /// Decides the requests that these bytes ask to file, ahead of the connections on which they come, if the register
+    /// is open. All had come by this moment.
+    pub fn decide_ahead(&mut self, alloc: Global, pieces: &[Vec<u8>], moment: Moment)
+        ensures { GoesAhead (map (λ piece. piece.items) pieces.now) (parts P.lying self.old) (parts P.lying self.new) }
+    {
+        match &mut self.intake {
+            Some(intake) => decide_ahead(alloc, pieces, moment, intake),
+            None => {}
         }
     }
 

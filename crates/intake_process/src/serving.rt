@@ -5,7 +5,7 @@ ghost use Rattle.std.specs.Prelude.{option_map};
 ghost use Rattle.std.specs.Result.{result_ok};
 ghost use Rattle.database_places.specs.Places.{IsHonest};
 ghost use Rattle.intake_process.specs.Process.{parts, IsAwake, Leaves, StaysUp};
-ghost use Rattle.intake_process.specs.History.{IsReady, IsOver, Passes, said_of};
+ghost use Rattle.intake_process.specs.History.{IsReady, IsOver, LooksAhead, Passes, said_of};
 ghost use Rattle.intake_process.specs.Observing.{Notes};
 ghost use Rattle.intake_process.specs.Turns.{AnswersSome, EndsBy, ServesRegister};
 ghost use Rattle.database_places.specs.Opening.{is_found};
@@ -16,6 +16,7 @@ use crate::observer::{Observer, Went};
 use crate::process::{IntakeProcess, Outcome};
 use database_places::{Cache, Opening, Place};
 use gateway_server::{Port, PortFault};
+use intake_core::Moment;
 use sqlite_disk::Disk;
 use std::alloc::Global;
 
@@ -133,12 +134,32 @@ fn serve_next<D: Disk + Drop, P: Place<D> + Drop, L: Port, O: Observer>(
 {
     if let Some((mut reader, mut writer)) = port.accept()? {
         let refusal = open_again(alloc, process, observer, limit);
+        look_ahead(alloc, port, process);
         let answered = process.answer(alloc, &mut reader, &mut writer);
         observer.served(&answered.served);
         port.end(reader, writer, answered.served)?;
         observer.ended(went(process, answered.outcome, refusal));
     }
     Ok(())
+}
+
+/// Decides requests that wait on the port ahead of the connections on which they come, if there are several, and the
+/// one that came last has to be kept: so what waits for no commit, as a repeat, is answered at once. All have the
+/// moment by which they had come.
+fn look_ahead<D: Disk + Drop, P: Place<D> + Drop, L: Port>(
+    alloc: Global,
+    port: &mut L,
+    process: &mut IntakeProcess<D, P>,
+)
+    ensures { LooksAhead (L.traffic port.old) (L.traffic port.new) (parts P.lying process.old)
+        (parts P.lying process.new) }
+{
+    if !process.files_first(alloc, port.given()) {
+        return;
+    }
+    let pieces = port.waiting(alloc);
+    let moment = Moment::at(port.moment());
+    process.decide_ahead(alloc, pieces.as_slice(), moment);
 }
 
 /// Opens the register again, if it is closed and the observer lets it. It answers why it was not opened, if that was

@@ -1,6 +1,8 @@
 -- The pieces that came on a port and what became of them, as its connections; own rules.
-use Rattle.std.specs.Prelude.{◌≡◌, ◌≢◌, ◌-◌, ℕ, Bool, true, false, List, [], ◌∷◌, ◌++◌, length, take, Option, Some}
-use Rattle.std.specs.Prelude.{None}
+use Rattle.std.specs.Prelude.{◌≡◌, ◌≢◌, ◌<◌, ◌⊎◌, ◌-◌, ℕ, Bool, true, false, List, [], ◌∷◌, ◌++◌, length, take, map}
+use Rattle.std.specs.Prelude.{Option, Some, None, Vec}
+use Rattle.std.specs.List.{AllByRecursion}
+use Rattle.std.specs.declared.alloc.Global.{Global}
 use Rattle.filing_model.specs.declared.served.Ended.TheVariants.{InputEnded}
 use Rattle.gateway_server.specs.declared.serving.Served.{Served}
 use Rattle.gateway_server.specs.Ports.{Connection, connection_with}
@@ -9,6 +11,7 @@ use Rattle.ready_connections.specs.declared.stream.Stream.{Ghosts}
 use Rattle.ready_connections.specs.Pieces.{Piece}
 use Rattle.ready_connections.specs.Running.{IsRunning}
 use Rattle.ready_connections.specs.Streams.{Traffic}
+use Rattle.ready_connections.specs.Waiting.{CameBehind}
 use Rattle.many_connections.specs.declared.event.Event.{Event}
 use Rattle.many_connections.specs.declared.event.Event.TheVariants.{Came, Over}
 
@@ -63,3 +66,19 @@ pub record Runs {S N : Type 0} (s : Ghosts S N) (seen : Seen) (hall : Hall S) (t
   pub pieces : List Piece
   pub are : AreServedAs pieces seen.over
   pub running : IsRunning s pieces seen.given hall traffic
+
+-- what was handed out ahead, all in all
+abbrev pub pieces_in : List (Vec (Vec ℕ Global) Global × Bool) → List (List ℕ)
+pieces_in [] = []
+pieces_in (handed ∷ more) = map (λ piece. piece.items) handed.0.items ++ pieces_in more
+
+-- The connections of a hall, as above, and copies of pieces that were made ahead: each came on one of the connections,
+-- as a whole request, behind pieces of it.
+pub record RunsAhead {S N : Type 0} (s : Ghosts S N) (seen : Seen) (ahead : List (List ℕ)) (hall : Hall S)
+    (traffic : Option (Traffic S)) : Type 0 where
+  pub runs : Runs s seen hall traffic
+  pub ahead_is : AllByRecursion (CameBehind s runs.pieces hall traffic) ahead
+
+-- a piece, and others that wait behind it; or none
+abbrev pub AreCopies : List ℕ → List (List ℕ) → List (List ℕ) → Type 0
+AreCopies piece others copies = (copies ≡ []) ⊎ ((copies ≡ piece ∷ others) × (0 < length others))

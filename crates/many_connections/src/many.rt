@@ -1,8 +1,10 @@
 //! A port on which the pieces of many connections come, one after another.
 
-ghost use Rattle.std.specs.Prelude.{◌≡◌, [], Some, None, IfOk};
+ghost use Rattle.std.specs.Prelude.{◌≡◌, ◌⊎◌, ◌<◌, ◌≤◌, ◌+◌, [], Some, None, IfOk, length, map};
+ghost use Rattle.std.specs.List.{sum_by};
 ghost use Rattle.ready_connections.specs.Running.{IsEmpty, is_shut};
-ghost use Rattle.many_connections.specs.Events.{Runs, seen_after};
+ghost use Rattle.gateway_server.specs.Ports.{IsGiven, most_ahead, most_ahead_len};
+ghost use Rattle.many_connections.specs.Events.{AreCopies, RunsAhead, pieces_in, seen_after};
 
 use crate::event::Event;
 use crate::note::Note;
@@ -12,14 +14,19 @@ use http_server::Log;
 use http_wire::MemoryWriter;
 use ready_connections::{Bounds, Hall, Sockets, Stream};
 use std::alloc::{AllocError, Global};
-use std::io;
 use std::time::Duration;
+use std::{io, mem};
 
 /// For how many milliseconds the system is asked for connections that may go on, if none may.
 const WAIT: u64 = 100;
 
 /// How many turns the connections have at most until a piece comes.
 const TURNS: u32 = 64;
+
+/// How many copies of pieces that wait are handed out at most, and how many bytes they have together.
+const MOST_AHEAD: usize = 64;
+
+const MOST_AHEAD_LEN: usize = 4_194_304;
 
 /// A port on which each piece of the connections of some sockets comes as a connection: a whole request, or what no
 /// request can follow. What is written on it goes out on the connection that the piece is of.
@@ -30,7 +37,13 @@ pub struct Many<S: Stream + Drop, K: Sockets<Stream = S> + Drop> {
     hall: Hall<S>,
     /// What happened, which only clauses read.
     events: Log<Event, bool>,
-    ghost runs: { ∥ Runs S.Stream (seen_after events.items) hall (K.traffic sockets) ∥₁ },
+    /// A copy of the piece that came last, if others may wait, until it is handed out with them.
+    given: Vec<u8>,
+    /// What was handed out ahead, which only clauses read.
+    handed: Log<Vec<Vec<u8>>, bool>,
+    ghost runs: { ∥ RunsAhead S.Stream (seen_after events.items) (pieces_in handed.items) hall
+        (K.traffic sockets) ∥₁ },
+    ghost given_is: { IsGiven (seen_after events.items).given given.items },
 }
 
 impl<S: Stream + Drop, K: Sockets<Stream = S> + Drop> Many<S, K> {
@@ -45,8 +58,38 @@ impl<S: Stream + Drop, K: Sockets<Stream = S> + Drop> Many<S, K> {
             sockets,
             hall: Hall::new(alloc, bounds)?,
             events: Log::new(),
+            given: Vec::new(alloc),
+            handed: Log::new(),
         })
     }
+}
+
+/// A copy of a piece that files a report, if it is wanted and there is memory for it, or nothing.
+fn copy_of(alloc: Global, piece: &[u8], is_wanted: bool) -> Vec<u8>
+    ensures { (result.items ≡ []) ⊎ (result.items ≡ piece.now) }
+{
+    if !is_wanted || !piece.starts_with(b"POST ") {
+        return Vec::new(alloc);
+    }
+    match Vec::from_slice(alloc, piece) {
+        Ok(copy) => copy,
+        Err(_) => Vec::new(alloc),
+    }
+}
+
+/// A piece, and others that wait behind it; none if no other waits, or if there is no memory.
+fn with_given(alloc: Global, given: Vec<u8>, mut others: Vec<Vec<u8>>) -> Vec<Vec<u8>>
+    requires few { length others.items < most_ahead }
+    requires short { sum_by length (map (λ other. other.items) others.items) + length given.items ≤ most_ahead_len }
+    ensures copies { AreCopies given.items (map (λ other. other.items) others.items)
+        (map (λ copy. copy.items) result.items) }
+    ensures few { length result.items ≤ most_ahead }
+    ensures short { sum_by length (map (λ copy. copy.items) result.items) ≤ most_ahead_len }
+{
+    if others.is_empty() || others.insert(0, given).is_err() {
+        return Vec::new(alloc);
+    }
+    others
 }
 
 impl<S: Stream<Note = Note> + Drop, K: Sockets<Stream = S> + Drop> Port for Many<S, K> {
@@ -55,7 +98,13 @@ impl<S: Stream<Note = Note> + Drop, K: Sockets<Stream = S> + Drop> Port for Many
     type Writer = MemoryWriter;
 
     ghost traffic = { λ many. let seen = seen_after many.events.items in
-        record { coming = None; given = seen.given; over = Some seen.over; is_shut = is_shut many.hall } };
+        record {
+          coming = None;
+          given = seen.given;
+          over = Some seen.over;
+          is_shut = is_shut many.hall;
+          ahead = Some (pieces_in many.handed.items);
+        } };
 
     fn listen(&mut self) -> io::Result<()> {
         self.sockets.listen()
@@ -75,6 +124,7 @@ impl<S: Stream<Note = Note> + Drop, K: Sockets<Stream = S> + Drop> Port for Many
         let wait = Duration::from_millis(WAIT);
         match self.hall.next_piece(&mut self.sockets, wait, TURNS)? {
             Some(piece) => {
+                self.given = copy_of(self.alloc, piece.as_slice(), self.hall.has_waiting());
                 let event = Event::Came(piece);
                 self.events = self.events.and(&event, &true);
                 let writer = MemoryWriter::new(self.alloc);
@@ -83,6 +133,27 @@ impl<S: Stream<Note = Note> + Drop, K: Sockets<Stream = S> + Drop> Port for Many
             }
             None => Ok(None),
         }
+    }
+
+    fn given(&self) -> &[u8] {
+        self.given.as_slice()
+    }
+
+    fn waiting(&mut self, alloc: Global) -> Vec<Vec<u8>> {
+        let given = mem::replace(&mut self.given, Vec::new(alloc));
+        if given.is_empty() || given.len() > MOST_AHEAD_LEN || !self.hall.is_out() {
+            return Vec::new(alloc);
+        }
+        let others = self
+            .hall
+            .waiting(MOST_AHEAD - 1, MOST_AHEAD_LEN - given.len());
+        let pieces = with_given(alloc, given, others);
+        self.handed = self.handed.and(&pieces, &true);
+        pieces
+    }
+
+    fn moment(&self) -> u64 {
+        self.sockets.moment()
     }
 
     fn end(

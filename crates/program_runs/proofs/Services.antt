@@ -12,7 +12,7 @@ use Rattle.command_line.specs.declared.fault.DatabaseFault.TheVariants.{Missing}
 use Rattle.gateway_server.specs.InTurn.{ServeInTurn}
 use Rattle.gateway_server.specs.Ports.{Traffic}
 use Rattle.intake_process.specs.Process.{Parts, Keeps, KeepsBy}
-use Rattle.intake_process.specs.Turns.{Turn, Served, TurnedAway, served_in, AreTurnedAway, IsServed}
+use Rattle.intake_process.specs.Turns.{Turn, Served, TurnedAway, Ahead, served_in, AreTurnedAway, IsServed}
 use Rattle.intake_process.specs.Turns.{IsServedOrRefused}
 use Rattle.gateway_server.specs.declared.port_fault.PortFault.TheVariants.{Network, Memory}
 use Rattle.intake_process.specs.declared.errand.ErrandFault.{ErrandFault}
@@ -50,6 +50,7 @@ use Rattle.program_runs.proofs.Results.{not_err}
 service_of : Turn → Service
 service_of (Served connection) = Answered connection
 service_of (TurnedAway connection) = Away connection
+service_of (Ahead connection) = Answered connection
 
 pub record AreServices (limit : ℕ) (before after : List Request) : Type 0 where
   pub services : List Service
@@ -61,6 +62,12 @@ module _ (limit keys : ℕ) (few : keys ≤ limit) where
       → AreServices limit before after
   services [] before after in_turn away = record { services = []; in_turn = in_turn }
   services (Served c ∷ turns) before after in_turn away =
+      let rest = services turns in_turn.0 after in_turn.2 away in
+      record {
+        services = Answered c ∷ rest.services;
+        in_turn = (keys, in_turn.0, few, in_turn.1, rest.in_turn);
+      }
+  services (Ahead c ∷ turns) before after in_turn away =
       let rest = services turns in_turn.0 after in_turn.2 away in
       record {
         services = Answered c ∷ rest.services;

@@ -17,7 +17,7 @@ use Rattle.program_runs.specs.Deeds.{Deed, Added, Wrote, Heard, Asked, AreDone}
 
 -- what a run of `intake serve` did with a connection
 pub data Service : Type 0 where
-  -- it was served
+  -- it was served; or its request was decided ahead, and nothing was written
   Answered : Connection → Service
   -- it was turned away, while the register was closed
   Away : Connection → Service

@@ -25,7 +25,7 @@ use Rattle.filer_client.specs.Exchange.{IsOpenRequest}
 use Rattle.gateway_server.specs.InTurn.{ServeInTurn}
 use Rattle.gateway_server.specs.Ports.{Connection}
 use Rattle.intake_process.specs.Turning.{IsTurnedAway}
-use Rattle.intake_process.specs.Turns.{Turn, Served, TurnedAway, connections_of, served_in, AreTurnedAway}
+use Rattle.intake_process.specs.Turns.{Turn, Served, TurnedAway, Ahead, all_in, served_in, AreTurnedAway}
 use Rattle.programs.specs.Deliveries.{Delivery, IsOf, AreOf, events_of, AreOutputsOf}
 use Rattle.programs.proofs.Delivering.{delivered}
 use Rattle.programs.specs.Exchanged.{IsBox, ComesOf}
@@ -533,13 +533,37 @@ module _ (limit : ℕ) where
 
   pub turned : (keys : ℕ) (old : Situation) (turns : List Turn) (deliveries : List Delivery) (after : List Request)
       → keys ≤ limit → ServeInTurn (keeping keys [] old.requests after) (served_in turns) → AreTurnedAway turns
-      → AreOf old.sent (connections_of turns) deliveries
+      → AreOf old.sent (all_in turns) deliveries
       → (new : Situation) × TurnsHappen limit old deliveries turns after new
   turned keys old [] [] after few in_turn away are =
       (old, record { happen = refl; requests = sym in_turn; outboxes = refl; sent = refl })
   turned keys old [] (d ∷ ds) after few in_turn away are = absurd are
   turned keys old (Served c ∷ ts) [] after few in_turn away are = absurd are
   turned keys old (TurnedAway c ∷ ts) [] after few in_turn away are = absurd are
+  turned keys old (Ahead c ∷ ts) [] after few in_turn away are = absurd are
+  turned keys old (Ahead c ∷ ts) (d ∷ ds) after few in_turn away are =
+      let between : Situation =
+      record old {
+        requests = in_turn.0;
+        answers = old.answers ++ record {
+          item = d.item;
+          bytes =
+              c.output.bytes;
+        } ∷ [];
+      } in
+      let rest = turned keys between ts ds after few in_turn.2 away are.1 in (
+        rest.0,
+        record {
+          happen = (
+            between,
+            record { came = are.0; keys = keys; few = few; serves = in_turn.1; becomes = refl },
+            rest.1.happen,
+          );
+          requests = rest.1.requests;
+          outboxes = rest.1.outboxes;
+          sent = rest.1.sent;
+        },
+      )
   turned keys old (Served c ∷ ts) (d ∷ ds) after few in_turn away are =
       let between : Situation =
       record old {

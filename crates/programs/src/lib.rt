@@ -13,7 +13,7 @@ ghost use Rattle.filing_world.specs.World.{World, Outbox, Event};
 ghost use Rattle.filing_world.specs.Headline.{AreFilers, start, Holds};
 ghost use Rattle.filer_client.specs.Exchange.{IsOpenRequest, Hears};
 ghost use Rattle.gateway_server.specs.InTurn.{ServeInTurn};
-ghost use Rattle.intake_process.specs.Turns.{Turn, connections_of, served_in, AreTurnedAway};
+ghost use Rattle.intake_process.specs.Turns.{Turn, all_in, served_in, AreTurnedAway};
 ghost use Rattle.programs.specs.Deliveries.{Delivery, AreOf, GoesOnTo};
 ghost use Rattle.programs.specs.Exchanged.{IsBox, IsSent, ComesOf, IsMoved};
 ghost use Rattle.programs.specs.Happenings.{Situation, Happening, at_first, Happen, IsReached, AreRegistered};
@@ -48,12 +48,13 @@ pub fn an_exchange_is_sent_and_handed()
 {}
 
 /// Connections that a run of `intake serve` answered happened one after another: those that were served in turn, and
-/// those that were turned away between them.
+/// those that were turned away between them. A request that was decided ahead is one more that was served, of the same
+/// item: nothing is written on it, and then the item comes again, and gets its reply.
 pub fn turns_happen()
     ensures { (limit keys : ℕ) (old : Situation) (turns : List Turn) (deliveries : List Delivery)
         (after : List Request) → keys ≤ limit
         → ServeInTurn (keeping keys [] old.requests after) (served_in turns) → AreTurnedAway turns
-        → AreOf old.sent (connections_of turns) deliveries
+        → AreOf old.sent (all_in turns) deliveries
         → (new : Situation) × TurnsHappen limit old deliveries turns after new }
 {}
 

@@ -24,7 +24,7 @@ use Rattle.ready_connections.specs.Connections.{HoldsWithin, most_held}
 use Rattle.ready_connections.specs.Bounds.{most_lent}
 use Rattle.ready_connections.specs.Places.{taken, taken_places, lent, lent_places, owed, owed_places}
 use Rattle.ready_connections.specs.Running.{CountsOwed, out_count, IsInPlace, WasTold, AreOver, AreRunning, IsEmpty}
-use Rattle.ready_connections.specs.Running.{KeepsAll, GivesTurns, Puts, IsResting, IsShort, IsRunning}
+use Rattle.ready_connections.specs.Running.{KeepsAll, GivesTurns, Puts, IsResting, IsShort, IsRunning, IsOutOf}
 use Rattle.ready_connections.proofs.Told.{told_more}
 
 -- ---- lists
@@ -655,6 +655,55 @@ module _ {S N : Type 0} (s : Ghosts S N) where
         told = rw puts.bounds h.told;
         none_lost =
             let count = count_taken old new place (Some c') (Some c) has_turn puts (sym was) in
+            let out = ap out_count puts.out in
+            omega (arith, h.none_lost, count, out);
+        in_all = rw (puts.left, puts.bounds) h.in_all;
+      }
+
+  -- The connection in a place was looked at, whether a piece is out or not. It stays there with its turn.
+  pub looked_at : (done : List Piece) (read : Option (List ℕ)) (old new : Hall S) (traffic : Option (Traffic S))
+      (place : ℕ) (c c' : Connection S) → place < length old.places.items
+      → Some c ≡ get_or old.places.items place None → Puts old new place (Some c') true → c'.is_lent ≡ c.is_lent
+      → (IsServed s done c → IsServed s done c') → (IsBounded done c → IsBounded done c')
+      → (CountsOwed old → CountsOwed new) → IsRunning s done read old traffic → IsRunning s done read new traffic
+  looked_at done read old new traffic place c c' low was puts same_loan step bound counts running = record {
+    turns = omega (arith, puts.turns_len, puts.len, running.turns);
+    within = rw (puts.len, puts.bounds) running.within;
+    counted = counts running.counted;
+    in_place = put done done (IsResting s old) (IsResting s new) old new place (Some c') true
+        (omega (arith, low, running.turns))
+        (rests_so (IsResting s old) (IsResting s new) done
+        (rests_beside old new place c c' true was puts (lent_same c c' same_loan))) puts
+        (record { told = step here.told; bounded = bound here.bounded; awake = inl refl }) running.in_place;
+    is_out = rw puts.out (beside read old.out running.is_out);
+    over = over traffic running.over;
+  }
+    where
+      here : IsInPlace s done (IsResting s old) (get_or old.has_turn.items place false) c
+      here = rw (sym was) at (running.in_place place)
+
+      other : (out : ℕ) → get_or old.places.items out None ≡ None → out ≢ place
+      other out free same =
+          absurd (let h : Some c ≡ None = was ∙ ap (λ i. get_or old.places.items i None) (sym same) ∙ free in cc)
+
+      beside : (read : Option (List ℕ)) (out : Option (Out S)) → IsOutOf s done read out old.places.items
+          → IsOutOf s done read out new.places.items
+      beside None None is = tt
+      beside None (Some out) is = absurd is
+      beside (Some r) None is = absurd is
+      beside (Some r) (Some out) is = (
+        is.0,
+        is.1,
+        omega (arith, is.2, puts.len),
+        puts.others out.place (other out.place is.3) ∙ is.3,
+      )
+
+      over : (traffic : Option (Traffic S)) → IfSome traffic (AreOver s done old) → IfSome traffic (AreOver s done new)
+      over None h = tt
+      over (Some known) h = record {
+        told = rw puts.bounds h.told;
+        none_lost =
+            let count = count_taken old new place (Some c') (Some c) true puts (sym was) in
             let out = ap out_count puts.out in
             omega (arith, h.none_lost, count, out);
         in_all = rw (puts.left, puts.bounds) h.in_all;

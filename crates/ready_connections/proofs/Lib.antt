@@ -1,3 +1,4 @@
 pub mod PieceLemmas
 pub mod Told
 pub mod Halls
+pub mod Came

@@ -9,3 +9,4 @@ pub mod NextTurn
 pub mod Bounds
 pub mod Places
 pub mod Running
+pub mod Waiting

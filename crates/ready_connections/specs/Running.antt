@@ -120,6 +120,14 @@ pub record KeepsAll {S : Type 0} (old new : Hall S) : Type 0 where
   pub left : new.left ≡ old.left
   pub short : old.is_short ≡ true → new.is_short ≡ true
 
+-- the same piece is out, as many places are there, and as many connections are to come
+pub record KeepsOut {S : Type 0} (old new : Hall S) : Type 0 where
+  pub out : new.out ≡ old.out
+  pub bounds : new.bounds ≡ old.bounds
+  pub left : new.left ≡ old.left
+  pub len : length new.places.items ≡ length old.places.items
+  pub taken : taken_places new.places.items ≡ taken_places old.places.items
+
 -- nothing is changed but which place is next, when the next deadline is, and that more places have their turn
 pub record GivesTurns {S : Type 0} (old new : Hall S) : Type 0 where
   pub places : new.places.items ≡ old.places.items

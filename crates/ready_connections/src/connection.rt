@@ -1,12 +1,13 @@
 //! One connection: what came and was not handed out yet, and what is owed to it.
 ghost use Rattle.std.specs.Prelude.{◌≡◌, ◌≤◌, ◌<◌, ◌+◌, ℕ, true, false, List, [], ◌++◌, length, take, drop, vec_len};
-ghost use Rattle.std.specs.Prelude.{◌∷◌};
+ghost use Rattle.std.specs.Prelude.{◌∷◌, Some, IfSome};
 ghost use Rattle.http_messages.specs.Message.{Asks, interim};
 ghost use Rattle.ready_connections.specs.NextPiece.{IsLast};
 ghost use Rattle.ready_connections.specs.Arriving.{IsFresh};
 ghost use Rattle.ready_connections.specs.Pieces.{Piece, IsWhole, text_left};
 ghost use Rattle.ready_connections.specs.Connections.{IsServed, IsOut, HoldsNoPiece, HoldsWithin, piece_back};
 ghost use Rattle.ready_connections.specs.Turns.{IsAfterTurn, HandsNone, KeepsLoan};
+ghost use Rattle.ready_connections.specs.Waiting.{IsLookedAt, KeepsFirst, StandsFirst};
 
 use crate::held::{Found, Held};
 use crate::stream::{Got, Stream};
@@ -40,6 +41,17 @@ pub(crate) enum Turn {
     HandsOut(Vec<u8>),
 }
 
+/// What a look at a connection found.
+#[derive(Clone, Copy)]
+pub(crate) enum Look {
+    /// A whole request of so many bytes stands first.
+    Whole(usize),
+    /// Less than that, but more came.
+    More,
+    /// Nothing that waits.
+    Nothing,
+}
+
 /// A connection.
 #[derive(Drop)]
 pub(crate) struct Connection<S> {
@@ -56,6 +68,8 @@ pub(crate) struct Connection<S> {
     pub(crate) is_awaited: bool,
     /// Whether room is lent to it, so that it may hold a whole piece.
     pub(crate) is_lent: bool,
+    /// Whether the next piece, or the one that is out, was copied while it waited.
+    pub(crate) is_copied: bool,
     /// The moment from which its peer is waited for, if it is.
     pub(crate) since: Option<u64>,
 }
@@ -76,6 +90,7 @@ impl<S: Stream> Connection<S> {
             is_closing: false,
             is_awaited: false,
             is_lent: false,
+            is_copied: false,
             since: None,
         }
     }
@@ -92,6 +107,7 @@ impl<S: Stream> Connection<S> {
             is_closing: _,
             is_awaited: _,
             is_lent: _,
+            is_copied: _,
             since: _,
         } = self;
         stream
@@ -106,6 +122,7 @@ impl<S: Stream> Connection<S> {
         ensures lent { KeepsLoan result self.old.is_lent self.new.is_lent }
         ensures owed { (most : ℕ) → length interim ≤ most → vec_len self.old.owed ≤ most
             → vec_len self.new.owed ≤ most }
+        ensures came { KeepsFirst S.Stream self.old.stream self.new.stream }
     {
         if !only_writes {
             return self.go_on(alloc, room);
@@ -116,6 +133,94 @@ impl<S: Stream> Connection<S> {
         self.write()
     }
 
+    /// A copy of the whole request that stands first in what is held, if it has at most so many bytes, was not copied
+    /// before, and nothing is owed. What is there is read for it, as in a turn, and nothing is handed out.
+    pub(crate) fn look(
+        &mut self,
+        alloc: Global,
+        room: &mut [u8],
+        most_len: usize,
+    ) -> Option<Vec<u8>>
+        ensures told { (done : List Piece) → IsServed S.Stream done self.old → IsServed S.Stream done self.new }
+        ensures first { IfSome result (λ piece. StandsFirst piece.items (Some self.new)) }
+        ensures short { IfSome result (λ piece. vec_len piece ≤ most_len) }
+        ensures held { (read : ℕ) → length room.old ≤ read → HoldsWithin read self.old → HoldsWithin read self.new }
+        ensures lent { self.new.is_lent ≡ self.old.is_lent }
+        ensures owed { self.new.owed ≡ self.old.owed }
+        ensures came { KeepsFirst S.Stream self.old.stream self.new.stream }
+    {
+        if self.is_copied || self.is_closing || !self.owed.is_empty() {
+            return None;
+        }
+        for _ in 0..SHARE {
+            match self.look_once(alloc, room) {
+                Look::Whole(len) => return self.copy_front(alloc, len, most_len),
+                Look::More => {}
+                Look::Nothing => return None,
+            }
+        }
+        None
+    }
+
+    /// Looks for a whole request in what is held, and else reads what is there.
+    fn look_once(&mut self, alloc: Global, room: &mut [u8]) -> Look
+        requires none_owed { self.old.owed.items ≡ [] }
+        requires open { self.old.is_closing ≡ false }
+        ensures told { (done : List Piece) → IsServed S.Stream done self.old → IsServed S.Stream done self.new }
+        ensures whole { IsLookedAt self.new.held.bytes.items result }
+        ensures held { (read : ℕ) → length room.old ≤ read → HoldsWithin read self.old → HoldsWithin read self.new }
+        ensures lent { self.new.is_lent ≡ self.old.is_lent }
+        ensures owed { self.new.owed ≡ self.old.owed }
+        ensures open_still { self.new.is_closing ≡ self.old.is_closing }
+        ensures came { KeepsFirst S.Stream self.old.stream self.new.stream }
+    {
+        match self.held.find(alloc, self.has_ended) {
+            Ok(Found::Whole(len)) => Look::Whole(len),
+            Ok(Found::More) => self.look_further(room),
+            Ok(Found::Asks) if self.is_awaited => self.look_further(room),
+            _ => Look::Nothing,
+        }
+    }
+
+    /// Reads what is there.
+    fn look_further(&mut self, room: &mut [u8]) -> Look
+        requires none_owed { self.old.owed.items ≡ [] }
+        requires open { self.old.is_closing ≡ false }
+        requires goes_on { self.old.has_ended ≡ false }
+        requires no_piece { HoldsNoPiece self.old }
+        requires short { vec_len self.old.held.bytes < MAX_PIECE }
+        ensures told { (done : List Piece) → IsServed S.Stream done self.old → IsServed S.Stream done self.new }
+        ensures whole { IsLookedAt self.new.held.bytes.items result }
+        ensures held { (read : ℕ) → length room.old ≤ read → HoldsWithin read self.old → HoldsWithin read self.new }
+        ensures lent { self.new.is_lent ≡ self.old.is_lent }
+        ensures owed { self.new.owed ≡ self.old.owed }
+        ensures open_still { self.new.is_closing ≡ self.old.is_closing }
+        ensures came { KeepsFirst S.Stream self.old.stream self.new.stream }
+    {
+        match self.read(room) {
+            Turn::Again => Look::More,
+            _ => Look::Nothing,
+        }
+    }
+
+    /// A copy of the whole request that these first bytes of what is held are, if there is memory for it.
+    fn copy_front(&mut self, alloc: Global, len: usize, most_len: usize) -> Option<Vec<u8>>
+        requires within { len ≤ vec_len self.old.held.bytes }
+        requires whole { IsWhole (take len self.old.held.bytes.items) }
+        ensures rest { self.new ≡ record self.old { is_copied = self.new.is_copied } }
+        ensures first { IfSome result (λ piece. StandsFirst piece.items (Some self.new)) }
+        ensures short { IfSome result (λ piece. vec_len piece ≤ most_len) }
+    {
+        if len > most_len {
+            return None;
+        }
+        let Ok(copy) = Vec::from_slice(alloc, &self.held.bytes[..len]) else {
+            return None;
+        };
+        self.is_copied = true;
+        Some(copy)
+    }
+
     /// Goes on until it waits, is over, hands a piece out, or has had its share.
     fn go_on(&mut self, alloc: Global, room: &mut [u8]) -> Turn
         ensures told { (done : List Piece) → IsServed S.Stream done self.old
@@ -124,6 +229,7 @@ impl<S: Stream> Connection<S> {
         ensures lent { KeepsLoan result self.old.is_lent self.new.is_lent }
         ensures owed { (most : ℕ) → length interim ≤ most → vec_len self.old.owed ≤ most
             → vec_len self.new.owed ≤ most }
+        ensures came { KeepsFirst S.Stream self.old.stream self.new.stream }
     {
         for _ in 0..SHARE {
             match self.step(alloc, room) {
@@ -143,6 +249,7 @@ impl<S: Stream> Connection<S> {
         ensures lent { KeepsLoan result self.old.is_lent self.new.is_lent }
         ensures owed { (most : ℕ) → length interim ≤ most → vec_len self.old.owed ≤ most
             → vec_len self.new.owed ≤ most }
+        ensures came { KeepsFirst S.Stream self.old.stream self.new.stream }
     {
         if !self.owed.is_empty() {
             return self.write();
@@ -174,6 +281,7 @@ impl<S: Stream> Connection<S> {
         ensures held { (read : ℕ) → HoldsWithin read self.old → HoldsWithin read self.new }
         ensures lent { KeepsLoan result self.old.is_lent self.new.is_lent }
         ensures owed { vec_len self.new.owed ≤ vec_len self.old.owed }
+        ensures came { KeepsFirst S.Stream self.old.stream self.new.stream }
     {
         match self.stream.write(self.owed.as_slice()) {
             Ok(0) => Turn::Waits,
@@ -197,6 +305,7 @@ impl<S: Stream> Connection<S> {
         ensures held { (read : ℕ) → HoldsWithin read self.old → HoldsWithin read self.new }
         ensures lent { KeepsLoan result self.old.is_lent self.new.is_lent }
         ensures owed { self.new.owed ≡ self.old.owed }
+        ensures came { KeepsFirst S.Stream self.old.stream self.new.stream }
     {
         match self.held.take_front(alloc, len) {
             Some(piece) => {
@@ -228,6 +337,7 @@ impl<S: Stream> Connection<S> {
         ensures held { (read : ℕ) → HoldsWithin read self.old → HoldsWithin read self.new }
         ensures lent { KeepsLoan result self.old.is_lent self.new.is_lent }
         ensures owed { self.new.owed ≡ self.old.owed }
+        ensures came { KeepsFirst S.Stream self.old.stream self.new.stream }
     {
         self.is_closing = true;
         self.is_lent = false;
@@ -245,6 +355,7 @@ impl<S: Stream> Connection<S> {
         ensures held { (read : ℕ) → HoldsWithin read self.old → HoldsWithin read self.new }
         ensures lent { KeepsLoan result self.old.is_lent self.new.is_lent }
         ensures owed { vec_len self.new.owed ≤ length interim }
+        ensures came { KeepsFirst S.Stream self.old.stream self.new.stream }
     {
         if self.owed.extend_from_slice(INTERIM).is_err() {
             return Turn::Over(Why::NoMemory);
@@ -263,8 +374,12 @@ impl<S: Stream> Connection<S> {
         ensures told { (done : List Piece) → IsServed S.Stream done self.old
             → IsAfterTurn S.Stream done result self.new }
         ensures held { (read : ℕ) → length room.old ≤ read → HoldsWithin read self.old → HoldsWithin read self.new }
-        ensures lent { KeepsLoan result self.old.is_lent self.new.is_lent }
+        ensures none { HandsNone result }
+        ensures lent { self.new.is_lent ≡ self.old.is_lent }
+        ensures short_of { KeepsLoan result self.old.is_lent self.new.is_lent }
         ensures owed { self.new.owed ≡ self.old.owed }
+        ensures open_still { self.new.is_closing ≡ self.old.is_closing }
+        ensures came { KeepsFirst S.Stream self.old.stream self.new.stream }
     {
         if !self.is_lent && self.held.len() >= SMALL {
             return Turn::Short;
@@ -303,11 +418,13 @@ impl<S: Stream> Connection<S> {
         ensures held { self.new.held.bytes ≡ self.old.held.bytes }
         ensures lent { self.new.is_lent ≡ self.old.is_lent }
         ensures owed { vec_len self.new.owed ≤ vec_len output }
+        ensures came { KeepsFirst S.Stream self.old.stream self.new.stream }
     {
         self.stream.note(note);
         self.owed = without_interim(output, self.is_awaited);
         self.is_awaited = false;
         self.is_closing |= closes;
+        self.is_copied = false;
         self.since = None;
     }
 }

@@ -1,14 +1,16 @@
 //! All connections that are served at once, each in its place, and whose turn is next.
 ghost use Rattle.std.specs.Prelude.{◌+◌, ◌/◌, ◌≤◌, IsSome, IsTrue, ◌≡◌, ◌≢◌, ◌<◌, ℕ, List, [], ◌∷◌, ◌++◌, Option, Some};
 ghost use Rattle.std.specs.Prelude.{None, IfSome, IfOk, IfNone};
-ghost use Rattle.std.specs.Prelude.{is_some, length, min, true, false, nat_eq, slice_index_or, vec_len};
+ghost use Rattle.std.specs.Prelude.{is_some, length, map, min, true, false, nat_eq, slice_index_or, vec_len};
+ghost use Rattle.std.specs.List.{sum_by};
 ghost use Rattle.ready_connections.specs.Streams.{Traffic};
-ghost use Rattle.ready_connections.specs.Pieces.{Piece};
+ghost use Rattle.ready_connections.specs.Pieces.{Piece, IsWhole};
 ghost use Rattle.ready_connections.specs.NextTurn.{IsNext, NoneHasTurn};
 ghost use Rattle.ready_connections.specs.Places.{taken_places, lent, lent_places, owed, owed_places};
 ghost use Rattle.ready_connections.specs.Bounds.{most_lent};
 ghost use Rattle.ready_connections.specs.Running.{IsRunning, IsEmpty, CountsOwed, KeepsAll, GivesTurns, Puts};
-ghost use Rattle.ready_connections.specs.Running.{is_shut, items_of, items_out_of, piece_of};
+ghost use Rattle.ready_connections.specs.Running.{is_shut, items_of, items_out_of, piece_of, KeepsOut};
+ghost use Rattle.ready_connections.specs.Waiting.{AreHeld, KeepsCame, StandsFirst};
 
 use crate::bounds::Bounds;
 use crate::connection::{Connection, Turn};
@@ -112,6 +114,7 @@ impl<S: Stream + Drop> Hall<S> {
         ensures bounds { self.new.bounds ≡ self.old.bounds }
         ensures light { (done : List Piece) → IsRunning S.Stream done None self.old (P.traffic sockets.old)
             → IsSome (items_out_of result) → owed_places self.new.places.items ≤ self.new.bounds.memory / 2 }
+        ensures came { KeepsCame S.Stream self.old (P.traffic sockets.old) self.new (P.traffic sockets.new) }
     {
         for _ in 0..most {
             if let Some(piece) = self.turn(sockets, wait)? {
@@ -137,6 +140,7 @@ impl<S: Stream + Drop> Hall<S> {
         ensures bounds { self.new.bounds ≡ self.old.bounds }
         ensures light { (done : List Piece) → IsRunning S.Stream done None self.old (P.traffic sockets.old)
             → IsSome (items_out_of result) → owed_places self.new.places.items ≤ self.new.bounds.memory / 2 }
+        ensures came { KeepsCame S.Stream self.old (P.traffic sockets.old) self.new (P.traffic sockets.new) }
     {
         match self.next_turn() {
             Some(place) => {
@@ -202,6 +206,7 @@ impl<S: Stream + Drop> Hall<S> {
             → owed_places self.new.places.items ≤ self.new.bounds.memory / 2 }
         ensures out { IfNone result (self.new.out ≡ None) }
         ensures bounds { self.new.bounds ≡ self.old.bounds }
+        ensures came { KeepsCame S.Stream self.old (P.traffic sockets.old) self.new (P.traffic sockets.new) }
     {
         let is_laden = self.owed > self.bounds.memory / 2;
         let mut connection = self.leave(place)?;
@@ -337,6 +342,7 @@ impl<S: Stream + Drop> Hall<S> {
             → IsRunning S.Stream done None self.new (P.traffic sockets.new) }
         ensures out { self.new.out ≡ None }
         ensures bounds { self.new.bounds ≡ self.old.bounds }
+        ensures came { KeepsCame S.Stream self.old (P.traffic sockets.old) self.new (P.traffic sockets.new) }
     {
         self.trim();
         let wait = self.wait_at_most(sockets, wait);
@@ -353,6 +359,7 @@ impl<S: Stream + Drop> Hall<S> {
             → IsRunning S.Stream done None self.old traffic → IsRunning S.Stream done None self.new traffic }
         ensures out { self.new.out ≡ None }
         ensures bounds { self.new.bounds ≡ self.old.bounds }
+        ensures came { (traffic : Option (Traffic S)) → KeepsCame S.Stream self.old traffic self.new traffic }
     {
         let used = count_used(&self.places);
         self.places.truncate(used);
@@ -422,6 +429,7 @@ impl<S: Stream + Drop> Hall<S> {
             → IsRunning S.Stream done None self.new (P.traffic sockets.new) }
         ensures out { self.new.out ≡ None }
         ensures bounds { self.new.bounds ≡ self.old.bounds }
+        ensures came { KeepsCame S.Stream self.old (P.traffic sockets.old) self.new (P.traffic sockets.new) }
     {
         for place in 0..self.bounds.places {
             if self.left == 0 {
@@ -451,6 +459,7 @@ impl<S: Stream + Drop> Hall<S> {
         ensures out { self.new.out ≡ None }
         ensures bounds { self.new.bounds ≡ self.old.bounds }
         ensures left { self.new.left ≡ self.old.left }
+        ensures came { (traffic : Option (Traffic S)) → KeepsCame S.Stream self.old traffic self.new traffic }
     {
         if place < self.places.len() {
             return true;
@@ -463,6 +472,80 @@ impl<S: Stream + Drop> Hall<S> {
         place < self.places.len()
     }
 
+    /// Whether other whole requests may wait that are worth a copy: a connection has its turn, the piece that is out
+    /// was not copied itself and is not the last of its connection, and all together do not owe too much.
+    pub fn has_waiting(&self) -> bool
+        ensures open { result ≡ true → IfSome self.now.out (λ out. out.connection.is_closing ≡ false) }
+        ensures turn { result ≡ true → (place : ℕ) × (slice_index_or self.now.has_turn.items place false ≡ true) }
+    {
+        !self.is_settled()
+            && self.owed <= self.bounds.memory / 2
+            && first_true(&self.has_turn, 0).is_some()
+    }
+
+    /// Copies of whole requests that wait, so many at most, and of so many bytes together. Each stands first in what
+    /// its connection holds, where it stays until its turn. Connections that have their turn read for it what is there.
+    /// None is copied unless `has_waiting` says so.
+    pub fn waiting(&mut self, most: usize, most_len: usize) -> Vec<Vec<u8>>
+        ensures running { (done : List Piece) (read : Option (List ℕ)) (traffic : Option (Traffic S))
+            → IsRunning S.Stream done read self.old traffic → IsRunning S.Stream done read self.new traffic }
+        ensures held { AreHeld self.new.places.items (map (λ piece. piece.items) result.items) }
+        ensures whole { (done : List Piece) (read : List ℕ) (traffic : Option (Traffic S))
+            → IsRunning S.Stream done (Some read) self.new traffic → 0 < length result.items → IsWhole read }
+        ensures few { length result.items ≤ most }
+        ensures short { sum_by length (map (λ piece. piece.items) result.items) ≤ most_len }
+        ensures same { KeepsOut self.old self.new }
+        ensures came { (traffic : Option (Traffic S)) → KeepsCame S.Stream self.old traffic self.new traffic }
+    {
+        let mut pieces = Vec::new(self.alloc);
+        let mut left = most_len;
+        if !self.has_waiting() {
+            return pieces;
+        }
+        for place in 0..self.places.len() {
+            if pieces.len() >= most || pieces.reserve(1).is_err() {
+                return pieces;
+            }
+            if let Some(piece) = self.look(place, left) {
+                left -= piece.len();
+                pieces.push_reserved(piece);
+            }
+        }
+        pieces
+    }
+
+    /// Whether the piece that is out was copied while it waited, or is the last of its connection.
+    fn is_settled(&self) -> bool
+        ensures { result ≡ false → IfSome self.now.out (λ out. out.connection.is_closing ≡ false) }
+    {
+        match &self.out {
+            Some(out) => out.connection.is_closing || out.connection.is_copied,
+            None => false,
+        }
+    }
+
+    /// A copy of the whole request that waits in a place which has its turn, if it has at most so many bytes.
+    fn look(&mut self, place: usize, most_len: usize) -> Option<Vec<u8>>
+        requires { place < vec_len self.old.places }
+        ensures running { (done : List Piece) (read : Option (List ℕ)) (traffic : Option (Traffic S))
+            → IsRunning S.Stream done read self.old traffic → IsRunning S.Stream done read self.new traffic }
+        ensures first { IfSome result (λ piece.
+            StandsFirst piece.items (slice_index_or self.new.places.items place None)) }
+        ensures short { IfSome result (λ piece. vec_len piece ≤ most_len) }
+        ensures others { (i : ℕ) → i ≢ place
+            → slice_index_or self.new.places.items i None ≡ slice_index_or self.old.places.items i None }
+        ensures same { KeepsOut self.old self.new }
+        ensures came { (traffic : Option (Traffic S)) → KeepsCame S.Stream self.old traffic self.new traffic }
+    {
+        if place >= self.has_turn.len() || !self.has_turn[place] {
+            return None;
+        }
+        let mut connection = self.leave(place)?;
+        let piece = connection.look(self.alloc, &mut self.room.bytes, most_len);
+        self.enter(place, connection, true);
+        piece
+    }
+
     /// Takes back the output of the piece that is out, which its connection gets, and notes what became of it. After
     /// one that closes, the connection is over once it is written.
     pub fn give_back(&mut self, output: Vec<u8>, closes: bool, note: &S::Note)
@@ -471,6 +554,9 @@ impl<S: Stream + Drop> Hall<S> {
             → IsRunning S.Stream (done ++ piece_of self.old.out read output.items closes ∷ []) None self.new traffic }
         ensures out { self.new.out ≡ None }
         ensures bounds { self.new.bounds ≡ self.old.bounds }
+        ensures came { (done : List Piece) (read : List ℕ) (traffic : Option (Traffic S))
+            → IsRunning S.Stream done (Some read) self.old traffic
+            → KeepsCame S.Stream self.old traffic self.new traffic }
     {
         let Some(out) = self.out.take() else {
             return;

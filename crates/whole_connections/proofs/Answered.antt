@@ -9,17 +9,18 @@ use Rattle.ready_connections.specs.declared.why.Why.{Why}
 use Rattle.ready_connections.specs.declared.why.Why.TheVariants.{Done}
 use Rattle.gateway_server.specs.InTurn.{ServeInTurn}
 use Rattle.whole_connections.specs.Pieces.{joined_reads, joined_marks, joined_texts}
-use Rattle.whole_connections.specs.Places.{AreAmong, pieces_of}
+use Rattle.whole_connections.specs.Places.{pieces_of}
 use Rattle.whole_connections.specs.Seen.{IsSeenSoFar}
 use Rattle.many_connections.specs.Events.{AreServedAs}
 use Rattle.intake_process.specs.Turns.{Turn, Served, TurnedAway, connections_of, served_in, AreTurnedAway}
-use Rattle.whole_connections.specs.Away.{GetsAway, TurnsAreAmong, IsTurnedAwayAfter, IsTurnedAwayUntil, HasTextOrIsAway}
+use Rattle.whole_connections.specs.Away.{GetsAway, IsTurnedAwayAfter, IsTurnedAwayUntil, HasTextOrIsAway}
 use Rattle.whole_connections.specs.Away.{HasTextSoFarOrIsAway}
+use Rattle.whole_connections.specs.Whole.{TurnsAreAmong}
 use Rattle.whole_connections.proofs.Among.{served_at}
 use Rattle.whole_connections.proofs.Served.{read_whole, open_goes_on}
 use Rattle.whole_connections.proofs.Pieces.{texts_open}
 use Rattle.whole_connections.proofs.Together.{IsAllIfDone, Own, own_among, to, seen_open, told_so_far, told_over}
-use Rattle.whole_connections.proofs.TurnedAway.{turns_among, served_among_turns, served_in-map}
+use Rattle.whole_connections.proofs.TurnedAway.{turns_among, front_among}
 use Rattle.whole_connections.proofs.TurnedAway.{connections_of-map, EndsAway}
 use Rattle.whole_connections.proofs.TurnedAway.{by_turns, ends_is, reads_last, texts_last, away_by}
 
@@ -35,14 +36,13 @@ module _ (requests : Keeping) (turns : List Turn) (turn : ServeInTurn requests (
   ends_away : (ts : List Turn) → TurnsAreAmong ts turns → EndsAway is_closing is_ended told.pieces ts
       → IsTurnedAwayAfter requests turns came (went ++ owed)
   ends_away ts among ends =
-      let served : served_in ts ≡ ends.served =
-      ap served_in ends.turns_are ∙ served_in-map ends.served (TurnedAway ends.c ∷ []) ∙ append_nil ends.served in
       let it =
-      own_among requests (served_in turns) ends.front ends.served turn
-      (subst (λ cs. AreAmong cs (served_in turns)) served (served_among_turns ts turns among)) ends.are in
+      own_among requests turns ends.front ends.served turn
+      (front_among (map Served ends.served) (TurnedAway ends.c ∷ []) turns
+      (subst (λ l. TurnsAreAmong l turns) ends.turns_are among)) ends.are in
       with_own it.0 it.1
     where
-      with_own : (own : Own requests (served_in turns) ends.front) → own.cs ≡ ends.served
+      with_own : (own : Own requests turns ends.front) → own.cs ≡ ends.served
           → IsTurnedAwayAfter requests turns came (went ++ owed)
       with_own own own_is =
           let places = own.at.places in
@@ -65,9 +65,9 @@ module _ (requests : Keeping) (turns : List Turn) (turn : ServeInTurn requests (
             | inl whole ↦ inl (ends_is ends.front ends.last whole)
             | inr none ↦ inr none
           ] in
-          let first : IsSeenSoFar (to requests (served_in turns) ends.front own is_ended)
+          let first : IsSeenSoFar (to requests turns ends.front own is_ended)
           (reads_of ends.front ++ (ends.last.read ++ held)) (joined_marks own.cs) (texts_of ends.front ++ []) =
-          seen_open requests (served_in turns) ends.front own is_ended (ends.last.read ++ held) false ends.turn
+          seen_open requests turns ends.front own is_ended (ends.last.read ++ held) false ends.turn
           ends.asked
           (λ e. absurd (let h : false ≡ true = e in cc)) in
           record {
@@ -79,9 +79,9 @@ module _ (requests : Keeping) (turns : List Turn) (turn : ServeInTurn requests (
             left = is.rest ++ held;
             splits =
                 came_is ∙ ap (λ l. l ++ (ends.last.read ++ held)) reads ∙ ap (λ l. joined_reads own.cs ++ l) behind;
-            seen = subst (λ bs. IsSeenSoFar (to requests (served_in turns) ends.front own is_ended) bs
+            seen = subst (λ bs. IsSeenSoFar (to requests turns ends.front own is_ended) bs
                 (joined_marks own.cs) (joined_texts own.cs)) (sym came_is)
-                (subst (λ t. IsSeenSoFar (to requests (served_in turns) ends.front own is_ended)
+                (subst (λ t. IsSeenSoFar (to requests turns ends.front own is_ended)
                 (reads_of ends.front ++ (ends.last.read ++ held)) (joined_marks own.cs) t)
                 (append_nil (texts_of ends.front) ∙ texts) first);
             reply = text_of ends.last;
@@ -97,23 +97,24 @@ module _ (requests : Keeping) (turns : List Turn) (turn : ServeInTurn requests (
 
   -- all its pieces were served, or the last one was turned away
   abbrev Known : Type 0
-  Known = Own requests (served_in turns) told.pieces
+  Known = Own requests turns told.pieces
       ⊎ ((is_closing ≡ true) × IsTurnedAwayAfter requests turns came (went ++ owed))
 
   known : Known
   known =
       let it = turns_among told.pieces done turns told.among are away in
-      elim (by_turns is_closing is_ended told.pieces it.0 told.in_turn it.2 it.3 told.asked) [
+      elim (by_turns is_closing is_ended told.pieces it.0 told.in_turn it.2 it.3 it.4 told.asked) [
         | inl same ↦
-            inl (own_among requests (served_in turns) told.pieces (served_in it.0) turn
-            (served_among_turns it.0 turns it.1) (subst (AreServedAs told.pieces) (all_served it.0 same) it.2)).0
+            inl (own_among requests turns told.pieces (served_in it.0) turn
+            (subst (λ l. TurnsAreAmong l turns) same it.1)
+            (subst (AreServedAs told.pieces) (all_served it.0 same) it.2)).0
         | inr ends ↦ inr (ends.closing, ends_away it.0 it.1 ends)
       ]
 
   pub answered_so_far : HasTextSoFarOrIsAway requests turns is_closing came (went ++ owed)
   answered_so_far = elim known [
     | inl own ↦
-        inl (told_so_far requests (served_in turns) done came went out held owed is_early is_closing is_ended none_out
+        inl (told_so_far requests turns done came went out held owed is_early is_closing is_ended none_out
         told own)
     | inr ends ↦ inr ends
   ]
@@ -127,7 +128,7 @@ module _ (requests : Keeping) (turns : List Turn) (turn : ServeInTurn requests (
       elim (known requests turns turn done are away came went [] held owed is_early is_closing is_ended (λ _. refl)
       told) [
         | inl own ↦
-            inl (told_over requests (served_in turns) done came went why held owed is_early is_closing is_ended told own
+            inl (told_over requests turns done came went why held owed is_early is_closing is_ended told own
             end)
         | inr ends ↦ inr (until why end ends.1)
       ]

@@ -18,18 +18,28 @@ use Rattle.ready_connections.specs.declared.why.Why.{Why}
 use Rattle.ready_connections.specs.declared.why.Why.TheVariants.{Done}
 use Rattle.ready_connections.specs.Connections.{IsEnd}
 use Rattle.ready_connections.specs.Pieces.{Piece, IsTold}
+use Rattle.ready_connections.specs.Pieces.{AreAmong as PiecesAreAmong}
 use Rattle.ready_connections.specs.Running.{IsInPlace, IsOutOf, IsResting, IsRunning, WasTold}
 use Rattle.ready_connections.specs.Streams.{Traffic, Gone}
 use Rattle.gateway_server.specs.InTurn.{ServeInTurn}
-use Rattle.gateway_server.specs.Ports.{Connection}
 use Rattle.whole_connections.specs.Seen.{Standing, IsSeen, Sees}
 use Rattle.many_connections.specs.Events.{AreServedAs, Runs, Seen}
 use Rattle.whole_connections.specs.Each.{Each, IfKnown}
 use Rattle.whole_connections.specs.Whole.{HasText, HasTextSoFar, HasWholeText}
-use Rattle.intake_process.specs.Turns.{Turn, connections_of, served_in, AreTurnedAway}
+use Rattle.intake_process.specs.Turns.{Turn, connections_of, served_in, AreTurnedAway, NoneIsAway}
 use Rattle.whole_connections.specs.Away.{HasTextOrIsAway, HasTextSoFarOrIsAway}
 use Rattle.whole_connections.proofs.Answered.{answered_so_far, answered_over}
-use Rattle.whole_connections.proofs.Together.{IsAllIfDone, own_of, told_so_far, told_over}
+use Rattle.whole_connections.proofs.Together.{IsAllIfDone, Own, own_among, told_so_far, told_over}
+use Rattle.whole_connections.proofs.Served.{served_among}
+use Rattle.whole_connections.proofs.TurnedAway.{came_among}
+
+-- the pieces of a connection among all that were served, if none was turned away
+own_in : (requests : Keeping) (turns : List Turn) (pieces done : List Piece) → ServeInTurn requests (served_in turns)
+    → NoneIsAway turns → PiecesAreAmong pieces done → AreServedAs done (connections_of turns)
+    → Own requests turns pieces
+own_in requests turns pieces done turn none among are =
+    let it = served_among pieces done (connections_of turns) among are in
+    (own_among requests turns pieces it.0 turn (came_among it.0 turns it.1 none) it.2).0
 
 -- what holds of each connection that was told what its pieces got
 module _ {S N : Type 0} (s : Ghosts S N) (Over : Why → List ℕ → List ℕ → Type 0)
@@ -109,18 +119,20 @@ module _ {S N : Type 0} (s : Ghosts S N) (Over : Why → List ℕ → List ℕ �
   }
 
 module _ {S N : Type 0} (s : Ghosts S N) where
-  -- if each was served in turn
-  pub each_has_text : (requests : Keeping) (seen : Seen) (hall : Hall S) (traffic : Traffic S)
-      → Runs s seen hall (Some traffic) → ServeInTurn requests seen.over
-      → Each s (HasText requests seen.over) (HasTextSoFar requests seen.over) hall traffic
-  each_has_text requests seen hall traffic runs turn =
-      each s (HasText requests seen.over) (HasTextSoFar requests seen.over) hall.bounds.patience runs.pieces
+  -- if each was served in turn, among what was decided ahead
+  pub each_has_text : (requests : Keeping) (turns : List Turn) (seen : Seen) (hall : Hall S) (traffic : Traffic S)
+      → Runs s seen hall (Some traffic) → connections_of turns ≡ seen.over
+      → ServeInTurn requests (served_in turns) → NoneIsAway turns
+      → Each s (HasText requests turns) (HasTextSoFar requests turns) hall traffic
+  each_has_text requests turns seen hall traffic runs are_turns turn none =
+      let are = subst (AreServedAs runs.pieces) (sym are_turns) runs.are in
+      each s (HasText requests turns) (HasTextSoFar requests turns) hall.bounds.patience runs.pieces
       (λ came went out held owed is_early is_closing is_ended none_out told.
-      told_so_far requests seen.over runs.pieces came went out held owed is_early is_closing is_ended none_out told
-      (own_of requests seen.over told.pieces runs.pieces turn told.among runs.are))
+      told_so_far requests turns runs.pieces came went out held owed is_early is_closing is_ended none_out told
+      (own_in requests turns told.pieces runs.pieces turn none told.among are))
       (λ came went why held owed is_early is_closing is_ended told end.
-      told_over requests seen.over runs.pieces came went why held owed is_early is_closing is_ended told
-      (own_of requests seen.over told.pieces runs.pieces turn told.among runs.are) end)
+      told_over requests turns runs.pieces came went why held owed is_early is_closing is_ended told
+      (own_in requests turns told.pieces runs.pieces turn none told.among are) end)
       seen.given hall traffic refl runs.running
 
   -- if each was served in turn or turned away
@@ -147,26 +159,29 @@ module _ {S N : Type 0} (s : Ghosts S N) where
   all_seen at came marks InputEnded went sees faultless = sees
   all_seen at came marks (Fault fault) went sees faultless = absurd (faultless fault refl)
 
-  whole_text : (requests : Keeping) (done : List Connection) (why : Why) (came went : Option (List ℕ))
-      → IfSome came (λ came. IfSome went (HasText requests done why came)) → why ≡ Done
-      → IfSome came (λ came. IfSome went (HasWholeText requests done came))
-  whole_text requests done why None went has is = tt
-  whole_text requests done why (Some came) None has is = tt
-  whole_text requests done why (Some came) (Some went) has is =
-      let it : HasText requests done Done came went = subst (λ w. HasText requests done w came went) is has in
+  whole_text : (requests : Keeping) (turns : List Turn) (why : Why) (came went : Option (List ℕ))
+      → IfSome came (λ came. IfSome went (HasText requests turns why came)) → why ≡ Done
+      → IfSome came (λ came. IfSome went (HasWholeText requests turns came))
+  whole_text requests turns why None went has is = tt
+  whole_text requests turns why (Some came) None has is = tt
+  whole_text requests turns why (Some came) (Some went) has is =
+      let it : HasText requests turns Done came went = subst (λ w. HasText requests turns w came went) is has in
       record { own = it.own; seen = all_seen _ came _ _ went it.seen }
 
-  each_done : (requests : Keeping) (done : List Connection) (over : List (Gone S))
-      → AllByRecursion (λ gone. IfKnown s gone.stream (HasText requests done gone.why)) over
-      → AllByRecursion (λ gone. gone.why ≡ Done → IfKnown s gone.stream (HasWholeText requests done)) over
-  each_done requests done [] has = tt
-  each_done requests done (gone ∷ over) has = (
-    whole_text requests done gone.why (s.came gone.stream) (s.went gone.stream) has.0,
-    each_done requests done over has.1,
+  each_done : (requests : Keeping) (turns : List Turn) (over : List (Gone S))
+      → AllByRecursion (λ gone. IfKnown s gone.stream (HasText requests turns gone.why)) over
+      → AllByRecursion (λ gone. gone.why ≡ Done → IfKnown s gone.stream (HasWholeText requests turns)) over
+  each_done requests turns [] has = tt
+  each_done requests turns (gone ∷ over) has = (
+    whole_text requests turns gone.why (s.came gone.stream) (s.went gone.stream) has.0,
+    each_done requests turns over has.1,
   )
 
-  pub each_whole : (requests : Keeping) (seen : Seen) (hall : Hall S) (traffic : Traffic S)
-      → Runs s seen hall (Some traffic) → ServeInTurn requests seen.over
-      → AllByRecursion (λ gone. gone.why ≡ Done → IfKnown s gone.stream (HasWholeText requests seen.over)) traffic.over
-  each_whole requests seen hall traffic runs turn =
-      each_done requests seen.over traffic.over (each_has_text requests seen hall traffic runs turn).over
+  pub each_whole : (requests : Keeping) (turns : List Turn) (seen : Seen) (hall : Hall S) (traffic : Traffic S)
+      → Runs s seen hall (Some traffic) → connections_of turns ≡ seen.over
+      → ServeInTurn requests (served_in turns) → NoneIsAway turns
+      → AllByRecursion (λ gone. gone.why ≡ Done → IfKnown s gone.stream (HasWholeText requests turns))
+      traffic.over
+  each_whole requests turns seen hall traffic runs are_turns turn none =
+      each_done requests turns traffic.over
+      (each_has_text requests turns seen hall traffic runs are_turns turn none).over

@@ -1,6 +1,6 @@
 -- What a connection got that was told what its pieces got.
 use Rattle.std.proofs.Common.{◌≡◌, ◌⊎◌, inl, inr, ℕ, Bool, true, false, List, [], ◌++◌, Some, refl, sym, ap, ◌∙◌}
-use Rattle.std.proofs.Common.{subst, append_assoc, arith}
+use Rattle.std.proofs.Common.{subst, append_assoc, arith, map}
 use Rattle.std.proofs.lemmas.Bool.{cases_Bool}
 use Rattle.http_messages.specs.Message.{Asks}
 use Rattle.http_messages.proofs.MoreBytes.{IsBlockEnd-within}
@@ -9,7 +9,6 @@ use Rattle.filing_model.specs.Serving.{Keeping}
 use Rattle.filing_model.proofs.Lists.{append_nil, prefix_trans}
 use Rattle.ready_connections.specs.Pieces.{Piece, AreAsked, AreInTurn, EndsWhole, IsTold, reads_of}
 use Rattle.ready_connections.specs.Pieces.{texts_of, early_text}
-use Rattle.ready_connections.specs.Pieces.{AreAmong as PiecesAreAmong}
 use Rattle.ready_connections.specs.declared.why.Why.{Why}
 use Rattle.ready_connections.specs.declared.why.Why.TheVariants.{Done}
 use Rattle.gateway_server.specs.InTurn.{ServeInTurn}
@@ -18,45 +17,47 @@ use Rattle.whole_connections.specs.Pieces.{joined_reads, joined_marks, joined_te
 use Rattle.whole_connections.specs.Places.{AreAmong, pieces_of, HasPlaces, standing_at}
 use Rattle.whole_connections.specs.Seen.{Standing, IsSeenSoFar, Sees}
 use Rattle.many_connections.specs.Events.{AreServedAs}
-use Rattle.whole_connections.specs.Whole.{SeesFirst, SeesUntil, HasPieces, HasText, HasTextSoFar}
+use Rattle.whole_connections.specs.Whole.{SeesFirst, SeesUntil, TurnsAreAmong, HasPieces, HasText, HasTextSoFar}
+use Rattle.intake_process.specs.Turns.{Turn, Served, served_in}
 use Rattle.whole_connections.proofs.Among.{places_among, served_at}
 use Rattle.whole_connections.proofs.Joining.{joined_seen, open_seen}
-use Rattle.whole_connections.proofs.Served.{served_among, open_goes_on, go_on_are_pieces}
+use Rattle.whole_connections.proofs.Served.{open_goes_on, go_on_are_pieces}
+use Rattle.whole_connections.proofs.TurnedAway.{served_among_turns, served_of-map}
 use Rattle.whole_connections.proofs.Pieces.{texts_open, closing_seen, reads_first, ended_last, sees_first}
 
 none_asks : Asks [] true → ⊥
 none_asks asks = let within = IsBlockEnd-within [] asks.1 asks.2.block in omega (arith, within.0)
 
 -- the pieces of a connection as they were served, and their places among all
-pub record Own (requests : Keeping) (over : List Connection) (pieces : List Piece) : Type 0 where
+pub record Own (requests : Keeping) (turns : List Turn) (pieces : List Piece) : Type 0 where
   pub cs : List Connection
-  pub at : HasPlaces requests cs over
+  pub among : TurnsAreAmong (map Served cs) turns
+  pub at : HasPlaces requests cs (served_in turns)
   pub served : AreServedAs pieces (pieces_of at.places)
 
-pub own_among : (requests : Keeping) (over : List Connection) (pieces : List Piece) (cs : List Connection)
-    → ServeInTurn requests over → AreAmong cs over → AreServedAs pieces cs
-    → (own : Own requests over pieces) × (own.cs ≡ cs)
-own_among requests over pieces cs turn among are =
-    let at = places_among requests cs over turn among in
-    (record { cs = cs; at = at; served = subst (AreServedAs pieces) (sym at.pieces_are) are }, refl)
+pub own_among : (requests : Keeping) (turns : List Turn) (pieces : List Piece) (cs : List Connection)
+    → ServeInTurn requests (served_in turns) → TurnsAreAmong (map Served cs) turns → AreServedAs pieces cs
+    → (own : Own requests turns pieces) × (own.cs ≡ cs)
+own_among requests turns pieces cs turn among are =
+    let all : AreAmong cs (served_in turns) =
+    subst (λ ps. AreAmong ps (served_in turns)) (served_of-map cs) (served_among_turns (map Served cs) turns among) in
+    let at = places_among requests cs (served_in turns) turn all in (
+      record { cs = cs; among = among; at = at; served = subst (AreServedAs pieces) (sym at.pieces_are) are },
+      refl,
+    )
 
-pub own_of : (requests : Keeping) (over : List Connection) (pieces done : List Piece) → ServeInTurn requests over
-    → PiecesAreAmong pieces done → AreServedAs done over → Own requests over pieces
-own_of requests over pieces done turn among are =
-    let it = served_among pieces done over among are in
-    (own_among requests over pieces it.0 turn it.1 it.2).0
-
-module _ (requests : Keeping) (over : List Connection) (pieces : List Piece) (own : Own requests over pieces)
+module _ (requests : Keeping) (turns : List Turn) (pieces : List Piece) (own : Own requests turns pieces)
     (is_ended : Bool) where
   abbrev pub to : Standing
   to = standing_at requests own.at.places
 
   abbrev has_pieces : (is_closing : Bool) (came more : List ℕ) → AreInTurn is_closing is_ended pieces
-      → came ≡ reads_of pieces ++ more → HasPieces requests over came
+      → came ≡ reads_of pieces ++ more → HasPieces requests turns came
   has_pieces is_closing came more turn is =
       let first = reads_first is_closing is_ended pieces (pieces_of own.at.places) turn own.served in
       record {
         pieces = own.cs;
+        among = own.among;
         at = own.at;
         left = first.0 ++ more;
         splits =
@@ -70,7 +71,7 @@ module _ (requests : Keeping) (over : List Connection) (pieces : List Piece) (ow
       → IsSeenSoFar to (reads_of pieces ++ more) (joined_marks own.cs) (texts_of pieces ++ early_text early)
   seen_open more early turn asked next =
       let places = own.at.places in
-      let serve = served_at requests own.cs over own.at in
+      let serve = served_at requests own.cs (served_in turns) own.at in
       let go = open_goes_on is_ended pieces (pieces_of places) turn own.served in
       let texts =
       texts_open requests.limit requests.old_style is_ended places pieces serve own.served asked turn in
@@ -87,7 +88,7 @@ module _ (requests : Keeping) (over : List Connection) (pieces : List Piece) (ow
       → Sees to (reads_of pieces) (joined_marks own.cs) (ended_of own.cs) (texts_of pieces)
   seen_ended turn asked =
       let places = own.at.places in
-      let serve = served_at requests own.cs over own.at in
+      let serve = served_at requests own.cs (served_in turns) own.at in
       let go = open_goes_on is_ended pieces (pieces_of places) turn own.served in
       let are = go_on_are_pieces (pieces_of places) go.0 in
       let texts =
@@ -106,7 +107,7 @@ module _ (requests : Keeping) (over : List Connection) (pieces : List Piece) (ow
       → Sees to (reads_of pieces ++ held) (joined_marks own.cs) (ended_of own.cs) (texts_of pieces)
   seen_closing held turn asked all_out =
       let places = own.at.places in
-      let serve = served_at requests own.cs over own.at in
+      let serve = served_at requests own.cs (served_in turns) own.at in
       let all : ended_of (pieces_of places) ≡ InputEnded → held ≡ [] = λ ended. elim all_out [
         | inl whole ↦ absurd (ended_last is_ended pieces (pieces_of places) turn own.served ended whole)
         | inr none ↦ none
@@ -121,34 +122,34 @@ module _ (requests : Keeping) (over : List Connection) (pieces : List Piece) (ow
 abbrev pub IsAllIfDone : Why → List ℕ → List ℕ → Bool → Type 0
 IsAllIfDone why held owed is_closing = why ≡ Done → (owed ≡ []) × ((is_closing ≡ true) ⊎ (held ≡ []))
 
-module _ (requests : Keeping) (over : List Connection) (done : List Piece) (came went : List ℕ) where
+module _ (requests : Keeping) (turns : List Turn) (done : List Piece) (came went : List ℕ) where
   -- of a connection that is not over; if it is open and all of it was handed out, it got all its text
   told_all : (out held owed : List ℕ) (is_early is_closing is_ended : Bool) → (is_closing ≡ true → out ≡ [])
       → (told : IsTold done (Some came) (Some went) out held owed is_early is_closing is_ended)
-      → Own requests over told.pieces → (it : HasTextSoFar requests over is_closing came (went ++ owed))
+      → Own requests turns told.pieces → (it : HasTextSoFar requests turns is_closing came (went ++ owed))
       × (is_closing ≡ false → out ++ held ≡ []
       → Sees (standing_at requests it.own.at.places) came (joined_marks it.own.pieces) (ended_of it.own.pieces)
       (went ++ owed))
   told_all out held owed is_early is_closing is_ended none_out told own = (
     record {
-      own = has_pieces requests over told.pieces own is_ended is_closing came (out ++ held) told.in_turn told.read;
+      own = has_pieces requests turns told.pieces own is_ended is_closing came (out ++ held) told.in_turn told.read;
       goes_on = λ goes_on.
-          subst (λ text. IsSeenSoFar (to requests over told.pieces own is_ended) came (joined_marks own.cs) text)
+          subst (λ text. IsSeenSoFar (to requests turns told.pieces own is_ended) came (joined_marks own.cs) text)
           (sym told.wrote)
-          (subst (λ bs. IsSeenSoFar (to requests over told.pieces own is_ended) bs (joined_marks own.cs)
+          (subst (λ bs. IsSeenSoFar (to requests turns told.pieces own is_ended) bs (joined_marks own.cs)
           (texts_of told.pieces ++ early_text is_early)) (sym told.read)
-          (seen_open requests over told.pieces own is_ended (out ++ held) is_early (turn_if false goes_on) told.asked
+          (seen_open requests turns told.pieces own is_ended (out ++ held) is_early (turn_if false goes_on) told.asked
           told.next_asked));
       closing = λ closing.
           let shut = told.shut closing in
           all_seen held (told.read ∙ ap (λ l. reads_of told.pieces ++ (l ++ held)) (none_out closing)) shut.none_early
-          (seen_closing requests over told.pieces own is_ended held (turn_if true closing) told.asked shut.all_out);
+          (seen_closing requests turns told.pieces own is_ended held (turn_if true closing) told.asked shut.all_out);
     },
     λ goes_on none.
         all_seen [] (told.read ∙ ap (λ l. reads_of told.pieces ++ l) none) (late is_early told.next_asked none)
-        (subst (λ bs. Sees (to requests over told.pieces own is_ended) bs (joined_marks own.cs) (ended_of own.cs)
+        (subst (λ bs. Sees (to requests turns told.pieces own is_ended) bs (joined_marks own.cs) (ended_of own.cs)
         (texts_of told.pieces)) (sym (append_nil (reads_of told.pieces)))
-        (seen_ended requests over told.pieces own is_ended (turn_if false goes_on) told.asked)),
+        (seen_ended requests turns told.pieces own is_ended (turn_if false goes_on) told.asked)),
   )
     where
       turn_if : (b : Bool) → is_closing ≡ b → AreInTurn b is_ended told.pieces
@@ -159,30 +160,31 @@ module _ (requests : Keeping) (over : List Connection) (done : List Piece) (came
       late true asked none = absurd (none_asks (subst (λ bs. Asks bs true) none (asked refl)))
 
       all_seen : (more : List ℕ) → came ≡ reads_of told.pieces ++ more → is_early ≡ false
-          → Sees (to requests over told.pieces own is_ended) (reads_of told.pieces ++ more) (joined_marks own.cs)
+          → Sees (to requests turns told.pieces own is_ended) (reads_of told.pieces ++ more) (joined_marks own.cs)
           (ended_of own.cs) (texts_of told.pieces)
-          → Sees (to requests over told.pieces own is_ended) came (joined_marks own.cs) (ended_of own.cs) (went ++ owed)
+          → Sees (to requests turns told.pieces own is_ended) came (joined_marks own.cs) (ended_of own.cs)
+          (went ++ owed)
       all_seen more bytes not_early sees =
           let text : went ++ owed ≡ texts_of told.pieces =
           told.wrote ∙ ap (λ b. texts_of told.pieces ++ early_text b) not_early ∙ append_nil (texts_of told.pieces) in
-          subst (λ text. Sees (to requests over told.pieces own is_ended) came (joined_marks own.cs) (ended_of own.cs)
+          subst (λ text. Sees (to requests turns told.pieces own is_ended) came (joined_marks own.cs) (ended_of own.cs)
           text) (sym text)
-          (subst (λ bs. Sees (to requests over told.pieces own is_ended) bs (joined_marks own.cs) (ended_of own.cs)
+          (subst (λ bs. Sees (to requests turns told.pieces own is_ended) bs (joined_marks own.cs) (ended_of own.cs)
           (texts_of told.pieces)) (sym bytes) sees)
 
   pub told_so_far : (out held owed : List ℕ) (is_early is_closing is_ended : Bool) → (is_closing ≡ true → out ≡ [])
       → (told : IsTold done (Some came) (Some went) out held owed is_early is_closing is_ended)
-      → Own requests over told.pieces → HasTextSoFar requests over is_closing came (went ++ owed)
+      → Own requests turns told.pieces → HasTextSoFar requests turns is_closing came (went ++ owed)
   told_so_far out held owed is_early is_closing is_ended none_out told own =
       (told_all out held owed is_early is_closing is_ended none_out told own).0
 
   -- of one that is over
   pub told_over : (why : Why) (held owed : List ℕ) (is_early is_closing is_ended : Bool)
       → (told : IsTold done (Some came) (Some went) [] held owed is_early is_closing is_ended)
-      → Own requests over told.pieces → IsAllIfDone why held owed is_closing → HasText requests over why came went
+      → Own requests turns told.pieces → IsAllIfDone why held owed is_closing → HasText requests turns why came went
   told_over why held owed is_early is_closing is_ended told own end = record { own = it.0.own; seen = by why end }
     where
-      it : (it : HasTextSoFar requests over is_closing came (went ++ owed))
+      it : (it : HasTextSoFar requests turns is_closing came (went ++ owed))
           × (is_closing ≡ false → [] ++ held ≡ []
           → Sees (standing_at requests it.own.at.places) came (joined_marks it.own.pieces) (ended_of it.own.pieces)
           (went ++ owed))

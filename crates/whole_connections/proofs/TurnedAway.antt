@@ -24,66 +24,129 @@ use Rattle.whole_connections.specs.Pieces.{interim_for}
 use Rattle.whole_connections.specs.Places.{AreAmong}
 use Rattle.many_connections.specs.Events.{IsServedAs, AreServedAs}
 use Rattle.intake_process.specs.Turning.{IsTurnedAway, away_reply, end_by}
-use Rattle.intake_process.specs.Turns.{Turn, Served, TurnedAway, connection_of, connections_of}
-use Rattle.intake_process.specs.Turns.{served_in, AreTurnedAway}
+use Rattle.intake_process.specs.Turns.{Turn, Served, TurnedAway, Ahead, connection_of, connections_of, ahead_in}
+use Rattle.intake_process.specs.Turns.{served_in, AreTurnedAway, NoneIsAway}
 use Rattle.http_wire.specs.Calls.{WritesAsked, WritesUpTo}
 use Rattle.gateway_server.specs.Answered.{WritesText}
-use Rattle.whole_connections.specs.Away.{GetsAway, TurnsAreAmong}
+use Rattle.whole_connections.specs.Away.{GetsAway}
+use Rattle.whole_connections.specs.Whole.{TurnsAreAmong}
 use Rattle.whole_connections.proofs.Early.{first_asks, text_whole, text_part, text_late}
 use Rattle.whole_connections.proofs.Served.{stays}
 
 -- ---- turns among all
 
-away_both : (turn : Turn) (turns : List Turn) → AreTurnedAway (turn ∷ turns)
-    → AreTurnedAway (turn ∷ []) × AreTurnedAway turns
-away_both (Served c) turns away = (tt, away)
-away_both (TurnedAway c) turns away = ((away.0, tt), away.1)
+head-same : {x y : Connection} {xs ys : List Connection} → x ∷ xs ≡ y ∷ ys → x ≡ y
+head-same is = cc
+
+tail-same : {x y : Connection} {xs ys : List Connection} → x ∷ xs ≡ y ∷ ys → xs ≡ ys
+tail-same is = cc
+
+-- it came, and was not decided ahead
+abbrev IsOfOne : Turn → Type 0
+IsOfOne (Served c) = Unit {0}
+IsOfOne (TurnedAway c) = Unit {0}
+IsOfOne (Ahead c) = ⊥
 
 away_one : (turn : Turn) (turns : List Turn) → AreTurnedAway (turn ∷ []) → AreTurnedAway turns
     → AreTurnedAway (turn ∷ turns)
 away_one (Served c) turns first away = away
 away_one (TurnedAway c) turns first away = (first.0, away)
+away_one (Ahead c) turns first away = away
 
--- the turn as which a piece was served, and those behind it
+ahead_one : (turn : Turn) (turns : List Turn) → IsOfOne turn → ahead_in turns ≡ [] → ahead_in (turn ∷ turns) ≡ []
+ahead_one (Served c) turns is none = none
+ahead_one (TurnedAway c) turns is none = none
+ahead_one (Ahead c) turns is none = absurd is
+
+connections_one : (own : List Piece) (piece : Piece) (turn : Turn) (turns : List Turn) → IsOfOne turn
+    → IsServedAs piece (connection_of turn) → AreServedAs own (connections_of turns)
+    → AreServedAs (piece ∷ own) (connections_of (turn ∷ turns))
+connections_one own piece (Served c) turns is first are = (first, are)
+connections_one own piece (TurnedAway c) turns is first are = (first, are)
+connections_one own piece (Ahead c) turns is first are = absurd is
+
+-- a piece of these was served as one of these turns, and those behind it as those behind that
+record IsSplit (after : List Piece) (piece : Piece) (turns : List Turn) : Type 0 where
+  pub front : List Turn
+  pub it : Turn
+  pub back : List Turn
+  pub are : turns ≡ front ++ it ∷ back
+  pub of_one : IsOfOne it
+  pub served : IsServedAs piece (connection_of it)
+  pub behind : AreServedAs after (connections_of back)
+  pub away : AreTurnedAway (it ∷ [])
+  pub away_behind : AreTurnedAway back
+
+split_later : (after : List Piece) (piece : Piece) (turn : Turn) (turns : List Turn) → IsSplit after piece turns
+    → IsSplit after piece (turn ∷ turns)
+split_later after piece turn turns later = record {
+  front = turn ∷ later.front;
+  it = later.it;
+  back = later.back;
+  are = ap (λ ts. turn ∷ ts) later.are;
+  of_one = later.of_one;
+  served = later.served;
+  behind = later.behind;
+  away = later.away;
+  away_behind = later.away_behind;
+}
+
 split_turn : (before after : List Piece) (piece : Piece) (turns : List Turn)
-    → AreServedAs (before ++ piece ∷ after) (connections_of turns) → AreTurnedAway turns
-    → (front : List Turn) × (it : Turn) × (back : List Turn) × (turns ≡ front ++ it ∷ back)
-    × IsServedAs piece (connection_of it) × AreServedAs after (connections_of back) × AreTurnedAway (it ∷ [])
-    × AreTurnedAway back
+    → AreServedAs (before ++ piece ∷ after) (connections_of turns) → AreTurnedAway turns → IsSplit after piece turns
 split_turn [] after piece [] are away = absurd are
-split_turn [] after piece (turn ∷ turns) are away =
-    let both = away_both turn turns away in ([], turn, turns, refl, are.0, are.1, both.0, both.1)
+split_turn [] after piece (Served c ∷ turns) are away = record {
+  front = [];
+  it = Served c;
+  back = turns;
+  are = refl;
+  of_one = tt;
+  served = are.0;
+  behind = are.1;
+  away = tt;
+  away_behind = away;
+}
+split_turn [] after piece (TurnedAway c ∷ turns) are away = record {
+  front = [];
+  it = TurnedAway c;
+  back = turns;
+  are = refl;
+  of_one = tt;
+  served = are.0;
+  behind = are.1;
+  away = (away.0, tt);
+  away_behind = away.1;
+}
+split_turn [] after piece (Ahead c ∷ turns) are away =
+    split_later after piece (Ahead c) turns (split_turn [] after piece turns are away)
 split_turn (p ∷ before) after piece [] are away = absurd are
-split_turn (p ∷ before) after piece (turn ∷ turns) are away =
-    let later = split_turn before after piece turns are.1 (away_both turn turns away).1 in (
-      turn ∷ later.0,
-      later.1,
-      later.2,
-      ap (λ ts. turn ∷ ts) later.3,
-      later.4,
-      later.5,
-      later.6,
-      later.7,
-    )
+split_turn (p ∷ before) after piece (Served c ∷ turns) are away =
+    split_later after piece (Served c) turns (split_turn before after piece turns are.1 away)
+split_turn (p ∷ before) after piece (TurnedAway c ∷ turns) are away =
+    split_later after piece (TurnedAway c) turns (split_turn before after piece turns are.1 away.1)
+split_turn (p ∷ before) after piece (Ahead c ∷ turns) are away =
+    split_later after piece (Ahead c) turns (split_turn (p ∷ before) after piece turns are away)
 
 pub turns_among : (own done : List Piece) (turns : List Turn) → PiecesAreAmong own done
     → AreServedAs done (connections_of turns) → AreTurnedAway turns
     → (ts : List Turn) × TurnsAreAmong ts turns × AreServedAs own (connections_of ts) × AreTurnedAway ts
-turns_among [] done turns among are away = ([], tt, tt, tt)
+    × (ahead_in ts ≡ [])
+turns_among [] done turns among are away = ([], tt, tt, tt, refl)
 turns_among (piece ∷ own) done turns among are away =
     let parts =
     split_turn among.0 among.1 piece turns (subst (λ ps. AreServedAs ps (connections_of turns)) among.2 are) away in
-    let later = turns_among own among.1 parts.2 among.3 parts.5 parts.7 in (
-      parts.1 ∷ later.0,
-      (parts.0, parts.2, parts.3, later.1),
-      (parts.4, later.2),
-      away_one parts.1 later.0 parts.6 later.3,
+    let later = turns_among own among.1 parts.back among.3 parts.behind parts.away_behind in (
+      parts.it ∷ later.0,
+      (parts.front, parts.back, parts.are, later.1),
+      connections_one own piece parts.it later.0 parts.of_one parts.served later.2,
+      away_one parts.it later.0 parts.away later.3,
+      ahead_one parts.it later.0 parts.of_one later.4,
     )
 
 served_in-append : (front back : List Turn) → served_in (front ++ back) ≡ served_in front ++ served_in back
 served_in-append [] back = refl
 served_in-append (Served c ∷ front) back = ap (λ cs. c ∷ cs) (served_in-append front back)
 served_in-append (TurnedAway c ∷ front) back = served_in-append front back
+served_in-append (Ahead c ∷ front) back = ap (λ cs. c ∷ cs) (served_in-append front back)
 
 among_behind : (pieces front back : List Connection) → AreAmong pieces back → AreAmong pieces (front ++ back)
 among_behind [] front back among = tt
@@ -106,10 +169,54 @@ served_among_turns (Served c ∷ ts) turns (front, back, is, later) = (
 served_among_turns (TurnedAway c ∷ ts) turns (front, back, is, later) =
     subst (AreAmong (served_in ts)) (sym (ap served_in is ∙ served_in-append front (TurnedAway c ∷ back)))
     (among_behind (served_in ts) (served_in front) (served_in back) (served_among_turns ts back later))
+served_among_turns (Ahead c ∷ ts) turns (front, back, is, later) = (
+  served_in front,
+  served_in back,
+  ap served_in is ∙ served_in-append front (Ahead c ∷ back),
+  served_among_turns ts back later,
+)
 
-pub served_in-map : (cs : List Connection) (ts : List Turn) → served_in (map Served cs ++ ts) ≡ cs ++ served_in ts
-served_in-map [] ts = refl
-served_in-map (c ∷ cs) ts = ap (λ l. c ∷ l) (served_in-map cs ts)
+-- the first of some turns that are among all
+pub front_among : (ts us turns : List Turn) → TurnsAreAmong (ts ++ us) turns → TurnsAreAmong ts turns
+front_among [] us turns among = tt
+front_among (t ∷ ts) us turns (front, back, is, later) = (front, back, is, front_among ts us back later)
+
+-- if none was turned away, those that came were served
+pub came_among : (cs : List Connection) (turns : List Turn) → AreAmong cs (connections_of turns) → NoneIsAway turns
+    → TurnsAreAmong (map Served cs) turns
+came_among [] turns among none = tt
+came_among (c ∷ cs) turns (front, back, is, later) none =
+    let split = split_came c front back turns is none in (
+      split.0,
+      split.1,
+      split.2,
+      came_among cs split.1 (subst (AreAmong cs) (sym split.3) later) split.4,
+    )
+  where
+    split_came : (c : Connection) (front back : List Connection) (turns : List Turn)
+        → connections_of turns ≡ front ++ c ∷ back → NoneIsAway turns
+        → (ts : List Turn) × (us : List Turn) × (turns ≡ ts ++ Served c ∷ us) × (connections_of us ≡ back)
+        × NoneIsAway us
+    split_came c [] back [] is none = absurd (cc)
+    split_came c (d ∷ front) back [] is none = absurd (cc)
+    split_came c [] back (Served e ∷ turns) is none = (
+      [],
+      turns,
+      ap (λ x. Served x ∷ turns) (head-same is),
+      tail-same is,
+      none,
+    )
+    split_came c (d ∷ front) back (Served e ∷ turns) is none =
+        let later = split_came c front back turns (tail-same is) none in
+        (Served e ∷ later.0, later.1, ap (λ ts. Served e ∷ ts) later.2, later.3, later.4)
+    split_came c front back (TurnedAway e ∷ turns) is none = absurd none
+    split_came c front back (Ahead e ∷ turns) is none =
+        let later = split_came c front back turns is none in
+        (Ahead e ∷ later.0, later.1, ap (λ ts. Ahead e ∷ ts) later.2, later.3, later.4)
+
+pub served_of-map : (cs : List Connection) → served_in (map Served cs) ≡ cs
+served_of-map [] = refl
+served_of-map (c ∷ cs) = ap (λ l. c ∷ l) (served_of-map cs)
 
 pub connections_of-map : (cs : List Connection) → connections_of (map Served cs) ≡ cs
 connections_of-map [] = refl
@@ -151,13 +258,15 @@ pub record EndsAway (is_closing is_ended : Bool) (own : List Piece) (ts : List T
   pub closing : is_closing ≡ true
 
 pub by_turns : (is_closing is_ended : Bool) (own : List Piece) (ts : List Turn) → AreInTurn is_closing is_ended own
-    → AreServedAs own (connections_of ts) → AreTurnedAway ts → AreAsked own
+    → AreServedAs own (connections_of ts) → AreTurnedAway ts → ahead_in ts ≡ [] → AreAsked own
     → (ts ≡ map Served (served_in ts)) ⊎ EndsAway is_closing is_ended own ts
-by_turns is_closing is_ended [] [] turn are away asked = inl refl
-by_turns is_closing is_ended [] (t ∷ ts) turn are away asked = absurd are
-by_turns is_closing is_ended (piece ∷ own) [] turn are away asked = absurd are
-by_turns is_closing is_ended (piece ∷ own) (Served c ∷ ts) turn are away asked = elim turn [
-  | inl at ↦ elim (by_turns is_closing is_ended own ts at.2 are.1 away asked.1) [
+by_turns is_closing is_ended own (Ahead c ∷ ts) turn are away none_ahead asked = absurd (cc)
+by_turns is_closing is_ended [] [] turn are away none_ahead asked = inl refl
+by_turns is_closing is_ended [] (Served c ∷ ts) turn are away none_ahead asked = absurd are
+by_turns is_closing is_ended [] (TurnedAway c ∷ ts) turn are away none_ahead asked = absurd are
+by_turns is_closing is_ended (piece ∷ own) [] turn are away none_ahead asked = absurd are
+by_turns is_closing is_ended (piece ∷ own) (Served c ∷ ts) turn are away none_ahead asked = elim turn [
+  | inl at ↦ elim (by_turns is_closing is_ended own ts at.2 are.1 away none_ahead asked.1) [
     | inl same ↦ inl (ap (λ l. Served c ∷ l) same)
     | inr ends ↦ inr (record {
       front = piece ∷ ends.front;
@@ -175,15 +284,17 @@ by_turns is_closing is_ended (piece ∷ own) (Served c ∷ ts) turn are away ask
       closing = ends.closing;
     })
   ]
-  | inr at ↦ inl (none own ts at.2 are.1)
+  | inr at ↦ inl (none own ts at.2 are.1 none_ahead)
 ]
   where
-    none : (own : List Piece) (ts : List Turn) → own ≡ [] → AreServedAs own (connections_of ts)
+    none : (own : List Piece) (ts : List Turn) → own ≡ [] → AreServedAs own (connections_of ts) → ahead_in ts ≡ []
         → Served c ∷ ts ≡ Served c ∷ map Served (served_in ts)
-    none [] [] is are' = refl
-    none [] (t ∷ ts) is are' = absurd are'
-    none (p ∷ ps) ts is are' = absurd (cc)
-by_turns is_closing is_ended (piece ∷ own) (TurnedAway c ∷ ts) turn are away asked = elim turn [
+    none [] [] is are' lack = refl
+    none [] (Served d ∷ ts) is are' lack = absurd are'
+    none [] (TurnedAway d ∷ ts) is are' lack = absurd are'
+    none [] (Ahead d ∷ ts) is are' lack = absurd (cc)
+    none (p ∷ ps) ts is are' lack = absurd (cc)
+by_turns is_closing is_ended (piece ∷ own) (TurnedAway c ∷ ts) turn are away none_ahead asked = elim turn [
   | inl at ↦ absurd (stays_away piece c are.0 at.0 at.1 away.0)
   | inr at ↦ inr (record {
     front = [];
@@ -191,7 +302,7 @@ by_turns is_closing is_ended (piece ∷ own) (TurnedAway c ∷ ts) turn are away
     served = [];
     c = c;
     own_is = ap (λ l. piece ∷ l) at.2;
-    turns_are = ap (λ l. TurnedAway c ∷ l) (none own ts at.2 are.1);
+    turns_are = ap (λ l. TurnedAway c ∷ l) (none own ts at.2 are.1 none_ahead);
     turn = refl;
     are = tt;
     asked = tt;
@@ -202,10 +313,13 @@ by_turns is_closing is_ended (piece ∷ own) (TurnedAway c ∷ ts) turn are away
   })
 ]
   where
-    none : (own : List Piece) (ts : List Turn) → own ≡ [] → AreServedAs own (connections_of ts) → ts ≡ []
-    none [] [] is are' = refl
-    none [] (t ∷ ts) is are' = absurd are'
-    none (p ∷ ps) ts is are' = absurd (cc)
+    none : (own : List Piece) (ts : List Turn) → own ≡ [] → AreServedAs own (connections_of ts) → ahead_in ts ≡ []
+        → ts ≡ []
+    none [] [] is are' lack = refl
+    none [] (Served d ∷ ts) is are' lack = absurd are'
+    none [] (TurnedAway d ∷ ts) is are' lack = absurd are'
+    none [] (Ahead d ∷ ts) is are' lack = absurd (cc)
+    none (p ∷ ps) ts is are' lack = absurd (cc)
 
 pub ends_is : (front : List Piece) (last : Piece) → EndsWhole (front ++ last ∷ []) → IsWhole last.read
 ends_is [] last whole = whole

@@ -12,7 +12,7 @@ use Rattle.gateway_server.specs.Ports.{Connection}
 use Rattle.whole_connections.specs.Pieces.{joined_reads, joined_marks, joined_texts, interim_for}
 use Rattle.whole_connections.specs.Places.{HasPlaces, standing_at}
 use Rattle.whole_connections.specs.Seen.{IsSeenSoFar}
-use Rattle.whole_connections.specs.Whole.{HasText, HasTextSoFar}
+use Rattle.whole_connections.specs.Whole.{TurnsAreAmong, HasText, HasTextSoFar}
 use Rattle.intake_process.specs.Turning.{AnswersAway}
 use Rattle.intake_process.specs.Turns.{Turn, Served, TurnedAway, served_in}
 
@@ -26,12 +26,6 @@ GetsAway bytes [] (Fault fault) text =
     (asks : Bool) × (asks ≡ true → Asks bytes true) × IsPrefixOf text (interim_for asks)
 GetsAway bytes (mark ∷ []) ended text = AnswersAway bytes mark ended text
 GetsAway bytes (mark ∷ another ∷ marks) ended text = ⊥
-
--- these turns are among all, in this order
-abbrev pub TurnsAreAmong : List Turn → List Turn → Type 0
-TurnsAreAmong [] turns = Unit {0}
-TurnsAreAmong (own ∷ others) turns =
-    (front : List Turn) × (back : List Turn) × (turns ≡ front ++ own ∷ back) × TurnsAreAmong others back
 
 -- The last piece of a connection was turned away, of which these bytes came, and which gets this text: that of its
 -- requests before, which were served, each in its place; and behind it what turning away writes.
@@ -56,10 +50,10 @@ IsTurnedAwayUntil why requests turns came went =
 -- what a connection got that is over, if some pieces were turned away
 abbrev pub HasTextOrIsAway : Keeping → List Turn → Why → List ℕ → List ℕ → Type 0
 HasTextOrIsAway requests turns why came went =
-    HasText requests (served_in turns) why came went ⊎ IsTurnedAwayUntil why requests turns came went
+    HasText requests turns why came went ⊎ IsTurnedAwayUntil why requests turns came went
 
 -- what a connection got and is owed that is not over
 abbrev pub HasTextSoFarOrIsAway : Keeping → List Turn → Bool → List ℕ → List ℕ → Type 0
 HasTextSoFarOrIsAway requests turns is_closing came text =
-    HasTextSoFar requests (served_in turns) is_closing came text
+    HasTextSoFar requests turns is_closing came text
     ⊎ ((is_closing ≡ true) × IsTurnedAwayAfter requests turns came text)

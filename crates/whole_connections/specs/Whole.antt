@@ -1,5 +1,5 @@
 -- What each whole connection gets whose pieces are served among those of all; own rules.
-use Rattle.std.specs.Prelude.{◌≡◌, ◌≢◌, ℕ, Bool, true, false, List, ◌++◌}
+use Rattle.std.specs.Prelude.{◌≡◌, ◌≢◌, ℕ, Bool, true, false, List, [], ◌∷◌, ◌++◌, map}
 use Rattle.http_messages.specs.declared.refusal.ConnFault.{ConnFault}
 use Rattle.filing_model.specs.declared.served.Ended.{Ended}
 use Rattle.filing_model.specs.declared.served.Ended.TheVariants.{Fault}
@@ -9,6 +9,7 @@ use Rattle.filing_model.specs.Serving.{Keeping}
 use Rattle.ready_connections.specs.declared.why.Why.{Why}
 use Rattle.ready_connections.specs.declared.why.Why.TheVariants.{Done}
 use Rattle.gateway_server.specs.Ports.{Connection}
+use Rattle.intake_process.specs.Turns.{Turn, Served, served_in}
 use Rattle.whole_connections.specs.Pieces.{joined_reads, joined_marks, ended_of}
 use Rattle.whole_connections.specs.Places.{HasPlaces, standing_at}
 use Rattle.whole_connections.specs.Seen.{Standing, IsSeen, IsSeenSoFar, Sees}
@@ -23,32 +24,39 @@ abbrev pub SeesUntil : Why → Standing → List ℕ → List Mark → Ended →
 SeesUntil Done at came marks ended went = Sees at came marks ended went
 SeesUntil why at came marks ended went = SeesFirst at came marks went
 
+-- these turns are among all, in this order
+abbrev pub TurnsAreAmong : List Turn → List Turn → Type 0
+TurnsAreAmong [] turns = Unit {0}
+TurnsAreAmong (own ∷ others) turns =
+    (front : List Turn) × (back : List Turn) × (turns ≡ front ++ own ∷ back) × TurnsAreAmong others back
+
 -- The pieces of a connection of which these bytes came: what was read of them comes first, and they have their places
--- among all that were served.
-pub record HasPieces (requests : Keeping) (done : List Connection) (came : List ℕ) : Type 0 where
+-- among all that were served, or decided ahead. Each of them came itself: what was decided ahead is none of them.
+pub record HasPieces (requests : Keeping) (turns : List Turn) (came : List ℕ) : Type 0 where
   pub pieces : List Connection
-  pub at : HasPlaces requests pieces done
+  pub among : TurnsAreAmong (map Served pieces) turns
+  pub at : HasPlaces requests pieces (served_in turns)
   pub left : List ℕ
   pub splits : came ≡ joined_reads pieces ++ left
 
 -- what a connection got that is over, of which these bytes came and on which these went
-pub record HasText (requests : Keeping) (done : List Connection) (why : Why) (came went : List ℕ) : Type 0 where
-  pub own : HasPieces requests done came
+pub record HasText (requests : Keeping) (turns : List Turn) (why : Why) (came went : List ℕ) : Type 0 where
+  pub own : HasPieces requests turns came
   pub seen : SeesUntil why (standing_at requests own.at.places) came (joined_marks own.pieces) (ended_of own.pieces)
       went
 
 -- What a connection got and is owed that is not over: the text of its first arrivals, or, if it is closing, all its
 -- text.
-pub record HasTextSoFar (requests : Keeping) (done : List Connection) (is_closing : Bool) (came text : List ℕ) : Type 0
+pub record HasTextSoFar (requests : Keeping) (turns : List Turn) (is_closing : Bool) (came text : List ℕ) : Type 0
   where
-    pub own : HasPieces requests done came
+    pub own : HasPieces requests turns came
     pub goes_on : is_closing ≡ false
         → IsSeenSoFar (standing_at requests own.at.places) came (joined_marks own.pieces) text
     pub closing : is_closing ≡ true
         → Sees (standing_at requests own.at.places) came (joined_marks own.pieces) (ended_of own.pieces) text
 
 -- what a connection got that is done: all its text, if no fault ended its last piece
-pub record HasWholeText (requests : Keeping) (done : List Connection) (came went : List ℕ) : Type 0 where
-  pub own : HasPieces requests done came
+pub record HasWholeText (requests : Keeping) (turns : List Turn) (came went : List ℕ) : Type 0 where
+  pub own : HasPieces requests turns came
   pub seen : ((fault : ConnFault) → ended_of own.pieces ≢ Fault fault)
       → IsSeen (standing_at requests own.at.places) came (joined_marks own.pieces) (ended_of own.pieces) went

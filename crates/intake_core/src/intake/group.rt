@@ -90,6 +90,20 @@ impl<S: Alter> Intake<S> {
         Ok(results)
     }
 
+    /// Whether a request is the first of its filer and key, so that it would be kept. It is not if the database cannot
+    /// say so, or if it refused a call before. Nothing is decided, and a refusal is left to the call that decides.
+    pub fn is_first(&mut self, request: &Request<'_>) -> bool
+        ensures first { ForRequests S.Store self.old self.new (λ requests. result ≡ true
+            → has_key requests request.now ≡ false) }
+        ensures looks { LooksUp S.Store self.old self.new }
+        ensures down { has_stopped self.old ≡ true → self.new ≡ self.old }
+    {
+        if self.is_down {
+            return false;
+        }
+        matches!(self.is_new(request), Ok(true))
+    }
+
     /// Decides the first of these requests, and those that are kept together with it. If there is no memory for all of
     /// them, each is decided by itself, so that none takes another down.
     fn submit_next(

@@ -17,7 +17,7 @@ pub end-requires : goal.end-requires
 end-requires g c =
     read_to_end (wire g.L.Reader.Source g.L.Writer.Sink c.in-Some.reader c.in-Some.writer)
     (wire g.L.Reader.Source g.L.Writer.Sink c.answer-answered.new.reader c.answer-answered.new.writer)
-    c.open_again-refusal.new.process.intake c.answer-answered.new.self.intake c.answer-answered.result
+    c.look_ahead.new.process.intake c.answer-answered.new.self.intake c.answer-answered.result
     c.answer-answered.ensures.0
 
 pub returns-in_err-reader-clause-answers : goal.returns-in_err-reader-clause-answers
@@ -27,12 +27,13 @@ returns-in_err-reader-clause-answers g c = λ honest.
     process process taken) (sym (ap (option_map (λ _. 1))
     (none_told c.from_residual.result c.from_residual.ensures.0)))
     (none c.args.limit (g.L.Port.traffic c.args.port.now) (g.L.Port.traffic c.accept.new.self) process None
-    c.in_err-reader.ensures.0 tt)
+    c.in_err-reader.ensures.comes.0 tt)
 
 pub returns-in_err-end-clause-answers : goal.returns-in_err-end-clause-answers
 returns-in_err-end-clause-answers g c = λ honest.
     let old = parts g.P.Place.lying c.args.process.now in
     let first = parts g.P.Place.lying c.open_again-refusal.new.process in
+    let decided = parts g.P.Place.lying c.look_ahead.new.process in
     let last = parts g.P.Place.lying c.answer-answered.new.self in
     subst (λ taken. AnswersSome c.args.limit (g.L.Port.traffic c.args.port.now) (g.L.Port.traffic c.end.new.self) old
     last taken)
@@ -40,41 +41,51 @@ returns-in_err-end-clause-answers g c = λ honest.
     c.from_residual-in_err-end.ensures.0)))
     (between c.args.limit (g.L.Port.traffic c.args.port.now) (g.L.Port.traffic c.end.new.self) old first last last None
     (up.after old first last c.open_again-refusal.ensures.stays
-    (up.answered (wire g.L.Reader.Source g.L.Writer.Sink c.in-Some.reader c.in-Some.writer)
-    (wire g.L.Reader.Source g.L.Writer.Sink c.answer-answered.new.reader c.answer-answered.new.writer) first last
-    c.answer-answered.result c.answer-answered.ensures)) (c.open_again-refusal.ensures.leaves honest)
+    (up.answered c.look_ahead.ensures.pieces (wire g.L.Reader.Source g.L.Writer.Sink c.in-Some.reader c.in-Some.writer)
+    (wire g.L.Reader.Source g.L.Writer.Sink c.answer-answered.new.reader c.answer-answered.new.writer) first decided
+    last
+    c.answer-answered.result c.look_ahead.ensures.decides c.answer-answered.ensures))
+    (c.open_again-refusal.ensures.leaves honest)
     (one c.args.limit honest (g.L.Port.traffic c.args.port.now) (g.L.Port.traffic c.accept.new.self)
-    (g.L.Port.traffic c.end.new.self) (wire g.L.Reader.Source g.L.Writer.Sink c.in-Some.reader c.in-Some.writer)
-    (wire g.L.Reader.Source g.L.Writer.Sink c.answer-answered.new.reader c.answer-answered.new.writer) first last
-    c.answer-answered.result None (rw c.in-Some.is at c.in_ok-reader.ensures) c.answer-answered.ensures
-    c.end.ensures.coming c.in_err-end.ensures.refused)
+    (g.L.Port.traffic c.look_ahead.new.port) (g.L.Port.traffic c.end.new.self)
+    (wire g.L.Reader.Source g.L.Writer.Sink c.in-Some.reader c.in-Some.writer)
+    (wire g.L.Reader.Source g.L.Writer.Sink c.answer-answered.new.reader c.answer-answered.new.writer) first decided
+    last
+    c.answer-answered.result None (rw c.in-Some.is at c.in_ok-reader.ensures.comes) c.in_ok-reader.ensures.ahead
+    c.look_ahead.ensures c.answer-answered.ensures c.end.ensures.coming c.end.ensures.ahead
+    c.in_err-end.ensures.refused)
     (same c.args.limit last))
 
 pub returns-in_ok-end-clause-answers : goal.returns-in_ok-end-clause-answers
 returns-in_ok-end-clause-answers g c = λ honest.
     let old = parts g.P.Place.lying c.args.process.now in
     let first = parts g.P.Place.lying c.open_again-refusal.new.process in
+    let decided = parts g.P.Place.lying c.look_ahead.new.process in
     let last = parts g.P.Place.lying c.answer-answered.new.self in
     let new = parts g.P.Place.lying c.went.new.process in
     let stays =
-    up.went (wire g.L.Reader.Source g.L.Writer.Sink c.in-Some.reader c.in-Some.writer)
-    (wire g.L.Reader.Source g.L.Writer.Sink c.answer-answered.new.reader c.answer-answered.new.writer) first last
-    new c.answer-answered.result c.answer-answered.ensures
+    up.went c.look_ahead.ensures.pieces (wire g.L.Reader.Source g.L.Writer.Sink c.in-Some.reader c.in-Some.writer)
+    (wire g.L.Reader.Source g.L.Writer.Sink c.answer-answered.new.reader c.answer-answered.new.writer) first decided
+    last
+    new c.answer-answered.result c.look_ahead.ensures.decides c.answer-answered.ensures
     (λ other. ap (parts g.P.Place.lying) (c.went.ensures.others other)) c.went.ensures.calls in
     between c.args.limit (g.L.Port.traffic c.args.port.now) (g.L.Port.traffic c.end.new.self) old first last new
     (Some 1) (λ u. up.until first last new c.went.ensures.calls
     (up.after old first new c.open_again-refusal.ensures.stays stays u))
     (c.open_again-refusal.ensures.leaves honest)
     (one c.args.limit honest (g.L.Port.traffic c.args.port.now) (g.L.Port.traffic c.accept.new.self)
-    (g.L.Port.traffic c.end.new.self) (wire g.L.Reader.Source g.L.Writer.Sink c.in-Some.reader c.in-Some.writer)
-    (wire g.L.Reader.Source g.L.Writer.Sink c.answer-answered.new.reader c.answer-answered.new.writer) first last
-    c.answer-answered.result (Some 1) (rw c.in-Some.is at c.in_ok-reader.ensures) c.answer-answered.ensures
-    c.end.ensures.coming (refl, c.in_ok-end.ensures.over))
+    (g.L.Port.traffic c.look_ahead.new.port) (g.L.Port.traffic c.end.new.self)
+    (wire g.L.Reader.Source g.L.Writer.Sink c.in-Some.reader c.in-Some.writer)
+    (wire g.L.Reader.Source g.L.Writer.Sink c.answer-answered.new.reader c.answer-answered.new.writer) first decided
+    last
+    c.answer-answered.result (Some 1) (rw c.in-Some.is at c.in_ok-reader.ensures.comes) c.in_ok-reader.ensures.ahead
+    c.look_ahead.ensures c.answer-answered.ensures c.end.ensures.coming c.end.ensures.ahead
+    (refl, c.in_ok-end.ensures.over))
     (c.went.ensures.leaves honest c.args.limit)
 
 pub returns-in_default-clause-answers : goal.returns-in_default-clause-answers
 returns-in_default-clause-answers g c = λ honest.
-    let came = rw c.in_default.is at c.in_ok-reader.ensures in
+    let came = rw c.in_default.is at c.in_ok-reader.ensures.comes in
     none c.args.limit (g.L.Port.traffic c.args.port.now) (g.L.Port.traffic c.accept.new.self)
     (parts g.P.Place.lying c.args.process.now) (Some 1) came.0
     (subst (λ coming. AreCounted coming [] 1) (sym came.1) counted_given_up)
@@ -83,28 +94,32 @@ pub returns-in_ok-end-clause-closed : goal.returns-in_ok-end-clause-closed
 returns-in_ok-end-clause-closed g c = λ _.
     awake (wire g.L.Reader.Source g.L.Writer.Sink c.in-Some.reader c.in-Some.writer)
     (wire g.L.Reader.Source g.L.Writer.Sink c.answer-answered.new.reader c.answer-answered.new.writer)
-    c.open_again-refusal.new.process.intake c.answer-answered.new.self.intake c.went.new.process.intake
+    c.look_ahead.new.process.intake c.answer-answered.new.self.intake c.went.new.process.intake
     c.answer-answered.result c.answer-answered.ensures.0 c.went.ensures.failed
     (λ other. ap (λ process. process.intake) (c.went.ensures.others other))
 
 pub returns-in_err-end-clause-stays : goal.returns-in_err-end-clause-stays
 returns-in_err-end-clause-stays g c =
     let first = parts g.P.Place.lying c.open_again-refusal.new.process in
+    let decided = parts g.P.Place.lying c.look_ahead.new.process in
     let last = parts g.P.Place.lying c.answer-answered.new.self in
     up.join (parts g.P.Place.lying c.args.process.now) first last c.open_again-refusal.ensures.stays
-    (up.answered (wire g.L.Reader.Source g.L.Writer.Sink c.in-Some.reader c.in-Some.writer)
-    (wire g.L.Reader.Source g.L.Writer.Sink c.answer-answered.new.reader c.answer-answered.new.writer) first last
-    c.answer-answered.result c.answer-answered.ensures)
+    (up.answered c.look_ahead.ensures.pieces (wire g.L.Reader.Source g.L.Writer.Sink c.in-Some.reader c.in-Some.writer)
+    (wire g.L.Reader.Source g.L.Writer.Sink c.answer-answered.new.reader c.answer-answered.new.writer) first decided
+    last
+    c.answer-answered.result c.look_ahead.ensures.decides c.answer-answered.ensures)
 
 pub returns-in_ok-end-clause-stays : goal.returns-in_ok-end-clause-stays
 returns-in_ok-end-clause-stays g c =
     let first = parts g.P.Place.lying c.open_again-refusal.new.process in
+    let decided = parts g.P.Place.lying c.look_ahead.new.process in
     let last = parts g.P.Place.lying c.answer-answered.new.self in
     let new = parts g.P.Place.lying c.went.new.process in
     up.join (parts g.P.Place.lying c.args.process.now) first new c.open_again-refusal.ensures.stays
-    (up.went (wire g.L.Reader.Source g.L.Writer.Sink c.in-Some.reader c.in-Some.writer)
-    (wire g.L.Reader.Source g.L.Writer.Sink c.answer-answered.new.reader c.answer-answered.new.writer) first last
-    new c.answer-answered.result c.answer-answered.ensures
+    (up.went c.look_ahead.ensures.pieces (wire g.L.Reader.Source g.L.Writer.Sink c.in-Some.reader c.in-Some.writer)
+    (wire g.L.Reader.Source g.L.Writer.Sink c.answer-answered.new.reader c.answer-answered.new.writer) first decided
+    last
+    new c.answer-answered.result c.look_ahead.ensures.decides c.answer-answered.ensures
     (λ other. ap (parts g.P.Place.lying) (c.went.ensures.others other)) c.went.ensures.calls)
 
 pub returns-in_err-reader-clause-stays : goal.returns-in_err-reader-clause-stays
@@ -120,16 +135,17 @@ pub returns-in_err-end-clause-passes : goal.returns-in_err-end-clause-passes
 returns-in_err-end-clause-passes g c =
     let old = parts g.P.Place.lying c.args.process.now in
     let ready = parts g.P.Place.lying c.open_again-refusal.new.process in
+    let decided = parts g.P.Place.lying c.look_ahead.new.process in
     let last = parts g.P.Place.lying c.answer-answered.new.self in
     let is = c.open_again-refusal.ensures.ready in
     subst (λ taken. Passes c.args.limit old last (g.O.Observer.answers c.args.observer.now)
     (g.O.Observer.answers c.served.new.self) taken)
     (sym (ap (option_map (λ _. 1)) (none_told c.from_residual-in_err-end.result
     c.from_residual-in_err-end.ensures.0)))
-    (history.cut c.args.limit old ready last _ _ is.0
-    (wire g.L.Reader.Source g.L.Writer.Sink c.in-Some.reader c.in-Some.writer)
+    (history.cut c.args.limit old ready decided last _ _ is.0 (g.L.Port.traffic c.accept.new.self)
+    (g.L.Port.traffic c.look_ahead.new.port) (wire g.L.Reader.Source g.L.Writer.Sink c.in-Some.reader c.in-Some.writer)
     (wire g.L.Reader.Source g.L.Writer.Sink c.answer-answered.new.reader c.answer-answered.new.writer)
-    c.answer-answered.result is.1 c.answer-answered.ensures
+    c.answer-answered.result is.1 c.look_ahead.ensures c.answer-answered.ensures
     (subst (λ after. Notes (g.O.Observer.answers c.args.observer.now) after (said_of is.0)) (sym c.served.ensures)
     is.2))
 
@@ -137,12 +153,13 @@ pub returns-in_ok-end-clause-passes : goal.returns-in_ok-end-clause-passes
 returns-in_ok-end-clause-passes g c =
     let old = parts g.P.Place.lying c.args.process.now in
     let ready = parts g.P.Place.lying c.open_again-refusal.new.process in
+    let decided = parts g.P.Place.lying c.look_ahead.new.process in
     let last = parts g.P.Place.lying c.answer-answered.new.self in
     let new = parts g.P.Place.lying c.went.new.process in
     let is = c.open_again-refusal.ensures.ready in
-    history.one c.args.limit old ready last new _ _ is.0
-    (wire g.L.Reader.Source g.L.Writer.Sink c.in-Some.reader c.in-Some.writer)
+    history.one c.args.limit old ready decided last new _ _ is.0 (g.L.Port.traffic c.accept.new.self)
+    (g.L.Port.traffic c.look_ahead.new.port) (wire g.L.Reader.Source g.L.Writer.Sink c.in-Some.reader c.in-Some.writer)
     (wire g.L.Reader.Source g.L.Writer.Sink c.answer-answered.new.reader c.answer-answered.new.writer)
-    c.answer-answered.result is.1 c.answer-answered.ensures c.went.ensures.over
+    c.answer-answered.result is.1 c.look_ahead.ensures c.answer-answered.ensures c.went.ensures.over
     (subst (λ after. Notes (g.O.Observer.answers c.args.observer.now) after (said_of is.0))
     (sym (c.ended.ensures ∙ c.served.ensures)) is.2)

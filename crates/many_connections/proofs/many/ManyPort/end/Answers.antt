@@ -1,11 +1,11 @@
 use Rattle.std.proofs.Common.{◌≡◌, true, false, Some, length, sym, ap, subst, ◌∙◌, true≢false}
 use Rattle.std.specs.Prelude.{◌≢◌, not}
 use Rattle.std.proofs.Math.Logic.{∥∥₁_map}
-use Rattle.gateway_server.specs.Ports.{Adds}
+use Rattle.gateway_server.specs.Ports.{Adds, IsGiven}
 use Rattle.many_connections.specs.PieceReader.{bytes_left}
 use Rattle.many_connections.specs.declared.event.Event.TheVariants.{Over}
-use Rattle.many_connections.specs.Events.{Runs, Seen, after_event, seen_after}
-use Rattle.many_connections.proofs.Seeing.{seen_more, adds, piece_back}
+use Rattle.many_connections.specs.Events.{RunsAhead, Seen, after_event, pieces_in, seen_after}
+use Rattle.many_connections.proofs.Seeing.{seen_more, adds, no_given, piece_back}
 use Rattle.filing_model.specs.declared.served.Ended.TheVariants.{InputEnded}
 use Rattle.many_connections.proofs.many.ManyPort.end.Goals as goal
 use Rattle.many_connections.proofs.many.ManyPort.end.Goals.{in-InputEnded, in_default}
@@ -30,12 +30,15 @@ invariant_of-self g c =
       | in_default w ↦ w.in_default.not-InputEnded ended
     ] in
     record {
-      runs = ∥∥₁_map old.runs (λ runs. subst (λ (after : Seen). Runs g.S.Stream after c.give_back.new.self
+      given_is = subst (λ (after : Seen). IsGiven after.given old.given.items) (sym is) (no_given old.given.items);
+      runs = ∥∥₁_map old.runs (λ runs. subst (λ (after : Seen). RunsAhead g.S.Stream after
+          (pieces_in old.handed.items) c.give_back.new.self
           (g.K.Sockets.traffic old.sockets)) (sym is)
           (piece_back g.S.Stream seen old.hall c.give_back.new.self (g.K.Sockets.traffic old.sockets)
-          c.left-left.result c.into_text-text.result c.into_bytes.result c.args.served (not c.match-matches.matches)
+          (pieces_in old.handed.items) c.left-left.result
+          c.into_text-text.result c.into_bytes.result c.args.served (not c.match-matches.matches)
           (sym c.is_out.ensures ∙ c.if-not-is_out.false) c.into_bytes.ensures none_left stays_open closes
-          c.give_back.ensures.running runs));
+          c.give_back.ensures.running c.give_back.ensures.came runs));
     }
 
 pub returns-clause-over : goal.returns-clause-over

@@ -1,5 +1,6 @@
 use Rattle.std.proofs.Common.{inr, ap, sym, ◌∙◌, ◌++◌, take}
 use Rattle.ready_connections.proofs.Told.{told_idle, told_read}
+use Rattle.ready_connections.proofs.Came.{first_more}
 use Rattle.ready_connections.proofs.connection.Connection.read.Goals as goal
 
 pub returns-in-Nothing-clause-told : goal.returns-in-Nothing-clause-told
@@ -35,3 +36,7 @@ returns-in-Bytes-clause-told g c done served = record {
       served.told;
   ended = c.requires.goes_on ∙ sym c.in-Bytes.ensures.ended;
 }
+
+pub returns-in-Bytes-clause-came : goal.returns-in-Bytes-clause-came
+returns-in-Bytes-clause-came g c =
+    first_more g.S.Stream c.args.self.now.stream c.read.new.self _ c.in-Bytes.ensures.came

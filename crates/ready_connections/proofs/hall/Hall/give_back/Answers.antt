@@ -1,6 +1,7 @@
 use Rattle.std.proofs.Common.{refl, sym, ◌∙◌, vec_len, arith, true}
 use Rattle.std.proofs.lemmas.Grind.{common_steps}
 use Rattle.ready_connections.proofs.Halls.{bounded_back, came_back, counts_more}
+use Rattle.ready_connections.proofs.Came.{came_home}
 use Rattle.ready_connections.proofs.hall.Hall.give_back.Goals as goal
 
 pub returns-then-place-len-clause-running : goal.returns-then-place-len-clause-running
@@ -16,3 +17,11 @@ returns-then-place-len-clause-running g c done read traffic running =
     c.enter.ensures.puts c.take_back.ensures.owed
     (let same = c.enter.ensures.owed in let sum = c.saturating_add-self.ensures in
     grind (arith, common_steps, same, sum, c.len.ensures))) running)
+
+pub returns-then-place-len-clause-came : goal.returns-then-place-len-clause-came
+returns-then-place-len-clause-came g c done read traffic running =
+    let old = c.args.self.now in
+    let is_out = sym c.take.ensures.value ∙ c.in-Some.is in
+    let was = rw is_out at running.is_out in
+    came_home g.S.Stream old _ c.enter.new.self traffic c.in-Some.out c.take_back.new.self is_out was.3 refl
+    c.enter.ensures.puts c.take_back.ensures.came

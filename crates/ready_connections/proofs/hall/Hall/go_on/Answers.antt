@@ -1,5 +1,5 @@
 use Rattle.std.proofs.Common.{◌≡◌, ◌<◌, ◌≤◌, ◌∙◌, inl, inr, ap, sym, refl, length, is_some, arith, true, false, Some}
-use Rattle.std.proofs.Common.{None, vec_len, ◌+◌}
+use Rattle.std.proofs.Common.{None, vec_len, ◌+◌, get_or}
 use Rattle.std.proofs.lemmas.Grind.{common_steps}
 use Rattle.ready_connections.specs.declared.why.Why.TheVariants.{Late}
 use Rattle.ready_connections.specs.Bounds.{most_lent}
@@ -10,6 +10,7 @@ use Rattle.ready_connections.proofs.Halls.{bounded_on, bounded_since, bounded_le
 use Rattle.ready_connections.proofs.Halls.{ends_late, for_patience, lends, lent_same, lent_none, none_left}
 use Rattle.ready_connections.proofs.Halls.{counts_on, counts_less, rests_beside, rests_or_wakes, went_on, ended}
 use Rattle.ready_connections.proofs.Halls.{handed_out}
+use Rattle.ready_connections.proofs.Came.{came_put, came_over, came_out}
 use Rattle.ready_connections.proofs.hall.Hall.go_on.Goals as goal
 
 interim_len : length interim ≡ 25
@@ -272,3 +273,85 @@ returns-in-HandsOut-clause-light g c counted some =
     let out = c.in_ok-connection.ensures.free.count owed in
     let places = ap owed_places c.wake-in-HandsOut.ensures.gives.places in
     grind (arith, common_steps, out, places, counted, c.take_turn.ensures.writes)
+
+pub returns-in-Again-clause-came : goal.returns-in-Again-clause-came
+returns-in-Again-clause-came g c =
+    let old = c.args.self.now in
+    came_put g.S.Stream old c.enter.new.self (g.P.Sockets.traffic c.args.sockets.now) c.args.place
+    c.in_ok-connection.connection c.take_turn.new.self true c.in_ok-connection.ensures.was
+    (puts_twice old c.leave.new.self _ c.enter.new.self c.args.place (Some c.take_turn.new.self) true
+    c.in_ok-connection.ensures.free (record {
+      places = refl;
+      turns = refl;
+      out = refl;
+      bounds = refl;
+      left = refl;
+      short = λ h. h;
+    }) c.enter.ensures.puts) c.take_turn.ensures.came
+
+pub returns-else-is_late-clause-came : goal.returns-else-is_late-clause-came
+returns-else-is_late-clause-came g c =
+    let old = c.args.self.now in
+    let kept = c.is_late.ensures.kept in
+    came_put g.S.Stream old c.enter-in-Waits.new.self (g.P.Sockets.traffic c.args.sockets.now) c.args.place
+    c.in_ok-connection.connection c.is_late.new.connection false c.in_ok-connection.ensures.was
+    (puts_twice old c.leave.new.self _ c.enter-in-Waits.new.self c.args.place (Some c.is_late.new.connection) false
+    c.in_ok-connection.ensures.free (record {
+      places = kept.places;
+      turns = kept.turns;
+      out = kept.out;
+      bounds = kept.bounds;
+      left = kept.left;
+      short = kept.short;
+    }) c.enter-in-Waits.ensures.puts)
+    (rw (ap (λ it. it.stream) c.is_late.ensures.connection) c.take_turn.ensures.came)
+
+pub returns-in-Short-clause-came : goal.returns-in-Short-clause-came
+returns-in-Short-clause-came g c =
+    let old = c.args.self.now in
+    let kept = c.lend.ensures.kept in
+    came_put g.S.Stream old c.enter-in-Short.new.self (g.P.Sockets.traffic c.args.sockets.now) c.args.place
+    c.in_ok-connection.connection c.lend.new.connection c.lend.new.connection.is_lent c.in_ok-connection.ensures.was
+    (puts_twice old c.leave.new.self _ c.enter-in-Short.new.self c.args.place (Some c.lend.new.connection)
+    c.lend.new.connection.is_lent c.in_ok-connection.ensures.free (record {
+      places = kept.places;
+      turns = kept.turns;
+      out = kept.out;
+      bounds = kept.bounds;
+      left = kept.left;
+      short = kept.short;
+    }) c.enter-in-Short.ensures.puts)
+    (rw (ap (λ it. it.stream) c.lend.ensures.connection) c.take_turn.ensures.came)
+
+pub returns-then-is_late-clause-came : goal.returns-then-is_late-clause-came
+returns-then-is_late-clause-came g c =
+    let kept = c.is_late.ensures.kept in
+    let gives = c.wake.ensures.gives in
+    let free = c.in_ok-connection.ensures.free in
+    came_over g.S.Stream c.args.self.now c.wake.new.self (g.P.Sockets.traffic c.args.sockets.now)
+    (g.P.Sockets.traffic c.end.new.self) c.args.place Late c.in_ok-connection.connection c.is_late.new.connection
+    c.in_ok-connection.ensures.was
+    (λ i other. ap (λ l. get_or l i None) (gives.places ∙ kept.places) ∙ free.others i other)
+    (gives.out ∙ kept.out ∙ free.out) (rw c.into_stream.ensures at c.end.ensures)
+    (rw (ap (λ it. it.stream) c.is_late.ensures.connection) c.take_turn.ensures.came)
+
+pub returns-in-Over-clause-came : goal.returns-in-Over-clause-came
+returns-in-Over-clause-came g c =
+    let gives = c.wake-in-Over.ensures.gives in
+    let free = c.in_ok-connection.ensures.free in
+    came_over g.S.Stream c.args.self.now c.wake-in-Over.new.self (g.P.Sockets.traffic c.args.sockets.now)
+    (g.P.Sockets.traffic c.end-in-Over.new.self) c.args.place c.in-Over.why c.in_ok-connection.connection
+    c.take_turn.new.self c.in_ok-connection.ensures.was
+    (λ i other. ap (λ l. get_or l i None) gives.places ∙ free.others i other) (gives.out ∙ free.out)
+    (rw c.into_stream-in-Over.ensures at c.end-in-Over.ensures) c.take_turn.ensures.came
+
+pub returns-in-HandsOut-clause-came : goal.returns-in-HandsOut-clause-came
+returns-in-HandsOut-clause-came g c =
+    let gives = c.wake-in-HandsOut.ensures.gives in
+    let free = c.in_ok-connection.ensures.free in
+    came_out g.S.Stream c.args.self.now (record c.wake-in-HandsOut.new.self {
+      out = Some (record { place = c.args.place; connection = c.take_turn.new.self });
+    }) (g.P.Sockets.traffic c.args.sockets.now) c.args.place c.in_ok-connection.connection c.take_turn.new.self
+    c.in_ok-connection.ensures.was
+    (λ i other. ap (λ l. get_or l i None) gives.places ∙ free.others i other) c.requires.out refl
+    c.take_turn.ensures.came

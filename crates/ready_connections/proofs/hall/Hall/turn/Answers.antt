@@ -1,8 +1,9 @@
-use Rattle.std.proofs.Common.{◌≡◌, ℕ, Option, None, Result, Ok, Err, Vec, Global, refl}
+use Rattle.std.proofs.Common.{◌≡◌, ℕ, Option, None, Result, Ok, Err, Vec, Global, refl, ap, get_or}
 use Rattle.std.proofs.lemmas.Bool.{false≢true}
 use Rattle.std.specs.Prelude.{IsErr}
 use Rattle.ready_connections.specs.Running.{items_out_of}
 use Rattle.ready_connections.proofs.Halls.{kept}
+use Rattle.ready_connections.proofs.Came.{came_same}
 use Rattle.ready_connections.proofs.hall.Hall.turn.Goals as goal
 
 none_out : {E : Type 0} (result : Result (Option (Vec ℕ Global)) E) → IsErr result → items_out_of result ≡ None
@@ -46,3 +47,27 @@ pub returns-in_err-ask-in-None-clause-light : goal.returns-in_err-ask-in-None-cl
 returns-in_err-ask-in-None-clause-light g c done running some =
     absurd (let none = none_out c.from_residual.result c.from_residual.ensures.0 in
     let h = rw none at some in cc)
+
+pub returns-in_ok-ask-in-None-clause-came : goal.returns-in_ok-ask-in-None-clause-came
+returns-in_ok-ask-in-None-clause-came g c first on = c.ask.ensures.came first
+    (came_same g.S.Stream c.args.self.now c.next_turn.new.self (g.P.Sockets.traffic c.args.sockets.now)
+    (λ i. ap (λ l. get_or l i None) c.next_turn.ensures.same.places) c.next_turn.ensures.same.out first on)
+
+pub returns-in_err-ask-in-None-clause-came : goal.returns-in_err-ask-in-None-clause-came
+returns-in_err-ask-in-None-clause-came g c first on = c.ask.ensures.came first
+    (came_same g.S.Stream c.args.self.now c.next_turn.new.self (g.P.Sockets.traffic c.args.sockets.now)
+    (λ i. ap (λ l. get_or l i None) c.next_turn.ensures.same.places) c.next_turn.ensures.same.out first on)
+
+pub returns-then-must_wait-clause-came : goal.returns-then-must_wait-clause-came
+returns-then-must_wait-clause-came g c first on =
+    came_same g.S.Stream c.next_turn.new.self c.must_wait.new.self (g.P.Sockets.traffic c.args.sockets.now)
+    (λ i. ap (λ l. get_or l i None) c.must_wait.ensures.kept.places) c.must_wait.ensures.kept.out first
+    (came_same g.S.Stream c.args.self.now c.next_turn.new.self (g.P.Sockets.traffic c.args.sockets.now)
+    (λ i. ap (λ l. get_or l i None) c.next_turn.ensures.same.places) c.next_turn.ensures.same.out first on)
+
+pub returns-else-must_wait-clause-came : goal.returns-else-must_wait-clause-came
+returns-else-must_wait-clause-came g c first on = c.go_on.ensures.came first
+    (came_same g.S.Stream c.next_turn.new.self c.must_wait.new.self (g.P.Sockets.traffic c.args.sockets.now)
+    (λ i. ap (λ l. get_or l i None) c.must_wait.ensures.kept.places) c.must_wait.ensures.kept.out first
+    (came_same g.S.Stream c.args.self.now c.next_turn.new.self (g.P.Sockets.traffic c.args.sockets.now)
+    (λ i. ap (λ l. get_or l i None) c.next_turn.ensures.same.places) c.next_turn.ensures.same.out first on))

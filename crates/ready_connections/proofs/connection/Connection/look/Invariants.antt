@@ -1,0 +1,16 @@
+use Rattle.std.proofs.Common.{◌≡◌, ◌≤◌, ℕ, List, [], length, false}
+use Rattle.ready_connections.specs.Pieces.{Piece}
+use Rattle.ready_connections.specs.Connections.{IsServed, HoldsWithin}
+use Rattle.ready_connections.specs.Waiting.{KeepsFirst}
+use Rattle.ready_connections.proofs.connection.Connection.look.Given as goal
+
+abbrev pub invariant-loop : goal.invariant-loop
+invariant-loop g l = record {
+  told : (done : List Piece) → IsServed g.S.Stream done l.fn.self → IsServed g.S.Stream done l.self;
+  held : (read : ℕ) → length l.fn.room ≤ read → HoldsWithin read l.fn.self → HoldsWithin read l.self;
+  lent : l.self.is_lent ≡ l.fn.self.is_lent;
+  owed : l.self.owed ≡ l.fn.self.owed;
+  none_owed : l.self.owed.items ≡ [];
+  open_still : l.self.is_closing ≡ false;
+  came : KeepsFirst g.S.Stream l.fn.self.stream l.self.stream;
+}
