@@ -449,7 +449,8 @@ fn the_order_is_that_of_whole_requests(rt: HostRuntime) -> Result<(), Fail> {
 }
 
 /// Clients that send their report twice, and between them some that ask for filings that nobody filed. The database
-/// refuses a call for one report, and the register is closed. It may not be opened again for the next four requests.
+/// refuses a call while reports are kept together, and the register is closed. It may not be opened again for the next
+/// four requests.
 static TWICE: [(Client, u32); 6] = [
     (FILES_TWICE, 20),
     (LISTS, 60),
@@ -553,7 +554,7 @@ fn a_database_refuses_beside_200_clients(rt: HostRuntime) -> Result<(), Fail> {
     let refused = Play {
         clients: &TWICE,
         places: 200,
-        calls: 180,
+        calls: 30,
         refusals: 4,
         failed: 1,
         ..LASTING
