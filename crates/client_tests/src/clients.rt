@@ -134,12 +134,12 @@ static EVERY: [(Client, u32); 20] = [
         },
         1,
     ),
-    // Its reply is owed from the second round on.
+    // Its reply is owed from the first round on.
     (
         Client {
             deaf: u32::MAX,
             why: Why::Late,
-            rounds: 1_002,
+            rounds: 1_001,
             ..PLAIN
         },
         1,

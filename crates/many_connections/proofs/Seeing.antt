@@ -172,35 +172,36 @@ module _ {S N : Type 0} (s : Ghosts S N) where
           (whole at.runs.pieces bytes traffic after)
           (subst (λ (it : List ℕ). AreCopies it others copies) (fits bytes refl some) are)
 
-  given_back : (given : Option (List ℕ)) (over : List Connection) (old new : Hall S) (traffic : Option (Traffic S))
+  given_back : (given : Option (List ℕ)) (over : List Connection) (old new : Hall S) (traffic traffic' : Option (Traffic S))
       (ahead : List (List ℕ))
       (left : ℕ) (text output : Vec ℕ Global) (served : Served) (closes : Bool) → is_some old.out ≡ true
       → output ≡ text → (served.ended ≡ InputEnded → left ≡ 0) → (closes ≡ false → served.ended ≡ InputEnded)
       → (closes ≡ true → served.ended ≢ InputEnded)
-      → ((done : List Piece) (read : List ℕ) (known : Option (Traffic S)) → IsRunning s done (Some read) old known
-      → IsRunning s (done ++ piece_of old.out read output.items closes ∷ []) None new known)
-      → ((done : List Piece) (read : List ℕ) (known : Option (Traffic S)) → IsRunning s done (Some read) old known
-      → KeepsCame s old known new known)
+      → ((done : List Piece) (read : List ℕ) → IsRunning s done (Some read) old traffic
+      → IsRunning s (done ++ piece_of old.out read output.items closes ∷ []) None new traffic')
+      → ((done : List Piece) (read : List ℕ) → IsRunning s done (Some read) old traffic
+      → KeepsCame s old traffic new traffic')
       → RunsAhead s (record { given = given; over = over }) ahead old traffic
-      → RunsAhead s (record { given = None; over = and_given given over left text.items served }) ahead new traffic
-  given_back None over old new traffic ahead left text output served closes is same at_end opened shut back keeps at =
+      → RunsAhead s (record { given = None; over = and_given given over left text.items served }) ahead new traffic'
+  given_back None over old new traffic traffic' ahead left text output served closes is same at_end opened shut back
+      keeps at =
       absurd (nothing old.out at.runs.running.is_out is)
     where
       nothing : (out : Option (Out S)) → IsOutOf s at.runs.pieces None out old.places.items → is_some out ≡ true → ⊥
       nothing None of is = true≢false (sym is)
       nothing (Some out) of is = of
-  given_back (Some bytes) over old new traffic ahead left text output served closes is same at_end opened shut back
-      keeps at =
+  given_back (Some bytes) over old new traffic traffic' ahead left text output served closes is same at_end opened
+      shut back keeps at =
       let runs = at.runs in
       let last = piece_of old.out bytes output.items closes in
       record {
         runs = record {
           pieces = runs.pieces ++ last ∷ [];
           are = one_more runs.pieces over _ _ runs.are (served_as old.out);
-          running = back runs.pieces bytes traffic runs.running;
+          running = back runs.pieces bytes runs.running;
         };
-        ahead_is = ahead_done s runs.pieces (last ∷ []) new traffic ahead
-            (ahead_on s runs.pieces old new traffic traffic ahead (keeps runs.pieces bytes traffic runs.running)
+        ahead_is = ahead_done s runs.pieces (last ∷ []) new traffic' ahead
+            (ahead_on s runs.pieces old new traffic traffic' ahead (keeps runs.pieces bytes runs.running)
             at.ahead_is);
       }
     where
@@ -229,15 +230,16 @@ module _ {S N : Type 0} (s : Ghosts S N) where
       }
 
   -- the piece that was out is over
-  pub piece_back : (seen : Seen) (old new : Hall S) (traffic : Option (Traffic S)) (ahead : List (List ℕ)) (left : ℕ)
-      (text output : Vec ℕ Global) (served : Served) (closes : Bool) → is_some old.out ≡ true → output ≡ text
+  pub piece_back : (seen : Seen) (old new : Hall S) (traffic traffic' : Option (Traffic S)) (ahead : List (List ℕ))
+      (left : ℕ) (text output : Vec ℕ Global) (served : Served) (closes : Bool) → is_some old.out ≡ true → output ≡ text
       → (served.ended ≡ InputEnded → left ≡ 0) → (closes ≡ false → served.ended ≡ InputEnded)
       → (closes ≡ true → served.ended ≢ InputEnded)
-      → ((done : List Piece) (read : List ℕ) (known : Option (Traffic S)) → IsRunning s done (Some read) old known
-      → IsRunning s (done ++ piece_of old.out read output.items closes ∷ []) None new known)
-      → ((done : List Piece) (read : List ℕ) (known : Option (Traffic S)) → IsRunning s done (Some read) old known
-      → KeepsCame s old known new known)
-      → RunsAhead s seen ahead old traffic → RunsAhead s (after_event seen (Over left text served)) ahead new traffic
-  piece_back seen old new traffic ahead left text output served closes is same at_end opened shut back keeps at =
-      given_back seen.given seen.over old new traffic ahead left text output served closes is same at_end opened shut
-      back keeps at
+      → ((done : List Piece) (read : List ℕ) → IsRunning s done (Some read) old traffic
+      → IsRunning s (done ++ piece_of old.out read output.items closes ∷ []) None new traffic')
+      → ((done : List Piece) (read : List ℕ) → IsRunning s done (Some read) old traffic
+      → KeepsCame s old traffic new traffic')
+      → RunsAhead s seen ahead old traffic → RunsAhead s (after_event seen (Over left text served)) ahead new traffic'
+  piece_back seen old new traffic traffic' ahead left text output served closes is same at_end opened shut back keeps
+      at =
+      given_back seen.given seen.over old new traffic traffic' ahead left text output served closes is same at_end
+      opened shut back keeps at

@@ -171,7 +171,9 @@ impl<S: Stream<Note = Note> + Drop, K: Sockets<Stream = S> + Drop> Port for Many
         let note = Note::new(reader.into_piece(), &served, &text);
         let event = Event::Over { left, text, served };
         self.events = self.events.and(&event, &true);
-        self.hall.give_back(event.into_bytes(), !is_open, &note);
+        let text = event.into_bytes();
+        self.hall
+            .give_back(&mut self.sockets, text, !is_open, &note);
         Ok(())
     }
 }

@@ -51,6 +51,10 @@ pub record HoldsNoPiece {S : Type 0} (c : Connection S) : Type 0 where
   pub rest : IsRest c.held.bytes.items
   pub interim : Asks c.held.bytes.items true → c.is_awaited ≡ true
 
+-- it owes nothing, or its last write took less than it was given
+abbrev pub HasWritten : {S N : Type 0} → Ghosts S N → Connection S → Type 0
+HasWritten s c = (c.owed.items ≡ []) ⊎ (s.is_stuck c.stream ≡ true)
+
 -- The connection can do nothing before the system says that it may: what it owes was not all taken, or it owes nothing,
 -- holds no piece, and nothing was there to be read.
 abbrev pub IsWaiting : {S N : Type 0} → Ghosts S N → Connection S → Type 0

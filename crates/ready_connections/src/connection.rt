@@ -5,7 +5,8 @@ ghost use Rattle.http_messages.specs.Message.{Asks, interim};
 ghost use Rattle.ready_connections.specs.NextPiece.{IsLast};
 ghost use Rattle.ready_connections.specs.Arriving.{IsFresh};
 ghost use Rattle.ready_connections.specs.Pieces.{Piece, IsWhole, text_left};
-ghost use Rattle.ready_connections.specs.Connections.{IsServed, IsOut, HoldsNoPiece, HoldsWithin, piece_back};
+ghost use Rattle.ready_connections.specs.Connections.{IsServed, IsOut, HasWritten, HoldsNoPiece, HoldsWithin};
+ghost use Rattle.ready_connections.specs.Connections.{piece_back};
 ghost use Rattle.ready_connections.specs.Turns.{IsAfterTurn, HandsNone, KeepsLoan};
 ghost use Rattle.ready_connections.specs.Waiting.{IsLookedAt, KeepsFirst, StandsFirst};
 
@@ -113,22 +114,24 @@ impl<S: Stream> Connection<S> {
         stream
     }
 
-    /// Goes on, or only writes what it owes.
+    /// Writes what it owes, if it owes something, and else goes on, unless it is only to write. So the others have their
+    /// turn between what one wrote and its next piece.
     pub(crate) fn take_turn(&mut self, alloc: Global, room: &mut [u8], only_writes: bool) -> Turn
         ensures told { (done : List Piece) → IsServed S.Stream done self.old
             → IsAfterTurn S.Stream done result self.new }
         ensures writes { only_writes ≡ true → HandsNone result }
+        ensures owes { 0 < vec_len self.old.owed → HandsNone result × HasWritten S.Stream self.new }
         ensures held { (read : ℕ) → length room.old ≤ read → HoldsWithin read self.old → HoldsWithin read self.new }
         ensures lent { KeepsLoan result self.old.is_lent self.new.is_lent }
         ensures owed { (most : ℕ) → length interim ≤ most → vec_len self.old.owed ≤ most
             → vec_len self.new.owed ≤ most }
         ensures came { KeepsFirst S.Stream self.old.stream self.new.stream }
     {
-        if !only_writes {
-            return self.go_on(alloc, room);
-        }
         if self.owed.is_empty() {
-            return Turn::Again;
+            if only_writes {
+                return Turn::Again;
+            }
+            return self.go_on(alloc, room);
         }
         self.write()
     }
@@ -272,12 +275,13 @@ impl<S: Stream> Connection<S> {
         }
     }
 
-    /// Writes what goes of what is owed.
+    /// Writes what goes of what is owed. A connection that is closing is over once all of it went.
     fn write(&mut self) -> Turn
         requires { 0 < vec_len self.old.owed }
         ensures told { (done : List Piece) → IsServed S.Stream done self.old
             → IsAfterTurn S.Stream done result self.new }
         ensures writes { HandsNone result }
+        ensures written { HasWritten S.Stream self.new }
         ensures held { (read : ℕ) → HoldsWithin read self.old → HoldsWithin read self.new }
         ensures lent { KeepsLoan result self.old.is_lent self.new.is_lent }
         ensures owed { vec_len self.new.owed ≤ vec_len self.old.owed }
@@ -287,6 +291,9 @@ impl<S: Stream> Connection<S> {
             Ok(0) => Turn::Waits,
             Ok(count) => {
                 drop_front(&mut self.owed, count);
+                if self.is_closing && self.owed.is_empty() {
+                    return Turn::Over(Why::Done);
+                }
                 Turn::Again
             }
             Err(_) => Turn::Over(Why::Broken),

@@ -8,6 +8,7 @@ ghost use Rattle.ready_connections.specs.Pieces.{Piece, IsWhole};
 ghost use Rattle.ready_connections.specs.NextTurn.{IsNext, NoneHasTurn};
 ghost use Rattle.ready_connections.specs.Places.{taken_places, lent, lent_places, owed, owed_places};
 ghost use Rattle.ready_connections.specs.Bounds.{most_lent};
+ghost use Rattle.ready_connections.specs.Connections.{HasWritten};
 ghost use Rattle.ready_connections.specs.Running.{IsRunning, IsEmpty, CountsOwed, KeepsAll, GivesTurns, Puts};
 ghost use Rattle.ready_connections.specs.Running.{is_shut, items_of, items_out_of, piece_of, KeepsOut};
 ghost use Rattle.ready_connections.specs.Waiting.{AreHeld, KeepsCame, StandsFirst};
@@ -205,6 +206,8 @@ impl<S: Stream + Drop> Hall<S> {
         ensures light { CountsOwed self.old → IsSome (items_of result)
             → owed_places self.new.places.items ≤ self.new.bounds.memory / 2 }
         ensures out { IfNone result (self.new.out ≡ None) }
+        ensures owes { 0 < owed (slice_index_or self.old.places.items place None) → (result ≡ None)
+            × IfSome (slice_index_or self.new.places.items place None) (HasWritten S.Stream) }
         ensures bounds { self.new.bounds ≡ self.old.bounds }
         ensures came { KeepsCame S.Stream self.old (P.traffic sockets.old) self.new (P.traffic sockets.new) }
     {
@@ -546,17 +549,27 @@ impl<S: Stream + Drop> Hall<S> {
         piece
     }
 
-    /// Takes back the output of the piece that is out, which its connection gets, and notes what became of it. After
-    /// one that closes, the connection is over once it is written.
-    pub fn give_back(&mut self, output: Vec<u8>, closes: bool, note: &S::Note)
-        ensures running { (done : List Piece) (read : List ℕ) (traffic : Option (Traffic S))
-            → IsRunning S.Stream done (Some read) self.old traffic
-            → IsRunning S.Stream (done ++ piece_of self.old.out read output.items closes ∷ []) None self.new traffic }
+    /// Takes back the output of the piece that is out, which its connection gets, and notes what became of it. What goes
+    /// of it is written at once. After one that closes, the connection is over once it is written.
+    pub fn give_back<P: Sockets<Stream = S>>(
+        &mut self,
+        sockets: &mut P,
+        output: Vec<u8>,
+        closes: bool,
+        note: &S::Note,
+    )
+        ensures running { (done : List Piece) (read : List ℕ)
+            → IsRunning S.Stream done (Some read) self.old (P.traffic sockets.old)
+            → IsRunning S.Stream (done ++ piece_of self.old.out read output.items closes ∷ []) None self.new
+            (P.traffic sockets.new) }
+        ensures written { (done : List Piece) (read : List ℕ)
+            → IsRunning S.Stream done (Some read) self.old (P.traffic sockets.old) → IfSome self.old.out (λ out.
+            IfSome (slice_index_or self.new.places.items out.place None) (HasWritten S.Stream)) }
         ensures out { self.new.out ≡ None }
         ensures bounds { self.new.bounds ≡ self.old.bounds }
-        ensures came { (done : List Piece) (read : List ℕ) (traffic : Option (Traffic S))
-            → IsRunning S.Stream done (Some read) self.old traffic
-            → KeepsCame S.Stream self.old traffic self.new traffic }
+        ensures came { (done : List Piece) (read : List ℕ)
+            → IsRunning S.Stream done (Some read) self.old (P.traffic sockets.old)
+            → KeepsCame S.Stream self.old (P.traffic sockets.old) self.new (P.traffic sockets.new) }
     {
         let Some(out) = self.out.take() else {
             return;
@@ -569,6 +582,23 @@ impl<S: Stream + Drop> Hall<S> {
         connection.take_back(output, closes, note);
         if place < self.places.len() {
             self.enter(place, connection, true);
+            self.write(place, sockets);
+        }
+    }
+
+    /// Writes what goes of what the connection in a place owes.
+    fn write<P: Sockets<Stream = S>>(&mut self, place: usize, sockets: &mut P)
+        requires place { place < vec_len self.old.places }
+        requires out { self.old.out ≡ None }
+        ensures running { (done : List Piece) → IsRunning S.Stream done None self.old (P.traffic sockets.old)
+            → IsRunning S.Stream done None self.new (P.traffic sockets.new) }
+        ensures written { IfSome (slice_index_or self.new.places.items place None) (HasWritten S.Stream) }
+        ensures out { self.new.out ≡ None }
+        ensures bounds { self.new.bounds ≡ self.old.bounds }
+        ensures came { KeepsCame S.Stream self.old (P.traffic sockets.old) self.new (P.traffic sockets.new) }
+    {
+        if owed_in(&self.places[place]) > 0 {
+            let _ = self.go_on(place, sockets);
         }
     }
 }

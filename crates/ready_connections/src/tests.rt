@@ -43,7 +43,8 @@ fn served(alloc: Global, events: &[Event], bounds: Bounds) -> Result<String, All
             let text = str::from_utf8(&piece).unwrap_or("?");
             told.push_str(text.split(' ').nth(1).unwrap_or("-"))?;
             told.push_str(" ")?;
-            hall.give_back(reply(alloc, &piece)?, text.contains("close"), &());
+            let reply = reply(alloc, &piece)?;
+            hall.give_back(&mut sockets, reply, text.contains("close"), &());
         }
     }
     for (stream, why) in sockets.over() {
@@ -99,6 +100,20 @@ fn each_gets_its_own_in_whatever_order(rt: HostRuntime) {
     ];
     let told = served(rt.alloc(), &events, BOUNDS);
     assert!(rt; told.is_ok_and(|told| told.as_str() == "/b /a /c | /a done | /b/c done "));
+}
+
+const ALSO_PIPELINED: &[Reads] = &[Reads::Gives(
+    b"GET /g HTTP/1.1\r\nHost: h\r\n\r\nGET /h HTTP/1.1\r\nHost: h\r\n\r\n",
+)];
+
+#[test]
+fn one_that_still_wrote_hands_out_behind_the_others(rt: HostRuntime) {
+    let events = [
+        Event::Comes(PIPELINED, &[Writes::Takes(1)]),
+        Event::Comes(ALSO_PIPELINED, &[]),
+    ];
+    let told = served(rt.alloc(), &events, BOUNDS);
+    assert!(rt; told.is_ok_and(|told| told.as_str() == "/b /g /h /c | /g/h done | /b/c done "));
 }
 
 #[test]

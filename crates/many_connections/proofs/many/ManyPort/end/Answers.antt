@@ -33,11 +33,12 @@ invariant_of-self g c =
       given_is = subst (λ (after : Seen). IsGiven after.given old.given.items) (sym is) (no_given old.given.items);
       runs = ∥∥₁_map old.runs (λ runs. subst (λ (after : Seen). RunsAhead g.S.Stream after
           (pieces_in old.handed.items) c.give_back.new.self
-          (g.K.Sockets.traffic old.sockets)) (sym is)
+          (g.K.Sockets.traffic c.give_back.new.sockets)) (sym is)
           (piece_back g.S.Stream seen old.hall c.give_back.new.self (g.K.Sockets.traffic old.sockets)
+          (g.K.Sockets.traffic c.give_back.new.sockets)
           (pieces_in old.handed.items) c.left-left.result
-          c.into_text-text.result c.into_bytes.result c.args.served (not c.match-matches.matches)
-          (sym c.is_out.ensures ∙ c.if-not-is_out.false) c.into_bytes.ensures none_left stays_open closes
+          c.into_text-text.result c.into_bytes-text.result c.args.served (not c.match-matches.matches)
+          (sym c.is_out.ensures ∙ c.if-not-is_out.false) c.into_bytes-text.ensures none_left stays_open closes
           c.give_back.ensures.running c.give_back.ensures.came runs));
     }
 
