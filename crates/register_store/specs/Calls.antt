@@ -74,6 +74,8 @@ pub record MigratesStore {S : Type 0} (g : Ghosts S) (conn : Held S) (result : R
       → (F : List Request) × IsEarlierOf form store.old_style F (state g conn).now × HasRequests g store F)
   pub only : HandsOut g result (λ store. ForEarlier g conn (λ _ old_style F. (store.old_style ≡ old_style)
       × HasRequests g store F))
+  -- A register in the present form is not migrated.
+  pub current : HandsOut g result (λ store. ForRows g conn (λ _ _. ⊥))
   -- Of some last state of the connection, which is given up: `migrate_or_back` says it of the one that comes back.
   pub refused : IfErr result (GivesUpMigrating g conn)
   -- A crash in the call leaves what it could leave before, or the migrated rows; one after it, the migrated rows.

@@ -48,11 +48,12 @@ use Rattle.register_tables.specs.Opening.{all_meta, all_migrated, all_amends, Is
 use Rattle.register_tables.specs.Reads.{every, whole, by_first}
 use Rattle.register_rows.specs.Catalogue.{catalogue_of, view_lines}
 use Rattle.register_rows.specs.Received.{Received}
-use Rattle.register_rows.specs.Register.{form_row, migrated_row, amends_rows, joined_from}
+use Rattle.register_rows.specs.Register.{form_row, meta_row, migrated_row, amends_rows, joined_from}
 use Rattle.register_rows.specs.Schema.{HasCommon, meta_table, migrated_table, amends_table}
 use Rattle.register_tables.specs.Registers.{IsRegisterOf, LeavesRegister, LeavesReceived}
 use Rattle.register_tables.specs.Walk.{Amounts}
 use Rattle.sqlite.specs.Tree.{Trees}
+use Rattle.register_tables.proofs.CommonLemmas.{has_common}
 use Rattle.register_tables.proofs.CreateTexts.{fifth_schema, sixth_schema, seventh_schema, own_indexes}
 use Rattle.register_tables.proofs.ListLemmas.{amends_rise}
 use Rattle.register_tables.proofs.Migrates.{IsCurrent, makes_current}
@@ -88,6 +89,12 @@ same_form Third Fourth e = absurd (omega (arith, e))
 same_form Fourth Second e = absurd (omega (arith, e))
 same_form Fourth Third e = absurd (omega (arith, e))
 same_form Fourth Fourth e = refl
+
+-- no earlier form has the number of the present one
+earlier_number : (form : Earlier) → form_number form ≡ 5 → ⊥
+earlier_number Second is = omega (arith, is)
+earlier_number Third is = omega (arith, is)
+earlier_number Fourth is = omega (arith, is)
 
 pub old_style_within : (form : Earlier) (db : Database) (old_style kept : ℕ) → HasOldStyle form db old_style kept
     → old_style ≤ kept
@@ -336,6 +343,13 @@ module _ {S : Type 0} (g : Ghosts S) (a : Held S) where
         same_form form f (same_number (form_number form) (form_number f)
         ((meta_gets (common_in f (state g a).now.schema is.rows.declared)).ordered (form_row (form_number f) ∷ [])
         is.rows.meta_is (tt, tt)))
+
+    -- one in the present form is none
+    pub not_current : (old_style : ℕ) (F : List Request) → IsRegisterOf old_style F (state g a).now → ⊥
+    not_current old_style F is =
+        earlier_number form (same_number (form_number form) 5
+        ((meta_gets (has_common (state g a).now.schema is.rows.rows.declared)).ordered (meta_row ∷ [])
+        is.rows.rows.meta_is (tt, tt)))
 
     pub survey_only : (old_style : ℕ) (F : List Request) → IsEarlierOf form old_style F (state g a).now
         → (counts.old_style ≡ old_style) × (counts.kept ≡ length F) × (counts.filings ≡ length (register F))

@@ -11,7 +11,7 @@ use Rattle.sqlite.specs.declared.types.Value.TheVariants.{Int}
 use Rattle.filing_model.specs.Request.{Request}
 use Rattle.filing_model.specs.Register.{register}
 use Rattle.table_rows.specs.Causes.{cause_of}
-use Rattle.table_rows.specs.Standing.{HasCommitted, AddsNothing}
+use Rattle.table_rows.specs.Standing.{HasCommitted, AddsNothing, CommitsNothing}
 use Rattle.table_rows.specs.Statements.{Statement, plain, AreCommitted, AreUndone, AreTreesOf}
 use Rattle.table_rows.specs.declared.cause.Cause.{Cause}
 use Rattle.table_rows.specs.declared.cause.Cause.TheVariants as cause
@@ -31,7 +31,7 @@ use Rattle.register_tables.specs.Opening.{all_meta, all_migrated, all_amends, Ar
 use Rattle.register_tables.specs.Opening.{HasNoTotals}
 use Rattle.register_rows.specs.Received.{Received}
 use Rattle.register_rows.specs.Register.{form_row, migrated_row}
-use Rattle.register_tables.specs.Registers.{IsRegisterOf, LeavesOnly, LeavesOnlyReceived}
+use Rattle.register_tables.specs.Registers.{ForRows, IsRegisterOf, LeavesOnly, LeavesOnlyReceived}
 use Rattle.register_tables.specs.Walk.{AreTotals}
 
 -- ---- what is read
@@ -177,6 +177,8 @@ pub record MigratesRegister {S : Type 0} (g : Ghosts S) (old new : Held S) (resu
   pub few : IfOk result AreWithin
   -- The statements of the form that was read, and they alone, were run in one transaction and committed.
   pub ran : HasCleanDisk (state g new) → IfOk result (λ counts. (form : Earlier) × IsMigrated g form counts old new)
+  -- A register in the present form is not migrated.
+  pub current : HasCleanDisk (state g new) → OnOk result (ForRows g old (λ _ _. ⊥))
   -- A refusal says why. If the rows stand for requests and no name is in the way, the cause is memory, the disk or
   -- another failure of a statement that writes. A refusal leaves the rows as they were.
   pub refused : HasCleanDisk (state g new) → IfErr result (λ fault. IsNotMigrated g fault old new)
@@ -186,8 +188,9 @@ pub record MigratesRegister {S : Type 0} (g : Ghosts S) (old new : Held S) (resu
       → is_blocked (state g old).now.schema form ≡ false → IsFailure fault)
   pub neither : HasCleanDisk (state g new) → OnErr result (AddsNothing (state g old) (state g new))
   -- A crash in the call leaves what it could leave before, or what all the statements make. A crash after the call
-  -- leaves the migrated rows.
+  -- leaves the migrated rows. Nothing is committed by a call that is refused for what the database holds.
   pub crash : Survives (state g old) (state g new) (MigratesTo g old)
+  pub unwritten : IfErr result (λ fault. IsFailure fault ⊎ CommitsNothing (state g old) (state g new))
   pub durable : HasCleanDisk (state g new)
       → OnOk result (ForEarlier g old (λ _ old_style F. IsTrue (state g new).is_open
       × LeavesOnly (state g new) old_style F))

@@ -9,7 +9,7 @@ use Rattle.register_tables.specs.Earlier.{is_blocked, ForEarlier}
 use Rattle.register_tables.specs.Migrating.{IsMigrated, MigratesTo}
 use Rattle.register_tables.specs.Opening.{IsCounted}
 use Rattle.register_tables.proofs.NotSurveyed.{survey_sound}
-use Rattle.register_tables.proofs.Surveyed.{to_end, migrates, migrates_only, current_only, not_blocked}
+use Rattle.register_tables.proofs.Surveyed.{to_end, migrates, migrates_only, current_only, not_blocked, not_current}
 use Rattle.register_tables.proofs.Surveyed.{adds_nothing, nothing_then}
 use Rattle.register_tables.proofs.migrate.migrate_register.Goals as goal
 
@@ -20,6 +20,7 @@ returns-then-is_blocked g c = record {
   only = λ clean. tt;
   few = tt;
   ran = λ clean. tt;
+  current = λ clean. tt;
   refused = λ clean.
       let used : is_blocked (state g.S.Store c.read_earlier.new.conn).now.schema c.in_ok-found.found.form ≡ true =
       let told = rw c.schema.ensures.value at c.if-is_blocked.ensures in sym told in
@@ -40,6 +41,7 @@ returns-then-is_blocked g c = record {
       adds_nothing (c.is_settled.ensures.settled settled) c.in_ok-found.ensures.leaves clean;
   crash = survives_weaker (state g.S.Store c.args.conn.now) (state g.S.Store c.read_earlier.new.conn) _ _
       (λ _ db none. absurd none) c.read_earlier.ensures.leaves.survives;
+  unwritten = inr c.read_earlier.ensures.leaves.survives;
   durable = λ clean. tt;
   undated = λ clean. tt;
 }
@@ -76,6 +78,10 @@ returns-in-Ok g c =
       only = only;
       few = c.in_ok-found.ensures.few;
       ran = ran;
+      current = λ clean old_style F is.
+          let done = ran clean in
+          not_current g.S.Store c.args.conn.now done.1.mid done.0 c.in_ok-found.found.counts done.1.surveyed old_style F
+          is;
       refused = λ clean. tt;
       sound = λ clean. tt;
       neither = λ clean. tt;
@@ -92,6 +98,7 @@ returns-in-Ok g c =
             written = is;
           })
           c.read_earlier.ensures.leaves.survives c.write.ensures.crash;
+      unwritten = tt;
       durable = λ clean form old_style F alone is.
           let found = only clean form old_style F alone is in
           let alive = (c.in-Ok.ensures.written clean).is_open in (
@@ -125,6 +132,7 @@ returns-in-Err g c = record {
   only = λ clean. tt;
   few = tt;
   ran = λ clean. tt;
+  current = λ clean. tt;
   refused = λ clean.
       let mid : HasCleanDisk (state g.S.Store c.read_earlier.new.conn) = omega (arith, c.write.ensures.crash.clean) in
       let free : is_blocked (state g.S.Store c.read_earlier.new.conn).now.schema c.in_ok-found.found.form ≡ false =
@@ -161,6 +169,7 @@ returns-in-Err g c = record {
         written = is;
       })
       c.read_earlier.ensures.leaves.survives c.write.ensures.crash;
+  unwritten = inl (search rules);
   durable = λ clean. tt;
   undated = λ clean. tt;
 }
@@ -174,6 +183,7 @@ returns-in_err-found g c =
       only = λ clean. tt;
       few = tt;
       ran = λ clean. tt;
+      current = λ clean. tt;
       refused = λ clean. inl (c.in_err-found.ensures.refused clean);
       sound = λ clean form old_style F is free. survey_sound g.S.Store c.read_earlier.new.conn F c.args.conn.now
           c.requires.unlimited form old_style is c.in_err-found.field-0.0 (c.in_err-found.ensures.refused clean);
@@ -182,6 +192,7 @@ returns-in_err-found g c =
           adds_nothing (c.is_settled.ensures.settled settled) c.in_err-found.ensures.leaves clean;
       crash = survives_weaker (state g.S.Store c.args.conn.now) (state g.S.Store c.read_earlier.new.conn) _ _
           (λ _ db none. absurd none) c.read_earlier.ensures.leaves.survives;
+      unwritten = inr c.read_earlier.ensures.leaves.survives;
       durable = λ clean. tt;
       undated = λ clean. tt;
     })

@@ -5,6 +5,7 @@ pub returns : goal.returns
 returns g c = record {
   migrated = search rules;
   only = search rules;
+  current = search rules;
   refused = search rules;
   crash = search rules;
   durable = search rules;

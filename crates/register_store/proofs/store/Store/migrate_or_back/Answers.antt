@@ -38,6 +38,7 @@ returns-in-Ok g c = record {
             catalogue_is = found.4;
           },
         );
+    current = c.in-Ok.ensures.current;
     refused = search rules;
     crash = survives_weaker (state g.S.Store c.args.conn) (state g.S.Store c.migrate_register.new.conn) _ _
         (λ _ trees m form old_style F alone is. leaves_migrated g.S.Store c.args.conn trees m form old_style F alone is)
@@ -66,11 +67,13 @@ returns-in-Err g c =
       why = c.in-Err.ensures.refused;
       sound = c.in-Err.ensures.sound;
       crash = crash;
+      unwritten = c.in-Err.ensures.unwritten;
     } in
     record {
       outcome = record {
         migrated = search rules;
         only = search rules;
+        current = search rules;
         refused = (c.migrate_register.new.conn, back);
         crash = search rules;
         durable = search rules;
