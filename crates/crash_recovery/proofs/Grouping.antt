@@ -19,8 +19,8 @@ use Rattle.register_tables.specs.Registers.{IsRegisterOf, LeavesRegister}
 use Rattle.intake_core.specs.Group.{Decided, LeavesSome, after}
 use Rattle.database_places.specs.Places.{IsHonest}
 use Rattle.crash_recovery.specs.Grouped.{AreSome, HoldSome}
-use Rattle.crash_recovery.specs.Left.{EndsIn}
-use Rattle.crash_recovery.proofs.Leaving.{ends_with_one}
+use Rattle.database_places.specs.Left.{EndsIn}
+use Rattle.database_places.proofs.Leaving.{ends_with_one}
 use Rattle.crash_recovery.proofs.Registering.{hold, rests, sound_if}
 
 -- ---- some of those that were to be decided

@@ -18,7 +18,8 @@ use Rattle.intake_process.specs.Beginning.{HoldsAs, AreTotals, FindsIntake}
 use Rattle.programs.specs.Happenings.{Situation, Serving, Killing}
 use Rattle.crash_recovery.specs.Deciding.{StopsIn}
 use Rattle.crash_recovery.specs.Killed.{ComesOn, read_on, cut_off, HappenedIn}
-use Rattle.crash_recovery.specs.Registers.{HoldRegisterWithLog, OpensAsRegister}
+use Rattle.intake_process.specs.Process.{HoldRegisterWithLog}
+use Rattle.crash_recovery.specs.Registers.{OpensAsRegister}
 
 module _ {D : Type 0} (g : Ghosts D) where
   pub begins : IsHonest g → (conn : Held (FileStore D g)) (limit old_style : ℕ) (requests : List Request)

@@ -24,10 +24,11 @@ use Rattle.outbox_core.specs.OutboxParts.{OutboxParts, HasEntries, LeavesMoved}
 use Rattle.outbox_core.specs.Files.{HoldOutbox}
 use Rattle.outbox_core.specs.HandedOut.{FindsOrGivesBack}
 use Rattle.database_places.specs.Places.{IsHonest}
-use Rattle.crash_recovery.specs.Left.{EndsIn}
-use Rattle.crash_recovery.specs.Outboxes.{HoldOutboxWithLog, HoldEitherOutbox, HoldMovedOutbox, OpensAsOutbox}
-use Rattle.crash_recovery.proofs.Finding.{found_there}
-use Rattle.crash_recovery.proofs.Leaving.{ends_with_one, leaves_now}
+use Rattle.database_places.specs.Left.{EndsIn}
+use Rattle.outbox_process.specs.Process.{HoldOutboxWithLog}
+use Rattle.crash_recovery.specs.Outboxes.{HoldEitherOutbox, HoldMovedOutbox, OpensAsOutbox}
+use Rattle.database_places.proofs.Finding.{found_there}
+use Rattle.database_places.proofs.Leaving.{closed_with_log, ends_with_one, leaves_now}
 
 sound_if : (it : Contents) (trees : Trees) → LeavesOutbox it trees → (schema : Schema) × IsSound schema trees
 sound_if it trees leaves = (leaves.db.schema, subst (IsSound leaves.db.schema) (sym leaves.is) leaves.outbox.sound)
@@ -39,13 +40,16 @@ module _ {D : Type 0} (g : Ghosts D) where
       record {
         db = leaves.db;
         outbox = leaves.outbox;
-        held =
-            subst (λ t. ∥ HoldsDatabase (image_of g files) t ∥₁) leaves.is held;
+        held = record {
+          sound = leaves.outbox.sound;
+          held = subst (λ t. ∥ HoldsDatabase (image_of g files) t ∥₁) leaves.is held;
+        };
       }
 
   -- files that were closed hold it so, since the database file does alone
   pub closed : (files : Files D) (it : Contents) → HoldOutbox g files it → HoldOutboxWithLog g files it
-  closed files it held = record { db = held.db; outbox = held.outbox; held = held.held.held.both }
+  closed files it held =
+      record { db = held.db; outbox = held.outbox; held = closed_with_log files held.db held.held }
 
   module _ (honest : IsHonest g) where
     opened_outbox : (conn : Held (FileStore D g)) (it : Contents) → IsOutboxOf it (file_state conn).now
@@ -61,7 +65,7 @@ module _ {D : Type 0} (g : Ghosts D) where
     found files it held conn is =
         let both = is (always_clean honest conn) in
         let rows : IsOutboxOf it (file_state conn).now =
-        subst (IsOutboxOf it) (sym (found_there files conn both.0 both.1 held.db held.outbox.sound held.held))
+        subst (IsOutboxOf it) (sym (found_there files conn both.0 both.1 held.db held.held))
         held.outbox in
         record { rows = rows; outbox = opened_outbox conn it rows }
 

@@ -21,10 +21,11 @@ use Rattle.register_store.specs.Files.{HoldRegister}
 use Rattle.register_store.specs.Calls.{OpensOrGivesBack}
 use Rattle.database_places.specs.Opening.{IsFoundIn}
 use Rattle.database_places.specs.Places.{IsHonest}
-use Rattle.crash_recovery.specs.Left.{EndsIn}
-use Rattle.crash_recovery.specs.Registers.{HoldRegisterWithLog, HoldEitherRegister, OpensAsRegister}
-use Rattle.crash_recovery.proofs.Finding.{found_there}
-use Rattle.crash_recovery.proofs.Leaving.{ends_with_one, leaves_now}
+use Rattle.database_places.specs.Left.{EndsIn}
+use Rattle.intake_process.specs.Process.{HoldRegisterWithLog}
+use Rattle.crash_recovery.specs.Registers.{HoldEitherRegister, OpensAsRegister}
+use Rattle.database_places.proofs.Finding.{found_there}
+use Rattle.database_places.proofs.Leaving.{closed_with_log, ends_with_one, leaves_now}
 
 pub sound_if : (old_style : ℕ) (F : List Request) (trees : Trees) → LeavesRegister old_style F trees
     → (schema : Schema) × IsSound schema trees
@@ -38,14 +39,17 @@ module _ {D : Type 0} (g : Ghosts D) where
       record {
         db = leaves.db;
         register = leaves.register;
-        held =
-            subst (λ t. ∥ HoldsDatabase (image_of g files) t ∥₁) leaves.is held;
+        held = record {
+          sound = leaves.register.sound;
+          held = subst (λ t. ∥ HoldsDatabase (image_of g files) t ∥₁) leaves.is held;
+        };
       }
 
   -- files that were closed hold it so, since the database file does alone
   pub closed : (files : Files D) (old_style : ℕ) (F : List Request) → HoldRegister g files old_style F
       → HoldRegisterWithLog g files old_style F
-  closed files old_style F it = record { db = it.db; register = it.register; held = it.held.held.both }
+  closed files old_style F it =
+      record { db = it.db; register = it.register; held = closed_with_log files it.db it.held }
 
   module _ (honest : IsHonest g) where
     opened_store : (conn : Held (FileStore D g)) (old_style : ℕ) (F : List Request)
@@ -64,7 +68,7 @@ module _ {D : Type 0} (g : Ghosts D) where
         let both = is (always_clean honest conn) in
         let rows : IsRegisterOf old_style F (file_state conn).now =
         subst (IsRegisterOf old_style F)
-        (sym (found_there files conn both.0 both.1 it.db it.register.sound it.held)) it.register in
+        (sym (found_there files conn both.0 both.1 it.db it.held)) it.register in
         record {
           rows = rows;
           store = opened_store conn old_style F rows;

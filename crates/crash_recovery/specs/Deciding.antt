@@ -11,7 +11,7 @@ use Rattle.filing_model.specs.Serving.{Keeping, AreMarked, BeginsArrivals, kept_
 use Rattle.filing_model.specs.Stopping.{Crash, Before, After, IsStopped}
 use Rattle.filing_model.specs.Text.{FileReport, route, completed, text_with}
 use Rattle.intake_core.specs.Held.{with_request}
-use Rattle.crash_recovery.specs.Registers.{HoldRegisterWithLog}
+use Rattle.intake_process.specs.Process.{HoldRegisterWithLog}
 
 -- The arrivals before the last were decided and answered, and the last asks to file this request, of which nothing was
 -- marked. Its interim response was written, if it asks for one.

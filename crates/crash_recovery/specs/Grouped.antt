@@ -4,7 +4,7 @@ use Rattle.sqlite_disk.specs.declared.Disk.{Ghosts}
 use Rattle.sqlite_disk.specs.declared.Files.{Files}
 use Rattle.filing_model.specs.Request.{Request, firsts}
 use Rattle.intake_core.specs.Group.{Decided}
-use Rattle.crash_recovery.specs.Registers.{HoldRegisterWithLog}
+use Rattle.intake_process.specs.Process.{HoldRegisterWithLog}
 
 -- these are some of those, in their order
 abbrev pub AreSome : List Request → List Request → Type 0

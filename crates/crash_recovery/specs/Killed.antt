@@ -9,7 +9,7 @@ use Rattle.filing_world.specs.World.{Sent, numbered}
 use Rattle.gateway_server.specs.Ports.{Connection}
 use Rattle.programs.specs.Deliveries.{Delivery}
 use Rattle.programs.specs.Happenings.{Situation, Happening, Makes}
-use Rattle.crash_recovery.specs.Registers.{HoldRegisterWithLog}
+use Rattle.intake_process.specs.Process.{HoldRegisterWithLog}
 
 -- The first bytes of an item come on a connection, to an intake that keeps at most this many keys.
 pub record ComesOn (limit : ℕ) (old : Situation) (delivery : Delivery) : Type 0 where

@@ -1,6 +1,5 @@
 pub mod Deciding
 pub mod Grouped
 pub mod Killed
-pub mod Left
 pub mod Outboxes
 pub mod Registers

@@ -3,9 +3,8 @@ use Rattle.std.specs.Prelude.{◌≡◌, ◌⊎◌, ℕ, Some, Result, IfOk}
 use Rattle.sqlite_disk.specs.declared.Disk.{Ghosts}
 use Rattle.sqlite_disk.specs.declared.Files.{Files}
 use Rattle.sqlite_store.specs.declared.store.FileStore.{FileStore}
-use Rattle.sqlite.specs.Effect.{Database}
 use Rattle.sqlite.specs.Held.{Held}
-use Rattle.sqlite.specs.Files.{image_of, over_files, file_state, HoldsDatabase}
+use Rattle.sqlite.specs.Files.{over_files, file_state}
 use Rattle.http_messages.specs.Reply.{ReplyParts}
 use Rattle.filing_model.specs.Outbox.{Entry, moved}
 use Rattle.outbox_tables.specs.declared.fault.OutboxFault.{OutboxFault}
@@ -14,12 +13,7 @@ use Rattle.outbox_tables.specs.Rows.{IsOutboxOf}
 use Rattle.outbox_core.specs.Entries.{with_state}
 use Rattle.outbox_core.specs.OutboxParts.{OutboxParts, HasEntries}
 use Rattle.outbox_core.specs.HandedOut.{FindsOrGivesBack}
-
--- The log and the database file together hold the outbox of these contents.
-pub record HoldOutboxWithLog {D : Type 0} (g : Ghosts D) (files : Files D) (it : Contents) : Type 0 where
-  pub db : Database
-  pub outbox : IsOutboxOf it db
-  pub held : ∥ HoldsDatabase (image_of g files) db.trees ∥₁
+use Rattle.outbox_process.specs.Process.{HoldOutboxWithLog}
 
 -- the files hold the outbox of these contents, or that of those
 abbrev pub HoldEitherOutbox : {D : Type 0} → Ghosts D → Files D → Contents → Contents → Type 0

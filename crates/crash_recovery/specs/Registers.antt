@@ -3,22 +3,14 @@ use Rattle.std.specs.Prelude.{◌≡◌, ◌⊎◌, ℕ, List, Result, IfOk}
 use Rattle.sqlite_disk.specs.declared.Disk.{Ghosts}
 use Rattle.sqlite_disk.specs.declared.Files.{Files}
 use Rattle.sqlite_store.specs.declared.store.FileStore.{FileStore}
-use Rattle.sqlite.specs.Effect.{Database}
 use Rattle.sqlite.specs.Held.{Held}
-use Rattle.sqlite.specs.Files.{image_of, over_files, file_state, HoldsDatabase}
+use Rattle.sqlite.specs.Files.{over_files, file_state}
 use Rattle.filing_model.specs.Request.{Request}
 use Rattle.register_tables.specs.declared.fault.OpenFault.{OpenFault}
 use Rattle.register_tables.specs.Registers.{IsRegisterOf}
 use Rattle.register_store.specs.Store.{StoreParts, HasRequests}
 use Rattle.register_store.specs.Calls.{OpensOrGivesBack}
-
--- The log and the database file together hold the register of these requests: what was committed and is in the log
--- alone counts.
-pub record HoldRegisterWithLog {D : Type 0} (g : Ghosts D) (files : Files D) (old_style : ℕ)
-    (requests : List Request) : Type 0 where
-  pub db : Database
-  pub register : IsRegisterOf old_style requests db
-  pub held : ∥ HoldsDatabase (image_of g files) db.trees ∥₁
+use Rattle.intake_process.specs.Process.{HoldRegisterWithLog}
 
 -- the files hold the register of these requests, or that of those
 abbrev pub HoldEitherRegister : {D : Type 0} → Ghosts D → Files D → ℕ → List Request → List Request → Type 0

@@ -81,10 +81,12 @@ ghost use Rattle.programs.specs.Happenings.{Killing, Serving, Situation};
 ghost use Rattle.crash_recovery.specs.Deciding.{HasRoom, IsDeciding, StopsAtRequest, StopsIn};
 ghost use Rattle.crash_recovery.specs.Grouped.{HoldSome};
 ghost use Rattle.crash_recovery.specs.Killed.{ComesOn, HappenedIn, cut_off, read_on};
-ghost use Rattle.crash_recovery.specs.Left.{AreLeftByKill, AreLeftByStop, EndsIn, FailsForCause, IsLastOf};
-ghost use Rattle.crash_recovery.specs.Left.{IsNumbered};
-ghost use Rattle.crash_recovery.specs.Outboxes.{HoldEitherOutbox, HoldMovedOutbox, HoldOutboxWithLog, OpensAsOutbox};
-ghost use Rattle.crash_recovery.specs.Registers.{HoldEitherRegister, HoldRegisterWithLog, OpensAsRegister};
+ghost use Rattle.database_places.specs.Left.{AreLeftByKill, AreLeftByStop, EndsIn, FailsForCause, IsLastOf};
+ghost use Rattle.database_places.specs.Left.{IsNumbered};
+ghost use Rattle.outbox_process.specs.Process.{HoldOutboxWithLog};
+ghost use Rattle.crash_recovery.specs.Outboxes.{HoldEitherOutbox, HoldMovedOutbox, OpensAsOutbox};
+ghost use Rattle.intake_process.specs.Process.{HoldRegisterWithLog};
+ghost use Rattle.crash_recovery.specs.Registers.{HoldEitherRegister, OpensAsRegister};
 
 use sqlite::{Connection, FileStore};
 use sqlite_disk::Disk;

@@ -13,6 +13,7 @@ use Rattle.sqlite.specs.Held.{Held}
 use Rattle.sqlite.specs.Files.{file_state, IsClosed, FailsToClose}
 use Rattle.sqlite.specs.declared.error.Error.{Error}
 use Rattle.table_rows.specs.Files.{HoldsDatabase, AreUsable}
+use Rattle.database_places.specs.Left.{IsNumbered}
 
 -- The files can be opened. If the disk gave back what was written, the connection was open, and they hold what it
 -- had committed, the database file alone as well.
@@ -28,6 +29,7 @@ module _ {D : Type 0} {g : Ghosts D} where
     pub last : FileStore D g
     pub same : store.files last ≡ (files.log, files.db)
     pub closed : IsClosed conn last
+    pub numbered : IsClean (view last) → IsNumbered last
 
   -- These are the files as the connection left them, and the last commit was not copied into the database file: the
   -- error says why.

@@ -1,5 +1,5 @@
 -- What opening the database that lies in a place does.
-use Rattle.std.specs.Prelude.{◌≡◌, ◌⊎◌, Bool, true, false, [], Option, Some, None, Result, Err, IfOk, IfErr, ⊤}
+use Rattle.std.specs.Prelude.{◌≡◌, Bool, true, false, [], Option, Some, None, Result, Err, IfOk, IfErr, ⊤}
 use Rattle.sqlite_disk.specs.declared.Disk.{Ghosts}
 use Rattle.sqlite_disk.specs.declared.Files.{Files}
 use Rattle.sqlite_store.specs.declared.store.FileStore.{FileStore}
@@ -14,6 +14,7 @@ use Rattle.command_line.specs.declared.fault.DatabaseFault.{DatabaseFault}
 use Rattle.command_line.specs.declared.fault.DatabaseFault.TheVariants.{Missing, Empty}
 use Rattle.database_places.specs.declared.opening.Opening.{Opening}
 use Rattle.database_places.specs.declared.opening.Opening.TheVariants.{Found, Made}
+use Rattle.database_places.specs.declared.opening.Unopened.{Unopened}
 use Rattle.database_places.specs.Faults.{database_fault}
 
 -- the database has to be there
@@ -54,25 +55,30 @@ pub record IsRefused {D : Type 0} (g : Ghosts D) (files there : Files D) (fault 
   pub failed : IsCleanLeft left → FailsToOpenFiles files left error
   pub unharmed : IsCleanLeft left → LeavesFiles files left
 
--- no files were taken out, or those that a refused opening left lie there again
+-- the database was not opened for this fault, and its files were not taken
+abbrev pub untouched : DatabaseFault → Unopened
+untouched fault = record { fault = fault; was_taken = false }
+
+-- what lay there was not taken, and lies there; or it was taken, and what a refused opening left of it lies there again
 abbrev pub StaysIn : {D : Type 0} → Ghosts D → Option (Option (Files D)) → Option (Option (Files D)) → DatabaseFault
-    → Type 0
-StaysIn g None new fault = ⊤
-StaysIn {D} g (Some None) new fault =
-    (new ≡ Some None) ⊎ ((files : Files D) × (there : Files D) × IsNothing (image_of g files)
-    × (new ≡ Some (Some there)) × IsRefused g files there fault)
-StaysIn {D} g (Some (Some files)) new fault =
-    (new ≡ Some (Some files)) ⊎ ((there : Files D) × (new ≡ Some (Some there)) × IsRefused g files there fault)
+    → Bool → Type 0
+StaysIn g None new fault was_taken = ⊤
+StaysIn g (Some there) new fault false = new ≡ Some there
+StaysIn {D} g (Some None) new fault true =
+    (files : Files D) × (there : Files D) × IsNothing (image_of g files) × (new ≡ Some (Some there))
+    × IsRefused g files there fault
+StaysIn {D} g (Some (Some files)) new fault true =
+    (there : Files D) × (new ≡ Some (Some there)) × IsRefused g files there fault
 
 -- What opening the database of a place does, which has to be there or is made, by the files that lie there before and
 -- after.
 pub record OpensPlace {D : Type 0} (g : Ghosts D) (has_to_be_there : Bool) (old new : Option (Option (Files D)))
-    (result : Result (Held (FileStore D g)) DatabaseFault) : Type 0 where
+    (result : Result (Held (FileStore D g)) Unopened) : Type 0 where
   pub comes : IfOk result (ComesFrom old new)
-  pub refused : IfErr result (StaysIn g old new)
+  pub refused : IfErr result (λ it. StaysIn g old new it.fault it.was_taken)
   -- If the database has to be there, and no file lies there, the fault is Missing, and it is Missing only then. Empty
   -- comes only for a file without bytes that has to have a database; an opening may report such a file by another
   -- fault.
-  pub absent : has_to_be_there ≡ true → old ≡ Some None → result ≡ Err Missing
-  pub missing : result ≡ Err Missing → (has_to_be_there ≡ true) × LacksFiles old
-  pub empty : result ≡ Err Empty → (has_to_be_there ≡ true) × LacksBytes g old
+  pub absent : has_to_be_there ≡ true → old ≡ Some None → result ≡ Err (untouched Missing)
+  pub missing : IfErr result (λ it. it.fault ≡ Missing → (has_to_be_there ≡ true) × LacksFiles old)
+  pub empty : IfErr result (λ it. it.fault ≡ Empty → (has_to_be_there ≡ true) × LacksBytes g old)

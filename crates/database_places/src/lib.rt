@@ -19,7 +19,7 @@ mod waiting;
 pub use closing::{close, give_up};
 pub use drawer::{Blank, Drawer};
 pub use holding::{Holding, held_in};
-pub use opening::{Cache, Opening, open, remove_new_log};
+pub use opening::{Cache, Opening, Unopened, open, remove_new_log};
 pub use place::Place;
 pub use reading::opening::open_for_reading;
 pub use reading::place::{ReadingPlace, has_writable_log};

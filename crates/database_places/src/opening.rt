@@ -1,6 +1,7 @@
 //! The database that lies in a place is opened.
 
 ghost use Rattle.std.specs.Prelude.{◌≡◌, true, false, IfOk, IfErr};
+ghost use Rattle.database_places.specs.Opening.{untouched};
 ghost use Rattle.table_rows.specs.Standing.{IsAtRest};
 ghost use Rattle.database_places.specs.Opening.{OpensPlace, is_found};
 ghost use Rattle.database_places.specs.Places.{KeepsLying};
@@ -45,6 +46,26 @@ pub enum Opening {
     Made(Cache),
 }
 
+/// Why a database was not opened.
+#[derive(Clone, Copy, Debug)]
+pub struct Unopened {
+    pub fault: DatabaseFault,
+    /// Whether its files were taken out of their place. They lie there again as the opening left them.
+    pub was_taken: bool,
+}
+
+impl From<DatabaseFault> for Unopened {
+    ghost from_gives = { λ fault it. it ≡ untouched fault };
+
+    /// Its files were not taken.
+    fn from(fault: DatabaseFault) -> Unopened {
+        Unopened {
+            fault,
+            was_taken: false,
+        }
+    }
+}
+
 /// Opens the database that lies in a place. A file that is not there, or is empty, gets a database without tables if
 /// one is to be made; otherwise it is not made, or stays empty. A refusal leaves the files in the place, and beside a
 /// file that is no database it leaves no new log. Its fault does not depend on the bytes of the file.
@@ -52,7 +73,7 @@ pub fn open<D: Disk + Drop, P: Place<D>>(
     alloc: Global,
     place: &mut P,
     opening: Opening,
-) -> Result<Connection<FileStore<D>>, DatabaseFault>
+) -> Result<Connection<FileStore<D>>, Unopened>
     ensures rest { IfOk result IsAtRest }
     ensures opens { OpensPlace D.Disk (is_found opening) (P.lying place.old) (P.lying place.new) result }
 {
@@ -67,15 +88,15 @@ fn find<D: Disk + Drop, P: Place<D>>(
     alloc: Global,
     place: &mut P,
     cache: Cache,
-) -> Result<Connection<FileStore<D>>, DatabaseFault>
+) -> Result<Connection<FileStore<D>>, Unopened>
     ensures rest { IfOk result IsAtRest }
     ensures opens { OpensPlace D.Disk true (P.lying place.old) (P.lying place.new) result }
 {
     if place.is_missing() {
-        return Err(DatabaseFault::Missing);
+        return Err(Unopened::from(DatabaseFault::Missing));
     }
     if place.is_empty() {
-        return Err(DatabaseFault::Empty);
+        return Err(Unopened::from(DatabaseFault::Empty));
     }
     make(alloc, place, cache)
 }
@@ -85,7 +106,7 @@ fn make<D: Disk + Drop, P: Place<D>>(
     alloc: Global,
     place: &mut P,
     cache: Cache,
-) -> Result<Connection<FileStore<D>>, DatabaseFault>
+) -> Result<Connection<FileStore<D>>, Unopened>
     ensures rest { IfOk result IsAtRest }
     ensures opens { OpensPlace D.Disk false (P.lying place.old) (P.lying place.new) result }
 {
@@ -99,7 +120,10 @@ fn make<D: Disk + Drop, P: Place<D>>(
         Err((error, left)) => {
             place.leave(left.into_files());
             remove_new_log(place, had_log);
-            Err(fault_of(error))
+            Err(Unopened {
+                fault: fault_of(error),
+                was_taken: true,
+            })
         }
     }
 }

@@ -1,5 +1,5 @@
 use Rattle.std.proofs.Common.{inr}
-use Rattle.crash_recovery.proofs.Leaving.{killed_as_stopped, closed_as_killed}
+use Rattle.database_places.proofs.Leaving.{killed_as_stopped, closed_as_killed}
 use Rattle.crash_recovery.proofs.a_kill_is_a_stop.Goals as goal
 
 pub returns-clause-kill : goal.returns-clause-kill

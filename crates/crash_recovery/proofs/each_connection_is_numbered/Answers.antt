@@ -1,5 +1,5 @@
 use Rattle.std.proofs.Common.{IsTrue, subst}
-use Rattle.crash_recovery.proofs.Leaving.{store_is_clean}
+use Rattle.database_places.proofs.Leaving.{store_is_clean}
 use Rattle.crash_recovery.proofs.each_connection_is_numbered.Goals as goal
 
 pub returns : goal.returns

@@ -10,5 +10,6 @@ returns g c = (
     same = sym c.close.ensures;
     closed =
         record { quiet = c.into_store.ensures.quiet; sound = c.into_store.ensures.sound };
+    numbered = c.into_store.ensures.numbered;
   },
 )

@@ -25,11 +25,14 @@ use Rattle.sqlite_catalog.specs.Listing.{IsSound}
 use Rattle.sqlite.specs.Effect.{Database}
 use Rattle.sqlite.specs.Held.{Held, AreDatabases}
 use Rattle.sqlite.specs.declared.error.Error.{Error}
-use Rattle.sqlite.specs.Files.{image_of, file_state, HoldsDatabase}
-use Rattle.table_rows.proofs.CleanLemmas.{are_clean}
-use Rattle.database_places.specs.Closing.{IsNotClosed}
+use Rattle.sqlite.specs.Files.{image_of, file_state, HoldsDatabase, IsOpened}
+use Rattle.table_rows.proofs.CleanLemmas.{always_clean, are_clean}
+use Rattle.table_rows.specs.Files.{HoldsDatabase as HoldsClosed}
+use Rattle.table_rows.specs.Standing.{CommitsNothing}
+use Rattle.database_places.specs.Closing.{IsGivenUp, IsNotClosed}
 use Rattle.database_places.specs.Places.{IsHonest}
-use Rattle.crash_recovery.specs.Left.{AreLeftByKill, AreLeftByStop, AreLeftBy, IsNumbered, IsLastOf, EndsIn}
+use Rattle.database_places.specs.Left.{AreLeftByKill, AreLeftByStop, AreLeftBy, IsNumbered, IsLastOf, EndsIn}
+use Rattle.database_places.specs.Left.{HoldWithLog}
 
 -- the pages that an image recovers to are known, since there is one such map at most
 pages_of : {X : PageMap → Type 0} (size : ℕ) (left : Image)
@@ -131,3 +134,35 @@ module _ {D : Type 0} {g : Ghosts D} where
         → (db : Trees) → recovers conn.store db → db ≡ (file_state conn).now.trees
     leaves_now is_open committed db allowed =
         settled_at conn.store stays db is_open allowed ∙ ap (λ (d : Database). d.trees) committed
+
+    given_ends : (files : Files D) → IsGivenUp conn files → EndsIn conn files
+    given_ends files given = record {
+      last = given.last;
+      is_last = inr given.closed;
+      numbered = given.numbered (store_is_clean honest given.last);
+      left = inl (record {
+        log = ap (λ (p : D × D). g.seen p.0) (sym given.same);
+        db = ap (λ (p : D × D). g.seen p.1) (sym given.same);
+      });
+    }
+
+  -- A connection to a database, to which nothing was committed, leaves that database if it is given up.
+  pub given_up : IsHonest g → SeenMayStay g → (old new : Held (FileStore D g)) (files : Files D) → IsOpened old
+      → CommitsNothing (file_state old) (file_state new) → IsGivenUp new files → HoldWithLog g files (file_state old).now
+  given_up honest stays old new files opened nothing given =
+      let db = (file_state old).now in
+      let sound = (opened.1 opened.0.is_open).0 in
+      let is_open = opened.0.is_open in
+      let one =
+      ends_with_one honest stays new files (given_ends honest stays new files given) {X = λ trees. trees ≡ db.trees}
+      (λ trees allowed. elim (nothing.crash (always_clean honest new) trees allowed)
+      [ inl was ↦ leaves_now honest stays old is_open (sym opened.0.clean) trees was | inr none ↦ absurd none ])
+      (λ trees is. (db.schema, subst (IsSound db.schema) (sym is) sound)) in
+      record {
+        sound = sound;
+        held = subst (λ trees. ∥ HoldsDatabase (image_of g files) trees ∥₁) one.1 one.2;
+      }
+
+  -- files that were closed hold their database so, since the database file does alone
+  pub closed_with_log : (files : Files D) (db : Database) → HoldsClosed g files db → HoldWithLog g files db
+  closed_with_log files db it = record { sound = it.sound; held = it.held.both }

@@ -1,4 +1,5 @@
--- What a store leaves in its two files if its process ends before it is closed; own rules.
+-- What a store leaves in its two files if its process ends before it is closed, and what files hold that were not
+-- closed; own rules.
 use Rattle.std.specs.Prelude.{◌≡◌, ◌⊎◌, IsTrue}
 use Rattle.sqlite_disk.specs.declared.Disk.{Ghosts}
 use Rattle.sqlite_disk.specs.declared.Files.{Files}
@@ -6,12 +7,19 @@ use Rattle.sqlite_disk.specs.Disk.{MoreFaults}
 use Rattle.sqlite_store.specs.declared.store.FileStore.{FileStore}
 use Rattle.sqlite_store.specs.FileStore.{view}
 use Rattle.sqlite_store.specs.FileStore as store
+use Rattle.sqlite.specs.Effect.{Database, IsDatabase}
 use Rattle.sqlite.specs.Held.{Held}
-use Rattle.sqlite.specs.Files.{faults_of, faults_left, IsFullLeft, IsClosed}
+use Rattle.sqlite.specs.Files.{faults_of, faults_left, image_of, HoldsDatabase, IsFullLeft, IsClosed}
 use Rattle.sqlite.specs.declared.error.Error.{Error}
 use Rattle.sqlite.specs.declared.error.Error.TheVariants.{SqliteFailure}
 use Rattle.sqlite.specs.declared.error.ErrorCode.TheVariants.{OutOfMemory}
 use Rattle.sqlite.specs.declared.file.Leftover.{Leftover}
+
+-- The log and the database file together hold this database, which is sound: what was committed and is in the log alone
+-- counts.
+pub record HoldWithLog {D : Type 0} (g : Ghosts D) (files : Files D) (db : Database) : Type 0 where
+  pub sound : IsDatabase db
+  pub held : ∥ HoldsDatabase (image_of g files) db.trees ∥₁
 
 module _ {D : Type 0} {g : Ghosts D} where
   -- The process was killed: a read of each file returns what it returned before. Nothing was copied, cut or synced
