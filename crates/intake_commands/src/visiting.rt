@@ -38,7 +38,13 @@ pub(crate) fn visit<'a, D: Disk + Drop, P: Place<D> + Drop, F: SiteFolder, O: Wr
         (parts P.lying process.new) result }
 {
     let mut progress = TerminalProgress::new(rt);
-    let Visited { done, closed } = process.visit(rt.alloc(), errand, &mut progress, folder, output);
+    let Visited { done, closed, .. } = process.visit(
+        rt.alloc(),
+        errand,
+        &mut progress,
+        folder,
+        output,
+    );
     tell_close(closed, name, errors);
     match done {
         Ok(()) => Ok(DONE),
@@ -77,7 +83,7 @@ fn visit_current<'a, D: Disk + Drop, P: Place<D> + Drop, F: SiteFolder, O: Write
 {
     let mut progress = TerminalProgress::new(rt);
     let mut unshown = sink();
-    let Visited { done, closed } = process.visit(
+    let Visited { done, closed, .. } = process.visit(
         rt.alloc(),
         Errand::Check { against: None },
         &mut progress,

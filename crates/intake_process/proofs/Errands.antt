@@ -127,6 +127,7 @@ module _ {S X : Type 0} (g : Ghosts S) (errand : Errand) (out : Option (List ℕ
     );
     kept = λ clean not old_style requests firsts_are rows. absurd (true≢false (sym is ∙ not));
     found = λ clean not tables. absurd (true≢false (sym is ∙ not));
+    current = λ clean _ old_style requests rows. is;
     refused = says;
     quiet = no_print errand out out why refl;
   }
@@ -210,6 +211,7 @@ module _ {S : Type 0} (g : Ghosts S) (filer : Bor (List ℕ)) (out out' : Option
             ∙ ap (λ s. s.old_style) is ∙ only.0) stays.rows.stands;
         found = λ clean not tables. let found = opened.outcome.opened (was_clean clean) tables in
             (store.old_style, found.0, found.1);
+        current = λ clean is. cc;
         refused = list_says g filer conn (store_of new).conn r;
         quiet = quiet;
       }
@@ -283,6 +285,7 @@ module _ (filer : Bor (List ℕ)) where
       kept = λ clean not old_style requests firsts_are rows. kept_still g conn old new opened does.keeps clean
           old_style requests rows;
       found = λ clean not tables. found_still g conn old new opened does.keeps clean tables;
+      current = λ clean is. cc;
       refused = tt;
       quiet = tt;
     }
@@ -296,6 +299,7 @@ module _ (filer : Bor (List ℕ)) where
           kept = λ clean not old_style requests firsts_are rows. kept_still g conn old new opened does.keeps clean
               old_style requests rows;
           found = λ clean not tables. found_still g conn old new opened does.keeps clean tables;
+          current = λ clean is. cc;
           refused = moments_says g conn new.conn why;
           quiet = quiet;
         }
@@ -389,6 +393,7 @@ module _ {S : Type 0} (g : Ghosts S) (number : ℕ) (dated : Bool) (out out' : O
             ∙ only.0) stays.stands;
         found = λ clean not tables. let found = opened.outcome.opened (was_clean clean) tables in
             (old.old_style, found.0, found.1);
+        current = λ clean is. cc;
         refused = show_says g number dated conn new.conn r;
         quiet = quiet;
       }
@@ -429,6 +434,7 @@ module _ (against : Option Published) where
       );
       kept = λ clean not old_style requests firsts_are rows. checks.kept clean old_style requests rows;
       found = λ clean not tables. checks.found clean tables;
+      current = λ clean is. cc;
       refused = tt;
       quiet = tt;
     }
@@ -452,6 +458,7 @@ module _ (against : Option Published) where
           );
           kept = λ clean not old_style requests firsts_are rows. checks.kept clean old_style requests rows;
           found = λ clean not tables. checks.found clean tables;
+          current = λ clean is. cc;
           refused = tt;
           quiet = quiet;
         }
@@ -470,6 +477,7 @@ module _ (against : Option Published) where
               (checks.failed clean old_style requests rows, quiet, tt);
           kept = λ clean not old_style requests firsts_are rows. absurd (true≢false not);
           found = λ clean not tables. absurd (true≢false not);
+          current = λ clean is. cc;
           refused = (checks.refused, checks.survives);
           quiet = quiet;
         }
@@ -513,6 +521,7 @@ module _ (against : Option Published) where
           told = λ clean old_style requests firsts_are rows moments are. (some, quiet, tt);
           kept = λ clean not old_style requests firsts_are rows. checks.kept clean old_style requests rows;
           found = λ clean not tables. checks.found clean tables;
+          current = λ clean is. cc;
           refused = some;
           quiet = quiet;
         }
@@ -540,6 +549,7 @@ module _ (against : Option Published) where
               );
           kept = λ clean not old_style requests firsts_are rows. checks.kept clean old_style requests rows;
           found = λ clean not tables. checks.found clean tables;
+          current = λ clean is. cc;
           refused = checks.asked;
           quiet = quiet;
         }
@@ -568,6 +578,7 @@ module _ (against : Option Published) where
               );
           kept = λ clean not old_style requests firsts_are rows. checks.kept clean old_style requests rows;
           found = λ clean not tables. checks.found clean tables;
+          current = λ clean is. cc;
           refused = checks.asked;
           quiet = quiet;
         }
@@ -607,6 +618,7 @@ module _ {S : Type 0} (g : Ghosts S) (out out' : Option (List ℕ)) (conn : Held
     found = λ clean not tables.
         let its = does.migrates.outcome.migrated clean tables.0 tables.1 in
         (migrated.register.old_style, its.0, (tables.0, tables.1, its.1));
+    current = λ clean _ old_style requests rows. absurd (does.migrates.outcome.current clean old_style requests rows);
     refused = migrate_says migrated.register.conn migrated.printed;
     quiet = migrate_quiet migrated.printed does.failed;
   }
@@ -620,7 +632,7 @@ module _ {S : Type 0} (g : Ghosts S) (out out' : Option (List ℕ)) (conn : Held
       (Err (fault.Migrate why holding))) (sym does.quiet)
       (refuses {S = S} {X = X} g asked.Migrate out conn back (fault.Migrate why holding) refl
       (λ clean old_style requests rows moments. gives.sound clean rows.0 old_style requests rows.2
-      (not_blocked rows.0 (state g conn).now.schema rows.1)) (gives.why, gives.crash))
+      (not_blocked rows.0 (state g conn).now.schema rows.1)) (gives.why, gives.crash, gives.unwritten))
 
 -- ---- export
 
@@ -668,6 +680,7 @@ module _ (form : Form) (filer : Option (Bor (List ℕ))) where
       );
       kept = λ clean not old_style requests firsts_are rows. exports.kept clean old_style requests rows;
       found = λ clean not tables. exports.found clean tables;
+      current = λ clean is. cc;
       refused = tt;
       quiet = tt;
     }
@@ -683,6 +696,7 @@ module _ (form : Form) (filer : Option (Bor (List ℕ))) where
       );
       kept = λ clean not old_style requests firsts_are rows. exports.kept clean old_style requests rows;
       found = λ clean not tables. exports.found clean tables;
+      current = λ clean is. cc;
       refused = records_says g old new why;
       quiet = records_quiet out out' why;
     }
@@ -698,6 +712,7 @@ module _ (form : Form) (filer : Option (Bor (List ℕ))) where
       );
       kept = λ clean not old_style requests firsts_are rows. absurd (true≢false not);
       found = λ clean not tables. absurd (true≢false not);
+      current = λ clean is. cc;
       refused = (exports.refused, exports.survives);
       quiet = λ _. exports.quiet;
     }
@@ -733,6 +748,7 @@ module _ (until : Option ℕ) where
           (digests.computed clean old_style requests rows moments are.0 are.1) printed quiet;
       kept = λ clean not old_style requests firsts_are rows. digests.kept clean old_style requests rows;
       found = λ clean not tables. digests.found clean tables;
+      current = λ clean is. cc;
       refused = digest_says r;
       quiet = digest_quiet r quiet;
     }
@@ -744,6 +760,7 @@ module _ (until : Option ℕ) where
       told = λ clean old_style requests firsts_are rows moments are. (tt, inr refl, tt);
       kept = λ clean not old_style requests firsts_are rows. digests.kept clean old_style requests rows;
       found = λ clean not tables. digests.found clean tables;
+      current = λ clean is. cc;
       refused = tt;
       quiet = inr refl;
     }
@@ -756,6 +773,7 @@ module _ (until : Option ℕ) where
           ((few.0, ap (option_map digest_line) few.1), inr refl, tt);
       kept = λ clean not old_style requests firsts_are rows. digests.kept clean old_style requests rows;
       found = λ clean not tables. digests.found clean tables;
+      current = λ clean is. cc;
       refused = tt;
       quiet = inr refl;
     }
@@ -768,6 +786,7 @@ module _ (until : Option ℕ) where
           (digests.failed clean old_style requests rows, inr refl, tt);
       kept = λ clean not old_style requests firsts_are rows. absurd (true≢false not);
       found = λ clean not tables. absurd (true≢false not);
+      current = λ clean is. cc;
       refused = (digests.refused, digests.survives);
       quiet = inr refl;
     }
@@ -815,6 +834,7 @@ module _ (path : Bor (List ℕ)) where
       told = λ clean old_style requests firsts_are rows moments are. ([], refl, appends_none out);
       kept = λ clean not old_style requests firsts_are rows. writes.kept clean old_style requests rows;
       found = λ clean not tables. writes.found clean tables;
+      current = λ clean is. cc;
       refused = tt;
       quiet = tt;
     }
@@ -826,6 +846,7 @@ module _ (path : Bor (List ℕ)) where
       told = λ clean old_style requests firsts_are rows moments are. (writing_may requests moments why, inr refl, tt);
       kept = λ clean not old_style requests firsts_are rows. writes.kept clean old_style requests rows;
       found = λ clean not tables. writes.found clean tables;
+      current = λ clean is. cc;
       refused = writing_says g old new why;
       quiet = inr refl;
     }
@@ -838,6 +859,7 @@ module _ (path : Bor (List ℕ)) where
           (writes.failed clean old_style requests rows, inr refl, tt);
       kept = λ clean not old_style requests firsts_are rows. absurd (true≢false not);
       found = λ clean not tables. absurd (true≢false not);
+      current = λ clean is. cc;
       refused = (writes.refused, writes.survives);
       quiet = inr refl;
     }

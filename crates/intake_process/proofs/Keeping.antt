@@ -1,7 +1,7 @@
 -- What is kept while a register is opened and closed.
 use Rattle.std.proofs.Common.{◌≡◌, ℕ, Bool, true, false, true≢false, List, [], length, Option, Some, None, Result, Ok}
-use Rattle.std.proofs.Common.{Err, IsSome, OnOk, refl, sym, ◌∙◌, ap, subst, inl, inr}
-use Rattle.std.specs.Prelude.{◌↔◌, is_err, is_some, IfErr, IfSome}
+use Rattle.std.proofs.Common.{Err, IsSome, OnOk, refl, sym, ◌∙◌, ap, ap₂, subst}
+use Rattle.std.specs.Prelude.{◌↔◌, is_err, is_some, if◌then◌else◌, IfErr, IfSome}
 use Rattle.sqlite_disk.specs.declared.Disk.{Ghosts}
 use Rattle.sqlite_disk.specs.declared.Files.{Files}
 use Rattle.sqlite_store.specs.declared.store.FileStore.{FileStore}
@@ -15,11 +15,14 @@ use Rattle.intake_core.specs.declared.intake.Intake.{Intake}
 use Rattle.intake_core.specs.Held.{limit_of, has_stopped}
 use Rattle.http_wire.specs.Wire.{Wire}
 use Rattle.table_rows.proofs.CleanLemmas.{always_clean, are_clean}
-use Rattle.table_rows.proofs.FileLemmas.{finds}
+use Rattle.sqlite_wal.proofs.LogLemmas.{SeenMayStay}
 use Rattle.command_line.specs.declared.fault.DatabaseFault.{DatabaseFault}
 use Rattle.command_line.specs.declared.fault.DatabaseFault.TheVariants.{Missing}
+use Rattle.database_places.proofs.Finding.{found_there as found_in}
+use Rattle.database_places.proofs.Leaving.{closed_with_log}
 use Rattle.database_places.specs.Closing.{IsClosedIn, IsNotClosed, IsGivenUp, LieGivenUp}
-use Rattle.database_places.specs.Opening.{ComesFrom, OpensPlace, StaysIn}
+use Rattle.database_places.specs.Opening.{ComesFrom, OpensPlace, StaysIn, untouched}
+use Rattle.database_places.specs.declared.opening.Unopened as opening
 use Rattle.database_places.specs.Places.{KeepsLying, IsHonest}
 use Rattle.database_places.specs.Places as place
 use Rattle.intake_process.specs.declared.beginning.Totals.{Totals}
@@ -30,7 +33,9 @@ use Rattle.intake_process.specs.declared.process.Closed.{Closed}
 use Rattle.intake_process.specs.declared.process.Outcome.{Outcome}
 use Rattle.intake_process.specs.declared.process.Outcome.TheVariants as outcome
 use Rattle.intake_process.specs.Beginning.{HoldsAs, AreTotals, FindsIntake, MakesIntake, IsNotBegun}
-use Rattle.intake_process.specs.Process.{Parts, IsAwake, IsUp, AnswersBy, KeepsBy, IsNotOpened}
+use Rattle.intake_process.specs.Process.{Parts, IsAwake, IsUp, AnswersBy, KeepsBy, IsNotOpened, leaves_doubt}
+use Rattle.intake_process.proofs.Left.{sure_after, keeps_left, kept_lying, lies_given, none_left}
+use Rattle.intake_process.proofs.Left.{unopened_leaves}
 use Rattle.intake_process.specs.Process.{IsLeftBy, Leaves, OpensProcess, ClosesProcess}
 
 pub none_of : {A : Type 0} (o : Option A) → is_some o ≡ false → o ≡ None
@@ -58,10 +63,12 @@ ok_gives (Err e) is x = absurd (true≢false is)
 
 -- what lay there lies there, or what was left of it
 pub stayed : {D : Type 0} (g : Ghosts D) (old new : Option (Option (Files D))) (fault : DatabaseFault)
-    → StaysIn g old new fault → (there : Files D) → old ≡ Some (Some there)
+    (was_taken : Bool) → StaysIn g old new fault was_taken → (there : Files D) → old ≡ Some (Some there)
     → (files : Files D) × (new ≡ Some (Some files))
-stayed g old new fault stays there lies =
-    elim (subst (λ l. StaysIn g l new fault) lies stays) [ inl same ↦ (there, same) | inr left ↦ (left.0, left.1) ]
+stayed g old new fault true stays there lies =
+    let left = subst (λ l. StaysIn g l new fault true) lies stays in
+    (left.0, left.1)
+stayed g old new fault false stays there lies = (there, subst (λ l. StaysIn g l new fault false) lies stays)
 
 -- files that are left alone lie there
 pub keeps_lying : {D : Type 0} (lying : Option (Option (Files D))) → KeepsLying lying lying
@@ -72,17 +79,19 @@ keeps_lying (Some (Some files)) = refl
 same_err : {A E : Type 0} (r : Result A E) (a b : E) → r ≡ Err a → r ≡ Err b → a ≡ b
 same_err r a b one other = cc
 
--- the fault of a database that has to be there where no files lie
-pub missing : {D : Type 0} {g : Ghosts D} (has : Bool) (old new : Option (Option (Files D))) (why : DatabaseFault)
-    → OpensPlace g has old new (Err why) → has ≡ true → old ≡ Some None → Unopened why ≡ Unopened Missing
-missing has old new why opens is none =
-    ap (λ (w : DatabaseFault). Unopened w) (same_err (Err why) why Missing refl (opens.absent is none))
+-- a database that has to be there where no files lie is missing, and nothing was taken
+pub missing : {D : Type 0} {g : Ghosts D} (has : Bool) (old new : Option (Option (Files D))) (it : opening.Unopened)
+    → OpensPlace g has old new (Err it) → has ≡ true → old ≡ Some None
+    → (Unopened it.fault ≡ Unopened Missing) × (it.was_taken ≡ false)
+missing has old new it opens is none =
+    let same : it ≡ untouched Missing = same_err (Err it) it (untouched Missing) refl (opens.absent is none) in
+    (ap (λ (u : opening.Unopened). Unopened u.fault) same, ap (λ (u : opening.Unopened). u.was_taken) same)
 
 -- a connection that came is no such fault
 pub there : {D X : Type 0} {g : Ghosts D} (has : Bool) (old new : Option (Option (Files D)))
     (conn : Held (FileStore D g)) → OpensPlace g has old new (Ok conn) → has ≡ true → old ≡ Some None → X
 there has old new conn opens is none =
-    let other : Ok conn ≡ Err Missing = opens.absent is none in
+    let other : Ok conn ≡ Err (untouched Missing) = opens.absent is none in
     absurd (cc)
 
 module _ {D : Type 0} (g : Ghosts D) where
@@ -93,42 +102,86 @@ module _ {D : Type 0} (g : Ghosts D) where
       (at.0, at.1)
 
   -- files that lay there lie there
-  back_of : (has : Bool) (old new : Option (Option (Files D))) (fault : OpeningFault) → IsNotOpened g has old new fault
-      → (there : Files D) → old ≡ Some (Some there) → (files : Files D) × (new ≡ Some (Some files))
-  back_of has old new (Unopened why) is there lies = stayed g old new why is.refused there lies
-  back_of has old new (Taken holding) is there lies = lie_left old new is.1 is.4 there lies
-  back_of has old new (Create why) is there lies = lie_left old new is.1 is.4 there lies
-  back_of has old new (Open why holding) is there lies = lie_left old new is.1 is.4 there lies
+  back_of : (has : Bool) (old new : Option (Option (Files D))) (was_taken : Bool) (fault : OpeningFault)
+      → IsNotOpened g has old new was_taken fault → (there : Files D) → old ≡ Some (Some there)
+      → (files : Files D) × (new ≡ Some (Some files))
+  back_of has old new was_taken (Unopened why) is there lies = stayed g old new why was_taken is.refused there lies
+  back_of has old new was_taken (Taken holding) is there lies = lie_left old new is.1 is.4 there lies
+  back_of has old new was_taken (Create why) is there lies = lie_left old new is.1 is.4 there lies
+  back_of has old new was_taken (Open why holding) is there lies = lie_left old new is.1 is.4 there lies
+
+  -- the files of a place that has none are missing
+  none_missing : (has : Bool) (old new : Option (Option (Files D))) (was_taken : Bool) (fault : OpeningFault)
+      → IsNotOpened g has old new was_taken fault → old ≡ Some None → fault ≡ Unopened Missing → was_taken ≡ false
+      → new ≡ Some None
+  none_missing has old new was_taken fault why none is untaken =
+      let refusal : IsNotOpened g has old new false (Unopened Missing) =
+      subst (λ f. IsNotOpened g has old new false f) is (subst (λ b. IsNotOpened g has old new b fault) untaken why) in
+      subst (λ l. StaysIn g l new Missing false) none refusal.refused
 
 module _ {D : Type 0} {g : Ghosts D} where
   -- ---- it is opened
 
-  -- a refusal leaves it closed, and nothing is certain
-  pub refuses : (has : Bool) (limit : ℕ) (old new : Parts g) (fault : OpeningFault) → new.is_certain ≡ false
+  -- a refusal that leaves no doubt and no files, where none lay, leaves all as it was
+  unchanged : (old new : Parts g) (doubt : Bool) → new.is_certain ≡ (if doubt then false else old.is_certain)
+      → doubt ≡ false → old.intake ≡ None → new.intake ≡ None → new.refused_calls ≡ old.refused_calls
+      → old.lying ≡ Some None → new.lying ≡ Some None → new ≡ old
+  unchanged old new doubt certain sure none closed calls lay lies =
+      let same : new.is_certain ≡ old.is_certain =
+      subst (λ d. new.is_certain ≡ (if d then false else old.is_certain)) sure certain in
+      λ i. record {
+        intake = (closed ∙ sym none) i;
+        lying = (lies ∙ sym lay) i;
+        is_certain = same i;
+        refused_calls = calls i;
+      }
+
+  -- a refusal leaves it closed, and what lay there, unless it leaves doubt
+  pub refuses : SeenMayStay g → (has : Bool) (limit : ℕ) (old new : Parts g) (was_taken : Bool) (fault : OpeningFault)
+      → new.is_certain ≡ (if leaves_doubt was_taken fault then false else old.is_certain)
       → old.intake ≡ None → new.intake ≡ None → new.refused_calls ≡ old.refused_calls
-      → IsNotOpened g has old.lying new.lying fault
-      → (has ≡ true → old.lying ≡ Some None → fault ≡ Unopened Missing)
+      → IsNotOpened g has old.lying new.lying was_taken fault
+      → (has ≡ true → old.lying ≡ Some None → (fault ≡ Unopened Missing) × (was_taken ≡ false))
       → OpensProcess g has limit old new (Err fault)
-  refuses has limit old new fault unsure none closed calls why absent = record {
-    leaves = λ honest is. record {
-      kept = λ old_style F keeps certain. absurd (true≢false (sym certain ∙ unsure));
-      certain = λ certain. absurd (true≢false (sym certain ∙ unsure));
-    };
-    counted = λ honest is certain old_style F keeps. tt;
-    made = λ honest is none known. tt;
-    absent = λ _ is lies. ap (λ (f : OpeningFault). Err f) (absent is lies);
-    fresh = λ honest _ is files lies db held. tt;
-    certain = tt;
-    is_open = tt;
-    limited = λ _. tt;
-    up = λ _. tt;
-    already = λ some. absurd (not_some old.intake none some);
-    calls = calls;
-    why = why;
-    refused = closed;
-    doubtful = unsure;
-    back = back_of g has old.lying new.lying fault why;
-  }
+  refuses stays has limit old new was_taken fault certain none closed calls why absent =
+      let sure = sure_after (leaves_doubt was_taken fault) old.is_certain new.is_certain certain in
+      let left = λ (honest : IsHonest g) (is : new.is_certain ≡ true).
+      unopened_leaves honest stays has old.lying new.lying was_taken fault why (sure is).0 in
+      let leaves : IsHonest g → Leaves limit old new =
+      λ honest. record {
+        kept = λ old_style F keeps is.
+            subst (λ i. KeepsBy {g = g} i new.lying limit old_style F) (sym closed)
+            (keeps_left old.lying new.lying (left honest is) limit old_style F
+            (subst (λ i. KeepsBy {g = g} i old.lying limit old_style F) none (keeps (sure is).1)));
+        certain = λ is. (sure is).1;
+      } in
+      record {
+        leaves = λ honest is. leaves honest;
+        counted = λ honest is certain old_style F keeps. tt;
+        made = λ honest is none known. tt;
+        unmade = leaves;
+        left = left;
+        absent = λ _ is lies. (
+          unchanged old new (leaves_doubt was_taken fault) certain
+              (ap₂ leaves_doubt (absent is lies).1 (absent is lies).0) none closed calls lies
+              (none_missing g has old.lying new.lying was_taken fault why lies (absent is lies).0 (absent is lies).1),
+          ap (λ (f : OpeningFault). Err f) (absent is lies).0,
+        );
+        nothing = λ honest _ lay is.
+            unchanged old new (leaves_doubt was_taken fault) certain (sure is).0 none closed calls lay
+            (none_left g honest has old.lying new.lying was_taken fault why lay (λ there. (absent there lay).0)
+            (sure is).0);
+        fresh = λ honest _ is files lies db held. tt;
+        certain = tt;
+        is_open = tt;
+        limited = λ _. tt;
+        up = λ _. tt;
+        already = λ some. absurd (not_some old.intake none some);
+        calls = calls;
+        why = (was_taken, why, certain);
+        refused = closed;
+        back = back_of g has old.lying new.lying was_taken fault why;
+      }
 
   -- nothing happens to one that is open
   pub is_open : (has : Bool) (limit : ℕ) (process : Parts g) → IsSome process.intake
@@ -137,7 +190,10 @@ module _ {D : Type 0} {g : Ghosts D} where
     leaves = λ honest is. record { kept = λ old_style F keeps. keeps; certain = λ certain. certain };
     counted = λ honest is certain old_style F keeps. tt;
     made = λ honest is none known. absurd (not_some process.intake none some);
+    unmade = λ honest. tt;
+    left = λ honest is. tt;
     absent = λ none is lies. absurd (not_some process.intake none some);
+    nothing = λ honest _ lies is. tt;
     fresh = λ honest none is files lies db held. absurd (not_some process.intake none some);
     certain = refl;
     is_open = some;
@@ -147,7 +203,6 @@ module _ {D : Type 0} {g : Ghosts D} where
     calls = refl;
     why = tt;
     refused = tt;
-    doubtful = tt;
     back = tt;
   }
 
@@ -158,43 +213,32 @@ module _ {D : Type 0} {g : Ghosts D} where
   came_from (Some None) mid conn comes = (refl, comes.1, comes.2, comes.3)
   came_from (Some (Some files)) mid conn comes = (refl, comes.1)
 
-  -- and its files lie there again
-  lie_again : (old mid after new : Option (Option (Files D))) (conn back : Held (FileStore D g)) (files : Files D)
-      → ComesFrom old mid conn → place.Leaves mid after files → KeepsLying after new → IsGivenUp back files
-      → LieGivenUp old new back
-  lie_again None mid after new conn back files comes leaves keeps given = tt
-  lie_again (Some None) mid after new conn back files comes leaves keeps given =
-      let lies : after ≡ Some (Some files) = subst (λ m. place.Leaves m after files) comes.0 leaves in
-      (files, subst (λ a. KeepsLying a new) lies keeps, given)
-  lie_again (Some (Some was)) mid after new conn back files comes leaves keeps given =
-      let lies : after ≡ Some (Some files) = subst (λ m. place.Leaves m after files) comes.0 leaves in
-      (files, subst (λ a. KeepsLying a new) lies keeps, given)
-
   -- no intake began over the database of the place, which was given up
   pub not_begun : (has : Bool) (old mid after new : Option (Option (Files D))) (conn back : Held (FileStore D g))
       (files : Files D) (fault : OpeningFault) → ComesFrom old mid conn → IsNotBegun over_files has conn fault back
-      → place.Leaves mid after files → KeepsLying after new → IsGivenUp back files → IsNotOpened g has old new fault
+      → place.Leaves mid after files → KeepsLying after new → IsGivenUp back files
+      → IsNotOpened g has old new true fault
   not_begun has old mid after new conn back files (Unopened why) comes is leaves keeps given = absurd is
   not_begun has old mid after new conn back files (Taken holding) comes is leaves keeps given = (
     conn,
     back,
     came_from old mid conn comes,
     is,
-    lie_again old mid after new conn back files comes leaves keeps given,
+    lies_given old mid new conn back files comes (kept_lying mid after new files leaves keeps) given,
   )
   not_begun has old mid after new conn back files (Create why) comes is leaves keeps given = (
     conn,
     back,
     came_from old mid conn comes,
     is,
-    lie_again old mid after new conn back files comes leaves keeps given,
+    lies_given old mid new conn back files comes (kept_lying mid after new files leaves keeps) given,
   )
   not_begun has old mid after new conn back files (Open why holding) comes is leaves keeps given = (
     conn,
     back,
     came_from old mid conn comes,
     is,
-    lie_again old mid after new conn back files comes leaves keeps given,
+    lies_given old mid new conn back files comes (kept_lying mid after new files leaves keeps) given,
   )
 
   came_empty : (old mid : Option (Option (Files D))) (conn : Held (FileStore D g)) → IsSome old → ComesFrom old mid conn
@@ -213,7 +257,7 @@ module _ {D : Type 0} {g : Ghosts D} where
       let came = subst (λ l. ComesFrom l new.lying conn) lies.1.1 comes in
       let both = came.1 (always_clean honest conn) in
       let hold = lies.1.2 in
-      let is_db = finds lies.1.0 conn both.0 both.1 hold.db hold.held in (
+      let is_db = found_in lies.1.0 conn both.0 both.1 hold.db hold.held in (
         finds_it (always_clean honest intake.store.conn) old_style F lies.0
             (subst (IsRegisterOf old_style F) (sym is_db) hold.register),
         came.0,
@@ -241,11 +285,14 @@ module _ {D : Type 0} {g : Ghosts D} where
         honest old_style F (keeps certain)).0.1;
     made = λ honest is closed known certain. subst (λ i. KeepsBy i new.lying limit 0 []) (sym up)
         (((made is).1 (always_clean honest intake.store.conn)).0, came_empty old.lying new.lying conn known comes);
+    unmade = λ honest. tt;
+    left = λ honest is. tt;
     absent = λ _ is lies. absurd (there is lies);
+    nothing = λ honest _ lies is. tt;
     fresh = λ honest _ is files lies db held.
         let came = subst (λ l. ComesFrom l new.lying conn) lies comes in
         let both = came.1 (always_clean honest conn) in
-        sym (ap (λ (d : Database). d.schema) (finds files conn both.0 both.1 db held)) ∙ (made is).0;
+        sym (ap (λ (d : Database). d.schema) (found_in files conn both.0 both.1 db held)) ∙ (made is).0;
     certain = same;
     is_open = subst (λ i. IsSome i) (sym up) refl;
     limited = λ _. subst (λ i. IfSome i (λ intake. limit_of intake ≡ limit)) (sym up) limited;
@@ -254,7 +301,6 @@ module _ {D : Type 0} {g : Ghosts D} where
     calls = calls;
     why = tt;
     refused = tt;
-    doubtful = tt;
     back = tt;
   }
 
@@ -280,8 +326,7 @@ module _ {D : Type 0} {g : Ghosts D} where
             db = now;
             register = register;
             held =
-                closed.holds clean now register.sound (stands.committed is_open);
-            usable = closed.usable;
+                closed_with_log files now (closed.holds clean now register.sound (stands.committed is_open));
           },
         ),
       )

@@ -1,34 +1,42 @@
 -- What a visit tells and keeps of a register follows from what it does with the place.
-use Rattle.std.proofs.Common.{◌≡◌, ℕ, Bool, true, false, true≢false, List, Option, Some, None, Result, Ok, Err, refl}
-use Rattle.std.proofs.Common.{sym, ◌∙◌, ap, subst, IfErr, OnOk}
+use Rattle.std.proofs.Common.{◌≡◌, ◌⊎◌, inl, inr, ℕ, Bool, true, false, true≢false, List, Option, Some, None, Result}
+use Rattle.std.proofs.Common.{Ok, Err, refl, sym, ◌∙◌, ap, subst, IfErr, OnOk}
 use Rattle.std.specs.Prelude.{is_err, ◌||◌}
 use Rattle.sqlite_disk.specs.declared.Disk.{Ghosts}
 use Rattle.sqlite_disk.specs.declared.Files.{Files}
 use Rattle.sqlite_store.specs.declared.store.FileStore.{FileStore}
 use Rattle.sqlite.specs.declared.error.Error.{Error}
-use Rattle.sqlite.specs.Files.{file_state}
-use Rattle.sqlite.specs.Held.{Held}
+use Rattle.sqlite_wal.proofs.LogLemmas.{SeenMayStay}
+use Rattle.sqlite.specs.Files.{file_state, over_files}
+use Rattle.sqlite.specs.Held.{Held, state}
+use Rattle.sqlite.specs.Store as database
 use Rattle.table_rows.proofs.CleanLemmas.{always_clean, are_clean}
-use Rattle.table_rows.proofs.FileLemmas.{finds}
-use Rattle.table_rows.specs.Standing.{HasCommitted}
+use Rattle.table_rows.specs.Standing.{CommitsNothing, HasCommitted}
 use Rattle.filing_model.specs.Request.{Request}
 use Rattle.register_pages.specs.Pages.{WritesSite}
+use Rattle.register_tables.specs.Faults.{IsFailure}
 use Rattle.register_tables.specs.Registers.{IsRegisterOf}
-use Rattle.register_store.specs.Files.{HoldRegister}
+use Rattle.register_tables.specs.declared.fault.OpenFault.{OpenFault}
 use Rattle.command_line.specs.declared.fault.DatabaseFault.{DatabaseFault}
+use Rattle.database_places.specs.declared.holding.Holding.{Holding}
+use Rattle.database_places.specs.declared.opening.Unopened.{Unopened}
+use Rattle.database_places.proofs.Finding.{found_there}
+use Rattle.database_places.proofs.Leaving.{closed_with_log}
 use Rattle.database_places.specs.Closing.{IsClosedIn, IsGivenUp, IsNotClosed}
-use Rattle.database_places.specs.Opening.{ComesFrom, OpensPlace}
-use Rattle.database_places.specs.Places.{KeepsLying, IsHonest}
+use Rattle.database_places.specs.Opening.{ComesFrom, OpensPlace, StaysIn}
+use Rattle.database_places.specs.Places.{IsHonest, Lie}
 use Rattle.database_places.specs.Places as place
 use Rattle.intake_process.specs.declared.tasks.errand.Errand.{Errand}
 use Rattle.intake_process.specs.declared.tasks.errand.Errand.TheVariants as asked
+use Rattle.intake_process.specs.declared.errand.ErrandFault.{ErrandFault}
 use Rattle.intake_process.specs.declared.errand.ErrandFault.TheVariants as fault
 use Rattle.intake_process.specs.declared.visiting.Visited.{Visited}
-use Rattle.intake_process.specs.Errands.{AreMomentsFor, IsRegisterFor, MayFail, Tells, is_for_pages, is_refused}
-use Rattle.intake_process.specs.Process.{Parts, KeepsBy}
+use Rattle.intake_process.specs.Errands.{AreMomentsFor, IsRegisterFor, MayFail, Says, Tells, is_for_pages, is_refused}
+use Rattle.intake_process.specs.Process.{Parts, HoldRegisterWithLog, KeepsBy, LeavesDatabase}
 use Rattle.intake_process.proofs.Errands.{no_begin, no_print}
-use Rattle.intake_process.specs.Visits.{Outputs, LiesDatedFor, LiesFor, is_doubtful, IsLeftIn, GoesOn, VisitsPlace}
-use Rattle.intake_process.specs.Visits.{VisitsRegister}
+use Rattle.intake_process.proofs.Left.{given_leaves, lies_given, not_taken}
+use Rattle.intake_process.specs.Visits.{Outputs, LiesDatedFor, LiesFor, is_doubtful, leaves_doubt, IsLeftIn, GoesOn}
+use Rattle.intake_process.specs.Visits.{VisitsPlace, VisitsRegister}
 
 or_first : (a b : Bool) → (a || b) ≡ false → a ≡ false
 or_first true b not = not
@@ -37,12 +45,6 @@ or_first false b not = refl
 or_second : (a b : Bool) → (a || b) ≡ false → b ≡ false
 or_second true b not = absurd (true≢false not)
 or_second false b not = not
-
--- files that were left lie there still, once a log is removed beside them
-pub kept_lying : {D : Type 0} (lying mid after : Option (Option (Files D))) (files : Files D)
-    → place.Leaves lying mid files → KeepsLying mid after → place.Leaves lying after files
-kept_lying None mid after files leaves keeps = tt
-kept_lying (Some there) mid after files leaves keeps = subst (λ m. KeepsLying m after) leaves keeps
 
 may_files : (errand : Errand) (requests : List Request) (moments : List (Option ℕ)) (why : DatabaseFault)
     → MayFail errand requests moments (fault.Files why)
@@ -54,6 +56,73 @@ may_files asked.Migrate requests moments why = tt
 may_files (asked.Export form filer) requests moments why = tt
 may_files (asked.Digest until) requests moments why = tt
 may_files (asked.Pages folder) requests moments why = tt
+
+-- ---- what a refused errand commits
+
+module _ {S : Type 0} (g : database.Ghosts S) (old new : Held S) where
+  unopened_says : (errand : Errand) (why : OpenFault) (holding : Holding)
+      → Says g errand old new (fault.Open why holding) → CommitsNothing (state g old) (state g new)
+  unopened_says (asked.List filer false) why holding says = says.1
+  unopened_says (asked.List filer true) why holding says = says.1
+  unopened_says (asked.Show number dated) why holding says = says.1
+  unopened_says (asked.Check against) why holding says = says.1
+  unopened_says asked.Migrate why holding says = absurd says
+  unopened_says (asked.Export form filer) why holding says = says.1
+  unopened_says (asked.Digest until) why holding says = says.1
+  unopened_says (asked.Pages folder) why holding says = says.1
+
+  files_say : (errand : Errand) (why : DatabaseFault) → Says g errand old new (fault.Files why) → ⊥
+  files_say (asked.List filer false) why says = says
+  files_say (asked.List filer true) why says = says
+  files_say (asked.Show number dated) why says = says
+  files_say (asked.Check against) why says = says
+  files_say asked.Migrate why says = says
+  files_say (asked.Export form filer) why says = says
+  files_say (asked.Digest until) why says = says
+  files_say (asked.Pages folder) why says = says
+
+  migrate_says : (errand : Errand) (why : OpenFault) (holding : Holding)
+      → Says g errand old new (fault.Migrate why holding)
+      → IsFailure why ⊎ CommitsNothing (state g old) (state g new)
+  migrate_says (asked.List filer false) why holding says = absurd says
+  migrate_says (asked.List filer true) why holding says = absurd says
+  migrate_says (asked.Show number dated) why holding says = absurd says
+  migrate_says (asked.Check against) why holding says = absurd says
+  migrate_says asked.Migrate why holding says = says.2
+  migrate_says (asked.Export form filer) why holding says = absurd says
+  migrate_says (asked.Digest until) why holding says = absurd says
+  migrate_says (asked.Pages folder) why holding says = absurd says
+
+  migrate_commits : (X : Type 0) (was_taken : Bool) (why : OpenFault) (holding : Holding)
+      → IsFailure why ⊎ CommitsNothing (state g old) (state g new)
+      → leaves_doubt {X = X} was_taken (Err (fault.Migrate why holding)) ≡ false
+      → CommitsNothing (state g old) (state g new)
+  migrate_commits X was_taken why holding (inr nothing) sure = nothing
+  migrate_commits X was_taken why holding (inl (inl memory)) sure =
+      absurd (true≢false
+      (subst (λ f. leaves_doubt {X = X} was_taken (Err (fault.Migrate f holding)) ≡ false) memory sure))
+  migrate_commits X was_taken why holding (inl (inr disk)) sure =
+      absurd (true≢false
+      (subst (λ f. leaves_doubt {X = X} was_taken (Err (fault.Migrate f holding)) ≡ false) disk sure))
+
+  -- nothing, unless memory or the disk refused a migration
+  refused_commits : {X : Type 0} (errand : Errand) (was_taken : Bool) (done : Result X ErrandFault)
+      → IfErr done (Says g errand old new) → is_refused done ≡ true → leaves_doubt was_taken done ≡ false
+      → CommitsNothing (state g old) (state g new)
+  refused_commits errand was_taken (Ok done) says refused sure = absurd (true≢false (sym refused))
+  refused_commits errand was_taken (Err (fault.Files why)) says refused sure = absurd (files_say errand why says)
+  refused_commits errand was_taken (Err (fault.Open why holding)) says refused sure =
+      unopened_says errand why holding says
+  refused_commits {X} errand was_taken (Err (fault.Migrate why holding)) says refused sure =
+      migrate_commits X was_taken why holding (migrate_says errand why holding says) sure
+  refused_commits errand was_taken (Err (fault.List why)) says refused sure = absurd (true≢false (sym refused))
+  refused_commits errand was_taken (Err (fault.Store why)) says refused sure = absurd (true≢false (sym refused))
+  refused_commits errand was_taken (Err (fault.NoFiling number)) says refused sure =
+      absurd (true≢false (sym refused))
+  refused_commits errand was_taken (Err (fault.TooFew kept)) says refused sure = absurd (true≢false (sym refused))
+  refused_commits errand was_taken (Err (fault.Another count)) says refused sure = absurd (true≢false (sym refused))
+  refused_commits errand was_taken (Err (fault.Text why)) says refused sure = absurd (true≢false (sym refused))
+  refused_commits errand was_taken (Err fault.Folder) says refused sure = absurd (true≢false (sym refused))
 
 module _ {D : Type 0} {g : Ghosts D} where
   -- ---- the files are left
@@ -84,8 +153,8 @@ module _ {D : Type 0} {g : Ghosts D} where
       let both = came.1 (always_clean honest conn) in
       let hold =
       lies.1.2 in (
-        subst (IsRegisterFor errand old_style requests) (sym (finds lies.1.0 conn both.0 both.1 hold.db hold.held))
-            hold.register,
+        subst (IsRegisterFor errand old_style requests)
+            (sym (found_there lies.1.0 conn both.0 both.1 hold.db hold.held)) hold.register,
         came.0,
       )
 
@@ -99,14 +168,14 @@ module _ {D : Type 0} {g : Ghosts D} where
       let came = subst (λ l. ComesFrom l between conn) lies.1.1 comes in
       let both = came.1 (always_clean honest conn) in
       let hold = lies.1.2 in
-      let is = sym (finds lies.1.0 conn both.0 both.1 hold.db hold.held) in (
+      let is = sym (found_there lies.1.0 conn both.0 both.1 hold.db hold.held) in (
         subst (IsRegisterFor errand old_style requests) is hold.register,
         subst (AreMomentsFor errand requests moments) is hold.received,
       )
 
   copied : (conn : Held (FileStore D g)) (files : Files D) → IsHonest g → IsClosedIn g conn files
       → (old_style : ℕ) (requests : List Request) → HasCommitted (IsRegisterOf old_style requests) (file_state conn)
-      → HoldRegister g files old_style requests
+      → HoldRegisterWithLog g files old_style requests
   copied conn files honest closed old_style requests stands =
       let clean = are_clean g honest files.log files.db in
       let is_open = (closed.copied clean).was_open in
@@ -115,8 +184,8 @@ module _ {D : Type 0} {g : Ghosts D} where
         db = (file_state conn).now;
         register = register;
         held =
-            closed.holds clean (file_state conn).now register.sound (stands.committed is_open);
-        usable = closed.usable;
+            closed_with_log files (file_state conn).now
+            (closed.holds clean (file_state conn).now register.sound (stands.committed is_open));
       }
 
   closed_ok : (conn : Held (FileStore D g)) (files : Files D) (r : Result (Unit {0}) Error) → is_err r ≡ false
@@ -125,49 +194,49 @@ module _ {D : Type 0} {g : Ghosts D} where
   closed_ok conn files (Err error) not left = absurd (true≢false not)
 
   module _ (errand : Errand) (out out' : Outputs) (old new : Option (Option (Files D))) (visited : Visited) where
-    told_by : (opened : Result (Held (FileStore D g)) DatabaseFault) (between : Option (Option (Files D)))
+    told_by : (opened : Result (Held (FileStore D g)) Unopened) (between : Option (Option (Files D)))
         → OpensPlace g true old between opened → GoesOn errand out out' between new opened visited
         → IsHonest g → (old_style : ℕ) (requests : List Request) (moments : List (Option ℕ))
         → LiesDatedFor g errand old old_style requests moments
         → Tells errand requests moments out.text out'.text visited.done
-    told_by (Err why) between opens goes honest old_style requests moments lies =
+    told_by (Err it) between opens goes honest old_style requests moments lies =
         subst (λ done. Tells errand requests moments out.text out'.text done) (sym goes.0) (
-          may_files errand requests moments why,
-          no_print errand out.text out'.text (fault.Files why) (ap (λ o. o.text) goes.3),
-          no_begin errand requests moments out.text out'.text (fault.Files why) refl,
+          may_files errand requests moments it.fault,
+          no_print errand out.text out'.text (fault.Files it.fault) (ap (λ o. o.text) goes.4),
+          no_begin errand requests moments out.text out'.text (fault.Files it.fault) refl,
         )
     told_by (Ok conn) between opens goes honest old_style requests moments lies =
         let is = found_dated errand old between conn honest opens.comes old_style requests moments lies in
         goes.1.told (always_clean honest goes.0) old_style requests lies.0 is.0 moments is.1
 
-    filled_by : (opened : Result (Held (FileStore D g)) DatabaseFault) (between : Option (Option (Files D)))
+    filled_by : (opened : Result (Held (FileStore D g)) Unopened) (between : Option (Option (Files D)))
         → OpensPlace g true old between opened → GoesOn errand out out' between new opened visited
         → IsHonest g → (old_style : ℕ) (requests : List Request) → LiesFor g errand old old_style requests
         → is_for_pages errand ≡ true → OnOk visited.done (WritesSite requests out.pages out'.pages)
-    filled_by (Err why) between opens goes honest old_style requests lies is =
+    filled_by (Err it) between opens goes honest old_style requests lies is =
         subst (λ done. OnOk done (WritesSite requests out.pages out'.pages)) (sym goes.0) tt
     filled_by (Ok conn) between opens goes honest old_style requests lies is =
         goes.2.filled (always_clean honest goes.0) old_style requests lies.0
         (found errand old between conn honest opens.comes old_style requests lies).0 is
 
-    unfilled_by : (opened : Result (Held (FileStore D g)) DatabaseFault) (between : Option (Option (Files D)))
+    unfilled_by : (opened : Result (Held (FileStore D g)) Unopened) (between : Option (Option (Files D)))
         → GoesOn errand out out' between new opened visited → is_for_pages errand ≡ false → out'.pages ≡ out.pages
-    unfilled_by (Err why) between goes is = ap (λ o. o.pages) goes.3
+    unfilled_by (Err it) between goes is = ap (λ o. o.pages) goes.4
     unfilled_by (Ok conn) between goes is = goes.2.others is
 
-    kept_by : (opened : Result (Held (FileStore D g)) DatabaseFault) (between : Option (Option (Files D)))
+    kept_by : (opened : Result (Held (FileStore D g)) Unopened) (between : Option (Option (Files D)))
         → OpensPlace g true old between opened → GoesOn errand out out' between new opened visited
-        → IsHonest g → is_doubtful visited ≡ false → (old_style : ℕ) (requests : List Request)
-        → LiesFor g errand old old_style requests → KeepsBy {g = g} None new 0 old_style requests
-    kept_by (Err why) between opens goes honest sure old_style requests lies =
-        absurd (true≢false (sym (ap is_refused goes.0)
-        ∙ or_first (is_refused visited.done) (is_err visited.closed) sure))
-    kept_by (Ok conn) between opens goes honest sure old_style requests lies =
+        → IsHonest g → is_doubtful visited ≡ false → is_refused visited.done ≡ false
+        → (old_style : ℕ) (requests : List Request) → LiesFor g errand old old_style requests
+        → KeepsBy {g = g} None new 0 old_style requests
+    kept_by (Err it) between opens goes honest sure done old_style requests lies =
+        absurd (true≢false (sym (ap is_refused goes.0) ∙ done))
+    kept_by (Ok conn) between opens goes honest sure done old_style requests lies =
         let is_there = found errand old between conn honest opens.comes old_style requests lies in
-        let done = or_first (is_refused visited.done) (is_err visited.closed) sure in
         let files = goes.3.0 in
         let closed =
-        closed_ok goes.0 files visited.closed (or_second (is_refused visited.done) (is_err visited.closed) sure)
+        closed_ok goes.0 files visited.closed
+        (or_second (leaves_doubt visited.was_taken visited.done) (is_err visited.closed) sure)
         (subst (λ refused. IsLeftIn refused goes.0 files visited.closed) done goes.3.2) in
         let stands = goes.1.kept (always_clean honest goes.0) done old_style requests lies.0 is_there.0 in (
           lies.0,
@@ -178,41 +247,80 @@ module _ {D : Type 0} {g : Ghosts D} where
           ),
         )
 
+    left_by : SeenMayStay g → (opened : Result (Held (FileStore D g)) Unopened) (between : Option (Option (Files D)))
+        → OpensPlace g true old between opened → GoesOn errand out out' between new opened visited
+        → IsHonest g → is_doubtful visited ≡ false → is_refused visited.done ≡ true → LeavesDatabase g old new
+    left_by stays (Err it) between opens goes honest sure refused =
+        let untaken : it.was_taken ≡ false =
+        sym goes.1 ∙ sym (ap (leaves_doubt visited.was_taken) goes.0)
+        ∙ or_first (leaves_doubt visited.was_taken visited.done) (is_err visited.closed) sure in
+        subst (λ l. LeavesDatabase g old l) (sym goes.3)
+        (not_taken old between it.fault (subst (StaysIn g old between it.fault) untaken opens.refused))
+    left_by stays (Ok conn) between opens goes honest sure refused =
+        let files = goes.3.0 in
+        let nothing =
+        refused_commits over_files conn goes.0 errand visited.was_taken visited.done goes.1.refused refused
+        (or_first (leaves_doubt visited.was_taken visited.done) (is_err visited.closed) sure) in
+        let given = subst (λ refused. IsLeftIn refused goes.0 files visited.closed) refused goes.3.2 in
+        given_leaves honest stays old between new conn goes.0 opens.comes nothing
+        (lies_given old between new conn goes.0 files opens.comes goes.3.1 given.0)
+
+    -- a register of this version is not migrated
+    current_by : (opened : Result (Held (FileStore D g)) Unopened) (between : Option (Option (Files D)))
+        → OpensPlace g true old between opened → GoesOn errand out out' between new opened visited
+        → IsHonest g → errand ≡ asked.Migrate → (old_style : ℕ) (requests : List Request)
+        → Lie old (λ files. HoldRegisterWithLog g files old_style requests) → is_refused visited.done ≡ true
+    current_by (Err it) between opens goes honest migrates old_style requests lies = ap is_refused goes.0
+    current_by (Ok conn) between opens goes honest migrates old_style requests lies =
+        let came = subst (λ l. ComesFrom l between conn) lies.1 opens.comes in
+        let both = came.1 (always_clean honest conn) in
+        let hold = lies.2 in
+        goes.1.current (always_clean honest goes.0) migrates old_style requests
+        (subst (IsRegisterOf old_style requests) (sym (found_there lies.0 conn both.0 both.1 hold.db hold.held))
+        hold.register)
+
   -- ---- the process
 
-  pub visits_sure : (errand : Errand) (out out' : Outputs) (old new : Parts g) (visited : Visited)
+  visits_by : SeenMayStay g → (errand : Errand) (out out' : Outputs) (old new : Parts g) (visited : Visited)
+      → VisitsPlace g errand out out' old.lying new.lying visited
+      → (new.is_certain ≡ true → is_doubtful visited ≡ false) → (new.is_certain ≡ true → old.is_certain ≡ true)
+      → (is_doubtful visited ≡ false → new.is_certain ≡ old.is_certain)
+      → (is_doubtful visited ≡ true → new.is_certain ≡ false)
+      → new.refused_calls ≡ old.refused_calls → new.intake ≡ None
+      → VisitsRegister errand out out' old new visited
+  visits_by stays errand out out' old new visited visits sure certain same doubtful calls closed = record {
+    told = told_by errand out out' old.lying new.lying visited visits.opened visits.between visits.opens visits.goes;
+    filled = filled_by errand out out' old.lying new.lying visited visits.opened visits.between visits.opens
+        visits.goes;
+    unfilled = unfilled_by errand out out' old.lying new.lying visited visits.opened visits.between visits.goes;
+    kept = λ honest is. kept_by errand out out' old.lying new.lying visited visits.opened visits.between
+        visits.opens visits.goes honest (sure is);
+    left = λ honest is. left_by errand out out' old.lying new.lying visited stays visits.opened visits.between
+        visits.opens visits.goes honest (sure is);
+    current = λ honest. current_by errand out out' old.lying new.lying visited visits.opened visits.between visits.opens
+        visits.goes honest;
+    visits = visits;
+    certain = certain;
+    stays = same;
+    doubtful = doubtful;
+    calls = calls;
+    is_closed = closed;
+  }
+
+  pub visits_sure : SeenMayStay g → (errand : Errand) (out out' : Outputs) (old new : Parts g) (visited : Visited)
       → VisitsPlace g errand out out' old.lying new.lying visited → is_doubtful visited ≡ false
       → new.is_certain ≡ old.is_certain → new.refused_calls ≡ old.refused_calls → new.intake ≡ None
       → VisitsRegister errand out out' old new visited
-  visits_sure errand out out' old new visited visits sure same calls closed = record {
-    told = told_by errand out out' old.lying new.lying visited visits.opened visits.between visits.opens visits.goes;
-    filled = filled_by errand out out' old.lying new.lying visited visits.opened visits.between visits.opens
-        visits.goes;
-    unfilled = unfilled_by errand out out' old.lying new.lying visited visits.opened visits.between visits.goes;
-    kept = λ honest certain. kept_by errand out out' old.lying new.lying visited visits.opened visits.between
-        visits.opens visits.goes honest sure;
-    visits = visits;
-    certain = λ certain. sym same ∙ certain;
-    stays = λ sure. same;
-    doubtful = λ doubtful. absurd (true≢false (sym doubtful ∙ sure));
-    calls = calls;
-    is_closed = closed;
-  }
+  visits_sure stays errand out out' old new visited visits sure same =
+      visits_by stays errand out out' old new visited visits (λ _. sure) (λ certain. sym same ∙ certain) (λ _. same)
+      (λ doubtful. absurd (true≢false (sym doubtful ∙ sure)))
 
-  pub visits_unsure : (errand : Errand) (out out' : Outputs) (old new : Parts g) (visited : Visited)
+  pub visits_unsure : SeenMayStay g → (errand : Errand) (out out' : Outputs) (old new : Parts g) (visited : Visited)
       → VisitsPlace g errand out out' old.lying new.lying visited → is_doubtful visited ≡ true → new.is_certain ≡ false
       → new.refused_calls ≡ old.refused_calls → new.intake ≡ None
       → VisitsRegister errand out out' old new visited
-  visits_unsure errand out out' old new visited visits doubtful unsure calls closed = record {
-    told = told_by errand out out' old.lying new.lying visited visits.opened visits.between visits.opens visits.goes;
-    filled = filled_by errand out out' old.lying new.lying visited visits.opened visits.between visits.opens
-        visits.goes;
-    unfilled = unfilled_by errand out out' old.lying new.lying visited visits.opened visits.between visits.goes;
-    kept = λ honest certain. absurd (true≢false (sym certain ∙ unsure));
-    visits = visits;
-    certain = λ certain. absurd (true≢false (sym certain ∙ unsure));
-    stays = λ sure. absurd (true≢false (sym doubtful ∙ sure));
-    doubtful = λ _. unsure;
-    calls = calls;
-    is_closed = closed;
-  }
+  visits_unsure stays errand out out' old new visited visits doubtful unsure =
+      visits_by stays errand out out' old new visited visits
+      (λ certain. absurd (true≢false (sym certain ∙ unsure)))
+      (λ certain. absurd (true≢false (sym certain ∙ unsure)))
+      (λ sure. absurd (true≢false (sym doubtful ∙ sure))) (λ _. unsure)

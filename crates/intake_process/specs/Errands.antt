@@ -1,6 +1,6 @@
 -- Errands to a register: what they print of it, and what becomes of it. `out` and `out'` are what the output has before
 -- and after, if that is known.
-use Rattle.std.specs.Prelude.{◌≡◌, ◌≢◌, ◌<◌, ◌≤◌, ℕ, Bool, true, false, if◌then◌else◌, List, [], length, replicate}
+use Rattle.std.specs.Prelude.{◌≡◌, ◌≢◌, ◌⊎◌, ◌<◌, ◌≤◌, ℕ, Bool, true, false, if◌then◌else◌, List, [], length, replicate}
 use Rattle.std.specs.Prelude.{Option, Some, None, option_map, Result, Ok, Err, IsSome, IfErr, OnOk}
 use Rattle.std.specs.Io.KnownBytes.{Appends}
 use Rattle.std.specs.Option.{IsSomeAnd}
@@ -20,7 +20,7 @@ use Rattle.register_tables.specs.Earlier.{IsAlone, IsEarlierOf}
 use Rattle.register_tables.specs.Faults.{IsFailure}
 use Rattle.register_tables.specs.Migrating.{IsNotMigrated, MigratesTo}
 use Rattle.register_tables.specs.Opening.{IsRefused}
-use Rattle.register_tables.specs.Registers.{IsRegisterOf}
+use Rattle.register_tables.specs.Registers.{ForRows, IsRegisterOf}
 use Rattle.register_store.specs.Numbered.{facts_numbered}
 use Rattle.register_moments.specs.Moments.{moment_of}
 use Rattle.register_digest.specs.Digest.{digest_until}
@@ -151,12 +151,13 @@ abbrev pub is_refused : {X : Type 0} → Result X ErrandFault → Bool
 is_refused (Ok done) = false
 is_refused (Err why) = is_refusal why
 
--- What a fault says of a database. A refusal says why the database gave no register, and nothing was written to it; a
--- crash in a migration leaves all of it or nothing.
+-- What a fault says of a database. A refusal says why the database gave no register, and nothing was written to it. A
+-- crash in a migration leaves all of it or nothing, and nothing was committed if neither memory nor the disk failed.
 abbrev pub Says : {S : Type 0} → Ghosts S → Errand → Held S → Held S → ErrandFault → Type 0
 Says g asked.Migrate old new (fault.Open why holding) = ⊥
 Says g asked.Migrate old new (fault.Migrate why holding) =
     (HasCleanDisk (state g new) → IsNotMigrated g why old new) × Survives (state g old) (state g new) (MigratesTo g old)
+    × (IsFailure why ⊎ CommitsNothing (state g old) (state g new))
 Says g errand old new (fault.Open why holding) =
     (HasCleanDisk (state g new) → IsRefused g why old new) × CommitsNothing (state g old) (state g new)
 Says g (asked.List filer false) old new (fault.List why) = Unit {0}
@@ -190,6 +191,8 @@ pub record RunsErrand {S X : Type 0} (g : Ghosts S) (errand : Errand) (out out' 
   -- Unless it is refused, a database with the tables of a register is one.
   pub found : HasCleanDisk (state g new) → is_refused result ≡ false → HasTablesFor errand (state g old).now.schema
       → (old_style : ℕ) × (requests : List Request) × IsRegisterFor errand old_style requests (state g old).now
+  -- A register of this version is not migrated.
+  pub current : HasCleanDisk (state g new) → errand ≡ asked.Migrate → ForRows g old (λ _ _. is_refused result ≡ true)
   pub refused : IfErr result (Says g errand old new)
   pub quiet : IfErr result (IsQuiet errand out out')
 

@@ -1,5 +1,6 @@
 -- What the process keeps that an intake runs in, and what its calls do.
-use Rattle.std.specs.Prelude.{◌≡◌, ◌↔◌, ℕ, ◌+◌, ◌-◌, ◌^◌, ◌<◌, ◌≤◌, ◌⊎◌, Bool, true, false, List, [], length, Option}
+use Rattle.std.specs.Prelude.{◌≡◌, ◌↔◌, ℕ, ◌+◌, ◌-◌, ◌^◌, ◌<◌, ◌≤◌, ◌⊎◌, Bool, true, false, if◌then◌else◌, List, []}
+use Rattle.std.specs.Prelude.{length, Option}
 use Rattle.std.specs.Prelude.{Some, None, Result, Ok, Err, IsSome, IfOk, IfErr, IfSome, OnOk, OnErr}
 use Rattle.sqlite_disk.specs.declared.Disk.{Ghosts}
 use Rattle.sqlite_disk.specs.declared.Files.{Files}
@@ -10,16 +11,16 @@ use Rattle.sqlite.specs.Files.{over_files}
 use Rattle.sqlite.specs.declared.error.Error.{Error}
 use Rattle.sqlite.specs.Effect.{Database}
 use Rattle.command_line.specs.declared.fault.DatabaseFault.TheVariants.{Missing}
-use Rattle.table_rows.specs.Files.{HoldsDatabase}
 use Rattle.table_rows.specs.Tables.{no_schema}
 use Rattle.http_wire.specs.Wire.{Wire}
 use Rattle.filing_model.specs.Request.{Request, firsts}
-use Rattle.register_store.specs.Files.{HoldRegister}
+use Rattle.register_tables.specs.Registers.{IsRegisterOf}
 use Rattle.intake_core.specs.declared.intake.Intake.{Intake}
 use Rattle.intake_core.specs.Held.{store_of, limit_of, has_stopped}
 use Rattle.gateway_server.specs.Ahead.{DecidesAhead}
 use Rattle.gateway_server.specs.Progress.{ServesToEnd}
 use Rattle.database_places.specs.Closing.{IsClosedIn, IsNotClosed, LieGivenUp}
+use Rattle.database_places.specs.Left.{HoldWithLog}
 use Rattle.database_places.specs.Opening.{ComesFrom, OpensPlace}
 use Rattle.database_places.specs.Places.{Lie, IsHonest}
 use Rattle.database_places.specs.Places as place
@@ -35,7 +36,8 @@ use Rattle.intake_process.specs.Beginning.{HoldsAs, AreTotals, IsNotBegun}
 use Rattle.intake_process.specs.Turning.{TurnsAway}
 
 -- What contracts see of it: the intake, if it is open; if that is known, the files that lie in its place, if there are
--- some; whether no close and no opening failed; and how many calls its database refused, as far as a u64 counts.
+-- some; whether no close failed, no register that was being made, and no opening once it had taken the files; and how
+-- many calls its database refused, as far as a u64 counts.
 pub record Parts {D : Type 0} (g : Ghosts D) : Type 0 where
   pub intake : Option (Intake (FileStore D g))
   pub lying : Option (Option (Files D))
@@ -52,15 +54,25 @@ parts lying process =
           process.refused_calls;
     }
 
--- the intake is open and holds these requests, or it is closed and the files in the place hold them
+-- The log and the database file together hold the register of these requests: what was committed and is in the log
+-- alone counts.
+pub record HoldRegisterWithLog {D : Type 0} (g : Ghosts D) (files : Files D) (old_style : ℕ)
+    (requests : List Request) : Type 0 where
+  pub db : Database
+  pub register : IsRegisterOf old_style requests db
+  pub held : HoldWithLog g files db
+
+-- the intake is open and holds these requests, or it is closed and the files in the place hold them, by the log and the
+-- database file together
 abbrev pub KeepsBy : {D : Type 0} {g : Ghosts D} → Option (Intake (FileStore D g)) → Option (Option (Files D)) → ℕ → ℕ
     → List Request → Type 0
 KeepsBy (Some intake) lying limit old_style requests =
     HoldsAs over_files limit old_style requests intake × (lying ≡ Some None)
 KeepsBy {D} {g} None lying limit old_style requests =
-    (firsts requests ≡ requests) × Lie lying (λ files. HoldRegister g files old_style requests)
+    (firsts requests ≡ requests) × Lie lying (λ files. HoldRegisterWithLog g files old_style requests)
 
--- the process keeps these requests, as long as no close and no opening failed
+-- the process keeps these requests, as long as no close failed, no register that was being made, and no opening once it
+-- had taken the files
 abbrev pub Keeps : {D : Type 0} {g : Ghosts D} → Parts g → ℕ → ℕ → List Request → Type 0
 Keeps process limit old_style requests = process.is_certain ≡ true
     → KeepsBy process.intake process.lying limit old_style requests
@@ -98,14 +110,28 @@ pub record StaysUp {D : Type 0} {g : Ghosts D} (old new : Parts g) : Type 0 wher
 
 -- ---- it is opened
 
--- Why the process was not opened: the place gave no database; or no intake began over this connection to the database
--- that lay there or was made, and the connection was given up.
-abbrev pub IsNotOpened : {D : Type 0} → Ghosts D → Bool → Option (Option (Files D)) → Option (Option (Files D))
+-- Why the process was not opened: the place gave no database, and its files were taken or not; or no intake began over
+-- this connection to the database that lay there or was made, and the connection was given up.
+abbrev pub IsNotOpened : {D : Type 0} → Ghosts D → Bool → Option (Option (Files D)) → Option (Option (Files D)) → Bool
     → OpeningFault → Type 0
-IsNotOpened g has_to_be_there old new (fault.Files why) = OpensPlace g has_to_be_there old new (Err why)
-IsNotOpened {D} g has_to_be_there old new why =
+IsNotOpened g has_to_be_there old new was_taken (fault.Files why) =
+    OpensPlace g has_to_be_there old new (Err (record { fault = why; was_taken = was_taken }))
+IsNotOpened {D} g has_to_be_there old new was_taken why =
     (conn : Held (FileStore D g)) × (back : Held (FileStore D g)) × ComesFrom old (Some None) conn
     × IsNotBegun over_files has_to_be_there conn why back × LieGivenUp old new back
+
+-- if the files that lie there before hold a sound database, those that lie there after hold it
+abbrev pub LeavesDatabase : {D : Type 0} → Ghosts D → Option (Option (Files D)) → Option (Option (Files D)) → Type 0
+LeavesDatabase g old new =
+    (db : Database) → Lie old (λ files. HoldWithLog g files db) → Lie new (λ files. HoldWithLog g files db)
+
+-- Whether such a refusal leaves doubt of what lies there: a register was being made, or the place gave no database once
+-- the files were taken. Otherwise nothing was taken, or nothing was committed.
+abbrev pub leaves_doubt : Bool → OpeningFault → Bool
+leaves_doubt was_taken (fault.Files why) = was_taken
+leaves_doubt was_taken (fault.Taken holding) = false
+leaves_doubt was_taken (fault.Create why) = true
+leaves_doubt was_taken (fault.Open why holding) = false
 
 -- What opening the process does, whether its register has to be there or is made.
 pub record OpensProcess {D : Type 0} (g : Ghosts D) (has_to_be_there : Bool) (limit : ℕ) (old new : Parts g)
@@ -118,11 +144,19 @@ pub record OpensProcess {D : Type 0} (g : Ghosts D) (has_to_be_there : Bool) (li
   -- a register that is made has no requests
   pub made : IsHonest g → has_to_be_there ≡ false → old.intake ≡ None → IsSome old.lying
       → OnOk result (Keeps new limit 0 [])
-  -- if the register has to be there, and no files lie there, the fault is Missing
-  pub absent : old.intake ≡ None → has_to_be_there ≡ true → old.lying ≡ Some None → result ≡ Err (fault.Files Missing)
+  -- After a refusal the requests that lay there are kept, also if a register was to be made; and so is whatever other
+  -- database lay there.
+  pub unmade : IsHonest g → OnErr result (Leaves limit old new)
+  pub left : IsHonest g → new.is_certain ≡ true → OnErr result (LeavesDatabase g old.lying new.lying)
+  -- if the register has to be there, and no files lie there, the fault is Missing, and nothing changes
+  pub absent : old.intake ≡ None → has_to_be_there ≡ true → old.lying ≡ Some None
+      → (new ≡ old) × (result ≡ Err (fault.Files Missing))
+  -- where no files lay, a refusal that leaves no doubt leaves all as it was
+  pub nothing : IsHonest g → old.intake ≡ None → old.lying ≡ Some None → new.is_certain ≡ true
+      → OnErr result (new ≡ old)
   -- it is made only if no files lie there, or the database in them has no tables
   pub fresh : IsHonest g → old.intake ≡ None → has_to_be_there ≡ false → (files : Files D)
-      → old.lying ≡ Some (Some files) → (db : Database) → HoldsDatabase g files db → OnOk result (db.schema ≡ no_schema)
+      → old.lying ≡ Some (Some files) → (db : Database) → HoldWithLog g files db → OnOk result (db.schema ≡ no_schema)
   pub certain : OnOk result (new.is_certain ≡ old.is_certain)
   pub is_open : OnOk result (IsSome new.intake)
   -- whatever lay there, it keeps at most `limit` keys from now on
@@ -130,11 +164,12 @@ pub record OpensProcess {D : Type 0} (g : Ghosts D) (has_to_be_there : Bool) (li
   pub up : old.intake ≡ None → OnOk result (IsUp new.intake)
   pub already : IsSome old.intake → (new ≡ old) × (result ≡ Ok None)
   pub calls : new.refused_calls ≡ old.refused_calls
-  -- a refusal says why; after it the process is closed, and the files that lay in the place still lie there, as the
-  -- opening left them, which may be what a crash leaves
-  pub why : IfErr result (IsNotOpened g has_to_be_there old.lying new.lying)
+  -- A refusal says why. After it the process is closed, and the files that lay in the place still lie there. If it
+  -- leaves no doubt they hold what they held; otherwise they may be what a crash leaves.
+  pub why : IfErr result (λ fault. (was_taken : Bool)
+      × IsNotOpened g has_to_be_there old.lying new.lying was_taken fault
+      × (new.is_certain ≡ (if leaves_doubt was_taken fault then false else old.is_certain)))
   pub refused : IfErr result (λ _. new.intake ≡ None)
-  pub doubtful : OnErr result (new.is_certain ≡ false)
   pub back : IfErr result (λ _. (there : Files D) → old.lying ≡ Some (Some there)
       → (files : Files D) × (new.lying ≡ Some (Some files)))
 

@@ -92,7 +92,7 @@ pub record AreAnswered (requests : Keeping) (old new : Traffic) (turns : List Tu
 -- port was asked, if the answer has it.
 pub record AnswersSome {D : Type 0} {g : Ghosts D} (limit : ℕ) (port port' : Traffic) (old new : Parts g)
     (taken : Option ℕ) : Type 0 where
-  -- As long as no close and no opening failed, some connections were answered, the first after the requests that were
+  -- As long as the process is certain, some connections were answered, the first after the requests that were
   -- kept before, and those are kept now that the last one left: by the intake, or in the place. As long as its database
   -- refused no call, none was turned away.
   pub answers : (old_style : ℕ) (before : List Request) → Keeps old limit old_style before → new.is_certain ≡ true

@@ -8,20 +8,23 @@ use Rattle.sqlite.specs.declared.error.Error.{Error}
 use Rattle.sqlite.specs.Effect.{Database}
 use Rattle.sqlite.specs.Files.{over_files}
 use Rattle.sqlite.specs.Held.{Held}
-use Rattle.table_rows.specs.Files.{HoldsDatabase, AreUsable}
 use Rattle.filing_model.specs.Request.{Request, firsts}
 use Rattle.register_pages.specs.Pages.{WritesSite}
-use Rattle.command_line.specs.declared.fault.DatabaseFault.{DatabaseFault}
 use Rattle.database_places.specs.Closing.{IsClosedIn, IsGivenUp, IsNotClosed}
+use Rattle.database_places.specs.Left.{HoldWithLog}
 use Rattle.database_places.specs.Opening.{OpensPlace}
+use Rattle.database_places.specs.declared.opening.Unopened.{Unopened}
 use Rattle.database_places.specs.Places.{Lie, IsHonest}
 use Rattle.database_places.specs.Places as place
+use Rattle.register_tables.specs.declared.fault.OpenFault.TheVariants.{Memory, Disk}
 use Rattle.intake_process.specs.declared.tasks.errand.Errand.{Errand}
+use Rattle.intake_process.specs.declared.tasks.errand.Errand.TheVariants as asked
+use Rattle.intake_process.specs.declared.errand.ErrandFault.{ErrandFault}
 use Rattle.intake_process.specs.declared.errand.ErrandFault.TheVariants as fault
 use Rattle.intake_process.specs.declared.visiting.Visited.{Visited}
 use Rattle.intake_process.specs.Errands.{AreMomentsFor, FillsFolder, IsRegisterFor, RunsErrand, Tells, is_for_pages}
 use Rattle.intake_process.specs.Errands.{is_refused}
-use Rattle.intake_process.specs.Process.{Parts, KeepsBy}
+use Rattle.intake_process.specs.Process.{Parts, HoldRegisterWithLog, KeepsBy, LeavesDatabase}
 
 -- what an output has, and which pages were written into a folder, if that is known
 pub record Outputs : Type 0 where
@@ -31,13 +34,12 @@ pub record Outputs : Type 0 where
 abbrev pub outputs : Option (List ℕ) → Option (List (List ℕ)) → Outputs
 outputs text pages = record { text = text; pages = pages }
 
--- the files hold the register of these requests in the version that the errand is for, and can be opened
+-- the log and the database file together hold the register of these requests in the version that the errand is for
 pub record HoldFor {D : Type 0} (g : Ghosts D) (errand : Errand) (files : Files D) (old_style : ℕ)
     (requests : List Request) : Type 0 where
   pub db : Database
   pub register : IsRegisterFor errand old_style requests db
-  pub held : HoldsDatabase g files db
-  pub usable : AreUsable g files
+  pub held : HoldWithLog g files db
 
 -- the same, and these are the moments of its requests
 pub record HoldDatedFor {D : Type 0} (g : Ghosts D) (errand : Errand) (files : Files D) (old_style : ℕ)
@@ -45,8 +47,7 @@ pub record HoldDatedFor {D : Type 0} (g : Ghosts D) (errand : Errand) (files : F
   pub db : Database
   pub register : IsRegisterFor errand old_style requests db
   pub received : AreMomentsFor errand requests moments db
-  pub held : HoldsDatabase g files db
-  pub usable : AreUsable g files
+  pub held : HoldWithLog g files db
 
 -- the register of these requests, with these moments, lies there
 abbrev pub LiesDatedFor : {D : Type 0} → Ghosts D → Errand → Option (Option (Files D)) → ℕ → List Request
@@ -59,9 +60,17 @@ abbrev pub LiesFor : {D : Type 0} → Ghosts D → Errand → Option (Option (Fi
 LiesFor g errand lying old_style requests =
     (firsts requests ≡ requests) × Lie lying (λ files. HoldFor g errand files old_style requests)
 
--- no register was opened, or it was not closed: what lies in the place may be what a crash leaves
+-- whether an errand that came out like this leaves doubt: the files gave no database once they were taken, or memory or
+-- the disk refused a migration, which may be committed all the same
+abbrev pub leaves_doubt : {X : Type 0} → Bool → Result X ErrandFault → Bool
+leaves_doubt was_taken (Err (fault.Files why)) = was_taken
+leaves_doubt was_taken (Err (fault.Migrate Memory holding)) = true
+leaves_doubt was_taken (Err (fault.Migrate Disk holding)) = true
+leaves_doubt was_taken other = false
+
+-- so it came out, or the register was not closed: what lies in the place may be what a crash leaves
 abbrev pub is_doubtful : Visited → Bool
-is_doubtful visited = is_refused visited.done || is_err visited.closed
+is_doubtful visited = leaves_doubt visited.was_taken visited.done || is_err visited.closed
 
 -- ---- whatever lies there
 
@@ -76,9 +85,10 @@ module _ {D : Type 0} {g : Ghosts D} where
   -- The database was not opened, and nothing was done; or the errand was done with the connection to it, and its files
   -- lie there again.
   abbrev pub GoesOn : Errand → Outputs → Outputs → Option (Option (Files D)) → Option (Option (Files D))
-      → Result (Held (FileStore D g)) DatabaseFault → Visited → Type 0
-  GoesOn errand out out' between lying (Err why) visited =
-      (visited.done ≡ Err (fault.Files why)) × (visited.closed ≡ Ok tt) × (lying ≡ between) × (out' ≡ out)
+      → Result (Held (FileStore D g)) Unopened → Visited → Type 0
+  GoesOn errand out out' between lying (Err it) visited =
+      (visited.done ≡ Err (fault.Files it.fault)) × (visited.was_taken ≡ it.was_taken) × (visited.closed ≡ Ok tt)
+      × (lying ≡ between) × (out' ≡ out)
   GoesOn errand out out' between lying (Ok conn) visited =
       (left : Held (FileStore D g)) × RunsErrand over_files errand out.text out'.text conn left visited.done
       × FillsFolder over_files errand out.pages out'.pages conn left visited.done
@@ -88,7 +98,7 @@ module _ {D : Type 0} {g : Ghosts D} where
 -- What a visit does with what lies in a place, whatever that is.
 pub record VisitsPlace {D : Type 0} (g : Ghosts D) (errand : Errand) (out out' : Outputs)
     (old new : Option (Option (Files D))) (visited : Visited) : Type 0 where
-  pub opened : Result (Held (FileStore D g)) DatabaseFault
+  pub opened : Result (Held (FileStore D g)) Unopened
   pub between : Option (Option (Files D))
   pub opens : OpensPlace g true old between opened
   pub goes : GoesOn errand out out' between new opened visited
@@ -96,8 +106,7 @@ pub record VisitsPlace {D : Type 0} (g : Ghosts D) (errand : Errand) (out out' :
 -- ---- a register
 
 -- What a visit does with a process that is closed. What is printed of a register of the version that the errand is for
--- is the text of its requests and their moments, and they are kept as a register of this version as long as no close
--- and no opening failed. Its pages are written if the errand is for them, and otherwise none.
+-- is the text of its requests and their moments. Its pages are written if the errand is for them, and otherwise none.
 pub record VisitsRegister {D : Type 0} {g : Ghosts D} (errand : Errand) (out out' : Outputs) (old new : Parts g)
     (visited : Visited) : Type 0 where
   pub told : IsHonest g → (old_style : ℕ) (requests : List Request) (moments : List (Option ℕ))
@@ -107,9 +116,16 @@ pub record VisitsRegister {D : Type 0} {g : Ghosts D} (errand : Errand) (out out
       → is_for_pages errand ≡ true
       → OnOk visited.done (WritesSite requests out.pages out'.pages)
   pub unfilled : is_for_pages errand ≡ false → out'.pages ≡ out.pages
-  pub kept : IsHonest g → new.is_certain ≡ true → (old_style : ℕ) (requests : List Request)
-      → LiesFor g errand old.lying old_style requests
+  -- As long as the process is certain, the requests are kept as a register of this version, if the errand was not
+  -- refused. If it was, they lie there as they lay, and so does any other database.
+  pub kept : IsHonest g → new.is_certain ≡ true → is_refused visited.done ≡ false
+      → (old_style : ℕ) (requests : List Request) → LiesFor g errand old.lying old_style requests
       → KeepsBy {g = g} None new.lying 0 old_style requests
+  pub left : IsHonest g → new.is_certain ≡ true → is_refused visited.done ≡ true
+      → LeavesDatabase g old.lying new.lying
+  -- A register of this version is not migrated.
+  pub current : IsHonest g → errand ≡ asked.Migrate → (old_style : ℕ) (requests : List Request)
+      → Lie old.lying (λ files. HoldRegisterWithLog g files old_style requests) → is_refused visited.done ≡ true
   pub visits : VisitsPlace g errand out out' old.lying new.lying visited
   pub certain : new.is_certain ≡ true → old.is_certain ≡ true
   pub stays : is_doubtful visited ≡ false → new.is_certain ≡ old.is_certain

@@ -1,5 +1,8 @@
 //! Why a register is not opened.
 
+ghost use Rattle.std.specs.Prelude.{◌≡◌};
+ghost use Rattle.intake_process.specs.Process.{leaves_doubt};
+
 use command_line::DatabaseFault;
 use database_places::Holding;
 use register_store::{CreateFault, OpenFault};
@@ -23,5 +26,17 @@ impl OpeningFault {
             self,
             OpeningFault::Taken(_) | OpeningFault::Open(OpenFault::NotOurs, _)
         )
+    }
+
+    /// Whether such a refusal leaves doubt of what lies in the place. `was_taken` says whether its files were taken.
+    pub(crate) fn leaves_doubt(self, was_taken: bool) -> bool
+        ensures { result ≡ leaves_doubt was_taken self }
+    {
+        match self {
+            OpeningFault::Files(_) => was_taken,
+            OpeningFault::Create(_) => true,
+            OpeningFault::Taken(_) => false,
+            OpeningFault::Open(_, _) => false,
+        }
     }
 }

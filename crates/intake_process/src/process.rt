@@ -1,11 +1,11 @@
 //! The process that an intake runs in.
 
-ghost use Rattle.std.specs.Prelude.{◌≡◌, ◌≤◌, ◌^◌, [], None, true, is_some, map, option_map};
+ghost use Rattle.std.specs.Prelude.{◌≡◌, ◌≤◌, ◌^◌, [], None, true, false, if◌then◌else◌, is_some, map, option_map};
 ghost use Rattle.std.specs.Borrow.{sem};
 ghost use Rattle.std.specs.Option.{option_copied_mut};
 ghost use Rattle.http_wire.specs.Wire.{wire};
 ghost use Rattle.database_places.specs.Opening.{is_found};
-ghost use Rattle.intake_process.specs.Process.{ServesBy, CountsRefusal};
+ghost use Rattle.intake_process.specs.Process.{ServesBy, CountsRefusal, leaves_doubt};
 
 use crate::beginning::{Totals, begin, parted};
 use crate::fault::OpeningFault;
@@ -75,13 +75,25 @@ fn refused_with(outcome: Outcome, refused_calls: u64) -> u64
     }
 }
 
+/// Whether it is certain what lies in a place after an opening that was refused, which took the files or didn't.
+fn is_certain_after(is_certain: bool, was_taken: bool, fault: OpeningFault) -> bool
+    ensures { result ≡ (if leaves_doubt was_taken fault then false else is_certain) }
+{
+    if fault.leaves_doubt(was_taken) {
+        false
+    } else {
+        is_certain
+    }
+}
+
 /// The intake of a register that lies in a place: open, or closed.
 #[derive(Drop)]
 pub struct IntakeProcess<D: Disk + Drop, P: Place<D> + Drop> {
     pub(crate) place: P,
     /// `None` while the process is closed.
     intake: Option<Intake<FileStore<D>>>,
-    /// Whether no close and no opening failed. After one that did, what lies in the place may be what a crash leaves.
+    /// Whether no close failed, no register that was being made, and no opening once it had taken the files. After one
+    /// that did, what lies in the place may be what a crash leaves.
     pub(crate) is_certain: bool,
     /// How many calls its database refused, as far as this counts.
     refused_calls: u64,
@@ -136,7 +148,8 @@ impl<D: Disk + Drop, P: Place<D> + Drop> IntakeProcess<D, P> {
     }
 
     /// Opens it, if it is closed, and says how much the register holds then. It keeps at most `limit` keys. A refusal
-    /// leaves the files in the place, and leaves a database that is damaged or no register as it was.
+    /// leaves the files in the place, and leaves the database in them as it was, whatever that is, if no register was
+    /// being made in it.
     pub fn open(
         &mut self,
         alloc: Global,
@@ -153,9 +166,10 @@ impl<D: Disk + Drop, P: Place<D> + Drop> IntakeProcess<D, P> {
         let had_log = self.place.has_log();
         let conn = match open(alloc, &mut self.place, opening) {
             Ok(conn) => conn,
-            Err(fault) => {
-                self.is_certain = false;
-                return Err(OpeningFault::Files(fault));
+            Err(unopened) => {
+                let fault = OpeningFault::Files(unopened.fault);
+                self.is_certain = is_certain_after(self.is_certain, unopened.was_taken, fault);
+                return Err(fault);
             }
         };
         match begin(alloc, conn, opening, limit) {
@@ -164,7 +178,7 @@ impl<D: Disk + Drop, P: Place<D> + Drop> IntakeProcess<D, P> {
                 Ok(Some(totals))
             }
             Err((fault, back)) => {
-                self.is_certain = false;
+                self.is_certain = is_certain_after(self.is_certain, true, fault);
                 give_up(&mut self.place, back);
                 if fault.is_of_others() {
                     remove_new_log(&mut self.place, had_log);

@@ -5,7 +5,8 @@ ghost use Rattle.sqlite_disk.specs.declared.Files.{Files as Pair};
 ghost use Rattle.database_places.specs.Places.{Leaves};
 ghost use Rattle.intake_process.specs.Errands.{is_refused};
 ghost use Rattle.intake_process.specs.Process.{parts};
-ghost use Rattle.intake_process.specs.Visits.{IsLeftIn, VisitsPlace, VisitsRegister, is_doubtful, outputs};
+ghost use Rattle.intake_process.specs.Visits.{IsLeftIn, VisitsPlace, VisitsRegister, is_doubtful, leaves_doubt};
+ghost use Rattle.intake_process.specs.Visits.{outputs};
 
 use crate::errand::{ErrandFault, run_errand};
 use crate::process::IntakeProcess;
@@ -13,6 +14,7 @@ use crate::tasks::checking::Progress;
 use crate::tasks::errand::Errand;
 use database_places::{Cache, Opening, Place, close, give_up, open, remove_new_log};
 use register_pages::Folder;
+use register_store::OpenFault;
 use sqlite::{Connection, Error, FileStore};
 use sqlite_disk::Disk;
 use std::alloc::Global;
@@ -25,14 +27,31 @@ pub struct Visited {
     pub done: Result<(), ErrandFault>,
     /// Why what was committed is not all in the database file, but in the log still, if it isn't.
     pub closed: Result<(), Error>,
+    /// Whether the files were taken out of their place. They lie there again.
+    pub was_taken: bool,
 }
 
 impl Visited {
-    /// Whether no register was opened, or it was not closed.
+    /// Whether what lies in the place may be what a crash leaves.
     fn is_doubtful(&self) -> bool
         ensures { result ≡ is_doubtful self.now }
     {
-        is_refused(&self.done) || self.closed.is_err()
+        leaves_doubt(self.was_taken, &self.done) || self.closed.is_err()
+    }
+}
+
+/// Whether an errand that came out like this leaves doubt of what lies in the place, from which the files were taken or
+/// not.
+fn leaves_doubt(was_taken: bool, done: &Result<(), ErrandFault>) -> bool
+    ensures { result ≡ leaves_doubt was_taken done.now }
+{
+    match done {
+        Ok(()) => false,
+        Err(fault) => match *fault {
+            ErrandFault::Files(_) => was_taken,
+            ErrandFault::Migrate(OpenFault::Memory | OpenFault::Disk, _) => true,
+            _ => false,
+        },
     }
 }
 
@@ -92,19 +111,24 @@ fn visit_place<D: Disk + Drop, P: Place<D>, G: Progress, F: Folder, O: Write>(
         Ok(conn) => {
             let (left, done) = run_errand(alloc, conn, errand, progress, folder, output);
             let closed = leave(place, left, &done, had_log);
-            Visited { done, closed }
+            Visited {
+                done,
+                closed,
+                was_taken: true,
+            }
         }
-        Err(fault) => Visited {
-            done: Err(ErrandFault::Files(fault)),
+        Err(unopened) => Visited {
+            done: Err(ErrandFault::Files(unopened.fault)),
             closed: Ok(()),
+            was_taken: unopened.was_taken,
         },
     }
 }
 
 impl<D: Disk + Drop, P: Place<D> + Drop> IntakeProcess<D, P> {
     /// Opens the register, which is closed, does an errand to it, and closes it. A refusal leaves the files in the
-    /// place, and leaves a database that is damaged or no register as it was. `progress` learns how far a check is, and
-    /// pages go into the folder.
+    /// place, and leaves the database in them as it was, whatever that is, if it was not to be migrated. `progress`
+    /// learns how far a check is, and pages go into the folder.
     pub fn visit<G: Progress, F: Folder, O: Write>(
         &mut self,
         alloc: Global,

@@ -8,7 +8,6 @@ use Rattle.sqlite_disk.specs.declared.Disk.{Ghosts}
 use Rattle.sqlite.specs.declared.error.Error.{Error}
 use Rattle.key_string.specs.Filer.{is_filer}
 use Rattle.outbox_tables.specs.Entries.{Contents}
-use Rattle.outbox_tables.specs.Faults.{IsFailure}
 use Rattle.database_places.specs.Places.{IsHonest}
 use Rattle.database_places.specs.declared.verdict.Verdict.{Verdict}
 use Rattle.database_places.specs.Verdicts.{verdict_text}
@@ -17,7 +16,7 @@ use Rattle.outbox_process.specs.declared.beginning.Beginning.TheVariants as begi
 use Rattle.outbox_process.specs.declared.errand.Errand.TheVariants as errand
 use Rattle.outbox_process.specs.declared.fault.OpeningFault.{OpeningFault}
 use Rattle.outbox_process.specs.declared.fault.OpeningFault.TheVariants as opening
-use Rattle.outbox_process.specs.Process.{Parts, Keeps, OpensProcess, ClosesProcess}
+use Rattle.outbox_process.specs.Process.{Parts, Keeps, IsOfCurrent, OpensProcess, ClosesProcess}
 use Rattle.outbox_commands.specs.declared.fault.Fault.{Fault}
 use Rattle.outbox_commands.specs.declared.options.Task.{Task}
 use Rattle.outbox_commands.specs.declared.options.Task.TheVariants.{Init, Put, Migrate, Send, Ask, Status, Show}
@@ -57,15 +56,7 @@ abbrev pub IsJudged : Option Verdict → Option (List ℕ) → Option (List ℕ)
 IsJudged (Some verdict) out out' done status = IsPrinted out out' (verdict_text verdict (codes "an outbox")) done status
 IsJudged None out out' done status = (status ≡ done) × (out' ≡ out)
 
--- why an outbox of this version is not migrated: it has this version, or the files gave no database, or memory or the
--- disk failed
-abbrev pub IsOfCurrent : OpeningFault → Type 0
-IsOfCurrent (opening.Files why) = Unit {0}
-IsOfCurrent opening.IsCurrent = Unit {0}
-IsOfCurrent (opening.Migrate why holding) = IsFailure why
-IsOfCurrent other = ⊥
-
--- this is why, if an outbox is kept there; nothing is committed to it then
+-- The fault is that of an outbox of this version, if one is kept there. Nothing is committed to it then.
 abbrev pub IfCurrent : {D : Type 0} {g : Ghosts D} → Parts g → OpeningFault → Type 0
 IfCurrent {D} {g} old told =
     IsHonest g → old.is_certain ≡ true → (it : Contents) → Keeps old it → IsOfCurrent told

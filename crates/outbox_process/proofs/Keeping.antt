@@ -1,18 +1,17 @@
 -- What is kept while an outbox is opened and closed.
 use Rattle.std.proofs.Common.{◌≡◌, true, false, true≢false, Option, Some, None, Result, Ok, Err, IsSome, IfErr, OnOk}
-use Rattle.std.proofs.Common.{refl, sym, ◌∙◌, ap, subst, inl, inr}
-use Rattle.std.specs.Prelude.{Bool, is_err, is_some}
+use Rattle.std.proofs.Common.{refl, sym, ◌∙◌, ap, subst}
+use Rattle.std.specs.Prelude.{Bool, not, ◌&&◌, if◌then◌else◌, is_err, is_some}
 use Rattle.sqlite_disk.specs.declared.Disk.{Ghosts}
 use Rattle.sqlite_disk.specs.declared.Files.{Files}
 use Rattle.sqlite_store.specs.declared.store.FileStore.{FileStore}
+use Rattle.sqlite_wal.proofs.LogLemmas.{SeenMayStay}
 use Rattle.sqlite.specs.Held.{Held}
 use Rattle.sqlite.specs.Files.{file_state, over_files}
 use Rattle.sqlite.specs.declared.error.Error.{Error}
 use Rattle.sqlite.specs.Effect.{Database}
-use Rattle.table_rows.specs.Files.{HoldsDatabase}
 use Rattle.table_rows.specs.Tables.{no_schema}
 use Rattle.table_rows.proofs.CleanLemmas.{always_clean, are_clean}
-use Rattle.table_rows.proofs.FileLemmas.{finds}
 use Rattle.outbox_tables.specs.Earlier.{IsAlone, IsEarlierOf}
 use Rattle.outbox_tables.specs.Entries.{Contents, contents_of}
 use Rattle.outbox_tables.specs.Rows.{IsOutboxOf}
@@ -20,18 +19,23 @@ use Rattle.outbox_core.specs.OutboxParts.{OutboxParts}
 use Rattle.database_places.specs.Closing.{IsClosedIn, IsGivenUp, IsNotClosed, LieGivenUp}
 use Rattle.command_line.specs.declared.fault.DatabaseFault.{DatabaseFault}
 use Rattle.command_line.specs.declared.fault.DatabaseFault.TheVariants.{Missing}
-use Rattle.database_places.specs.Opening.{ComesFrom, OpensPlace, StaysIn}
+use Rattle.database_places.specs.Left.{HoldWithLog}
+use Rattle.database_places.specs.Opening.{ComesFrom, OpensPlace, StaysIn, untouched}
+use Rattle.database_places.specs.declared.opening.Unopened.{Unopened as NotOpened}
 use Rattle.database_places.specs.Places.{KeepsLying, IsHonest}
 use Rattle.database_places.specs.Places as place
+use Rattle.database_places.proofs.Finding.{found_there}
+use Rattle.database_places.proofs.Leaving.{closed_with_log}
 use Rattle.outbox_process.specs.declared.beginning.Beginning.{Beginning}
 use Rattle.outbox_process.specs.declared.beginning.Beginning.TheVariants.{Found, Made, Migrated}
 use Rattle.outbox_process.specs.declared.fault.OpeningFault.{OpeningFault}
 use Rattle.outbox_process.specs.declared.fault.OpeningFault.TheVariants.{Files as Unopened, Taken, Create, Open}
 use Rattle.outbox_process.specs.declared.fault.OpeningFault.TheVariants.{IsCurrent, Migrate}
 use Rattle.outbox_process.specs.Beginning.{HasContents, BeginsOutbox}
-use Rattle.outbox_process.specs.Process.{Parts, KeepsBy, Keeps, BeginsWith, IsNotOpened, IsUp, has_to_be_there}
-use Rattle.outbox_process.specs.Process.{OpensProcess, IsLeftOpen, ClosesProcess}
+use Rattle.outbox_process.specs.Process.{Parts, KeepsBy, Keeps, Leaves, BeginsWith, IsNotOpened, IsUp}
+use Rattle.outbox_process.specs.Process.{has_to_be_there, leaves_doubt, OpensProcess, IsLeftOpen, ClosesProcess}
 use Rattle.outbox_process.specs.Refusals.{RefusesOutbox}
+use Rattle.outbox_process.proofs.Refusing.{lies_still, of_current, still_vacant}
 
 pub none_of : {A : Type 0} (o : Option A) → is_some o ≡ false → o ≡ None
 none_of None is = refl
@@ -42,11 +46,13 @@ not_some None is some = absurd (true≢false (sym some))
 not_some (Some x) is some = absurd cc
 
 -- what lay there lies there, or what was left of it
-stayed : {D : Type 0} (g : Ghosts D) (old new : Option (Option (Files D))) (fault : DatabaseFault)
-    → StaysIn g old new fault → (there : Files D) → old ≡ Some (Some there)
+stayed : {D : Type 0} (g : Ghosts D) (old new : Option (Option (Files D))) (fault : DatabaseFault) (was_taken : Bool)
+    → StaysIn g old new fault was_taken → (there : Files D) → old ≡ Some (Some there)
     → (files : Files D) × (new ≡ Some (Some files))
-stayed g old new fault stays there lies =
-    elim (subst (λ l. StaysIn g l new fault) lies stays) [ inl same ↦ (there, same) | inr left ↦ (left.0, left.1) ]
+stayed g old new fault false stays there lies = (there, subst (λ l. StaysIn g l new fault false) lies stays)
+stayed g old new fault true stays there lies =
+    let left = subst (λ l. StaysIn g l new fault true) lies stays in
+    (left.0, left.1)
 
 -- files that are left alone lie there
 pub keeps_lying : {D : Type 0} (lying : Option (Option (Files D))) → KeepsLying lying lying
@@ -63,50 +69,87 @@ lie_left g old new back left there lies =
 
 -- files that lay there lie there
 back_of : {D : Type 0} (g : Ghosts D) (beginning : Beginning) (old new : Option (Option (Files D)))
-    (fault : OpeningFault) → IsNotOpened g beginning old new fault → (there : Files D) → old ≡ Some (Some there)
-    → (files : Files D) × (new ≡ Some (Some files))
-back_of g beginning old new (Unopened why) is there lies = stayed g old new why is.refused there lies
-back_of g beginning old new (Taken holding) is there lies = lie_left g old new is.1 is.4 there lies
-back_of g beginning old new (Create why) is there lies = lie_left g old new is.1 is.4 there lies
-back_of g beginning old new (Open why holding) is there lies = lie_left g old new is.1 is.4 there lies
-back_of g beginning old new IsCurrent is there lies = lie_left g old new is.1 is.4 there lies
-back_of g beginning old new (Migrate why holding) is there lies = lie_left g old new is.1 is.4 there lies
+    (was_taken : Bool) (fault : OpeningFault) → IsNotOpened g beginning old new was_taken fault → (there : Files D)
+    → old ≡ Some (Some there) → (files : Files D) × (new ≡ Some (Some files))
+back_of g beginning old new taken (Unopened why) is there lies = stayed g old new why taken is.refused there lies
+back_of g beginning old new taken (Taken holding) is there lies = lie_left g old new is.1 is.4 there lies
+back_of g beginning old new taken (Create why) is there lies = lie_left g old new is.1 is.4 there lies
+back_of g beginning old new taken (Open why holding) is there lies = lie_left g old new is.1 is.4 there lies
+back_of g beginning old new taken IsCurrent is there lies = lie_left g old new is.1 is.4 there lies
+back_of g beginning old new taken (Migrate why holding) is there lies = lie_left g old new is.1 is.4 there lies
 
 same_err : {A E : Type 0} (r : Result A E) (a b : E) → r ≡ Err a → r ≡ Err b → a ≡ b
 same_err r a b one other = cc
 
 -- the fault of a database that has to be there where no files lie
-pub missing : {D : Type 0} {g : Ghosts D} (has : Bool) (old new : Option (Option (Files D))) (why : DatabaseFault)
-    → OpensPlace g has old new (Err why) → has ≡ true → old ≡ Some None → Unopened why ≡ Unopened Missing
-missing has old new why opens is none =
-    ap (λ (w : DatabaseFault). Unopened w) (same_err (Err why) why Missing refl (opens.absent is none))
+pub missing : {D : Type 0} {g : Ghosts D} (has : Bool) (old new : Option (Option (Files D))) (it : NotOpened)
+    → OpensPlace g has old new (Err it) → has ≡ true → old ≡ Some None → Unopened it.fault ≡ Unopened Missing
+missing has old new it opens is none =
+    ap (λ (w : NotOpened). Unopened w.fault) (same_err (Err it) it (untouched Missing) refl (opens.absent is none))
 
 -- a connection that came is no such fault
 pub there : {D X : Type 0} {g : Ghosts D} (has : Bool) (old new : Option (Option (Files D)))
     (conn : Held (FileStore D g)) → OpensPlace g has old new (Ok conn) → has ≡ true → old ≡ Some None → X
 there has old new conn opens is none =
-    let other : Ok conn ≡ Err Missing = opens.absent is none in
+    let other : Ok conn ≡ Err (untouched Missing) = opens.absent is none in
     absurd (cc)
+
+-- the certainty falls if that leaves a doubt
+pub falls : (was told doubt : Bool) → told ≡ doubt → (was && not told) ≡ (if doubt then false else was)
+falls true true doubt is = ap (λ d. if d then false else true) is
+falls true false doubt is = ap (λ d. if d then false else true) is
+falls false true doubt is = ap (λ d. if d then false else false) is
+falls false false doubt is = ap (λ d. if d then false else false) is
+
+-- the process is certain after a refusal only if that leaves no doubt, and the process was certain before it
+sure : (doubt was is : Bool) → is ≡ (if doubt then false else was) → is ≡ true → (doubt ≡ false) × (was ≡ true)
+sure true was is by certain = absurd (true≢false (sym certain ∙ by))
+sure false was is by certain = (refl, sym by ∙ certain)
 
 module _ {D : Type 0} {g : Ghosts D} where
   -- ---- it is opened
 
-  -- a refusal leaves it closed, and nothing is certain
-  pub refuses : (beginning : Beginning) (old new : Parts g) (fault : OpeningFault) → new.is_certain ≡ false
-      → old.outbox ≡ None → new.outbox ≡ None → IsNotOpened g beginning old.lying new.lying fault
+  -- what was kept is kept after a refusal that leaves no doubt
+  still_keeps : IsHonest g → SeenMayStay g → (beginning : Beginning) (old new : Parts g) (was_taken : Bool)
+      (fault : OpeningFault) → old.outbox ≡ None → new.outbox ≡ None
+      → new.is_certain ≡ (if leaves_doubt was_taken fault then false else old.is_certain)
+      → IsNotOpened g beginning old.lying new.lying was_taken fault → Leaves old new
+  still_keeps honest stays beginning old new was_taken fault none closed by why = record {
+    kept = λ it keeps certain.
+        let both = sure (leaves_doubt was_taken fault) old.is_certain new.is_certain by certain in
+        let lie = subst (λ o. KeepsBy {g = g} o old.lying it) none (keeps both.1) in
+        subst (λ o. KeepsBy {g = g} o new.lying it) (sym closed)
+        (lies_still honest stays beginning old.lying new.lying it lie was_taken fault both.0 why);
+    certain = λ certain. (sure (leaves_doubt was_taken fault) old.is_certain new.is_certain by certain).1;
+  }
+
+  -- a refusal leaves it closed
+  pub refuses : SeenMayStay g → (beginning : Beginning) (old new : Parts g) (was_taken : Bool) (fault : OpeningFault)
+      → new.is_certain ≡ (if leaves_doubt was_taken fault then false else old.is_certain)
+      → old.outbox ≡ None → new.outbox ≡ None → IsNotOpened g beginning old.lying new.lying was_taken fault
       → (has_to_be_there beginning ≡ true → old.lying ≡ Some None → fault ≡ Unopened Missing)
       → OpensProcess g beginning old new (Err fault)
-  refuses beginning old new fault unsure none closed why absent = record {
+  refuses stays beginning old new was_taken fault by none closed why absent = record {
     keeps = λ honest it begins. tt;
     absent = λ _ has lies. ap (λ (f : OpeningFault). Err f) (absent has lies);
     fresh = λ honest _ has files lies db held. tt;
-    current = λ honest is none certain it keeps. tt;
+    current = λ honest is none certain it keeps. (
+      tt,
+      of_current honest old.lying new.lying was_taken fault it
+          (subst (λ b. IsNotOpened g b old.lying new.lying was_taken fault) is why)
+          (subst (λ o. KeepsBy {g = g} o old.lying it) none (keeps certain)),
+    );
     certain = tt;
     is_open = tt;
     up = λ _. tt;
     already = λ some. not_some old.outbox none some;
-    refused = (why, closed, unsure);
-    back = back_of g beginning old.lying new.lying fault why;
+    refused = (was_taken, why, closed, by);
+    unharmed = λ honest. still_keeps honest stays beginning old new was_taken fault none closed by why;
+    back = back_of g beginning old.lying new.lying was_taken fault why;
+    vacant = λ honest _ lies certain.
+        still_vacant g honest beginning new.lying was_taken fault
+        (sure (leaves_doubt was_taken fault) old.is_certain new.is_certain by certain).0
+        (subst (λ l. IsNotOpened g beginning l new.lying was_taken fault) lies why) (λ has. absent has lies);
   }
 
   keeps_open : (beginning : Beginning) (process : Parts g) (it : Contents) → IsSome process.outbox
@@ -128,7 +171,9 @@ module _ {D : Type 0} {g : Ghosts D} where
     up = λ none. not_some process.outbox none some;
     already = λ _. (refl, refl);
     refused = tt;
+    unharmed = λ honest. tt;
     back = tt;
+    vacant = λ honest none lies. tt;
   }
 
   came_empty : (old mid : Option (Option (Files D))) (conn : Held (FileStore D g)) → IsSome old → ComesFrom old mid conn
@@ -164,7 +209,7 @@ module _ {D : Type 0} {g : Ghosts D} where
   pub not_begun : (beginning : Beginning) (old mid after new : Option (Option (Files D)))
       (conn back : Held (FileStore D g)) (files : Files D) (fault : OpeningFault) → ComesFrom old mid conn
       → RefusesOutbox over_files beginning conn back fault → place.Leaves mid after files → KeepsLying after new
-      → IsGivenUp back files → IsNotOpened g beginning old new fault
+      → IsGivenUp back files → IsNotOpened g beginning old new true fault
   not_begun beginning old mid after new conn back files (Unopened why) comes is leaves keeps given =
       absurd (no_such beginning conn back why is)
   not_begun beginning old mid after new conn back files (Taken holding) comes is leaves keeps given = (
@@ -205,12 +250,12 @@ module _ {D : Type 0} {g : Ghosts D} where
 
   -- the database that files held is what the connection shows that came from them
   shows_held : (files : Files D) (lying mid : Option (Option (Files D))) (conn : Held (FileStore D g)) → IsHonest g
-      → lying ≡ Some (Some files) → ComesFrom lying mid conn → (db : Database) → HoldsDatabase g files db
+      → lying ≡ Some (Some files) → ComesFrom lying mid conn → (db : Database) → HoldWithLog g files db
       → ((file_state conn).now ≡ db) × (mid ≡ Some None)
   shows_held files lying mid conn honest lies comes db held =
       let came = subst (λ l. ComesFrom l mid conn) lies comes in
       let both = came.1 (always_clean honest conn) in
-      (finds files conn both.0 both.1 db held, came.0)
+      (found_there files conn both.0 both.1 db held, came.0)
 
   keeps_begun : (beginning : Beginning) (old new : Parts g) (conn : Held (FileStore D g))
       (outbox : OutboxParts (FileStore D g)) → old.outbox ≡ None → new.is_certain ≡ old.is_certain
@@ -238,7 +283,7 @@ module _ {D : Type 0} {g : Ghosts D} where
   fresh : (beginning : Beginning) (old new : Parts g) (conn : Held (FileStore D g))
       (outbox : OutboxParts (FileStore D g)) → ComesFrom old.lying new.lying conn
       → BeginsOutbox over_files beginning conn outbox → IsHonest g → has_to_be_there beginning ≡ false
-      → (files : Files D) → old.lying ≡ Some (Some files) → (db : Database) → HoldsDatabase g files db
+      → (files : Files D) → old.lying ≡ Some (Some files) → (db : Database) → HoldWithLog g files db
       → db.schema ≡ no_schema
   fresh Found old new conn outbox comes begun honest has files lies db held = absurd (true≢false has)
   fresh (Made filer) old new conn outbox comes begun honest has files lies db held =
@@ -267,15 +312,19 @@ module _ {D : Type 0} {g : Ghosts D} where
     absent = λ _ has lies. absurd (there has lies);
     fresh = λ honest _ has files lies db held. fresh beginning old new conn outbox comes begun honest has files lies db
         held;
-    current =
-        λ honest is none certain it keeps. not_current old new conn outbox none comes
-        (subst (λ b. BeginsOutbox over_files b conn outbox) is begun) honest it (keeps certain);
+    current = λ honest is none certain it keeps. (
+      not_current old new conn outbox none comes (subst (λ b. BeginsOutbox over_files b conn outbox) is begun) honest
+          it (keeps certain),
+      tt,
+    );
     certain = same;
     is_open = subst (λ o. IsSome o) (sym up) refl;
     up = λ _. subst (λ o. IsUp o) (sym up) able;
     already = λ some. not_some old.outbox none some;
     refused = tt;
+    unharmed = λ honest. tt;
     back = tt;
+    vacant = λ honest none lies. tt;
   }
 
   -- ---- it is closed
@@ -296,9 +345,7 @@ module _ {D : Type 0} {g : Ghosts D} where
         record {
           db = now;
           outbox = outbox_is;
-          held =
-              closed.holds clean now outbox_is.sound (stands.committed is_open);
-          usable = closed.usable;
+          held = closed_with_log files now (closed.holds clean now outbox_is.sound (stands.committed is_open));
         },
       )
 

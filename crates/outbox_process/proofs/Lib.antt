@@ -3,6 +3,7 @@ mod Keeping
 mod Looks
 mod Migrating
 mod Opens
+mod Refusing
 mod Sendings
 mod Showings
 mod Trying

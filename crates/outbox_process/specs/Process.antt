@@ -1,5 +1,6 @@
 -- What the process keeps that an outbox runs in, and what its calls do.
 use Rattle.std.specs.Prelude.{◌≡◌, ℕ, Bool, true, false, List, Option, Some, None, Result, Ok, Err, IsSome, IfErr, OnOk}
+use Rattle.std.specs.Prelude.{OnErr, if◌then◌else◌}
 use Rattle.sqlite_disk.specs.declared.Disk.{Ghosts}
 use Rattle.sqlite_disk.specs.declared.Files.{Files}
 use Rattle.sqlite_store.specs.declared.store.FileStore.{FileStore}
@@ -7,14 +8,15 @@ use Rattle.sqlite.specs.Files.{over_files}
 use Rattle.sqlite.specs.Held.{Held}
 use Rattle.sqlite.specs.declared.error.Error.{Error}
 use Rattle.command_line.specs.declared.fault.DatabaseFault.TheVariants.{Missing}
-use Rattle.table_rows.specs.Files.{HoldsDatabase, AreUsable}
 use Rattle.table_rows.specs.Tables.{no_schema}
 use Rattle.sqlite.specs.Effect.{Database}
 use Rattle.outbox_tables.specs.Earlier.{IsAlone, IsEarlierOf}
 use Rattle.outbox_tables.specs.Entries.{Contents, empty}
-use Rattle.outbox_core.specs.Files.{HoldOutbox}
+use Rattle.outbox_tables.specs.Faults.{IsFailure}
+use Rattle.outbox_tables.specs.Rows.{IsOutboxOf}
 use Rattle.outbox_core.specs.OutboxParts.{OutboxParts}
 use Rattle.database_places.specs.Closing.{IsNotClosed, LieGivenUp}
+use Rattle.database_places.specs.Left.{HoldWithLog}
 use Rattle.database_places.specs.Opening.{ComesFrom, OpensPlace}
 use Rattle.database_places.specs.Places.{Lie, IsHonest}
 use Rattle.database_places.specs.Places as place
@@ -32,7 +34,7 @@ use Rattle.outbox_process.specs.Errands.{DoesErrand}
 use Rattle.outbox_process.specs.Refusals.{RefusesOutbox}
 
 -- What contracts see of it: the outbox, if it is open; if that is known, the files that lie in its place, if there are
--- some; and whether no close and no opening failed.
+-- some; and whether what is kept is certain: no close failed, no making, and no opening once it had taken the files.
 pub record Parts {D : Type 0} (g : Ghosts D) : Type 0 where
   pub outbox : Option (OutboxParts (FileStore D g))
   pub lying : Option (Option (Files D))
@@ -43,13 +45,22 @@ parts lying process = record { outbox = process.outbox; lying = lying process.pl
 
 -- ---- what it keeps
 
--- the outbox is open, and this filer's with these entries; or it is closed, and the files in the place hold it
+-- The log and the database file together hold the outbox of these contents: what was committed and is in the log alone
+-- counts.
+pub record HoldOutboxWithLog {D : Type 0} (g : Ghosts D) (files : Files D) (it : Contents) : Type 0 where
+  pub db : Database
+  pub outbox : IsOutboxOf it db
+  pub held : HoldWithLog g files db
+
+-- The outbox is open, and this filer's with these entries; or it is closed, and the files in the place hold it, by the
+-- log and the database file together.
 abbrev pub KeepsBy : {D : Type 0} {g : Ghosts D} → Option (OutboxParts (FileStore D g)) → Option (Option (Files D))
     → Contents → Type 0
 KeepsBy (Some outbox) lying it = HasContents over_files outbox it × (lying ≡ Some None)
-KeepsBy {D} {g} None lying it = Lie lying (λ files. HoldOutbox g files it)
+KeepsBy {D} {g} None lying it = Lie lying (λ files. HoldOutboxWithLog g files it)
 
--- the process keeps the outbox of these contents, as long as no close and no opening failed
+-- The process keeps the outbox of these contents, as long as no close failed, no making, and no opening once it had
+-- taken the files.
 abbrev pub Keeps : {D : Type 0} {g : Ghosts D} → Parts g → Contents → Type 0
 Keeps process it = process.is_certain ≡ true → KeepsBy process.outbox process.lying it
 
@@ -67,13 +78,13 @@ has_to_be_there Found = true
 has_to_be_there (Made filer) = false
 has_to_be_there Migrated = true
 
--- These files hold the outbox of these contents in the version before, and its tables alone.
+-- These files hold the outbox of these contents in the version before, and its tables alone, by the log and the
+-- database file together.
 pub record HoldEarlier {D : Type 0} (g : Ghosts D) (files : Files D) (it : Contents) : Type 0 where
   pub db : Database
   pub earlier : IsEarlierOf it db
   pub alone : IsAlone db.schema
-  pub held : HoldsDatabase g files db
-  pub usable : AreUsable g files
+  pub held : HoldWithLog g files db
 
 -- The contents with which an outbox begins: those that are kept; no entries of the filer for which it is made, if the
 -- process is closed; or those that it had in the version before.
@@ -82,14 +93,30 @@ BeginsWith Found old it = Keeps old it
 BeginsWith (Made filer) old it = (old.outbox ≡ None) × IsSome old.lying × (it ≡ empty filer.now)
 BeginsWith {D} {g} Migrated old it = (old.outbox ≡ None) × Lie old.lying (λ files. HoldEarlier g files it)
 
--- why the process was not opened: the files gave no database; or this connection to them gave no outbox, and was given
--- up
+-- Why the process was not opened: the files, which were taken or not, gave no database; or this connection to them gave
+-- no outbox, and was given up.
 abbrev pub IsNotOpened : {D : Type 0} → Ghosts D → Beginning → Option (Option (Files D)) → Option (Option (Files D))
-    → OpeningFault → Type 0
-IsNotOpened g beginning old new (fault.Files why) = OpensPlace g (has_to_be_there beginning) old new (Err why)
-IsNotOpened {D} g beginning old new why =
+    → Bool → OpeningFault → Type 0
+IsNotOpened g beginning old new was_taken (fault.Files why) =
+    OpensPlace g (has_to_be_there beginning) old new (Err (record { fault = why; was_taken = was_taken }))
+IsNotOpened {D} g beginning old new was_taken why =
     (conn : Held (FileStore D g)) × (back : Held (FileStore D g)) × ComesFrom old (Some None) conn
     × RefusesOutbox over_files beginning conn back why × LieGivenUp old new back
+
+-- Whether an opening that was refused like this may have changed what lies in the place: it had taken the files and got
+-- no database, or was making an outbox. A migration commits nothing to an outbox of this version.
+abbrev pub leaves_doubt : Bool → OpeningFault → Bool
+leaves_doubt was_taken (fault.Files why) = was_taken
+leaves_doubt was_taken (fault.Create why) = true
+leaves_doubt was_taken _ = false
+
+-- why an outbox of this version is not migrated: it has this version, or the files gave no database, or memory or the
+-- disk failed
+abbrev pub IsOfCurrent : OpeningFault → Type 0
+IsOfCurrent (fault.Files why) = Unit {0}
+IsOfCurrent fault.IsCurrent = Unit {0}
+IsOfCurrent (fault.Migrate why holding) = IsFailure why
+IsOfCurrent _ = ⊥
 
 -- it is open, and its database refused no call
 abbrev pub IsUp : {S : Type 0} → Option (OutboxParts S) → Type 0
@@ -105,21 +132,26 @@ pub record OpensProcess {D : Type 0} (g : Ghosts D) (beginning : Beginning) (old
       → result ≡ Err (fault.Files Missing)
   -- it is made only if no files lie there, or the database in them has no tables
   pub fresh : IsHonest g → old.outbox ≡ None → has_to_be_there beginning ≡ false → (files : Files D)
-      → old.lying ≡ Some (Some files) → (db : Database) → HoldsDatabase g files db → OnOk result (db.schema ≡ no_schema)
-  -- an outbox of this version is not migrated
+      → old.lying ≡ Some (Some files) → (db : Database) → HoldWithLog g files db → OnOk result (db.schema ≡ no_schema)
+  -- an outbox of this version is not migrated, and the fault says so, or that the opening failed
   pub current : IsHonest g → beginning ≡ Migrated → old.outbox ≡ None → old.is_certain ≡ true → (it : Contents)
-      → Keeps old it → OnOk result ⊥
+      → Keeps old it → OnOk result ⊥ × IfErr result IsOfCurrent
   pub certain : OnOk result (new.is_certain ≡ old.is_certain)
   pub is_open : OnOk result (IsSome new.outbox)
   pub up : old.outbox ≡ None → OnOk result (IsUp new.outbox)
   -- a process that is open stays as it is
   pub already : IsSome old.outbox → (new ≡ old) × (result ≡ Ok tt)
-  -- after a refusal the process is closed, and the fault says why; the files that lay in the place still lie there, as
-  -- the opening left them
-  pub refused : IfErr result (λ why. IsNotOpened g beginning old.lying new.lying why × (new.outbox ≡ None)
-      × (new.is_certain ≡ false))
+  -- after a refusal the process is closed, the fault says why, and the process is as certain as before, unless the
+  -- opening may have changed what lies there
+  pub refused : IfErr result (λ why. (was_taken : Bool) × IsNotOpened g beginning old.lying new.lying was_taken why
+      × (new.outbox ≡ None) × (new.is_certain ≡ (if leaves_doubt was_taken why then false else old.is_certain)))
+  -- then it keeps what it kept
+  pub unharmed : IsHonest g → OnErr result (Leaves old new)
+  -- the files that lay in the place still lie there, as the opening left them; where none lay, none lie
   pub back : IfErr result (λ _. (there : Files D) → old.lying ≡ Some (Some there)
       → (files : Files D) × (new.lying ≡ Some (Some files)))
+  pub vacant : IsHonest g → old.outbox ≡ None → old.lying ≡ Some None
+      → OnErr result (new.is_certain ≡ true → new.lying ≡ Some None)
 
 -- ---- an errand is done
 

@@ -1,5 +1,8 @@
 //! Why an outbox is not opened.
 
+ghost use Rattle.std.specs.Prelude.{◌≡◌};
+ghost use Rattle.outbox_process.specs.Process.{leaves_doubt};
+
 use command_line::DatabaseFault;
 use database_places::Holding;
 use outbox_core::OutboxFault;
@@ -22,6 +25,21 @@ pub enum OpeningFault {
 }
 
 impl OpeningFault {
+    /// Whether an opening that was refused like this may have changed what lies in the place: it had taken the files
+    /// and got no database, or was making an outbox.
+    pub(crate) fn leaves_doubt(self, was_taken: bool) -> bool
+        ensures { result ≡ leaves_doubt was_taken self }
+    {
+        match self {
+            OpeningFault::Files(_) => was_taken,
+            OpeningFault::Create(_) => true,
+            OpeningFault::Taken(_)
+            | OpeningFault::Open(..)
+            | OpeningFault::IsCurrent
+            | OpeningFault::Migrate(..) => false,
+        }
+    }
+
     /// Whether the database is not the outbox that was asked for, so that this program leaves nothing beside it.
     pub(crate) fn is_of_others(self) -> bool {
         matches!(

@@ -34,7 +34,8 @@ pub struct OutboxProcess<D: Disk + Drop, P: Place<D> + Drop> {
     place: P,
     /// `None` while the process is closed.
     outbox: Option<Outbox<FileStore<D>>>,
-    /// Whether no close and no opening failed. After one that did, what lies in the place may be what a crash leaves.
+    /// Whether no close failed, no making, and no opening once it had taken the files. After one that did, what lies in
+    /// the place may be what a crash leaves. Any other refusal leaves an outbox of this version as it was.
     is_certain: bool,
 }
 
@@ -92,9 +93,10 @@ impl<D: Disk + Drop, P: Place<D> + Drop> OutboxProcess<D, P> {
         let had_log = self.place.has_log();
         let conn = match open(alloc, &mut self.place, opening_of(beginning)) {
             Ok(conn) => conn,
-            Err(fault) => {
-                self.is_certain = false;
-                return Err(OpeningFault::Files(fault));
+            Err(unopened) => {
+                let fault = OpeningFault::Files(unopened.fault);
+                self.is_certain &= !fault.leaves_doubt(unopened.was_taken);
+                return Err(fault);
             }
         };
         match begin(alloc, conn, beginning) {
@@ -103,7 +105,7 @@ impl<D: Disk + Drop, P: Place<D> + Drop> OutboxProcess<D, P> {
                 Ok(())
             }
             Err((fault, back)) => {
-                self.is_certain = false;
+                self.is_certain &= !fault.leaves_doubt(true);
                 give_up(&mut self.place, back);
                 if fault.is_of_others() {
                     remove_new_log(&mut self.place, had_log);

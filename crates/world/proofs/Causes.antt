@@ -1,5 +1,5 @@
 -- What no end that is not opened or closed is told as.
-use Rattle.std.proofs.Common.{◌≢◌, Option}
+use Rattle.std.proofs.Common.{◌≢◌, Bool, Option}
 use Rattle.sqlite_disk.specs.declared.Disk.{Ghosts}
 use Rattle.sqlite_disk.specs.declared.Files.{Files}
 use Rattle.command_line.specs.declared.fault.DatabaseFault.{DatabaseFault}
@@ -32,11 +32,11 @@ of_outbox outbox.Memory e = cc
 of_outbox outbox.Disk e = cc
 
 -- an outbox that had to be there is not told as one that was not made
-pub of_opening : {D : Type 0} (g : Ghosts D) (old new : Option (Option (Files D))) (fault : OpeningFault)
-    → IsNotOpened g Found old new fault → outbox_opening_cause fault ≢ cause.Store
-of_opening g old new (opening.Files why) is = of_files why
-of_opening g old new (opening.Taken holding) is = absurd is.3
-of_opening g old new (opening.Create why) is = absurd is.3
-of_opening g old new (opening.Open why holding) is = of_outbox why
-of_opening g old new opening.IsCurrent is = absurd is.3
-of_opening g old new (opening.Migrate why holding) is = absurd is.3
+pub of_opening : {D : Type 0} (g : Ghosts D) (old new : Option (Option (Files D))) (was_taken : Bool)
+    (fault : OpeningFault) → IsNotOpened g Found old new was_taken fault → outbox_opening_cause fault ≢ cause.Store
+of_opening g old new was_taken (opening.Files why) is = of_files why
+of_opening g old new was_taken (opening.Taken holding) is = absurd is.3
+of_opening g old new was_taken (opening.Create why) is = absurd is.3
+of_opening g old new was_taken (opening.Open why holding) is = of_outbox why
+of_opening g old new was_taken opening.IsCurrent is = absurd is.3
+of_opening g old new was_taken (opening.Migrate why holding) is = absurd is.3

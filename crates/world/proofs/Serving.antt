@@ -1,7 +1,7 @@
 -- What is kept while the process of an intake serves, closes and is opened again.
 use Rattle.std.proofs.Common.{◌≡◌, ◌≢◌, ℕ, true, false, true≢false, List, [], take, Option, Some, None, Result, Ok, Err}
 use Rattle.std.proofs.Common.{refl, sym, ◌∙◌, ap, subst}
-use Rattle.std.specs.Prelude.{is_some, IfSome}
+use Rattle.std.specs.Prelude.{Bool, is_some, IfSome}
 use Rattle.sqlite_disk.specs.declared.Disk.{Ghosts}
 use Rattle.sqlite_disk.specs.declared.Files.{Files}
 use Rattle.sqlite_store.specs.declared.store.FileStore.{FileStore}
@@ -131,12 +131,12 @@ register_not register.Memory e = cc
 register_not register.Disk e = cc
 
 -- a register that had to be there is not told as one that was not made
-pub found_not : {D : Type 0} (g : Ghosts D) (old new : Option (Option (Files D))) (fault : OpeningFault)
-    → IsNotOpened g true old new fault → opening_cause fault ≢ cause.Store
-found_not g old new (opening.Files why) is = of_files why
-found_not g old new (opening.Taken holding) is = absurd (true≢false is.3.0)
-found_not g old new (opening.Create why) is = absurd (true≢false is.3.0)
-found_not g old new (opening.Open why holding) is = register_not why
+pub found_not : {D : Type 0} (g : Ghosts D) (old new : Option (Option (Files D))) (was_taken : Bool)
+    (fault : OpeningFault) → IsNotOpened g true old new was_taken fault → opening_cause fault ≢ cause.Store
+found_not g old new was_taken (opening.Files why) is = of_files why
+found_not g old new was_taken (opening.Taken holding) is = absurd (true≢false is.3.0)
+found_not g old new was_taken (opening.Create why) is = absurd (true≢false is.3.0)
+found_not g old new was_taken (opening.Open why holding) is = register_not why
 
 -- an error of a close says why the register, which was open, was not closed
 pub not_closed : {D : Type 0} {g : Ghosts D} (old : Option (Intake (FileStore D g))) (there : Option (Files D))

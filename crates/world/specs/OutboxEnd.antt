@@ -23,7 +23,7 @@ lying_in drawer = Some drawer.files
 
 -- ---- what it keeps
 
--- The process keeps the outbox of this filer with these entries, and no close and no opening failed.
+-- The process keeps the outbox of this filer with these entries, and is certain of it.
 abbrev pub KeepsSurely : {D : Type 0} {g : Ghosts D} → OutboxProcess D (Drawer D) g → List ℕ → List Entry → Type 0
 KeepsSurely {D} {g} process filer entries =
     (process.is_certain ≡ true) × KeepsBy {g = g} process.outbox (lying_in process.place) (contents_of filer entries)
@@ -78,7 +78,8 @@ IfUp None Holds = Unit {0}
 abbrev pub IsNotOpenedIn : {D : Type 0} → Ghosts D → Option (Option (Files D)) → Option (Option (Files D)) → Cause
     → Type 0
 IsNotOpenedIn g old new why =
-    (fault : OpeningFault) × IsNotOpened g Found old new fault × (why ≡ outbox_opening_cause fault)
+    (was_taken : Bool) × (fault : OpeningFault) × IsNotOpened g Found old new was_taken fault
+    × (why ≡ outbox_opening_cause fault)
 
 -- the outbox was open, and was not closed for an error of this cause
 abbrev pub IsNotClosedIn : {D : Type 0} {g : Ghosts D} → Option (OutboxParts (FileStore D g))

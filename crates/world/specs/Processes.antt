@@ -21,7 +21,7 @@ use Rattle.world.specs.Causes.{opening_cause, close_cause}
 use Rattle.world.specs.OutboxEnd.{lying_in}
 use Rattle.world.specs.declared.ends.cause.Cause.{Cause}
 
--- The process keeps these requests, none of which is old-style, and no close and no opening failed.
+-- The process keeps these requests, none of which is old-style, and is certain of it.
 abbrev pub KeepsSurely : {D : Type 0} {g : Ghosts D} → IntakeProcess D (Drawer D) g → ℕ → List Request → Type 0
 KeepsSurely {D} {g} process limit requests =
     (process.is_certain ≡ true) × KeepsBy {g = g} process.intake (lying_in process.place) limit 0 requests
@@ -51,7 +51,8 @@ is_asleep None = true
 abbrev pub IsNotStarted : {D : Type 0} → Ghosts D → Bool → Option (Option (Files D)) → Option (Option (Files D)) → Cause
     → Type 0
 IsNotStarted g has_to_be_there old new why =
-    (fault : OpeningFault) × IsNotOpened g has_to_be_there old new fault × (why ≡ opening_cause fault)
+    (fault : OpeningFault) × (was_taken : Bool) × IsNotOpened g has_to_be_there old new was_taken fault
+    × (why ≡ opening_cause fault)
 
 -- its register was open, and was not closed for an error of this cause; the files that were left lie in its place
 abbrev pub IsNotStopped : {D : Type 0} {g : Ghosts D} → Option (Intake (FileStore D g)) → Option (Option (Files D))

@@ -16,8 +16,8 @@ returns-in-Ok g c = record {
 
 pub returns-in-Err : goal.returns-in-Err
 returns-in-Err g c = record {
-  opened = Err c.in-Err.fault;
+  opened = Err c.in-Err.unopened;
   between = g.P.Place.lying c.open.new.place;
   opens = c.in-Err.ensures.opens;
-  goes = (refl, refl, refl, refl);
+  goes = (refl, refl, refl, refl, refl);
 }

@@ -1,4 +1,4 @@
-use Rattle.std.proofs.Common.{sym, ◌∙◌, refl}
+use Rattle.std.proofs.Common.{true, sym, ◌∙◌, refl}
 use Rattle.database_places.specs.Opening.{is_found}
 use Rattle.intake_process.specs.Process.{parts}
 use Rattle.intake_process.proofs.Keeping.{none_of, missing, there, refuses, is_open, not_begun, keeps_lying, opens}
@@ -11,10 +11,12 @@ returns-then-is_some g c =
 
 pub returns-in-Err : goal.returns-in-Err
 returns-in-Err g c =
-    refuses (is_found c.args.opening) c.args.limit _ _ _ refl
+    refuses g.met.D.Disk.seen_may_stay (is_found c.args.opening) c.args.limit _ _ c.in-Err.unopened.was_taken _
+    c.is_certain_after-self.ensures
     (none_of c.args.self.now.intake (sym c.is_some.ensures ∙ c.if-is_some.false))
     (none_of c.args.self.now.intake (sym c.is_some.ensures ∙ c.if-is_some.false)) refl c.in-Err.ensures.opens
-    (missing (is_found c.args.opening) (g.P.Place.lying c.args.self.now.place) _ c.in-Err.fault c.in-Err.ensures.opens)
+    (missing (is_found c.args.opening) (g.P.Place.lying c.args.self.now.place) _ c.in-Err.unopened
+    c.in-Err.ensures.opens)
 
 pub returns-in-Ok-begin : goal.returns-in-Ok-begin
 returns-in-Ok-begin g c =
@@ -26,7 +28,8 @@ returns-in-Ok-begin g c =
 
 pub returns-then-is_of_others : goal.returns-then-is_of_others
 returns-then-is_of_others g c =
-    refuses (is_found c.args.opening) c.args.limit _ _ _ refl
+    refuses g.met.D.Disk.seen_may_stay (is_found c.args.opening) c.args.limit _ _ true _
+    c.is_certain_after-self-in-Err-begin.ensures
     (none_of c.args.self.now.intake (sym c.is_some.ensures ∙ c.if-is_some.false))
     (none_of c.args.self.now.intake (sym c.is_some.ensures ∙ c.if-is_some.false)) refl
     (not_begun (is_found c.args.opening) (g.P.Place.lying c.args.self.now.place) (g.P.Place.lying c.open.new.place)
@@ -38,7 +41,8 @@ returns-then-is_of_others g c =
 
 pub returns-else-is_of_others : goal.returns-else-is_of_others
 returns-else-is_of_others g c =
-    refuses (is_found c.args.opening) c.args.limit _ _ _ refl
+    refuses g.met.D.Disk.seen_may_stay (is_found c.args.opening) c.args.limit _ _ true _
+    c.is_certain_after-self-in-Err-begin.ensures
     (none_of c.args.self.now.intake (sym c.is_some.ensures ∙ c.if-is_some.false))
     (none_of c.args.self.now.intake (sym c.is_some.ensures ∙ c.if-is_some.false)) refl
     (not_begun (is_found c.args.opening) (g.P.Place.lying c.args.self.now.place) (g.P.Place.lying c.open.new.place)

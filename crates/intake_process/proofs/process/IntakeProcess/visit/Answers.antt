@@ -4,10 +4,10 @@ use Rattle.intake_process.proofs.process.IntakeProcess.visit.Goals as goal
 
 pub returns-then-is_doubtful : goal.returns-then-is_doubtful
 returns-then-is_doubtful g c =
-    visits_unsure c.args.errand _ _ _ _ c.visit_place-visited.result c.visit_place-visited.ensures
-    (sym c.if-is_doubtful.ensures) refl refl c.requires
+    visits_unsure g.met.D.Disk.seen_may_stay c.args.errand _ _ _ _ c.visit_place-visited.result
+    c.visit_place-visited.ensures (sym c.if-is_doubtful.ensures) refl refl c.requires
 
 pub returns-else-is_doubtful : goal.returns-else-is_doubtful
 returns-else-is_doubtful g c =
-    visits_sure c.args.errand _ _ _ _ c.visit_place-visited.result c.visit_place-visited.ensures
-    (sym c.if-is_doubtful.ensures) refl refl c.requires
+    visits_sure g.met.D.Disk.seen_may_stay c.args.errand _ _ _ _ c.visit_place-visited.result
+    c.visit_place-visited.ensures (sym c.if-is_doubtful.ensures) refl refl c.requires

@@ -1,7 +1,8 @@
-use Rattle.std.proofs.Common.{sym, ◌∙◌, refl}
+use Rattle.std.proofs.Common.{true, sym, ◌∙◌, refl}
 use Rattle.outbox_process.specs.Process.{parts}
 use Rattle.outbox_process.specs.Process.{has_to_be_there}
-use Rattle.outbox_process.proofs.Keeping.{none_of, missing, there, refuses, is_open, not_begun, keeps_lying, opens}
+use Rattle.outbox_process.proofs.Keeping.{none_of, missing, there, falls, refuses, is_open, not_begun}
+use Rattle.outbox_process.proofs.Keeping.{keeps_lying, opens}
 use Rattle.outbox_process.proofs.process.OutboxProcess.open.Goals as goal
 
 pub returns-then-is_some : goal.returns-then-is_some
@@ -12,8 +13,10 @@ pub returns-in-Err : goal.returns-in-Err
 returns-in-Err g c =
     let closed = none_of c.args.self.now.outbox (sym c.is_some.ensures ∙ c.if-is_some.false) in
     let opens = rw c.opening_of.ensures at c.in-Err.ensures.opens in
-    refuses c.args.beginning _ _ _ refl closed closed opens
-    (missing (has_to_be_there c.args.beginning) (g.P.Place.lying c.args.self.now.place) _ c.in-Err.fault opens)
+    let taken = c.in-Err.unopened.was_taken in
+    refuses g.met.D.Disk.seen_may_stay c.args.beginning _ _ taken _
+    (falls c.args.self.now.is_certain c.leaves_doubt.result _ c.leaves_doubt.ensures) closed closed opens
+    (missing (has_to_be_there c.args.beginning) (g.P.Place.lying c.args.self.now.place) _ c.in-Err.unopened opens)
 
 pub returns-in-Ok-begin : goal.returns-in-Ok-begin
 returns-in-Ok-begin g c =
@@ -26,7 +29,9 @@ returns-in-Ok-begin g c =
 pub returns-then-is_of_others : goal.returns-then-is_of_others
 returns-then-is_of_others g c =
     let closed = none_of c.args.self.now.outbox (sym c.is_some.ensures ∙ c.if-is_some.false) in
-    refuses c.args.beginning _ _ _ refl closed closed
+    let doubt = c.leaves_doubt-in-Err-begin in
+    refuses g.met.D.Disk.seen_may_stay c.args.beginning _ _ true _
+    (falls c.args.self.now.is_certain doubt.result _ doubt.ensures) closed closed
     (not_begun c.args.beginning (g.P.Place.lying c.args.self.now.place) (g.P.Place.lying c.open.new.place)
     (g.P.Place.lying c.give_up.new.place) (g.P.Place.lying c.remove_new_log.new.place) c.in-Ok.conn
     c.in-Err-begin.back
@@ -38,7 +43,9 @@ returns-then-is_of_others g c =
 pub returns-else-is_of_others : goal.returns-else-is_of_others
 returns-else-is_of_others g c =
     let closed = none_of c.args.self.now.outbox (sym c.is_some.ensures ∙ c.if-is_some.false) in
-    refuses c.args.beginning _ _ _ refl closed closed
+    let doubt = c.leaves_doubt-in-Err-begin in
+    refuses g.met.D.Disk.seen_may_stay c.args.beginning _ _ true _
+    (falls c.args.self.now.is_certain doubt.result _ doubt.ensures) closed closed
     (not_begun c.args.beginning (g.P.Place.lying c.args.self.now.place) (g.P.Place.lying c.open.new.place)
     (g.P.Place.lying c.give_up.new.place) (g.P.Place.lying c.give_up.new.place) c.in-Ok.conn c.in-Err-begin.back
     c.give_up.ensures.0 c.in-Err-begin.fault c.in-Ok.ensures.opens.comes c.in-Err-begin.ensures.refused

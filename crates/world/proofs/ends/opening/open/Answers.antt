@@ -10,9 +10,12 @@ returns-in-Ok-clause-kept g c = λ filer entries keeps.
     (certain, c.in-Ok.ensures.keeps g.met.D.Honest.honest (contents_of filer entries) (λ _. keeps.1) certain)
 
 pub returns-in-Err-clause-refused : goal.returns-in-Err-clause-refused
-returns-in-Err-clause-refused g c = (c.in-Err.fault, c.in-Err.ensures.refused.0, c.from.ensures)
+returns-in-Err-clause-refused g c =
+    let refused = c.in-Err.ensures.refused in
+    (refused.0, c.in-Err.fault, refused.1, c.from.ensures)
 
 pub returns-in-Err-clause-store : goal.returns-in-Err-clause-store
 returns-in-Err-clause-store g c = λ e.
-    of_opening g.D.Disk (lying_in c.args.process.now.place) (lying_in c.open.new.self.place) c.in-Err.fault
-    c.in-Err.ensures.refused.0 (sym c.from.ensures ∙ (cc e))
+    let refused = c.in-Err.ensures.refused in
+    of_opening g.D.Disk (lying_in c.args.process.now.place) (lying_in c.open.new.self.place) refused.0 c.in-Err.fault
+    refused.1 (sym c.from.ensures ∙ (cc e))
