@@ -119,7 +119,7 @@ module _ {D : Type 0} (g : Ghosts D) (honest : IsHonest g) where
       (requests : List Request) → LieRequests g lying requests → IsIntakeTurn g limit turn lying lying'
       → Serving limit requests lying lying'
   one_service limit (Done r) lying lying' requests lies is =
-      let by = performs limit r.task r.old r.new r.status requests honest is.covered (record {
+      let by = performs limit r.task r.old r.new r.status requests honest is.limited (record {
         closed = is.closed;
         certain = is.began;
         there = subst (λ l. LieRequests g l requests) (sym is.found) lies;

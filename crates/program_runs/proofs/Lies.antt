@@ -1,5 +1,6 @@
 -- What lies in a place after a visit of `outbox`.
-use Rattle.std.proofs.Common.{◌≡◌, ◌∙◌, ℕ, true, List, Option, Some, None, Result, Ok, refl, sym, subst, inl, inr}
+use Rattle.std.proofs.Common.{◌≡◌, ◌∙◌, ℕ, true, List, [], Option, Some, None, Result, Ok, Err, refl, sym, subst, inl}
+use Rattle.std.proofs.Common.{inr}
 use Rattle.sqlite_disk.specs.declared.Disk.{Ghosts}
 use Rattle.sqlite_disk.specs.declared.Files.{Files}
 use Rattle.sqlite_store.specs.declared.store.FileStore.{FileStore}
@@ -7,7 +8,6 @@ use Rattle.sqlite.specs.Files.{over_files}
 use Rattle.sqlite.specs.declared.error.Error.{Error}
 use Rattle.filing_model.specs.Outbox.{Entry}
 use Rattle.outbox_tables.specs.Entries.{Contents, contents_of}
-use Rattle.outbox_core.specs.Files.{HoldOutbox}
 use Rattle.outbox_core.specs.OutboxParts.{OutboxParts, HasEntries}
 use Rattle.outbox_process.specs.Dials.{Traffic}
 use Rattle.outbox_process.specs.declared.tasks.fault.TaskFault.{TaskFault}
@@ -16,7 +16,10 @@ use Rattle.outbox_process.specs.declared.beginning.Beginning.TheVariants.{Found}
 use Rattle.outbox_process.specs.declared.errand.Done.{Done}
 use Rattle.outbox_process.specs.declared.errand.Errand.{Errand}
 use Rattle.outbox_process.specs.Beginning.{HasContents}
-use Rattle.outbox_process.specs.Process.{Parts, Keeps, KeepsBy, OpensProcess, PerformsErrand, ClosesProcess}
+use Rattle.outbox_process.specs.declared.beginning.Beginning.{Beginning}
+use Rattle.outbox_process.specs.declared.fault.OpeningFault.{OpeningFault}
+use Rattle.outbox_process.specs.Process.{Parts, HoldOutboxWithLog, Keeps, KeepsBy, OpensProcess, PerformsErrand}
+use Rattle.outbox_process.specs.Process.{ClosesProcess}
 use Rattle.program_runs.specs.Deeds.{Deed, AreDone}
 use Rattle.program_runs.specs.Runs.{LiesClosed, IsRunBy}
 use Rattle.program_runs.proofs.Results.{not_err}
@@ -30,12 +33,12 @@ some_lie lying Are lies none =
 
 module _ {D : Type 0} {g : Ghosts D} where
   pub keeps_of : (process : Parts g) (it : Contents) → process.outbox ≡ None
-      → Lie process.lying (λ files. HoldOutbox g files it) → Keeps process it
+      → Lie process.lying (λ files. HoldOutboxWithLog g files it) → Keeps process it
   keeps_of process it closed lies = λ certain. subst (λ o. KeepsBy {g = g} o process.lying it) (sym closed) lies
 
   -- what is kept by a process that is closed lies there
   pub kept_lies : (process : Parts g) (it : Contents) → process.outbox ≡ None → process.is_certain ≡ true
-      → Keeps process it → Lie process.lying (λ files. HoldOutbox g files it)
+      → Keeps process it → Lie process.lying (λ files. HoldOutboxWithLog g files it)
   kept_lies process it closed certain keeps = subst (λ o. KeepsBy {g = g} o process.lying it) closed (keeps certain)
 
   -- deeds lead to an outbox that lies there
@@ -49,8 +52,31 @@ module _ {D : Type 0} {g : Ghosts D} where
         after = after;
         done = done;
         lies = record { closed = closed; certain = certain; there = inl lie };
-        stays = λ none. some_lie new.lying (λ files. HoldOutbox g files after) lie none;
+        stays = λ none. some_lie new.lying (λ files. HoldOutboxWithLog g files after) lie none;
       }
+
+  -- what lay there lies there after an opening that was refused
+  pub refused : (beginning : Beginning) (why : OpeningFault) (it : Contents) (old new : Parts g)
+      (Are : List Deed → Type 0) → Are [] → IsHonest g → LiesClosed old it → OpensProcess g beginning old new (Err why)
+      → new.is_certain ≡ true → IsRunBy it old new Are
+  refused beginning why it old new Are none honest lies opens certain = elim lies.there [
+    | inl there ↦
+        run_by it it old new Are [] none refl opens.refused.2 certain
+        ((opens.unharmed honest).kept it (keeps_of old it lies.closed there))
+    | inr no_files ↦
+        record {
+          deeds = [];
+          are = none;
+          after = it;
+          done = refl;
+          lies = record {
+            closed = opens.refused.2;
+            certain = certain;
+            there = inr (opens.vacant honest lies.closed no_files.0 certain, no_files.1);
+          };
+          stays = λ _. no_files.0;
+        }
+  ]
 
   -- what an errand makes of the entries of an outbox, if it had these before it
   pub record Brings (before after : OutboxParts (FileStore D g)) (it : Contents) (Are : List Deed

@@ -2,16 +2,18 @@
 use Rattle.std.proofs.Common.{◌≡◌, ◌≢◌, ◌∙◌, ℕ, ◌≤◌, true, false, List, [], ◌∷◌, ◌++◌, Option, Some, None, Result, Ok}
 use Rattle.std.proofs.Common.{Err}
 use Rattle.std.proofs.Common.{refl, sym, ap, subst, inl, inr, true≢false}
-use Rattle.std.specs.Prelude.{not, is_err, IsSome, ◌||◌}
+use Rattle.std.specs.Prelude.{◌⊎◌, not, IfErr, IsSome}
 use Rattle.sqlite_disk.specs.declared.Disk.{Ghosts}
 use Rattle.filing_model.specs.Request.{Request, firsts}
 use Rattle.filing_model.specs.Serving.{keeping}
 use Rattle.database_places.specs.Places.{IsHonest, Lie}
-use Rattle.command_line.specs.declared.fault.DatabaseFault.{DatabaseFault}
 use Rattle.command_line.specs.declared.fault.DatabaseFault.TheVariants.{Missing}
 use Rattle.gateway_server.specs.InTurn.{ServeInTurn}
 use Rattle.gateway_server.specs.Ports.{Traffic}
-use Rattle.intake_process.specs.Process.{Parts, Keeps, KeepsBy}
+use Rattle.database_places.specs.declared.opening.Unopened.{Unopened}
+use Rattle.database_places.specs.Opening.{StaysIn, untouched}
+use Rattle.intake_process.specs.Process.{Parts, HoldRegisterWithLog, Keeps, KeepsBy, LeavesDatabase, OpensProcess}
+use Rattle.intake_process.specs.declared.fault.OpeningFault.{OpeningFault}
 use Rattle.intake_process.specs.Turns.{Turn, Served, TurnedAway, Ahead, served_in, AreTurnedAway, IsServed}
 use Rattle.intake_process.specs.Turns.{IsServedOrRefused}
 use Rattle.gateway_server.specs.declared.port_fault.PortFault.TheVariants.{Network, Memory}
@@ -27,7 +29,7 @@ use Rattle.std.specs.Prelude.{MatchBool, Bool}
 use Rattle.std.specs.Borrow.{Bor}
 use Rattle.intake_process.specs.declared.tasks.errand.Errand.{Errand}
 use Rattle.intake_process.specs.declared.tasks.errand.Errand.TheVariants as asked
-use Rattle.intake_process.specs.Visits.{Outputs, outputs, GoesOn, LiesFor, VisitsRegister, is_doubtful}
+use Rattle.intake_process.specs.Visits.{Outputs, outputs, GoesOn, LiesFor, VisitsRegister}
 use Rattle.intake_process.specs.Errands.{IsRegisterFor, is_refused}
 use Rattle.intake_commands.specs.Tasks.{Means, Does, Performs, Visits, IsNoFiler, is_wanted}
 use Rattle.intake_commands.specs.Tasks.{IsVisitTold, IsFaultTold, VisitsCurrent, is_not_earlier}
@@ -40,9 +42,8 @@ use Rattle.sqlite.specs.Schema.{Schema}
 use Rattle.sqlite_disk.specs.declared.Files.{Files}
 use Rattle.sqlite_store.specs.declared.store.FileStore.{FileStore}
 use Rattle.register_rows.specs.Schema.{register_tables}
-use Rattle.register_store.specs.Files.{HoldRegister}
 use Rattle.table_rows.specs.Tables.{no_schema}
-use Rattle.program_runs.specs.Registers.{LiesRegister, IsServiceBy, IsNoMigration, IsCovered}
+use Rattle.program_runs.specs.Registers.{LiesRegister, IsServiceBy, IsLimited}
 use Rattle.program_runs.specs.Runs.{AreNotGone}
 use Rattle.program_runs.proofs.Lies.{some_lie}
 use Rattle.program_runs.proofs.Results.{not_err}
@@ -86,15 +87,17 @@ in_turn_join limit a b c (Away k ∷ first) second one two = (one.0, in_turn_joi
 in_turn_join limit a b c (Killed read crash marks written ∷ first) second one two =
     (one.0, one.1, one.2, one.3, in_turn_join limit one.1 b c first second one.4 two)
 
-for_errand : (errand : Errand) (requests : List Request) (db : Database) → IsNoMigration errand
-    → IsRegisterOf 0 requests db → IsRegisterFor errand 0 requests db
-for_errand (asked.List filer dated) requests db allowed is = is
-for_errand (asked.Show number dated) requests db allowed is = is
-for_errand (asked.Check against) requests db allowed is = is
-for_errand asked.Migrate requests db allowed is = absurd allowed
-for_errand (asked.Export form filer) requests db allowed is = is
-for_errand (asked.Digest until) requests db allowed is = is
-for_errand (asked.Pages folder) requests db allowed is = is
+-- an errand is to migrate a register, or is for those of this version
+for_errand : (errand : Errand)
+    → (errand ≡ asked.Migrate)
+    ⊎ ((requests : List Request) (db : Database) → IsRegisterOf 0 requests db → IsRegisterFor errand 0 requests db)
+for_errand (asked.List filer dated) = inr (λ requests db is. is)
+for_errand (asked.Show number dated) = inr (λ requests db is. is)
+for_errand (asked.Check against) = inr (λ requests db is. is)
+for_errand asked.Migrate = inl refl
+for_errand (asked.Export form filer) = inr (λ requests db is. is)
+for_errand (asked.Digest until) = inr (λ requests db is. is)
+for_errand (asked.Pages folder) = inr (λ requests db is. is)
 
 by_wanted : {A B X : Type 0} (wanted : Bool) → MatchBool wanted A B → (A → X) → (B → X) → X
 by_wanted true is first second = first is
@@ -108,13 +111,13 @@ not_bare requests db is none =
     let tables : [] ≡ register_tables ++ begins.tables = ap (λ (s : Schema). s.tables) (sym none ∙ begins.is) in
     absurd (cc)
 
-or_first : (a b : Bool) → a ≡ true → (a || b) ≡ true
-or_first a b is = rw is refl
+same_err : {A E : Type 0} (r : Result A E) (a b : E) → r ≡ Err a → r ≡ Err b → a ≡ b
+same_err r a b one other = cc
 
 module _ {D : Type 0} {g : Ghosts D} where
   -- what lay there is kept by a process that is closed
   keeps_of : (process : Parts g) (keys : ℕ) (requests : List Request) → process.intake ≡ None
-      → firsts requests ≡ requests → Lie process.lying (λ files. HoldRegister g files 0 requests)
+      → firsts requests ≡ requests → Lie process.lying (λ files. HoldRegisterWithLog g files 0 requests)
       → Keeps process keys 0 requests
   keeps_of process keys requests closed are there = λ certain.
       subst (λ o. KeepsBy {g = g} o process.lying keys 0 requests) (sym closed) (are, there)
@@ -122,7 +125,7 @@ module _ {D : Type 0} {g : Ghosts D} where
   -- what is kept by one that is closed lies there
   kept_lies : (process : Parts g) (keys : ℕ) (requests : List Request) → process.intake ≡ None
       → process.is_certain ≡ true → Keeps process keys 0 requests
-      → (firsts requests ≡ requests) × Lie process.lying (λ files. HoldRegister g files 0 requests)
+      → (firsts requests ≡ requests) × Lie process.lying (λ files. HoldRegisterWithLog g files 0 requests)
   kept_lies process keys requests closed certain keeps =
       subst (λ o. KeepsBy {g = g} o process.lying keys 0 requests) closed (keeps certain)
 
@@ -138,6 +141,40 @@ module _ {D : Type 0} {g : Ghosts D} where
         stays = λ gone. sym (ap (λ (p : Parts g). p.lying) same) ∙ gone;
       }
 
+  -- an opening that was refused leaves what lay there
+  refused : (limit keys : ℕ) (has : Bool) (why : OpeningFault) (old new : Parts g) (requests : List Request)
+      → IsHonest g → LiesRegister old requests → OpensProcess g has keys old new (Err why) → new.is_certain ≡ true
+      → IsServiceBy limit requests old new
+  refused limit keys has why old new requests honest lies opens certain =
+      record {
+        services = [];
+        after = requests;
+        in_turn = refl;
+        lies = record { closed = opens.refused; certain = certain; there = (lies.there.0, there) };
+        stays = stays;
+      }
+    where
+      kept : Lie old.lying (λ files. HoldRegisterWithLog g files 0 requests)
+          → Lie new.lying (λ files. HoldRegisterWithLog g files 0 requests)
+      kept is =
+          (kept_lies new keys requests opens.refused certain
+          ((opens.unmade honest).kept 0 requests (keeps_of old keys requests lies.closed lies.there.0 is))).1
+
+      there : Lie new.lying (λ files. HoldRegisterWithLog g files 0 requests)
+          ⊎ ((new.lying ≡ Some None) × (requests ≡ []))
+      there = elim lies.there.1 [
+        | inl is ↦ inl (kept is)
+        | inr none ↦
+            let same = ap (λ (p : Parts g). p.lying) (opens.nothing honest lies.closed none.0 certain) in
+            inr (same ∙ none.0, none.1)
+      ]
+
+      stays : AreNotGone old.lying new.lying
+      stays gone = elim lies.there.1 [
+        | inl is ↦ some_lie new.lying (λ files. HoldRegisterWithLog g files 0 requests) (kept is) gone
+        | inr none ↦ none.0
+      ]
+
   -- ---- it was served
 
   answered : (limit keys most : ℕ) (has : Bool) (port port' : Traffic) (noted noted' : Option (List Bool))
@@ -151,7 +188,7 @@ module _ {D : Type 0} {g : Ghosts D} where
       let lies =
       kept_lies new keys is.0 served.closes.is_closed certain (leaves.kept 0 is.0 (λ _. is.1)) in
       let some : new.lying ≢ Some None =
-      λ gone. some_lie new.lying (λ files. HoldRegister g files 0 is.0) lies.1 gone in (
+      λ gone. some_lie new.lying (λ files. HoldRegisterWithLog g files 0 is.0) lies.1 gone in (
         record {
           services = by.services;
           after = is.0;
@@ -173,7 +210,7 @@ module _ {D : Type 0} {g : Ghosts D} where
   opened keys most true port port' noted noted' old new taken requests honest lies served = elim lies.there.1 [
     | inl there ↦ (served.opens.leaves honest refl).kept 0 requests
         (keeps_of old keys requests lies.closed lies.there.0 there)
-    | inr none ↦ absurd (not_err served.totals _ (served.opens.absent lies.closed refl none.0))
+    | inr none ↦ absurd (not_err served.totals _ (served.opens.absent lies.closed refl none.0).1)
   ]
   opened keys most false port port' noted noted' old new taken requests honest lies served = elim lies.there.1 [
     | inl there ↦
@@ -195,7 +232,7 @@ module _ {D : Type 0} {g : Ghosts D} where
       (answered limit keys most has port port' noted noted' old new None requests honest few is
       (opened keys most has port port' noted noted' old new None requests honest lies is) certain).0
   by_steps limit keys most has port port' noted noted' old new (Err (Register why)) requests honest few lies is certain
-      = absurd (true≢false (sym certain ∙ is.0.doubtful))
+      = refused limit keys has why old new requests honest lies is.0 certain
 
   serve_task : (limit : ℕ) (task : Serving) (port port' : Traffic) (old new : Parts g) (result : Result ℕ Fault)
       (requests : List Request) → IsHonest g → task.limit ≤ limit → LiesRegister old requests
@@ -243,42 +280,73 @@ module _ {D : Type 0} {g : Ghosts D} where
 
   -- ---- visits
 
-  -- no register is visited where no files lie
-  not_visited : {X : Type 0} (errand : Errand) (out out' : Outputs) (between new : Option (Option (Files D)))
-      (came : Visited) (opened : Result (Held (FileStore D g)) DatabaseFault) → opened ≡ Err Missing
-      → GoesOn errand out out' between new opened came → (is_doubtful came ≡ true → X) → X
-  not_visited errand out out' between new came (Ok conn) missing goes doubtful = absurd (not_err conn _ missing)
-  not_visited errand out out' between new came (Err why) missing goes doubtful =
-      doubtful (or_first (is_refused came.done) (is_err came.closed) (ap is_refused goes.0))
+  -- where no files lie no register is visited
+  not_visited : (errand : Errand) (out out' : Outputs) (between new : Option (Option (Files D))) (came : Visited)
+      (opened : Result (Held (FileStore D g)) Unopened) → opened ≡ Err (untouched Missing)
+      → IfErr opened (λ it. StaysIn g (Some None) between it.fault it.was_taken)
+      → GoesOn errand out out' between new opened came → new ≡ Some None
+  not_visited errand out out' between new came (Ok conn) missing stays goes = absurd (not_err conn _ missing)
+  not_visited errand out out' between new came (Err it) missing stays goes =
+      goes.3 ∙ subst (λ (is : Unopened). StaysIn g (Some None) between is.fault is.was_taken)
+      (same_err (Err it) it _ refl missing) stays
 
-  -- the register was opened, an errand to it was done, and it was closed
-  visited : (errand : Errand) (out out' : Outputs) (old new : Parts g) (came : Visited)
-      (requests : List Request) → IsHonest g → IsNoMigration errand → LiesRegister old requests
+  -- the database of a register lies there again
+  left_there : (old new : Option (Option (Files D))) (requests : List Request) → LeavesDatabase g old new
+      → Lie old (λ files. HoldRegisterWithLog g files 0 requests)
+      → Lie new (λ files. HoldRegisterWithLog g files 0 requests)
+  left_there old new requests leaves is =
+      let hold = is.2 in
+      let again = leaves hold.db (is.0, is.1, hold.held) in
+      (again.0, again.1, record { db = hold.db; register = hold.register; held = again.2 })
+
+  -- the register was opened, an errand to it was done or refused, and it was closed
+  by_visit : (errand : Errand) (out out' : Outputs) (old new : Parts g) (came : Visited) (requests : List Request)
+      (told : Bool) → is_refused came.done ≡ told → IsHonest g → firsts requests ≡ requests
       → VisitsRegister errand out out' old new came → new.is_certain ≡ true
-      → LiesRegister new requests × AreNotGone old.lying new.lying
-  visited errand out out' old new came requests honest allowed lies visits certain = elim lies.there.1 [
-    | inl is ↦
+      → Lie old.lying (λ files. HoldRegisterWithLog g files 0 requests)
+      → Lie new.lying (λ files. HoldRegisterWithLog g files 0 requests)
+  by_visit errand out out' old new came requests true told honest are visits certain is =
+      left_there old.lying new.lying requests (visits.left honest certain told) is
+  by_visit errand out out' old new came requests false told honest are visits certain is = elim (for_errand errand) [
+    | inl migrates ↦ absurd (true≢false (sym (visits.current honest migrates 0 requests is) ∙ told))
+    | inr fits ↦
         let hold = is.2 in
         let there : LiesFor g errand old.lying 0 requests = (
-          lies.there.0,
+          are,
           (
             is.0,
             is.1,
             record {
               db = hold.db;
-              register = for_errand errand requests hold.db allowed hold.register;
+              register = fits requests hold.db hold.register;
               held = hold.held;
-              usable = hold.usable;
             },
           ),
         ) in
-        let kept = visits.kept honest certain 0 requests there in (
-          record { closed = visits.is_closed; certain = certain; there = (kept.0, inl kept.1) },
-          λ gone. some_lie new.lying (λ files. HoldRegister g files 0 requests) kept.1 gone,
+        (visits.kept honest certain told 0 requests there).1
+  ]
+
+  visited : (errand : Errand) (out out' : Outputs) (old new : Parts g) (came : Visited)
+      (requests : List Request) → IsHonest g → LiesRegister old requests
+      → VisitsRegister errand out out' old new came → new.is_certain ≡ true
+      → LiesRegister new requests × AreNotGone old.lying new.lying
+  visited errand out out' old new came requests honest lies visits certain = elim lies.there.1 [
+    | inl is ↦
+        let kept =
+        by_visit errand out out' old new came requests (is_refused came.done) refl honest lies.there.0 visits certain is
+        in (
+          record { closed = visits.is_closed; certain = certain; there = (lies.there.0, inl kept) },
+          λ gone. some_lie new.lying (λ files. HoldRegisterWithLog g files 0 requests) kept gone,
         )
-    | inr none ↦ not_visited errand out out' visits.visits.between new.lying came visits.visits.opened
-        (visits.visits.opens.absent refl none.0) visits.visits.goes
-        (λ doubtful. absurd (true≢false (sym certain ∙ visits.doubtful doubtful)))
+    | inr none ↦
+        let place = visits.visits in
+        let gone =
+        not_visited errand out out' place.between new.lying came place.opened (place.opens.absent refl none.0)
+        (subst (λ l. IfErr place.opened (λ it. StaysIn g l place.between it.fault it.was_taken)) none.0
+        place.opens.refused) place.goes in (
+          record { closed = visits.is_closed; certain = certain; there = (lies.there.0, inr (gone, none.1)) },
+          λ _. none.0,
+        )
   ]
 
   -- what lay in a place lies there after nothing was done
@@ -303,24 +371,24 @@ module _ {D : Type 0} {g : Ghosts D} where
       let before = lies (visits.certain certain) in
       let is =
       visited (asked.Check None) (outputs current.0 out.pages) (outputs current.1 out'.pages) mid new current.2
-      requests honest tt before.0 visits certain in
+      requests honest before.0 visits certain in
       (is.0, λ gone. before.1 (is.1 gone)))
       (λ (fault : IsFaultTold name errand why out.text out'.text result × (out'.pages ≡ out.pages) × (new ≡ mid)).
       same_lies old mid new requests fault.2 lies certain)
 
   visit : {name : Bor (List ℕ)} (limit : ℕ) (errand : Errand) (out out' : Outputs) (old new : Parts g)
-      (result : Result ℕ Fault) (requests : List Request) → IsHonest g → IsNoMigration errand
-      → LiesRegister old requests → Visits name errand out out' old new result → new.is_certain ≡ true
+      (result : Result ℕ Fault) (requests : List Request) → IsHonest g → LiesRegister old requests
+      → Visits name errand out out' old new result → new.is_certain ≡ true
       → IsServiceBy limit requests old new
-  visit {name} limit errand out out' old new result requests honest allowed lies is certain =
+  visit {name} limit errand out out' old new result requests honest lies is certain =
       let visits = is.3 in
       let left =
       by_told name errand is.2.done is.0 out' old is.1 new result requests honest
-      (visited errand out is.0 old is.1 is.2 requests honest allowed lies visits) is.4 certain in
+      (visited errand out is.0 old is.1 is.2 requests honest lies visits) is.4 certain in
       record { services = []; after = requests; in_turn = refl; lies = left.0; stays = left.1 }
 
   does : (limit : ℕ) (what : Task) (old new : Means g) (result : Result ℕ Fault) (requests : List Request)
-      → IsHonest g → IsCovered limit what → LiesRegister old.process requests → Does what old new result
+      → IsHonest g → IsLimited limit what → LiesRegister old.process requests → Does what old new result
       → new.process.is_certain ≡ true → IsServiceBy limit requests old.process new.process
   does limit (task.Run most) old new result requests honest covered lies is certain =
       stayed limit old.process new.process requests lies (ap (λ (m : Means g). m.process) is.0)
@@ -332,14 +400,14 @@ module _ {D : Type 0} {g : Ghosts D} where
       (λ (v : (new ≡ record old { out = new.out; pages = new.pages; process = new.process })
       × Visits name errand (outputs old.out old.pages) (outputs new.out new.pages) old.process new.process result).
       visit limit errand (outputs old.out old.pages) (outputs new.out new.pages) old.process new.process result
-      requests honest covered lies v.1 certain)
+      requests honest lies v.1 certain)
       (λ (none : IsNoFiler old new result).
       stayed limit old.process new.process requests lies (ap (λ (m : Means g). m.process) none.0))
   does limit (task.Lint filer form files) old new result requests honest covered lies is certain =
       stayed limit old.process new.process requests lies (ap (λ (m : Means g). m.process) is.0)
 
   pub performs : (limit : ℕ) (what : Task) (old new : Means g) (status : ℕ) (requests : List Request)
-      → IsHonest g → IsCovered limit what → LiesRegister old.process requests → Performs what old new status
+      → IsHonest g → IsLimited limit what → LiesRegister old.process requests → Performs what old new status
       → new.process.is_certain ≡ true → IsServiceBy limit requests old.process new.process
   performs limit what old new status requests honest covered lies is certain =
       does limit what old new is.0 requests honest covered lies is.1 certain

@@ -3,6 +3,8 @@ use Rattle.std.proofs.Common.{◌≡◌, ◌≢◌, ◌∙◌, ℕ, zero, suc, f
 use Rattle.std.specs.Prelude.{◌==◌}
 use Rattle.key_string.specs.declared.fault.KeyFault.{KeyFault}
 use Rattle.key_string.specs.declared.fault.KeyFault.TheVariants as key
+use Rattle.outbox_tables.specs.declared.fault.OutboxFault.{OutboxFault}
+use Rattle.outbox_tables.specs.declared.fault.OutboxFault.TheVariants as made
 use Rattle.outbox_core.specs.declared.fault.PutFault.{PutFault}
 use Rattle.outbox_core.specs.declared.fault.PutFault.TheVariants as put
 use Rattle.outbox_core.specs.declared.fault.TakeFault.TheVariants as take
@@ -17,13 +19,15 @@ use Rattle.command_line.specs.declared.fault.DatabaseFault.{DatabaseFault}
 use Rattle.command_line.specs.declared.fault.DatabaseFault.TheVariants as database
 use Rattle.command_line.specs.declared.report_file.ReportFault.{ReportFault}
 use Rattle.command_line.specs.declared.report_file.ReportFault.TheVariants as report
+use Rattle.outbox_process.specs.declared.fault.OpeningFault.{OpeningFault}
+use Rattle.outbox_process.specs.declared.fault.OpeningFault.TheVariants as opening
 use Rattle.outbox_process.specs.declared.tasks.fault.SendFault.{SendFault}
 use Rattle.outbox_process.specs.declared.tasks.fault.SendFault.TheVariants as send
 use Rattle.outbox_process.specs.declared.tasks.fault.TaskFault.{TaskFault}
 use Rattle.outbox_process.specs.declared.tasks.fault.TaskFault.TheVariants as task
 use Rattle.outbox_commands.specs.Puts.{turns_status}
 use Rattle.outbox_commands.specs.Status.{exchange_status, key_status, put_status, send_status, status_by, status_of}
-use Rattle.outbox_commands.specs.Status.{task_status, unfiled_status, visit_status}
+use Rattle.outbox_commands.specs.Status.{opening_status, outbox_status, task_status, unfiled_status, visit_status}
 use Rattle.outbox_commands.specs.declared.fault.Fault.{Fault}
 use Rattle.outbox_commands.specs.declared.fault.Fault.TheVariants as fault
 use Rattle.outbox_commands.specs.declared.fault.VisitFault.{VisitFault}
@@ -156,3 +160,24 @@ fault_fails (fault.Random error) = refl
 pub failed_by : {X : Type 0} (result : Result X Fault) (why : Fault) → result ≡ Err why → status_by result ≢ 0
 failed_by result why is done =
     not_0 (status_of why) (fault_fails why) (sym (ap (λ (r : Result _ Fault). status_by r) is) ∙ done)
+
+-- ---- an outbox that was not opened
+
+outbox_fails : (why : OutboxFault) → Fails (outbox_status why)
+outbox_fails made.BadFiler = refl
+outbox_fails made.Taken = refl
+outbox_fails made.NotOurs = refl
+outbox_fails (made.Damaged row) = refl
+outbox_fails made.Memory = refl
+outbox_fails made.Disk = refl
+
+opening_fails : (why : OpeningFault) → Fails (opening_status why)
+opening_fails (opening.Files why) = database_fails why
+opening_fails (opening.Taken holding) = refl
+opening_fails (opening.Create why) = outbox_fails why
+opening_fails (opening.Open why holding) = outbox_fails why
+opening_fails opening.IsCurrent = refl
+opening_fails (opening.Migrate why holding) = outbox_fails why
+
+pub opening_failed : (why : OpeningFault) → opening_status why ≢ 0
+opening_failed why = not_0 (opening_status why) (opening_fails why)

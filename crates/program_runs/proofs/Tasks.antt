@@ -15,15 +15,13 @@ use Rattle.outbox_tables.specs.Entries.{Contents, empty}
 use Rattle.outbox_tables.specs.Rows.{IsOutboxOf}
 use Rattle.outbox_tables.specs.Schema.{outbox_tables}
 use Rattle.outbox_core.specs.declared.fault.PutFault.{PutFault}
-use Rattle.outbox_core.specs.Files.{HoldOutbox}
 use Rattle.outbox_core.specs.OutboxParts.{OutboxParts, HasEntries}
 use Rattle.database_places.specs.Places.{IsHonest}
 use Rattle.outbox_process.specs.Dials.{Traffic}
 use Rattle.outbox_process.specs.Putting.{IsPutTold}
 use Rattle.outbox_process.specs.declared.tasks.fault.TaskFault.{TaskFault}
 use Rattle.outbox_process.specs.declared.tasks.fault.TaskFault.TheVariants as failed
-use Rattle.outbox_process.specs.declared.beginning.Beginning.{Beginning}
-use Rattle.outbox_process.specs.declared.beginning.Beginning.TheVariants.{Made}
+use Rattle.outbox_process.specs.declared.beginning.Beginning.TheVariants.{Found, Made, Migrated}
 use Rattle.outbox_process.specs.declared.errand.Done.{Done}
 use Rattle.outbox_process.specs.declared.errand.Done.TheVariants as outcome
 use Rattle.outbox_process.specs.declared.errand.Errand.{Errand}
@@ -32,11 +30,11 @@ use Rattle.outbox_process.specs.declared.errand.Which.{Which}
 use Rattle.outbox_process.specs.declared.errand.Which.TheVariants.{Next, Entry, All}
 use Rattle.outbox_process.specs.declared.target.Target.{Target}
 use Rattle.outbox_process.specs.Errands.{DoesErrand, Sends, answer}
-use Rattle.outbox_process.specs.Process.{Parts, Keeps, OpensProcess, ClosesProcess}
+use Rattle.outbox_process.specs.Process.{Parts, HoldOutboxWithLog, Keeps, OpensProcess, ClosesProcess}
 use Rattle.outbox_commands.specs.Puts.{PutsInTurn, PutsOne, PutsReports, PutsThem, ended_as, put_of}
 use Rattle.outbox_commands.specs.Status.{status_by}
 use Rattle.outbox_commands.specs.Tasks.{Does, MakesOutbox, MigratesOutbox}
-use Rattle.outbox_commands.specs.Visits.{IsRefused, VisitsOutbox}
+use Rattle.outbox_commands.specs.Visits.{VisitsOutbox}
 use Rattle.outbox_commands.specs.declared.fault.Fault.{Fault}
 use Rattle.outbox_commands.specs.declared.fault.Fault.TheVariants as fault
 use Rattle.outbox_commands.specs.declared.options.Task.{Task}
@@ -45,12 +43,12 @@ use Rattle.outbox_commands.specs.declared.putting.Report.{Report}
 use Rattle.program_runs.specs.Deeds.{Deed, Added}
 use Rattle.program_runs.specs.Runs.{LiesClosed, IsRunBy, putting, AreOfPutting, AreOfSend, AreOfAsk, AreOfTask, IsFor}
 use Rattle.program_runs.proofs.Joining.{done_join}
-use Rattle.program_runs.proofs.Lies.{Brings, Goes, performed, visited, keeps_of, kept_lies, run_by, some_lie}
+use Rattle.program_runs.proofs.Lies.{Brings, Goes, performed, visited, keeps_of, kept_lies, refused, run_by, some_lie}
 use Rattle.program_runs.proofs.Looks.{looks, ask_brings}
 use Rattle.program_runs.proofs.Puts.{AreBy, put_brings}
 use Rattle.program_runs.proofs.Results.{not_err}
 use Rattle.program_runs.proofs.Sends.{send_entry_brings, send_next_brings, send_all_brings}
-use Rattle.program_runs.proofs.Statuses.{failed_by, all_put}
+use Rattle.program_runs.proofs.Statuses.{failed_by, opening_failed, all_put}
 
 abbrev deed_of : Target → Report → Deed
 deed_of target report = Added report.key target.number report.body.items
@@ -87,6 +85,12 @@ answered deed deeds (Err why) out out' told came is by ends are =
     absurd (not_err tt (failed.Put why)
     (ends ∙ ap ended_as by ∙ ap (λ (t : Result ℕ TaskFault). ended_as (answer outcome.Put t)) is.0))
 
+-- nothing was sent
+none_sent : (w : Which) → AreOfSend w []
+none_sent Next = (0, tt)
+none_sent (Entry id) = tt
+none_sent All = ([], refl)
+
 -- the database of an outbox has tables
 not_bare : {X : Type 0} (it : Contents) (db : Database) → IsOutboxOf it db → db.schema ≡ no_schema → X
 not_bare it db is none =
@@ -114,11 +118,6 @@ module _ {D : Type 0} {g : Ghosts D} where
     stays = λ gone. sym (ap (λ (p : Parts g). p.lying) same) ∙ gone;
   }
 
-  -- an outbox that was not opened is uncertain
-  not_refused : {X : Type 0} (beginning : Beginning) (old new : Parts g) (status : ℕ)
-      → IsRefused g beginning old new status → new.is_certain ≡ true → X
-  not_refused beginning old new status is certain = absurd (true≢false (sym certain ∙ is.opens.refused.2))
-
   -- ---- one errand
 
   -- An outbox was visited, if the errand brings each outbox to another one by such deeds.
@@ -127,14 +126,14 @@ module _ {D : Type 0} {g : Ghosts D} where
       → VisitsOutbox g strict what net net' out out' old new status → new.is_certain ≡ true
       → ((before after : OutboxParts (FileStore D g)) (came : Result Done TaskFault)
       → HasEntries over_files before it.entries → before.filer ≡ it.filer
-      → DoesErrand over_files what net net' before after out out' came → Brings before after it Are)
+      → DoesErrand over_files what net net' before after out out' came → Brings before after it Are) → Are []
       → IsRunBy it old new Are
-  visits what strict net net' out out' old new status it Are honest lies visit certain brings = elim visit [
+  visits what strict net net' out out' old new status it Are honest lies visit certain brings none = elim visit [
     | inl does ↦ visited old does.opened does.done new does.closed it Are honest lies does.opens does.closes certain
         (λ keeps sure. performed what net net' out out' does.opened does.done does.came it Are does.performs keeps sure
         (λ has filer.
         brings does.performs.before does.performs.after does.came has filer does.performs.does))
-    | inr refused ↦ not_refused _ old new status refused.0 certain
+    | inr refusal ↦ refused Found refusal.0.why it old new Are none honest lies refusal.0.opens certain
   ]
 
   -- by what is sent
@@ -255,7 +254,10 @@ module _ {D : Type 0} {g : Ghosts D} where
               lies = is.lies;
               stays = is.stays;
             }
-        | inr refused ↦ not_refused _ old new (status_by result) refused.0 certain
+        | inr refusal ↦
+            let failed : status_by result ≢ 0 = λ done. opening_failed refusal.0.why (sym refusal.0.says ∙ done) in
+            refused Found refusal.0.why it old new (AreOfPutting files text target (status_by result))
+            (inl (failed, refl)) honest lies refusal.0.opens certain
       ]
       | inr none ↦ stayed old new it (AreOfPutting files text target (status_by result))
           (inl (failed_by result none.0 none.1, refl)) lies none.3.0
@@ -282,9 +284,9 @@ module _ {D : Type 0} {g : Ghosts D} where
           let keeps = made filer old done.0 new done.1 honest closed there done.2 done.3 in
           let lie = kept_lies new it done.3.is_closed certain keeps in (
             record { closed = done.3.is_closed; certain = certain; there = inl lie },
-            λ none. some_lie new.lying (λ files. HoldOutbox g files it) lie none,
+            λ none. some_lie new.lying (λ files. HoldOutboxWithLog g files it) lie none,
           )
-      | inr refused ↦ not_refused _ old new 0 refused certain
+      | inr refusal ↦ absurd (opening_failed refusal.why (sym refusal.says))
     ]
   ]
 
@@ -308,7 +310,8 @@ module _ {D : Type 0} {g : Ghosts D} where
             run_by it it old new (λ deeds. deeds ≡ []) [] refl refl done.3.is_closed certain
             (subst (Keeps new) same keeps)
       ]
-      | inr refused ↦ not_refused _ old new status refused certain
+      | inr refusal ↦
+          refused (Made filer) refusal.why it old new (λ deeds. deeds ≡ []) refl honest lies refusal.opens certain
     ]
   ]
 
@@ -321,10 +324,10 @@ module _ {D : Type 0} {g : Ghosts D} where
   migrates out out' old new status it honest lies is certain = elim is [
     | inl done ↦ elim lies.there [
       | inl there ↦
-          absurd (done.2.current honest refl lies.closed lies.certain it (keeps_of old it lies.closed there))
+          absurd (done.2.current honest refl lies.closed lies.certain it (keeps_of old it lies.closed there)).0
       | inr none ↦ absurd (not_err tt _ (done.2.absent lies.closed refl none.0))
     ]
-    | inr refused ↦ absurd (true≢false (sym certain ∙ refused.2.refused.2))
+    | inr refusal ↦ refused Migrated refusal.0 it old new (λ deeds. deeds ≡ []) refl honest lies refusal.2 certain
   ]
 
   pub run : {X : Type 0} (task : Task) (net net' : Traffic) (out out' : Option (List ℕ)) (old new : Parts g)
@@ -340,19 +343,20 @@ module _ {D : Type 0} {g : Ghosts D} where
   run (Send database peer w strict) net net' out out' old new result it honest lies made does certain =
       visits (errand.Send w) strict net net' out out' old new (status_by result) it (AreOfSend w) honest lies does
       certain (λ before after came has filer is. sends w net net' out out' it honest before after came has filer is)
+      (none_sent w)
   run (Ask database peer id form) net net' out out' old new result it honest lies made does certain =
       visits (errand.Ask id form) false net net' out out' old new (status_by result) it AreOfAsk honest lies does
       certain (λ before after came has filer is.
-      ask_brings form id net net' before after it out out' is.0 honest has is.1)
+      ask_brings form id net net' before after it out out' is.0 honest has is.1) (inl refl)
   run (Status database) net net' out out' old new result it honest lies made does certain =
       visits errand.ShowStates false net net' out out' old new (status_by result) it (λ deeds. deeds ≡ []) honest lies
       does certain (λ before after came has filer is.
-      looks before after it honest has is.0.1.kept is.0.1.filer)
+      looks before after it honest has is.0.1.kept is.0.1.filer) refl
   run (Show database None) net net' out out' old new result it honest lies made does certain =
       visits errand.ShowEach false net net' out out' old new (status_by result) it (λ deeds. deeds ≡ []) honest lies
       does certain (λ before after came has filer is.
-      looks before after it honest has is.0.1.kept is.0.1.filer)
+      looks before after it honest has is.0.1.kept is.0.1.filer) refl
   run (Show database (Some id)) net net' out out' old new result it honest lies made does certain =
       visits (errand.ShowEntry id) false net net' out out' old new (status_by result) it (λ deeds. deeds ≡ []) honest
       lies does certain (λ before after came has filer is.
-      looks before after it honest has is.0.1.kept is.0.1.filer)
+      looks before after it honest has is.0.1.kept is.0.1.filer) refl

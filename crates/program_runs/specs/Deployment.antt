@@ -19,7 +19,7 @@ use Rattle.programs.specs.Happenings.{Situation, at_first, AreRegistered}
 use Rattle.programs.specs.Fronts.{Passing, HappenBehind, IsReachedBehind}
 use Rattle.program_runs.specs.Beside.{Act, Service, InTurn, deeds_of, services_of, network_of, AreCarried}
 use Rattle.program_runs.specs.Deeds.{Deed, AreDone}
-use Rattle.program_runs.specs.Registers.{LieRequests, IsCovered}
+use Rattle.program_runs.specs.Registers.{LieRequests, IsLimited}
 use Rattle.program_runs.specs.Runs.{LieOutbox, AreNotGone, AreOfTask, IsFor}
 
 module _ {D : Type 0} (g : Ghosts D) where
@@ -41,8 +41,8 @@ module _ {D : Type 0} (g : Ghosts D) where
     Whole : OutboxRun → OutboxTurn
     Killed : List Deed → OutboxTurn
 
-  -- It found these files in its place, closed, did its task, as its contract says, no close and no opening failed, and
-  -- it left those files. If it made an outbox, that is this filer's.
+  -- It found these files in its place, closed, did its task, as its contract says, is certain at its end, and left
+  -- those files. If it made an outbox, that is this filer's.
   pub record IsOutboxRun (filer : List ℕ) (run : OutboxRun) (lying lying' : Option (Option (Files D))) : Type 0 where
     pub closed : run.old.outbox ≡ None
     pub began : run.old.is_certain ≡ true
@@ -96,7 +96,7 @@ module _ {D : Type 0} (g : Ghosts D) where
     pub closed : run.old.process.intake ≡ None
     pub began : run.old.process.is_certain ≡ true
     pub found : run.old.process.lying ≡ lying
-    pub covered : IsCovered limit run.task
+    pub limited : IsLimited limit run.task
     pub performs : Performs run.task run.old run.new run.status
     pub certain : run.new.process.is_certain ≡ true
     pub left : run.new.process.lying ≡ lying'

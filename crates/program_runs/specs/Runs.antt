@@ -4,9 +4,8 @@ use Rattle.std.specs.Borrow.{Bor}
 use Rattle.sqlite_disk.specs.declared.Disk.{Ghosts}
 use Rattle.sqlite_disk.specs.declared.Files.{Files}
 use Rattle.filing_model.specs.Prefix.{IsPrefixOf}
-use Rattle.outbox_core.specs.Files.{HoldOutbox}
 use Rattle.outbox_tables.specs.Entries.{Contents}
-use Rattle.outbox_process.specs.Process.{Parts}
+use Rattle.outbox_process.specs.Process.{Parts, HoldOutboxWithLog}
 use Rattle.outbox_process.specs.declared.errand.Which.{Which}
 use Rattle.outbox_process.specs.declared.errand.Which.TheVariants.{Next, Entry, All}
 use Rattle.database_places.specs.Places.{Lie}
@@ -17,16 +16,17 @@ use Rattle.outbox_commands.specs.declared.options.Task.{Task}
 use Rattle.outbox_commands.specs.declared.options.Task.TheVariants.{Init, Put, Migrate, Send, Ask, Status, Show}
 use Rattle.program_runs.specs.Deeds.{Deed, Added, Wrote, Heard, Asked, AreDone}
 
--- the outbox of these contents lies there; or no files do, as before an outbox is made, and there are no entries
+-- the outbox of these contents lies there, by the log and the database file together; or no files do, as before an
+-- outbox is made, and there are no entries
 abbrev pub LieOutbox : {D : Type 0} → Ghosts D → Option (Option (Files D)) → Contents → Type 0
-LieOutbox g lying it = Lie lying (λ files. HoldOutbox g files it) ⊎ ((lying ≡ Some None) × (it.entries ≡ []))
+LieOutbox g lying it = Lie lying (λ files. HoldOutboxWithLog g files it) ⊎ ((lying ≡ Some None) × (it.entries ≡ []))
 
 -- no files lie there only if none lay there before
 abbrev pub AreNotGone : {D : Type 0} → Option (Option (Files D)) → Option (Option (Files D)) → Type 0
 AreNotGone old new = new ≡ Some None → old ≡ Some None
 
--- The process is closed, no close and no opening failed, and the outbox of these contents lies in its place, or is not
--- made yet.
+-- The process is closed, it is certain what lies in its place, and the outbox of these contents does, or is not made
+-- yet.
 pub record LiesClosed {D : Type 0} {g : Ghosts D} (process : Parts g) (it : Contents) : Type 0 where
   pub closed : process.outbox ≡ None
   pub certain : process.is_certain ≡ true

@@ -22,7 +22,7 @@ ghost use Rattle.intake_commands.specs.Tasks.{Means, Performs, Does as IntakeDoe
 ghost use Rattle.intake_commands.specs.declared.options.Serving.{Serving};
 ghost use Rattle.intake_commands.specs.declared.options.Task.{Task as IntakeTask};
 ghost use Rattle.intake_commands.specs.declared.options.Task.TheVariants.{Serve};
-ghost use Rattle.program_runs.specs.Registers.{LiesRegister, IsServiceBy, IsCovered};
+ghost use Rattle.program_runs.specs.Registers.{LiesRegister, IsServiceBy, IsLimited};
 ghost use Rattle.program_runs.specs.Deployment.{AnyRuns, AnyDeployment};
 
 use programs::fronts::any_fronts;
@@ -58,7 +58,7 @@ pub fn programs_happen_together()
 /// with it, if its process is certain at the end.
 pub fn a_run_of_intake_is_services<D: Disk>()
     ensures { (limit : ℕ) (task : IntakeTask) (old new : Means D.Disk) (status : ℕ) (requests : List Request)
-        → IsHonest D.Disk → IsCovered limit task → LiesRegister old.process requests → Performs task old new status
+        → IsHonest D.Disk → IsLimited limit task → LiesRegister old.process requests → Performs task old new status
         → new.process.is_certain ≡ true → IsServiceBy limit requests old.process new.process }
 {}
 
