@@ -14,9 +14,9 @@ With --planted the trials are made with tools/intake_stand_in.py in place of the
 too, and has one fault after the other: each has to make a check of its trial fail, and without a fault each trial has
 to pass.
 
-It listens on 127.0.0.1 alone. The trial `front` needs nginx and openssl, and `full_disk` may have to do with a limit on
-the size of files. The last line says how many checks passed and failed, and what a stand-in replaced. Status 1 if one
-failed.
+It listens on 127.0.0.1 alone. The trial `front` needs nginx and openssl, `repeats` strace, and `full_disk` may have to
+do with a limit on the size of files. The last line says how many checks passed and failed, and what a stand-in
+replaced. Status 1 if one failed.
 """
 import argparse
 import collections
@@ -52,6 +52,8 @@ CLIENTS = 64
 TIMES = 2
 # How often a client asks for the long list that doesn't read the replies.
 ASKED = 300
+# How long a sync takes on a slow disk, in microseconds.
+SYNC = 1_000_000
 passed, replaced, ends_at_first = [], [], []
 
 
@@ -143,6 +145,19 @@ class Server:
     def memory(self):
         found = re.search(r"VmRSS:\s+(\d+)", pathlib.Path(f"/proc/{self.process.pid}/status").read_text())
         return int(found[1]) * 1024
+
+
+class SlowServer(Server):
+    """An intake each of whose syncs takes a second, under strace, which ends as it does."""
+
+    def __init__(self, folder):
+        super().__init__(folder, limits=f'set -- strace -f -qq -o /dev/null -e trace=fdatasync '
+                         f'-e inject=fdatasync:delay_enter={SYNC} "$@";')  # fmt: skip
+
+    def send_signal(self, number):
+        tracer = self.process.pid
+        for it in pathlib.Path(f"/proc/{tracer}/task/{tracer}/children").read_text().split():
+            os.kill(int(it), number)
 
 
 # ---- clients
@@ -557,6 +572,41 @@ def interim(folder):
         filed.hold_register(server)
 
 
+def repeats(folder):
+    """Reports, repeats and lists that come together, while a sync takes a second: what has not to be kept waits for no
+    commit of what has, wherever it stands."""
+    filed, answered = Filed(), {}
+    with SlowServer(folder) as server:
+        clients = [Client(server.port) for _ in range(CLIENTS)]
+        with Client(server.port) as first:
+            filed.guard(filed.send, first, "ACME", "k-0")
+            first.send(request("k-1", SMALLEST, close=False))
+            # They come while it is kept.
+            time.sleep(SYNC / 4_000_000)
+            for at, client in enumerate(clients):
+                new, again = request(f"new-{at}", SMALLEST, "NEW", close=False), request("k-0", SMALLEST, close=False)
+                client.send((new, again, ask("NONE"), again)[at % 8 if at % 8 < 3 else 3])
+            filed.guard(filed.take, first, "ACME", "k-1")
+
+            def act(at):
+                if at % 8 == 0:
+                    filed.take(clients[at], "NEW", f"new-{at}")
+                elif at % 8 == 2:
+                    filed.take_list(clients[at], "NONE")
+                else:
+                    filed.take(clients[at], "ACME", "k-0")
+                answered[at] = time.monotonic()
+
+            filed.at_once(CLIENTS, act)
+        for client in clients:
+            client.peer.close()
+        filed.hold_clients(f"{CLIENTS} clients whose requests come together")
+        kept = min((moment for at, moment in answered.items() if at % 8 == 0), default=0)
+        late = [at for at, moment in sorted(answered.items()) if at % 8 and moment > kept]
+        hold("those that wait for a commit although nothing of them is kept", late, [])
+        filed.hold_register(server)
+
+
 # ---- what runs out
 
 
@@ -926,8 +976,8 @@ def connections_of(server):
 
 
 TRIALS = {it.__name__: it for it in [
-    idle, slow, one, half_closed, resets, pipelined, interim, full_disk, descriptors, memory, much_memory, patience,
-    log, kills, front,
+    idle, slow, one, half_closed, resets, pipelined, interim, repeats, full_disk, descriptors, memory, much_memory,
+    patience, log, kills, front,
 ]}  # fmt: skip
 
 # ---- planted faults
@@ -944,6 +994,7 @@ PLANTED = [
     ("pipelined", "drops what is pipelined"),
     ("interim", "writes no interim response"),
     ("interim", "writes the interim response twice"),
+    ("repeats", "keeps a report before the repeats behind it"),
     ("full_disk", "drops the others if the disk is full"),
     ("full_disk", "skips a number if the disk is full"),
     ("descriptors", "ends without a descriptor"),

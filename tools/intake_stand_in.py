@@ -29,6 +29,7 @@ FAULTS = {
     "drops what is pipelined",
     "writes no interim response",
     "writes the interim response twice",
+    "keeps a report before the repeats behind it",
     "drops the others if the disk is full",
     "skips a number if the disk is full",
     "ends without a descriptor",
@@ -177,8 +178,13 @@ class Serving:
                     self.accept()
                 elif key.data.peer.fileno() >= 0:
                     self.go_on(key.data, events)
-            for line in list(self.lines.values()):
+            lines = list(self.lines.values())
+            if FAULT != "keeps a report before the repeats behind it":
+                lines.sort(key=self.has_to_be_kept)
+            for line in lines:
                 self.serve_next(line)
+                if line.owed and line.peer.fileno() >= 0:
+                    self.go_on(line, selectors.EVENT_WRITE)
             self.cut_off()
         print(f"intake: ended after {self.taken} connections", file=sys.stderr, flush=True)
 
@@ -258,6 +264,15 @@ class Serving:
         line.held += more
         if not more:
             line.has_ended = True
+
+    def has_to_be_kept(self, line):
+        """Whether its next request is whole, and the first of its filer and key."""
+        piece = line.piece()
+        if line.owed or piece is None or len(line.held) < piece[1]:
+            return False
+        head = bytes(line.held[: piece[0]]).decode(errors="replace")
+        filer, key = TARGET.search(head), re.search(r'\r\nIdempotency-Key: "([^"]*)"', head)
+        return bool(filer and key) and (filer[1], key[1]) not in self.register.kept
 
     def serve_next(self, line):
         if line.peer.fileno() < 0:

@@ -118,10 +118,10 @@ fn hold(rt: &impl Abort, alloc: Global, wanted: &Play, most: u64) -> Result<(), 
     Ok(())
 }
 
-/// Clients of every kind at once. In a round each has its turn, in the order of their places. So those reports are
-/// numbered first that are whole after the first read; then the one behind another in the first read, and the one that
-/// waits for the interim response; and at last the one whose 166 bytes come one at a time. A reply has 110 bytes, and
-/// the interim response 25. If a client is reset before its report is whole, the report gets no number. If it is reset
+/// Clients of every kind at once. In a round each has its turn, in the order of their places. A report is put back in
+/// the first of its rounds, since others have their turn, and kept in the next, together with all that wait then. So
+/// those are numbered first that are whole in the second round; then the one behind another in the first read; and at
+/// last the one whose 166 bytes come one at a time. A reply has 110 bytes, and the interim response 25. If a client is reset before its report is whole, the report gets no number. If it is reset
 /// later, the report stands.
 static EVERY: [(Client, u32); 20] = [
     (IDLE, 1),
@@ -129,17 +129,17 @@ static EVERY: [(Client, u32); 20] = [
         Client {
             a_read: 1,
             gets: &[Gets::Registered(12)],
-            rounds: 168,
+            rounds: 169,
             ..PLAIN
         },
         1,
     ),
-    // Its reply is owed from the first round on.
+    // Its reply is owed from the second round on.
     (
         Client {
             deaf: u32::MAX,
             why: Why::Late,
-            rounds: 1_001,
+            rounds: 1_002,
             ..PLAIN
         },
         1,
@@ -184,7 +184,7 @@ static EVERY: [(Client, u32); 20] = [
             reset: Some(20),
             gets: &[Gets::Registered(3)],
             why: Why::Broken,
-            rounds: 2,
+            rounds: 3,
             ..PLAIN
         },
         1,
@@ -193,6 +193,7 @@ static EVERY: [(Client, u32); 20] = [
         Client {
             reset: Some(110),
             gets: &[Gets::Registered(4)],
+            rounds: 4,
             ..PLAIN
         },
         1,
@@ -231,10 +232,10 @@ static EVERY: [(Client, u32); 20] = [
             ],
             gets: &[
                 Gets::Registered(5),
-                Gets::Registered(10),
-                Gets::Listed(&[5, 10]),
+                Gets::Registered(11),
+                Gets::Listed(&[5, 11]),
             ],
-            rounds: 6,
+            rounds: 8,
             ..PLAIN
         },
         1,
@@ -244,7 +245,7 @@ static EVERY: [(Client, u32); 20] = [
         Client {
             asks: &[Asks::Awaits(1)],
             stop: Some((150, 25)),
-            gets: &[Gets::Continue, Gets::Registered(11)],
+            gets: &[Gets::Continue, Gets::Registered(6)],
             rounds: 4,
             ..PLAIN
         },
@@ -254,8 +255,8 @@ static EVERY: [(Client, u32); 20] = [
     (
         Client {
             a_write: 1,
-            gets: &[Gets::Registered(6)],
-            rounds: 112,
+            gets: &[Gets::Registered(7)],
+            rounds: 113,
             ..PLAIN
         },
         1,
@@ -263,8 +264,8 @@ static EVERY: [(Client, u32); 20] = [
     (
         Client {
             deaf: 5,
-            gets: &[Gets::Registered(7)],
-            rounds: 8,
+            gets: &[Gets::Registered(8)],
+            rounds: 9,
             ..PLAIN
         },
         1,
@@ -272,10 +273,10 @@ static EVERY: [(Client, u32); 20] = [
     // Keeps its connection open.
     (
         Client {
-            gets: &[Gets::Registered(8)],
+            gets: &[Gets::Registered(9)],
             stays: true,
             why: Why::Late,
-            rounds: 1_002,
+            rounds: 1_003,
             ..PLAIN
         },
         1,
@@ -290,7 +291,8 @@ static EVERY: [(Client, u32); 20] = [
     ),
     (
         Client {
-            gets: &[Gets::Registered(9)],
+            gets: &[Gets::Registered(10)],
+            rounds: 4,
             ..PLAIN
         },
         1,
@@ -332,13 +334,13 @@ static EVERY: [(Client, u32); 20] = [
                 Gets::Listed(&[4]),
                 Gets::Listed(&[]),
                 Gets::Listed(&[]),
-                Gets::Listed(&[5, 10]),
-                Gets::Listed(&[11]),
+                Gets::Listed(&[5, 11]),
                 Gets::Listed(&[6]),
                 Gets::Listed(&[7]),
                 Gets::Listed(&[8]),
-                Gets::Listed(&[]),
                 Gets::Listed(&[9]),
+                Gets::Listed(&[]),
+                Gets::Listed(&[10]),
             ],
             rounds: 520,
             ..PLAIN
@@ -371,6 +373,7 @@ static AMONG_IDLE: [(Client, u32); 5] = [
     (
         Client {
             gets: &[Gets::Registered(1)],
+            rounds: 4,
             ..PLAIN
         },
         1,
@@ -379,6 +382,7 @@ static AMONG_IDLE: [(Client, u32); 5] = [
     (
         Client {
             gets: &[Gets::Registered(2)],
+            rounds: 4,
             ..PLAIN
         },
         1,
@@ -387,6 +391,7 @@ static AMONG_IDLE: [(Client, u32); 5] = [
     (
         Client {
             gets: &[Gets::Registered(3)],
+            rounds: 4,
             ..PLAIN
         },
         1,

@@ -67,6 +67,15 @@ Comes shows old new (Ok (Some (reader, writer))) =
 Comes shows old new (Ok None) = MayShut old new × (old.coming ≡ None)
 Comes shows old new (Err error) = MayShut old new × NoneIsLeft old.coming
 
+-- The connection that came last is put back, and comes again; it is of a port whose connections are not known, on which
+-- nothing else changed. Or it stays, and nothing changed.
+abbrev pub PutsBack : {R W : Type 0} → (R → W → Wire) → Traffic → Traffic → R → W → Option (R × W) → Type 0
+PutsBack shows old new reader writer None =
+    (old.coming ≡ None) × (new ≡ record old { given = new.given; is_shut = new.is_shut })
+    × (old.is_shut ≡ true → new.is_shut ≡ true)
+PutsBack shows old new reader writer (Some (reader', writer')) =
+    (new ≡ old) × (shows reader' writer' ≡ shows reader writer)
+
 -- nothing, or all bytes of the connection that came last, if these are known
 abbrev pub IsGiven : Option (List ℕ) → List ℕ → Type 0
 IsGiven given copy = (bytes : List ℕ) → given ≡ Some bytes → copy ≢ [] → copy ≡ bytes

@@ -2,7 +2,7 @@
 
 ghost use Rattle.std.specs.Prelude.{◌≡◌, [], map, true, false, vec_len, IfOk, IfSome};
 ghost use Rattle.filing_model.specs.Request.{Request, has_key};
-ghost use Rattle.intake_core.specs.Held.{ForRequests};
+ghost use Rattle.intake_core.specs.Held.{ForRequests, has_stopped};
 ghost use Rattle.gateway_server.specs.Ahead.{AreFiled, AsksToFile, DecidesAhead, IsFiled, view_filed};
 
 use gateway_requests::{Route, first_request, route_of};
@@ -40,6 +40,7 @@ pub fn files_first<S: Alter>(alloc: Global, piece: &[u8], intake: &mut Intake<S>
     ensures first { ForRequests S.Store intake.old intake.new (λ requests. result ≡ true
         → (r : Request) × AsksToFile piece.now r × (has_key requests r ≡ false)) }
     ensures looks { DecidesAhead S.Store [] intake.old intake.new }
+    ensures stopped { has_stopped intake.new ≡ has_stopped intake.old }
 {
     match filed_by(alloc, piece) {
         Ok(Some(filed)) => intake.is_first(&filed.request()),

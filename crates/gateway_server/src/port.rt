@@ -3,7 +3,8 @@
 ghost use Rattle.std.specs.Prelude.{◌≡◌, None, true, map, IfErr, OnOk};
 ghost use Rattle.http_wire.specs.Wire.{wire};
 ghost use Rattle.gateway_server.specs.Progress.{IsReadToEnd};
-ghost use Rattle.gateway_server.specs.Ports.{Traffic, IsShutBy, IsGiven, Comes, Adds, HandsAhead};
+ghost use Rattle.gateway_server.specs.Ports.{Traffic, IsShutBy, IsGiven, IsNew, Comes, PutsBack, Adds};
+ghost use Rattle.gateway_server.specs.Ports.{HandsAhead};
 
 use crate::serving::Served;
 use http_wire::{Sink, Source};
@@ -43,6 +44,19 @@ pub trait Port {
     /// none.
     fn given(&self) -> &[u8]
         ensures { IsGiven (traffic self.now).given result.now };
+
+    /// Puts the connection that came last back, of which nothing was read and on which nothing was written, if that is
+    /// worth it: others have their turn, and it was not put back before. Then it comes again, behind them; otherwise
+    /// both halves come back. A port whose connections are known puts none back.
+    fn put_back(
+        &mut self,
+        reader: Self::Reader,
+        writer: Self::Writer,
+    ) -> Option<(Self::Reader, Self::Writer)>
+        requires { IsNew (traffic self.old).over (traffic self.old).given
+            (wire Self.Reader.Source Self.Writer.Sink reader writer) }
+        ensures { PutsBack (wire Self.Reader.Source Self.Writer.Sink) (traffic self.old) (traffic self.new) reader
+            writer result };
 
     /// Copies of whole requests that wait, if there are several: that of the connection that came last, and those of
     /// connections that are still to come, which come later all the same. They are 64 at most, of 4 MiB together, and

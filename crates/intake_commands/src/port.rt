@@ -34,6 +34,14 @@ impl Port for NoPort {
         &[]
     }
 
+    fn put_back(
+        &mut self,
+        reader: Device<&'static [u8]>,
+        writer: MemoryWriter,
+    ) -> Option<(Device<&'static [u8]>, MemoryWriter)> {
+        Some((reader, writer))
+    }
+
     fn waiting(&mut self, alloc: Global) -> Vec<Vec<u8>> {
         Vec::new(alloc)
     }

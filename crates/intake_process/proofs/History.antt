@@ -9,7 +9,8 @@ use Rattle.intake_process.specs.declared.process.Answered.{Answered}
 use Rattle.intake_process.specs.Process.{Parts, AnswersWire}
 use Rattle.intake_process.specs.Observing.{Notes}
 use Rattle.intake_process.specs.History.{Step, said_of, IsReady, IsOver, AreSteps, said_in, EndsIn, Passes}
-use Rattle.intake_process.specs.History.{LooksAhead}
+use Rattle.intake_process.specs.History.{LooksAhead, LooksOnly}
+use Rattle.intake_process.proofs.Looking.{looks_join, looks_same}
 use Rattle.gateway_server.specs.Ports.{Traffic}
 
 -- ---- what an observer answered
@@ -35,37 +36,45 @@ module _ {D : Type 0} {g : Ghosts D} (limit : ℕ) where
       ∙ ap (λ s. said_of x.asked ++ s) (said_join xs ys more)
       ∙ sym (append_assoc (said_of x.asked) (said_in xs) (said_in ys ++ more))
 
+  looked_steps : (old mid new : Parts g) (steps : List (Step g)) → LooksOnly old mid → AreSteps limit mid steps new
+      → AreSteps limit old steps new
+  looked_steps old mid new [] looks are = looks_join old mid new looks are
+  looked_steps old mid new (step ∷ steps) looks are =
+      ((looks_join old mid step.looked looks are.0.0, are.0.1, are.0.2, are.0.3, are.0.4), are.1, are.2)
+
   steps_join : (old mid new : Parts g) (xs ys : List (Step g)) → AreSteps limit old xs mid → AreSteps limit mid ys new
       → AreSteps limit old (xs ++ ys) new
-  steps_join old mid new [] ys first second = subst (λ p. AreSteps limit p ys new) first second
+  steps_join old mid new [] ys first second = looked_steps old mid new ys first second
   steps_join old mid new (x ∷ xs) ys first second =
       (first.0, first.1, steps_join x.after mid new xs ys first.2 second)
 
   -- no connection was answered
-  pub none : (process : Parts g) (noted noted' : Option (List Bool)) (taken : Option ℕ) → noted' ≡ noted
-      → Passes limit process process noted noted' taken
-  none process noted noted' taken same = record {
+  pub none : (old new : Parts g) (noted noted' : Option (List Bool)) (taken : Option ℕ) → noted' ≡ noted
+      → LooksOnly old new → Passes limit old new noted noted' taken
+  none old new noted noted' taken same looks = record {
     steps = [];
-    before = process;
+    before = new;
     said = [];
-    are = refl;
+    are = looks;
     ends = at_once taken;
     notes = noted_none noted noted' same;
   }
     where
-      at_once : (taken : Option ℕ) → EndsIn limit taken process [] process
+      at_once : (taken : Option ℕ) → EndsIn limit taken new [] new
       at_once None = inl (refl, refl)
       at_once (Some n) = (refl, refl)
 
   -- one connection was answered, and is over
-  pub one : (old ready decided last new : Parts g) (noted noted' : Option (List Bool)) (asked : Option Bool)
-      (port port' : Traffic) (from to : Wire) (answered : Answered) → IsReady limit asked old ready
+  pub one : (old looked ready decided last new : Parts g) (noted noted' : Option (List Bool)) (asked : Option Bool)
+      (port port' : Traffic) (from to : Wire) (answered : Answered) → LooksOnly old looked
+      → IsReady limit asked looked ready
       → LooksAhead port port' ready decided → AnswersWire from to decided last answered
       → IsOver answered.outcome last new → Notes noted noted' (said_of asked)
       → Passes limit old new noted noted' (Some 1)
-  one old ready decided last new noted noted' asked port port' from to answered readied looks answers over
+  one old looked ready decided last new noted noted' asked port port' from to answered only readied looks answers over
       notes = record {
         steps = record {
+          looked = looked;
           asked = asked;
           ready = ready;
           ahead = looks.pieces;
@@ -76,38 +85,41 @@ module _ {D : Type 0} {g : Ghosts D} (limit : ℕ) where
         } ∷ [];
         before = new;
         said = [];
-        are = ((readied, looks.hands.few, looks.decides, (from, to, answers)), over, refl);
+        are = ((only, readied, looks.hands.few, looks.decides, (from, to, answers)), over, looks_same new);
         ends = (refl, refl);
         notes = noted_as noted noted' _ _
             (sym (append-nil (said_of asked)) ∙ sym (append-nil (said_of asked ++ []))) notes;
       }
 
   -- one was answered, and the port failed then
-  pub cut : (old ready decided last : Parts g) (noted noted' : Option (List Bool)) (asked : Option Bool)
-      (port port' : Traffic) (from to : Wire) (answered : Answered) → IsReady limit asked old ready
+  pub cut : (old looked ready decided last : Parts g) (noted noted' : Option (List Bool)) (asked : Option Bool)
+      (port port' : Traffic) (from to : Wire) (answered : Answered) → LooksOnly old looked
+      → IsReady limit asked looked ready
       → LooksAhead port port' ready decided → AnswersWire from to decided last answered
       → Notes noted noted' (said_of asked) → Passes limit old last noted noted' None
-  cut old ready decided last noted noted' asked port port' from to answered readied looks answers notes = record {
-    steps = [];
-    before = old;
-    said = said_of asked;
-    are = refl;
-    ends = inr (
-      record {
-        asked = asked;
-        ready = ready;
-        ahead = looks.pieces;
-        decided = decided;
-        answered = answered;
-        last = last;
-        after = last;
-      },
-      (readied, looks.hands.few, looks.decides, (from, to, answers)),
-      refl,
-      refl,
-    );
-    notes = notes;
-  }
+  cut old looked ready decided last noted noted' asked port port' from to answered only readied looks answers
+      notes = record {
+        steps = [];
+        before = old;
+        said = said_of asked;
+        are = looks_same old;
+        ends = inr (
+          record {
+            looked = looked;
+            asked = asked;
+            ready = ready;
+            ahead = looks.pieces;
+            decided = decided;
+            answered = answered;
+            last = last;
+            after = last;
+          },
+          (only, readied, looks.hands.few, looks.decides, (from, to, answers)),
+          refl,
+          refl,
+        );
+        notes = notes;
+      }
 
   -- some, and then more
   pub join : (old mid new : Parts g) (a b c : Option (List Bool)) (m : ℕ) (taken : Option ℕ)

@@ -17,9 +17,9 @@ use Rattle.intake_core.specs.Held.{limit_of, has_stopped, old_style_in}
 use Rattle.gateway_server.specs.Progress.{IsReadToEnd}
 use Rattle.gateway_server.specs.InTurn.{ServeInTurn, Came, AreCounted, AreTold}
 use Rattle.gateway_server.specs.Ahead.{AreDecidedAhead, DecidesAhead}
-use Rattle.gateway_server.specs.Ports.{Connection, Traffic, Follows, MayShut, Takes, IsNew, connection_with}
+use Rattle.gateway_server.specs.Ports.{Connection, Traffic, Follows, Takes, IsNew, connection_with}
 use Rattle.gateway_server.proofs.Turns.{IsEndTold, came_none, told_none, came_one, counted_told, told_one, told_untold}
-use Rattle.gateway_server.proofs.Turns.{turns_join, came_join, counted_join, counted_none, told_join, unchanged}
+use Rattle.gateway_server.proofs.Turns.{turns_join, came_join, counted_join, counted_none, told_join}
 use Rattle.gateway_server.proofs.Unanswered.{decided_join, decides_more}
 use Rattle.table_rows.proofs.CleanLemmas.{always_clean}
 use Rattle.database_places.specs.Places.{IsHonest}
@@ -27,7 +27,7 @@ use Rattle.intake_process.specs.declared.beginning.Totals.{Totals}
 use Rattle.intake_process.specs.declared.process.Answered.{Answered}
 use Rattle.intake_process.specs.declared.process.Closed.{Closed}
 use Rattle.intake_process.specs.Beginning.{HoldsAs}
-use Rattle.intake_process.specs.History.{LooksAhead}
+use Rattle.intake_process.specs.History.{LooksAhead, NoneCame}
 use Rattle.intake_process.specs.Process.{Parts, IsUnrefused, StaysUp, Keeps, KeepsBy, Leaves, AnswersBy, AnswersWire}
 use Rattle.intake_process.specs.Process.{DecidesBy, GoesAhead}
 use Rattle.intake_process.specs.Process.{IsUp, OpensProcess, ClosesProcess}
@@ -193,6 +193,9 @@ pub read_to_end : {D : Type 0} {g : Ghosts D} (from to : Wire) (old new : Option
 read_to_end from to (Some intake) new answered by = by.2.serves.at_end
 read_to_end from to None new answered by = by.1.at_end
 
+pub none_came : (port : Traffic) → NoneCame port port
+none_came port = record { coming = refl; over = refl; ahead = refl }
+
 module _ {D : Type 0} {g : Ghosts D} (limit : ℕ) where
   -- some, and then more
   pub join : (first mid last : Traffic) (old between new : Parts g) (m : ℕ) (taken : Option ℕ) → StaysUp old between
@@ -240,7 +243,7 @@ module _ {D : Type 0} {g : Ghosts D} (limit : ℕ) where
   }
 
   -- no connection was answered
-  pub none : (port port' : Traffic) (process : Parts g) (taken : Option ℕ) → MayShut port port'
+  pub none : (port port' : Traffic) (process : Parts g) (taken : Option ℕ) → NoneCame port port'
       → IfSome taken (AreCounted port.coming []) → AnswersSome limit port port' process process taken
   none port port' process taken same counted = record {
     answers =
@@ -252,12 +255,10 @@ module _ {D : Type 0} {g : Ghosts D} (limit : ℕ) where
           record {
             in_turn = refl;
             away = tt;
-            ahead = none_ahead port.ahead port'.ahead [] (ap (λ (p : Traffic). p.ahead) same.0) refl;
-            came = subst (λ coming. Came port.coming coming []) (sym (ap (λ (p : Traffic). p.coming) same.0))
-                (came_none port.coming);
+            ahead = none_ahead port.ahead port'.ahead [] same.ahead refl;
+            came = subst (λ coming. Came port.coming coming []) (sym same.coming) (came_none port.coming);
             counted = counted;
-            told = subst (λ over. AreTold port.over over [] taken) (sym (ap (λ (p : Traffic). p.over) same.0))
-                (told_none port.over taken);
+            told = subst (λ over. AreTold port.over over [] taken) (sym same.over) (told_none port.over taken);
           },
           λ u. tt,
         );
@@ -472,7 +473,7 @@ module _ {D : Type 0} {g : Ghosts D} (limit : ℕ) where
       → AnswersSome limit port port old new None
   not_opened port old new calls leaves =
       between port port old old old new None (λ u. up.until old old new calls u) (same old)
-      (none port port old None (unchanged port) tt) leaves
+      (none port port old None (none_came port) tt) leaves
 
   -- if its database refused no call, it refused none while it was open
   pub while_open : (has : Bool) (old opened last new : Parts g) (totals : Option Totals) (closed : Closed)

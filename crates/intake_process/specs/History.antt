@@ -1,22 +1,45 @@
 -- What becomes of a process while the connections of a port are answered, one after another; own rules.
 use Rattle.std.specs.Prelude.{◌≡◌, ◌⊎◌, ◌≤◌, ◌++◌, ℕ, Bool, true, false, List, [], ◌∷◌, length, Option, Some}
-use Rattle.std.specs.Prelude.{None, IsSome, Result}
+use Rattle.std.specs.Prelude.{None, IsSome, Result, Ok, Err}
 use Rattle.sqlite_disk.specs.declared.Disk.{Ghosts}
 use Rattle.http_wire.specs.Wire.{Wire}
-use Rattle.gateway_server.specs.Ports.{Traffic, HandsAhead, most_ahead}
+use Rattle.gateway_server.specs.Ports.{Traffic, Takes, IsNew, NoneIsLeft, HandsAhead, most_ahead}
 use Rattle.intake_process.specs.declared.beginning.Totals.{Totals}
 use Rattle.intake_process.specs.declared.fault.OpeningFault.{OpeningFault}
 use Rattle.intake_process.specs.declared.process.Answered.{Answered}
 use Rattle.intake_process.specs.declared.process.Closed.{Closed}
 use Rattle.intake_process.specs.declared.process.Outcome.{Outcome}
 use Rattle.intake_process.specs.declared.process.Outcome.TheVariants as outcome
-use Rattle.intake_process.specs.Process.{Parts, OpensProcess, GoesAhead, AnswersWire, ClosesProcess}
+use Rattle.intake_process.specs.Process.{Parts, IsAwake, IsUp, OpensProcess, GoesAhead, AnswersWire, ClosesProcess}
 use Rattle.intake_process.specs.Observing.{Notes}
 
--- What was asked for a connection, and what became of the process. `asked` is what the observer answered; `None` if the
--- register was open, so that it was not asked. `ahead` is what the port handed out ahead, of which requests were
--- decided before the connection was answered.
+-- The register was read at most, to see whether a request has to be kept. Nothing was decided, and the intake is as
+-- awake as it was.
+pub record LooksOnly {D : Type 0} {g : Ghosts D} (old new : Parts g) : Type 0 where
+  pub decides : GoesAhead [] old new
+  pub awake : IsAwake old.intake → IsAwake new.intake
+  pub up : IsUp old.intake → IsUp new.intake
+
+-- No connection came on a port, or one was put back that comes again.
+pub record NoneCame (old new : Traffic) : Type 0 where
+  pub coming : new.coming ≡ old.coming
+  pub over : new.over ≡ old.over
+  pub ahead : new.ahead ≡ old.ahead
+
+-- What comes next on a port that is to be answered now: a connection, of which nothing is read or written; or none, on
+-- a port whose connections are not known; or the port failed, which happens if no known one is left.
+abbrev pub ComesNext : {R W E : Type 0} → (R → W → Wire) → Traffic → Traffic → Result (Option (R × W)) E → Type 0
+ComesNext shows old new (Ok (Some (reader, writer))) =
+    (old.is_shut ≡ false) × (new.over ≡ old.over) × Takes old.coming new.coming (shows reader writer).left
+    × IsNew old.over new.given (shows reader writer)
+ComesNext shows old new (Ok None) = NoneCame old new × (old.coming ≡ None)
+ComesNext shows old new (Err error) = NoneCame old new × NoneIsLeft old.coming
+
+-- What was asked for a connection, and what became of the process. `looked` is what it was once others before it were
+-- put back. `asked` is what the observer answered; `None` if the register was open, so that it was not asked. `ahead`
+-- is what the port handed out ahead, of which requests were decided before the connection was answered.
 pub record Step {D : Type 0} (g : Ghosts D) : Type 0 where
+  pub looked : Parts g
   pub asked : Option Bool
   pub ready : Parts g
   pub ahead : List (List ℕ)
@@ -49,16 +72,16 @@ pub record LooksAhead {D : Type 0} {g : Ghosts D} (port port' : Traffic) (old ne
   pub hands : HandsAhead port port' pieces
   pub decides : GoesAhead pieces old new
 
--- it was made ready for a connection, decided requests ahead, few at a time, and answered the connection
+-- it put connections back, was made ready for another one, decided requests ahead, few at a time, and answered it
 abbrev pub IsAnswered : {D : Type 0} {g : Ghosts D} → ℕ → Parts g → Step g → Type 0
 IsAnswered limit old step =
-    IsReady limit step.asked old step.ready
+    LooksOnly old step.looked × IsReady limit step.asked step.looked step.ready
     × (length step.ahead ≤ most_ahead) × GoesAhead step.ahead step.ready step.decided
     × ((from : Wire) × (to : Wire) × AnswersWire from to step.decided step.last step.answered)
 
--- these connections were answered, one after another
+-- these connections were answered, one after another, and some that come again were put back meanwhile
 abbrev pub AreSteps : {D : Type 0} {g : Ghosts D} → ℕ → Parts g → List (Step g) → Parts g → Type 0
-AreSteps limit old [] new = new ≡ old
+AreSteps limit old [] new = LooksOnly old new
 AreSteps limit old (step ∷ steps) new =
     IsAnswered limit old step × IsOver step.answered.outcome step.last step.after × AreSteps limit step.after steps new
 

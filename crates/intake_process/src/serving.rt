@@ -3,9 +3,11 @@
 ghost use Rattle.std.specs.Prelude.{◌≡◌, ◌≢◌, ◌≤◌, ◌^◌, ℕ, Bool, Option, None, Ok, true, IfOk, OnOk};
 ghost use Rattle.std.specs.Prelude.{option_map};
 ghost use Rattle.std.specs.Result.{result_ok};
+ghost use Rattle.http_wire.specs.Wire.{wire};
 ghost use Rattle.database_places.specs.Places.{IsHonest};
 ghost use Rattle.intake_process.specs.Process.{parts, IsAwake, Leaves, StaysUp};
-ghost use Rattle.intake_process.specs.History.{IsReady, IsOver, LooksAhead, Passes, said_of};
+ghost use Rattle.intake_process.specs.History.{ComesNext, IsReady, IsOver, LooksAhead, LooksOnly, Passes};
+ghost use Rattle.intake_process.specs.History.{said_of};
 ghost use Rattle.intake_process.specs.Observing.{Notes};
 ghost use Rattle.intake_process.specs.Turns.{AnswersSome, EndsBy, ServesRegister};
 ghost use Rattle.database_places.specs.Opening.{is_found};
@@ -15,10 +17,11 @@ use crate::fault::OpeningFault;
 use crate::observer::{Observer, Went};
 use crate::process::{IntakeProcess, Outcome};
 use database_places::{Cache, Opening, Place};
-use gateway_server::{Port, PortFault};
+use gateway_server::{Port, PortFault, files_first};
 use intake_core::Moment;
 use sqlite_disk::Disk;
 use std::alloc::Global;
+use std::io;
 
 /// Why a port is not served to its end.
 #[derive(Debug, Drop)]
@@ -88,7 +91,7 @@ fn listen_and_serve<D: Disk + Drop, P: Place<D> + Drop, L: Port, O: Observer>(
 /// Answers the connections that come on a port, each by the register as the one before it left it, until the port was
 /// asked `most` times or is shut. If the database refuses a call the register is closed. It is opened again for a
 /// connection that comes later, if the observer lets it, and until it is open connections are turned away. It answers
-/// how many times the port was asked: once for each connection, and each time that none came.
+/// how many times the port was asked: once for each connection, and each time that none came, or one was put back.
 pub fn serve_port<D: Disk + Drop, P: Place<D> + Drop, L: Port, O: Observer>(
     alloc: Global,
     port: &mut L,
@@ -116,7 +119,7 @@ pub fn serve_port<D: Disk + Drop, P: Place<D> + Drop, L: Port, O: Observer>(
     Ok(most)
 }
 
-/// Answers the next connection, if one comes.
+/// Answers the next connection, if one comes that is to be answered now.
 fn serve_next<D: Disk + Drop, P: Place<D> + Drop, L: Port, O: Observer>(
     alloc: Global,
     port: &mut L,
@@ -132,7 +135,7 @@ fn serve_next<D: Disk + Drop, P: Place<D> + Drop, L: Port, O: Observer>(
     ensures passes { Passes limit (parts P.lying process.old) (parts P.lying process.new) (O.answers observer.old)
         (O.answers observer.new) (option_map (λ _. 1) (result_ok result)) }
 {
-    if let Some((mut reader, mut writer)) = port.accept()? {
+    if let Some((mut reader, mut writer)) = next_in_turn(alloc, port, process)? {
         let refusal = open_again(alloc, process, observer, limit);
         look_ahead(alloc, port, process);
         let answered = process.answer(alloc, &mut reader, &mut writer);
@@ -141,6 +144,41 @@ fn serve_next<D: Disk + Drop, P: Place<D> + Drop, L: Port, O: Observer>(
         observer.ended(went(process, answered.outcome, refusal));
     }
     Ok(())
+}
+
+/// The next connection that is to be answered now, if one comes. One whose request has to be kept is put back, if the
+/// port finds that worth it, and comes again behind those that wait: so none that needs no commit, as a repeat, waits
+/// for the commit of this one.
+fn next_in_turn<D: Disk + Drop, P: Place<D> + Drop, L: Port>(
+    alloc: Global,
+    port: &mut L,
+    process: &mut IntakeProcess<D, P>,
+) -> io::Result<Option<(L::Reader, L::Writer)>>
+    ensures comes { ComesNext (wire L.Reader.Source L.Writer.Sink) (L.traffic port.old) (L.traffic port.new) result }
+    ensures ahead { (L.traffic port.new).ahead ≡ (L.traffic port.old).ahead }
+    ensures looks { LooksOnly (parts P.lying process.old) (parts P.lying process.new) }
+{
+    let Some((reader, writer)) = port.accept()? else {
+        return Ok(None);
+    };
+    if !has_to_be_kept(alloc, process, port.given()) {
+        return Ok(Some((reader, writer)));
+    }
+    Ok(port.put_back(reader, writer))
+}
+
+/// Whether a piece asks to file a request that is the first of its filer and key, while the register is open.
+fn has_to_be_kept<D: Disk + Drop, P: Place<D> + Drop>(
+    alloc: Global,
+    process: &mut IntakeProcess<D, P>,
+    piece: &[u8],
+) -> bool
+    ensures { LooksOnly (parts P.lying process.old) (parts P.lying process.new) }
+{
+    match process.intake_mut() {
+        Some(intake) => files_first(alloc, piece, intake),
+        None => false,
+    }
 }
 
 /// Decides requests that wait on the port ahead of the connections on which they come, if there are several, and the

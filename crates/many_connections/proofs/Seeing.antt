@@ -18,7 +18,7 @@ use Rattle.ready_connections.specs.Waiting.{AreHeld, CameBehind, KeepsCame}
 use Rattle.ready_connections.specs.Running.{IsRunning, IsOutOf, KeepsOut, is_shut, items_out_of, piece_of}
 use Rattle.ready_connections.specs.Streams.{Traffic}
 use Rattle.many_connections.specs.declared.event.Event.{Event}
-use Rattle.many_connections.specs.declared.event.Event.TheVariants.{Came, Over}
+use Rattle.many_connections.specs.declared.event.Event.TheVariants.{Came, PutBack, Over}
 use Rattle.many_connections.specs.Events.{Seen, read_but, and_given, after_event, seen_from, seen_after, IsServedAs}
 use Rattle.many_connections.specs.Events.{AreCopies, AreServedAs, Runs, RunsAhead}
 use Rattle.many_connections.proofs.Ahead.{ahead_done, ahead_on, all_join, copies_behind}
@@ -135,6 +135,26 @@ module _ {S N : Type 0} (s : Ghosts S N) where
     };
     ahead_is = ahead_on s at.runs.pieces old new traffic traffic' ahead keeps at.ahead_is;
   }
+
+  -- the piece that was out was put back
+  pub put_in : (seen : Seen) (old new : Hall S) (traffic : Option (Traffic S)) (ahead : List (List ℕ))
+      (piece : Vec ℕ Global) → seen.given ≡ Some piece.items
+      → ((done : List Piece) (known : Option (Traffic S)) → IsRunning s done (Some piece.items) old known
+      → IsRunning s done None new known)
+      → ((done : List Piece) (known : Option (Traffic S)) → IsRunning s done (Some piece.items) old known
+      → KeepsCame s old known new known)
+      → RunsAhead s seen ahead old traffic → RunsAhead s (after_event seen (PutBack piece)) ahead new traffic
+  put_in seen old new traffic ahead piece given back keeps at =
+      let was = subst (λ g. IsRunning s at.runs.pieces g old traffic) given at.runs.running in
+      record {
+        runs = record {
+          pieces = at.runs.pieces;
+          are = at.runs.are;
+          running = back at.runs.pieces traffic was;
+        };
+        ahead_is = ahead_on s at.runs.pieces old new traffic traffic ahead (keeps at.runs.pieces traffic was)
+            at.ahead_is;
+      }
 
   -- a piece is out exactly if it is known
   out_given : {X : Type 0} (done : List Piece) (out : Option (Out S)) (places : List (Option (Talk S)))

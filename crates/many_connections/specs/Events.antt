@@ -13,9 +13,9 @@ use Rattle.ready_connections.specs.Running.{IsRunning}
 use Rattle.ready_connections.specs.Streams.{Traffic}
 use Rattle.ready_connections.specs.Waiting.{CameBehind}
 use Rattle.many_connections.specs.declared.event.Event.{Event}
-use Rattle.many_connections.specs.declared.event.Event.TheVariants.{Came, Over}
+use Rattle.many_connections.specs.declared.event.Event.TheVariants.{Came, PutBack, Over}
 
--- the bytes of the piece that came last, until it is over, and those that are over, as connections
+-- the bytes of the piece that came last, until it is over or is put back, and those that are over, as connections
 pub record Seen : Type 0 where
   pub given : Option (List ℕ)
   pub over : List Connection
@@ -31,6 +31,7 @@ and_given (Some bytes) over left text served = over ++ connection_with served (r
 
 abbrev pub after_event : Seen → Event → Seen
 after_event seen (Came piece) = record { given = Some piece.items; over = seen.over }
+after_event seen (PutBack piece) = record { given = None; over = seen.over }
 after_event seen (Over left text served) =
     record { given = None; over = and_given seen.given seen.over left text.items served }
 

@@ -10,6 +10,8 @@ use gateway_server::Served;
 pub enum Event {
     /// It came, with these bytes.
     Came(Vec<u8>),
+    /// It was put back, with these bytes, and comes again.
+    PutBack(Vec<u8>),
     /// It is over: so many of its last bytes were not read, and this was written.
     Over {
         left: usize,
@@ -24,7 +26,7 @@ impl Event {
         ensures { result ≡ bytes_in self }
     {
         match self {
-            Event::Came(piece) => piece,
+            Event::Came(piece) | Event::PutBack(piece) => piece,
             Event::Over {
                 left: _,
                 text,

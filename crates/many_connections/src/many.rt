@@ -11,7 +11,7 @@ use crate::note::Note;
 use crate::piece_reader::PieceReader;
 use gateway_server::{Ended, Port, Served};
 use http_server::Log;
-use http_wire::MemoryWriter;
+use http_wire::{MemoryWriter, Source};
 use ready_connections::{Bounds, Hall, Sockets, Stream};
 use std::alloc::{AllocError, Global};
 use std::time::Duration;
@@ -137,6 +137,23 @@ impl<S: Stream<Note = Note> + Drop, K: Sockets<Stream = S> + Drop> Port for Many
 
     fn given(&self) -> &[u8] {
         self.given.as_slice()
+    }
+
+    fn put_back(
+        &mut self,
+        reader: PieceReader,
+        writer: MemoryWriter,
+    ) -> Option<(PieceReader, MemoryWriter)> {
+        let moment = reader.moment();
+        let event = Event::PutBack(reader.into_rest());
+        let events = self.events.and(&event, &true);
+        match self.hall.put_back(event.into_bytes()) {
+            Some(piece) => Some((PieceReader::new(piece, moment), writer)),
+            None => {
+                self.events = events;
+                None
+            }
+        }
     }
 
     fn waiting(&mut self, alloc: Global) -> Vec<Vec<u8>> {

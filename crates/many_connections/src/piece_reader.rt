@@ -30,6 +30,22 @@ impl PieceReader {
         self.cursor.into_inner()
     }
 
+    /// The bytes that were not read.
+    pub(crate) fn into_rest(self) -> Vec<u8>
+        ensures { result.items ≡ bytes_left self }
+    {
+        let read = self.cursor.position() as usize;
+        let mut rest = self.cursor.into_inner();
+        if read > rest.len() {
+            rest.clear();
+            return rest;
+        }
+        let left = rest.len() - read;
+        rest.rotate_left(read);
+        rest.truncate(left);
+        rest
+    }
+
     /// How many bytes were not read.
     pub(crate) fn left(&self) -> usize
         ensures { result ≡ length (bytes_left self.now) }

@@ -2,7 +2,7 @@
 use Rattle.std.proofs.Common.{◌≡◌, ◌≢◌, ◌⊎◌, inl, inr, ℕ, zero, suc, ◌+◌, ◌<◌, ◌≤◌, Bool, true, false, List, [], ◌∷◌}
 use Rattle.std.proofs.Common.{◌++◌, length, get_or, set, take}
 use Rattle.std.proofs.Common.{Option, Some, None, IfSome, refl, sym, ap, ◌∙◌, arith, length-append, Vec}
-use Rattle.std.proofs.Common.{Global, vec_len}
+use Rattle.std.proofs.Common.{Global, vec_len, subst}
 use Rattle.std.specs.Prelude.{option_map, is_some, min}
 use Rattle.std.specs.List.{AllByRecursion, sum_by}
 use Rattle.std.proofs.lemmas.Bool.Decides.{eqb_tells, leb_tells}
@@ -25,7 +25,7 @@ use Rattle.ready_connections.specs.Bounds.{most_lent}
 use Rattle.ready_connections.specs.Places.{taken, taken_places, lent, lent_places, owed, owed_places}
 use Rattle.ready_connections.specs.Running.{CountsOwed, out_count, IsInPlace, WasTold, AreOver, AreRunning, IsEmpty}
 use Rattle.ready_connections.specs.Running.{KeepsAll, GivesTurns, Puts, IsResting, IsShort, IsRunning, IsOutOf}
-use Rattle.ready_connections.proofs.Told.{told_more}
+use Rattle.ready_connections.proofs.Told.{append_nil, told_more}
 
 -- ---- lists
 
@@ -863,25 +863,25 @@ module _ {S N : Type 0} (s : Ghosts S N) where
         in_all = rw (gives.left, gives.bounds) h.in_all;
       }
 
-  -- the output of the piece that is out came back
-  pub came_back : (done : List Piece) (read : List ℕ) (back : Piece) (old taken_ new : Hall S)
+  -- the connection whose piece is out is in its place again, after these pieces
+  pub came_back : (done : List Piece) (read : List ℕ) (more : List Piece) (old taken_ new : Hall S)
       (traffic : Option (Traffic S)) (out : Out S) (c' : Connection S) → old.out ≡ Some out
       → taken_.places.items ≡ old.places.items → taken_.has_turn.items ≡ old.has_turn.items
       → taken_.bounds ≡ old.bounds → taken_.left ≡ old.left → taken_.is_short ≡ old.is_short → taken_.out ≡ None
       → Puts taken_ new out.place (Some c') true
-      → (IsOut s done read out.connection → IsServed s (done ++ back ∷ []) c')
-      → (IsBounded done out.connection → IsBounded (done ++ back ∷ []) c') → (CountsOwed old → CountsOwed new)
-      → IsRunning s done (Some read) old traffic → IsRunning s (done ++ back ∷ []) None new traffic
-  came_back done read back old taken_ new traffic out c' is_out same same_turns same_bounds same_left same_short none
+      → (IsOut s done read out.connection → IsServed s (done ++ more) c')
+      → (IsBounded done out.connection → IsBounded (done ++ more) c') → (CountsOwed old → CountsOwed new)
+      → IsRunning s done (Some read) old traffic → IsRunning s (done ++ more) None new traffic
+  came_back done read more old taken_ new traffic out c' is_out same same_turns same_bounds same_left same_short none
       puts step bound counts running = record {
         turns = omega (arith, puts.turns_len, puts.len, ap length same, ap length same_turns, running.turns);
         within = rw (puts.len, same, puts.bounds, same_bounds) running.within;
         counted = counts running.counted;
-        in_place = put done (done ++ back ∷ []) (IsResting s old) (IsResting s new) taken_ new out.place (Some c') true
+        in_place = put done (done ++ more) (IsResting s old) (IsResting s new) taken_ new out.place (Some c') true
             (rw same_turns (omega (arith, was.2, running.turns)))
             (λ b c at.
-            rests_so (IsResting s old) (IsResting s new) (done ++ back ∷ []) so b c
-            (more_place done (back ∷ []) (IsResting s old) b c at)) puts
+            rests_so (IsResting s old) (IsResting s new) (done ++ more) so b c
+            (more_place done more (IsResting s old) b c at)) puts
             (record { told = step was.0; bounded = bound was.1; awake = inl refl })
             (moved (IsResting s old) running.in_place);
         is_out = rw (puts.out, none) tt;
@@ -905,11 +905,11 @@ module _ {S N : Type 0} (s : Ghosts S N) where
           omega (arith, count, places))
 
       over : (traffic : Option (Traffic S)) → IfSome traffic (AreOver s done old)
-          → IfSome traffic (AreOver s (done ++ back ∷ []) new)
+          → IfSome traffic (AreOver s (done ++ more) new)
       over None h = tt
       over (Some known) h = record {
         told = rw (puts.bounds, same_bounds)
-            (all_weaker _ _ (more_stream old.bounds.patience done (back ∷ [])) known.over h.told);
+            (all_weaker _ _ (more_stream old.bounds.patience done more) known.over h.told);
         none_lost =
             let free = ap (λ places. get_or places out.place None) same ∙ was.3 in
             let count = count_taken taken_ new out.place (Some c') None true puts free in
@@ -919,6 +919,21 @@ module _ {S N : Type 0} (s : Ghosts S N) where
             omega (arith, h.none_lost, count, places, now, before);
         in_all = rw (puts.left, same_left, puts.bounds, same_bounds) h.in_all;
       }
+
+  -- the piece that is out was put back
+  pub put_in : (done : List Piece) (read : List ℕ) (old taken_ new : Hall S) (traffic : Option (Traffic S))
+      (out : Out S) (c' : Connection S) → old.out ≡ Some out → taken_.places.items ≡ old.places.items
+      → taken_.has_turn.items ≡ old.has_turn.items → taken_.bounds ≡ old.bounds → taken_.left ≡ old.left
+      → taken_.is_short ≡ old.is_short → taken_.out ≡ None → Puts taken_ new out.place (Some c') true
+      → (IsOut s done read out.connection → IsServed s done c')
+      → (IsBounded done out.connection → IsBounded done c') → (CountsOwed old → CountsOwed new)
+      → IsRunning s done (Some read) old traffic → IsRunning s done None new traffic
+  put_in done read old taken_ new traffic out c' is_out same same_turns same_bounds same_left same_short none puts step
+      bound counts running =
+      let nil = append_nil done in
+      subst (λ pieces. IsRunning s pieces None new traffic) nil
+      (came_back done read [] old taken_ new traffic out c' is_out same same_turns same_bounds same_left same_short none
+      puts (λ was. rw nil (step was)) (λ was. rw nil (bound was)) counts running)
 
   -- no connection came yet
   pub none_yet : (Rests : Connection S → Type 0) (hall : Hall S) (traffic : Option (Traffic S)) → IsEmpty traffic

@@ -175,6 +175,23 @@ told_out done came went held read rest is_early is_closing is_ended goes_on spli
     split None h = tt
     split (Some bytes) h = h ∙ ap (λ l. reads_of told.pieces ++ l) splits
 
+-- ---- a piece was put back
+
+pub told_in : (done : List Piece) (came went : Option (List ℕ)) (held read rest : List ℕ)
+    (is_early is_closing is_ended : Bool) → is_closing ≡ false → held ≡ read ++ rest
+    → IsTold done came went read rest [] is_early false is_ended
+    → IsTold done came went [] held [] is_early is_closing is_ended
+told_in done came went held read rest is_early is_closing is_ended goes_on joins told = record {
+  pieces = told.pieces;
+  among = told.among;
+  in_turn = rw goes_on told.in_turn;
+  asked = told.asked;
+  next_asked = rw joins told.next_asked;
+  shut = λ closing. absurd (let h : false ≡ true = sym goes_on ∙ closing in cc);
+  read = rw joins told.read;
+  wrote = told.wrote;
+}
+
 -- ---- a piece came back
 
 -- what a piece that came back does to its connection, which is closing after it or not

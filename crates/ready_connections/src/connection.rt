@@ -1,6 +1,6 @@
 //! One connection: what came and was not handed out yet, and what is owed to it.
 ghost use Rattle.std.specs.Prelude.{◌≡◌, ◌≤◌, ◌<◌, ◌+◌, ℕ, true, false, List, [], ◌++◌, length, take, drop, vec_len};
-ghost use Rattle.std.specs.Prelude.{◌∷◌, Some, IfSome};
+ghost use Rattle.std.specs.Prelude.{◌∷◌, Some, IfSome, IfNone};
 ghost use Rattle.http_messages.specs.Message.{Asks, interim};
 ghost use Rattle.ready_connections.specs.NextPiece.{IsLast};
 ghost use Rattle.ready_connections.specs.Arriving.{IsFresh};
@@ -71,6 +71,8 @@ pub(crate) struct Connection<S> {
     pub(crate) is_lent: bool,
     /// Whether the next piece, or the one that is out, was copied while it waited.
     pub(crate) is_copied: bool,
+    /// Whether the next piece, or the one that is out, was put back before.
+    pub(crate) is_put_back: bool,
     /// The moment from which its peer is waited for, if it is.
     pub(crate) since: Option<u64>,
 }
@@ -92,6 +94,7 @@ impl<S: Stream> Connection<S> {
             is_awaited: false,
             is_lent: false,
             is_copied: false,
+            is_put_back: false,
             since: None,
         }
     }
@@ -109,6 +112,7 @@ impl<S: Stream> Connection<S> {
             is_awaited: _,
             is_lent: _,
             is_copied: _,
+            is_put_back: _,
             since: _,
         } = self;
         stream
@@ -121,6 +125,7 @@ impl<S: Stream> Connection<S> {
             → IsAfterTurn S.Stream done result self.new }
         ensures writes { only_writes ≡ true → HandsNone result }
         ensures owes { 0 < vec_len self.old.owed → HandsNone result × HasWritten S.Stream self.new }
+        ensures marked { self.new.is_put_back ≡ self.old.is_put_back }
         ensures held { (read : ℕ) → length room.old ≤ read → HoldsWithin read self.old → HoldsWithin read self.new }
         ensures lent { KeepsLoan result self.old.is_lent self.new.is_lent }
         ensures owed { (most : ℕ) → length interim ≤ most → vec_len self.old.owed ≤ most
@@ -232,6 +237,7 @@ impl<S: Stream> Connection<S> {
         ensures lent { KeepsLoan result self.old.is_lent self.new.is_lent }
         ensures owed { (most : ℕ) → length interim ≤ most → vec_len self.old.owed ≤ most
             → vec_len self.new.owed ≤ most }
+        ensures marked { self.new.is_put_back ≡ self.old.is_put_back }
         ensures came { KeepsFirst S.Stream self.old.stream self.new.stream }
     {
         for _ in 0..SHARE {
@@ -252,6 +258,7 @@ impl<S: Stream> Connection<S> {
         ensures lent { KeepsLoan result self.old.is_lent self.new.is_lent }
         ensures owed { (most : ℕ) → length interim ≤ most → vec_len self.old.owed ≤ most
             → vec_len self.new.owed ≤ most }
+        ensures marked { self.new.is_put_back ≡ self.old.is_put_back }
         ensures came { KeepsFirst S.Stream self.old.stream self.new.stream }
     {
         if !self.owed.is_empty() {
@@ -285,6 +292,7 @@ impl<S: Stream> Connection<S> {
         ensures held { (read : ℕ) → HoldsWithin read self.old → HoldsWithin read self.new }
         ensures lent { KeepsLoan result self.old.is_lent self.new.is_lent }
         ensures owed { vec_len self.new.owed ≤ vec_len self.old.owed }
+        ensures marked { self.new.is_put_back ≡ self.old.is_put_back }
         ensures came { KeepsFirst S.Stream self.old.stream self.new.stream }
     {
         match self.stream.write(self.owed.as_slice()) {
@@ -312,6 +320,7 @@ impl<S: Stream> Connection<S> {
         ensures held { (read : ℕ) → HoldsWithin read self.old → HoldsWithin read self.new }
         ensures lent { KeepsLoan result self.old.is_lent self.new.is_lent }
         ensures owed { self.new.owed ≡ self.old.owed }
+        ensures marked { self.new.is_put_back ≡ self.old.is_put_back }
         ensures came { KeepsFirst S.Stream self.old.stream self.new.stream }
     {
         match self.held.take_front(alloc, len) {
@@ -344,6 +353,7 @@ impl<S: Stream> Connection<S> {
         ensures held { (read : ℕ) → HoldsWithin read self.old → HoldsWithin read self.new }
         ensures lent { KeepsLoan result self.old.is_lent self.new.is_lent }
         ensures owed { self.new.owed ≡ self.old.owed }
+        ensures marked { self.new.is_put_back ≡ self.old.is_put_back }
         ensures came { KeepsFirst S.Stream self.old.stream self.new.stream }
     {
         self.is_closing = true;
@@ -362,6 +372,7 @@ impl<S: Stream> Connection<S> {
         ensures held { (read : ℕ) → HoldsWithin read self.old → HoldsWithin read self.new }
         ensures lent { KeepsLoan result self.old.is_lent self.new.is_lent }
         ensures owed { vec_len self.new.owed ≤ length interim }
+        ensures marked { self.new.is_put_back ≡ self.old.is_put_back }
         ensures came { KeepsFirst S.Stream self.old.stream self.new.stream }
     {
         if self.owed.extend_from_slice(INTERIM).is_err() {
@@ -386,6 +397,7 @@ impl<S: Stream> Connection<S> {
         ensures short_of { KeepsLoan result self.old.is_lent self.new.is_lent }
         ensures owed { self.new.owed ≡ self.old.owed }
         ensures open_still { self.new.is_closing ≡ self.old.is_closing }
+        ensures marked { self.new.is_put_back ≡ self.old.is_put_back }
         ensures came { KeepsFirst S.Stream self.old.stream self.new.stream }
     {
         if !self.is_lent && self.held.len() >= SMALL {
@@ -432,7 +444,35 @@ impl<S: Stream> Connection<S> {
         self.is_awaited = false;
         self.is_closing |= closes;
         self.is_copied = false;
+        self.is_put_back = false;
         self.since = None;
+    }
+
+    /// Takes the piece that is out back, which stands first again in what is held, if it was not put back before. It
+    /// takes a loan if it needs one, and may have it. If it would hold too much, or there is no memory for the piece
+    /// and what came behind it together, it stays as it is, and the piece comes back.
+    pub(crate) fn put_back(&mut self, piece: Vec<u8>, may_lend: bool) -> Option<Vec<u8>>
+        requires { self.old.is_closing ≡ false }
+        ensures told { (done : List Piece) → IsOut S.Stream done piece.items self.old
+            → IfNone result (IsServed S.Stream done self.new) }
+        ensures held { IfNone result (HoldsWithin 16384 self.new) }
+        ensures lent { self.old.is_lent ≡ true → self.new.is_lent ≡ true }
+        ensures stream { self.new.stream ≡ self.old.stream }
+        ensures owed { self.new.owed ≡ self.old.owed }
+        ensures once { IfNone result ((self.old.is_put_back ≡ false) × (self.new.is_put_back ≡ true)) }
+        ensures stays { IfSome result (λ back. (back.items ≡ piece.items) × (self.new ≡ self.old)) }
+    {
+        let len = piece.len().saturating_add(self.held.len());
+        let needs_loan = len > SMALL && !self.is_lent;
+        if self.is_put_back || len > MAX_PIECE || needs_loan && !may_lend {
+            return Some(piece);
+        }
+        if let Some(piece) = self.held.put_front(piece) {
+            return Some(piece);
+        }
+        self.is_lent |= needs_loan;
+        self.is_put_back = true;
+        None
     }
 }
 

@@ -586,6 +586,41 @@ impl<S: Stream + Drop> Hall<S> {
         }
     }
 
+    /// Puts the piece that is out back, if that is worth it: others have their turn (`has_waiting`), and it was not put
+    /// back before. Its connection hands it out again in its next turn, which is behind theirs. Otherwise, or without
+    /// memory, it stays out, nothing changes, and it comes back.
+    pub fn put_back(&mut self, piece: Vec<u8>) -> Option<Vec<u8>>
+        ensures running { (done : List Piece) (traffic : Option (Traffic S))
+            → IsRunning S.Stream done (Some piece.items) self.old traffic
+            → IsRunning S.Stream done (items_of result) self.new traffic }
+        ensures once { IfNone result (IfSome self.old.out (λ out. (out.connection.is_put_back ≡ false)
+            × IfSome (slice_index_or self.new.places.items out.place None) (λ c. c.is_put_back ≡ true))) }
+        ensures stays { IfSome result (λ back. (back.items ≡ piece.items) × (self.new ≡ self.old)) }
+        ensures was { IfNone result (IsSome self.old.out) }
+        ensures out { IfNone result (self.new.out ≡ None) }
+        ensures bounds { self.new.bounds ≡ self.old.bounds }
+        ensures came { (done : List Piece) (traffic : Option (Traffic S))
+            → IsRunning S.Stream done (Some piece.items) self.old traffic
+            → KeepsCame S.Stream self.old traffic self.new traffic }
+    {
+        if !self.has_waiting() {
+            return Some(piece);
+        }
+        let may_lend = count_lent(&self.places) < self.bounds.most_lent();
+        let Some(mut out) = self.out.take() else {
+            return Some(piece);
+        };
+        if let Some(piece) = out.connection.put_back(piece, may_lend) {
+            self.out = Some(out);
+            return Some(piece);
+        }
+        if out.place >= self.places.len() {
+            return None;
+        }
+        self.enter(out.place, out.connection, true);
+        None
+    }
+
     /// Writes what goes of what the connection in a place owes.
     fn write<P: Sockets<Stream = S>>(&mut self, place: usize, sockets: &mut P)
         requires place { place < vec_len self.old.places }

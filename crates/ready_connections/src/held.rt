@@ -110,6 +110,20 @@ impl Held {
         Some(mem::replace(&mut self.bytes, rest))
     }
 
+    /// Puts bytes before what there is, unless there is no memory for both together; then they come back.
+    pub(crate) fn put_front(&mut self, mut front: Vec<u8>) -> Option<Vec<u8>>
+        ensures put { IfNone result (self.new.bytes.items ≡ front.items ++ self.old.bytes.items) }
+        ensures back { IfSome result (λ back. (back.items ≡ front.items) × (self.new ≡ self.old)) }
+        ensures len { IfNone result (vec_len self.new.bytes ≡ vec_len front + vec_len self.old.bytes) }
+    {
+        if front.extend_from_slice(self.bytes.as_slice()).is_err() {
+            return Some(front);
+        }
+        self.searched = 0;
+        self.bytes = front;
+        None
+    }
+
     /// Takes all out.
     pub(crate) fn take_all(&mut self, alloc: Global) -> Vec<u8>
         ensures all { result.items ≡ self.old.bytes.items }

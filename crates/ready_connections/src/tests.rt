@@ -29,9 +29,19 @@ fn reply(alloc: Global, piece: &[u8]) -> Result<Vec<u8>, AllocError> {
     Vec::from_slice(alloc, reply.as_bytes())
 }
 
-/// The paths of the pieces in the order in which they are handed out, and then what each connection that is over got,
-/// and why it is over; and at the end whether no connection comes any more.
+/// The paths of the pieces in the order in which they are served, and then what each connection that is over got, and
+/// why it is over; and at the end whether no connection comes any more.
 fn served(alloc: Global, events: &[Event], bounds: Bounds) -> Result<String, AllocError> {
+    served_or_back(alloc, events, bounds, "-")
+}
+
+/// The same, with `back` for each time that a piece with this path is put back.
+fn served_or_back(
+    alloc: Global,
+    events: &[Event],
+    bounds: Bounds,
+    back: &str,
+) -> Result<String, AllocError> {
     let mut sockets = ScriptedSockets::new(alloc, events);
     let mut hall = Hall::new(alloc, bounds)?;
     let mut told = String::new(alloc);
@@ -41,10 +51,19 @@ fn served(alloc: Global, events: &[Event], bounds: Bounds) -> Result<String, All
         }
         if let Ok(Some(piece)) = hall.next_piece(&mut sockets, Duration::ZERO, 8) {
             let text = str::from_utf8(&piece).unwrap_or("?");
-            told.push_str(text.split(' ').nth(1).unwrap_or("-"))?;
-            told.push_str(" ")?;
+            let closes = text.contains("close");
+            let path = text.split(' ').nth(1).unwrap_or("-");
+            let line = format!(in alloc; "{path} ")?;
+            let is_back = path == back;
             let reply = reply(alloc, &piece)?;
-            hall.give_back(&mut sockets, reply, text.contains("close"), &());
+            if is_back {
+                if hall.put_back(piece).is_none() {
+                    told.push_str("back ")?;
+                    continue;
+                }
+            }
+            told.push_str(line.as_str())?;
+            hall.give_back(&mut sockets, reply, closes, &());
         }
     }
     for (stream, why) in sockets.over() {
@@ -114,6 +133,20 @@ fn one_that_still_wrote_hands_out_behind_the_others(rt: HostRuntime) {
     ];
     let told = served(rt.alloc(), &events, BOUNDS);
     assert!(rt; told.is_ok_and(|told| told.as_str() == "/b /g /h /c | /g/h done | /b/c done "));
+}
+
+#[test]
+fn one_that_is_put_back_comes_once_more_behind_the_others(rt: HostRuntime) {
+    let events = [
+        Event::Comes(PIPELINED, &[]),
+        Event::Comes(ALSO_PIPELINED, &[]),
+    ];
+    let told = served_or_back(rt.alloc(), &events, BOUNDS, "/b");
+    let wanted = "back /g /b /h /c | /g/h done | /b/c done ";
+    assert!(rt; told.is_ok_and(|told| told.as_str() == wanted));
+    let alone = [Event::Comes(PIPELINED, &[])];
+    let told = served_or_back(rt.alloc(), &alone, BOUNDS, "/b");
+    assert!(rt; told.is_ok_and(|told| told.as_str() == "/b /c | /b/c done "));
 }
 
 #[test]

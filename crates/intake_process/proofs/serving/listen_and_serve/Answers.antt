@@ -1,10 +1,10 @@
 use Rattle.std.proofs.Common.{None, refl, subst, sym}
 use Rattle.std.specs.Result.{result_ok}
-use Rattle.gateway_server.specs.Ports.{MayShut}
-use Rattle.gateway_server.proofs.Turns.{unchanged}
 use Rattle.intake_process.specs.Process.{parts}
+use Rattle.intake_process.specs.History.{NoneCame}
 use Rattle.intake_process.specs.Turns.{AnswersSome}
-use Rattle.intake_process.proofs.Turns.{none}
+use Rattle.intake_process.proofs.Looking.{looks_same}
+use Rattle.intake_process.proofs.Turns.{none, none_came}
 use Rattle.intake_process.proofs.History as history
 use Rattle.intake_process.proofs.serving.listen_and_serve.Goals as goal
 
@@ -12,8 +12,8 @@ pub returns-in-Err-clause-answers : goal.returns-in-Err-clause-answers
 returns-in-Err-clause-answers g c =
     λ honest. none c.args.limit (g.L.Port.traffic c.args.port.now) (g.L.Port.traffic c.listen.new.self)
     (parts g.P.Place.lying c.args.process.now) None
-    (subst (MayShut (g.L.Port.traffic c.args.port.now)) (sym c.listen.ensures.same)
-    (unchanged (g.L.Port.traffic c.args.port.now))) tt
+    (subst (NoneCame (g.L.Port.traffic c.args.port.now)) (sym c.listen.ensures.same)
+    (none_came (g.L.Port.traffic c.args.port.now))) tt
 
 pub returns-clause-answers : goal.returns-clause-answers
 returns-clause-answers g c = λ honest.
@@ -23,4 +23,5 @@ returns-clause-answers g c = λ honest.
     (c.serve_port.ensures.answers honest)
 
 pub returns-in-Err-clause-passes : goal.returns-in-Err-clause-passes
-returns-in-Err-clause-passes g c = history.none c.args.limit _ _ _ _ refl
+returns-in-Err-clause-passes g c =
+    history.none c.args.limit _ _ _ _ _ refl (looks_same (parts g.P.Place.lying c.args.process.now))

@@ -8,7 +8,8 @@ use Rattle.intake_process.specs.Turns.{AnswersSome}
 use Rattle.intake_process.specs.History.{Passes, said_of}
 use Rattle.intake_process.specs.Observing.{Notes}
 use Rattle.intake_process.proofs.Keeping.{awake}
-use Rattle.intake_process.proofs.Turns.{none, one, between, same, read_to_end}
+use Rattle.intake_process.proofs.Looking.{leaves_join, looks_leave, looks_stay, none_answered}
+use Rattle.intake_process.proofs.Turns.{one, between, same, read_to_end}
 use Rattle.intake_process.proofs.Up as up
 use Rattle.intake_process.proofs.History as history
 use Rattle.intake_process.proofs.serving.serve_next.Goals as goal
@@ -22,16 +23,18 @@ end-requires g c =
 
 pub returns-in_err-reader-clause-answers : goal.returns-in_err-reader-clause-answers
 returns-in_err-reader-clause-answers g c = λ honest.
-    let process = parts g.P.Place.lying c.args.process.now in
-    subst (λ taken. AnswersSome c.args.limit (g.L.Port.traffic c.args.port.now) (g.L.Port.traffic c.accept.new.self)
-    process process taken) (sym (ap (option_map (λ _. 1))
+    let old = parts g.P.Place.lying c.args.process.now in
+    let looked = parts g.P.Place.lying c.next_in_turn.new.process in
+    subst (λ taken. AnswersSome c.args.limit (g.L.Port.traffic c.args.port.now)
+    (g.L.Port.traffic c.next_in_turn.new.port) old looked taken) (sym (ap (option_map (λ _. 1))
     (none_told c.from_residual.result c.from_residual.ensures.0)))
-    (none c.args.limit (g.L.Port.traffic c.args.port.now) (g.L.Port.traffic c.accept.new.self) process None
-    c.in_err-reader.ensures.comes.0 tt)
+    (none_answered c.args.limit honest (g.L.Port.traffic c.args.port.now) (g.L.Port.traffic c.next_in_turn.new.port) old
+    looked None c.in_err-reader.ensures.comes.0 tt c.next_in_turn.ensures.looks)
 
 pub returns-in_err-end-clause-answers : goal.returns-in_err-end-clause-answers
 returns-in_err-end-clause-answers g c = λ honest.
     let old = parts g.P.Place.lying c.args.process.now in
+    let looked = parts g.P.Place.lying c.next_in_turn.new.process in
     let first = parts g.P.Place.lying c.open_again-refusal.new.process in
     let decided = parts g.P.Place.lying c.look_ahead.new.process in
     let last = parts g.P.Place.lying c.answer-answered.new.self in
@@ -40,13 +43,15 @@ returns-in_err-end-clause-answers g c = λ honest.
     (sym (ap (option_map (λ _. 1)) (none_told c.from_residual-in_err-end.result
     c.from_residual-in_err-end.ensures.0)))
     (between c.args.limit (g.L.Port.traffic c.args.port.now) (g.L.Port.traffic c.end.new.self) old first last last None
-    (up.after old first last c.open_again-refusal.ensures.stays
+    (up.after old first last (up.join old looked first (looks_stay old looked c.in_ok-reader.ensures.looks)
+    c.open_again-refusal.ensures.stays)
     (up.answered c.look_ahead.ensures.pieces (wire g.L.Reader.Source g.L.Writer.Sink c.in-Some.reader c.in-Some.writer)
     (wire g.L.Reader.Source g.L.Writer.Sink c.answer-answered.new.reader c.answer-answered.new.writer) first decided
     last
     c.answer-answered.result c.look_ahead.ensures.decides c.answer-answered.ensures))
-    (c.open_again-refusal.ensures.leaves honest)
-    (one c.args.limit honest (g.L.Port.traffic c.args.port.now) (g.L.Port.traffic c.accept.new.self)
+    (leaves_join c.args.limit old looked first (looks_leave c.args.limit honest old looked c.in_ok-reader.ensures.looks)
+    (c.open_again-refusal.ensures.leaves honest))
+    (one c.args.limit honest (g.L.Port.traffic c.args.port.now) (g.L.Port.traffic c.next_in_turn.new.port)
     (g.L.Port.traffic c.look_ahead.new.port) (g.L.Port.traffic c.end.new.self)
     (wire g.L.Reader.Source g.L.Writer.Sink c.in-Some.reader c.in-Some.writer)
     (wire g.L.Reader.Source g.L.Writer.Sink c.answer-answered.new.reader c.answer-answered.new.writer) first decided
@@ -59,6 +64,7 @@ returns-in_err-end-clause-answers g c = λ honest.
 pub returns-in_ok-end-clause-answers : goal.returns-in_ok-end-clause-answers
 returns-in_ok-end-clause-answers g c = λ honest.
     let old = parts g.P.Place.lying c.args.process.now in
+    let looked = parts g.P.Place.lying c.next_in_turn.new.process in
     let first = parts g.P.Place.lying c.open_again-refusal.new.process in
     let decided = parts g.P.Place.lying c.look_ahead.new.process in
     let last = parts g.P.Place.lying c.answer-answered.new.self in
@@ -71,9 +77,11 @@ returns-in_ok-end-clause-answers g c = λ honest.
     (λ other. ap (parts g.P.Place.lying) (c.went.ensures.others other)) c.went.ensures.calls in
     between c.args.limit (g.L.Port.traffic c.args.port.now) (g.L.Port.traffic c.end.new.self) old first last new
     (Some 1) (λ u. up.until first last new c.went.ensures.calls
-    (up.after old first new c.open_again-refusal.ensures.stays stays u))
-    (c.open_again-refusal.ensures.leaves honest)
-    (one c.args.limit honest (g.L.Port.traffic c.args.port.now) (g.L.Port.traffic c.accept.new.self)
+    (up.after old first new (up.join old looked first (looks_stay old looked c.in_ok-reader.ensures.looks)
+    c.open_again-refusal.ensures.stays) stays u))
+    (leaves_join c.args.limit old looked first (looks_leave c.args.limit honest old looked c.in_ok-reader.ensures.looks)
+    (c.open_again-refusal.ensures.leaves honest))
+    (one c.args.limit honest (g.L.Port.traffic c.args.port.now) (g.L.Port.traffic c.next_in_turn.new.port)
     (g.L.Port.traffic c.look_ahead.new.port) (g.L.Port.traffic c.end.new.self)
     (wire g.L.Reader.Source g.L.Writer.Sink c.in-Some.reader c.in-Some.writer)
     (wire g.L.Reader.Source g.L.Writer.Sink c.answer-answered.new.reader c.answer-answered.new.writer) first decided
@@ -86,9 +94,9 @@ returns-in_ok-end-clause-answers g c = λ honest.
 pub returns-in_default-clause-answers : goal.returns-in_default-clause-answers
 returns-in_default-clause-answers g c = λ honest.
     let came = rw c.in_default.is at c.in_ok-reader.ensures.comes in
-    none c.args.limit (g.L.Port.traffic c.args.port.now) (g.L.Port.traffic c.accept.new.self)
-    (parts g.P.Place.lying c.args.process.now) (Some 1) came.0
-    (subst (λ coming. AreCounted coming [] 1) (sym came.1) counted_given_up)
+    none_answered c.args.limit honest (g.L.Port.traffic c.args.port.now) (g.L.Port.traffic c.next_in_turn.new.port)
+    (parts g.P.Place.lying c.args.process.now) (parts g.P.Place.lying c.next_in_turn.new.process) (Some 1) came.0
+    (subst (λ coming. AreCounted coming [] 1) (sym came.1) counted_given_up) c.next_in_turn.ensures.looks
 
 pub returns-in_ok-end-clause-closed : goal.returns-in_ok-end-clause-closed
 returns-in_ok-end-clause-closed g c = λ _.
@@ -103,7 +111,9 @@ returns-in_err-end-clause-stays g c =
     let first = parts g.P.Place.lying c.open_again-refusal.new.process in
     let decided = parts g.P.Place.lying c.look_ahead.new.process in
     let last = parts g.P.Place.lying c.answer-answered.new.self in
-    up.join (parts g.P.Place.lying c.args.process.now) first last c.open_again-refusal.ensures.stays
+    up.join (parts g.P.Place.lying c.args.process.now) first last
+    (up.join (parts g.P.Place.lying c.args.process.now) (parts g.P.Place.lying c.next_in_turn.new.process) first
+    (looks_stay _ _ c.in_ok-reader.ensures.looks) c.open_again-refusal.ensures.stays)
     (up.answered c.look_ahead.ensures.pieces (wire g.L.Reader.Source g.L.Writer.Sink c.in-Some.reader c.in-Some.writer)
     (wire g.L.Reader.Source g.L.Writer.Sink c.answer-answered.new.reader c.answer-answered.new.writer) first decided
     last
@@ -115,7 +125,9 @@ returns-in_ok-end-clause-stays g c =
     let decided = parts g.P.Place.lying c.look_ahead.new.process in
     let last = parts g.P.Place.lying c.answer-answered.new.self in
     let new = parts g.P.Place.lying c.went.new.process in
-    up.join (parts g.P.Place.lying c.args.process.now) first new c.open_again-refusal.ensures.stays
+    up.join (parts g.P.Place.lying c.args.process.now) first new
+    (up.join (parts g.P.Place.lying c.args.process.now) (parts g.P.Place.lying c.next_in_turn.new.process) first
+    (looks_stay _ _ c.in_ok-reader.ensures.looks) c.open_again-refusal.ensures.stays)
     (up.went c.look_ahead.ensures.pieces (wire g.L.Reader.Source g.L.Writer.Sink c.in-Some.reader c.in-Some.writer)
     (wire g.L.Reader.Source g.L.Writer.Sink c.answer-answered.new.reader c.answer-answered.new.writer) first decided
     last
@@ -123,17 +135,24 @@ returns-in_ok-end-clause-stays g c =
     (λ other. ap (parts g.P.Place.lying) (c.went.ensures.others other)) c.went.ensures.calls)
 
 pub returns-in_err-reader-clause-stays : goal.returns-in_err-reader-clause-stays
-returns-in_err-reader-clause-stays g c = up.same (parts g.P.Place.lying c.args.process.now)
+returns-in_err-reader-clause-stays g c = looks_stay _ _ c.next_in_turn.ensures.looks
 
 pub returns-in_default-clause-stays : goal.returns-in_default-clause-stays
-returns-in_default-clause-stays g c = up.same (parts g.P.Place.lying c.args.process.now)
+returns-in_default-clause-stays g c = looks_stay _ _ c.next_in_turn.ensures.looks
 
 pub returns-in_err-reader-clause-passes : goal.returns-in_err-reader-clause-passes
-returns-in_err-reader-clause-passes g c = history.none c.args.limit _ _ _ _ refl
+returns-in_err-reader-clause-passes g c = history.none c.args.limit _ _ _ _ _ refl c.next_in_turn.ensures.looks
+
+pub returns-in_default-clause-passes : goal.returns-in_default-clause-passes
+returns-in_default-clause-passes g c = history.none c.args.limit _ _ _ _ _ refl c.next_in_turn.ensures.looks
+
+pub returns-in_default-clause-closed : goal.returns-in_default-clause-closed
+returns-in_default-clause-closed g c = c.next_in_turn.ensures.looks.awake
 
 pub returns-in_err-end-clause-passes : goal.returns-in_err-end-clause-passes
 returns-in_err-end-clause-passes g c =
     let old = parts g.P.Place.lying c.args.process.now in
+    let looked = parts g.P.Place.lying c.next_in_turn.new.process in
     let ready = parts g.P.Place.lying c.open_again-refusal.new.process in
     let decided = parts g.P.Place.lying c.look_ahead.new.process in
     let last = parts g.P.Place.lying c.answer-answered.new.self in
@@ -142,24 +161,26 @@ returns-in_err-end-clause-passes g c =
     (g.O.Observer.answers c.served.new.self) taken)
     (sym (ap (option_map (λ _. 1)) (none_told c.from_residual-in_err-end.result
     c.from_residual-in_err-end.ensures.0)))
-    (history.cut c.args.limit old ready decided last _ _ is.0 (g.L.Port.traffic c.accept.new.self)
+    (history.cut c.args.limit old looked ready decided last _ _ is.0 (g.L.Port.traffic c.next_in_turn.new.port)
     (g.L.Port.traffic c.look_ahead.new.port) (wire g.L.Reader.Source g.L.Writer.Sink c.in-Some.reader c.in-Some.writer)
     (wire g.L.Reader.Source g.L.Writer.Sink c.answer-answered.new.reader c.answer-answered.new.writer)
-    c.answer-answered.result is.1 c.look_ahead.ensures c.answer-answered.ensures
+    c.answer-answered.result c.in_ok-reader.ensures.looks is.1 c.look_ahead.ensures c.answer-answered.ensures
     (subst (λ after. Notes (g.O.Observer.answers c.args.observer.now) after (said_of is.0)) (sym c.served.ensures)
     is.2))
 
 pub returns-in_ok-end-clause-passes : goal.returns-in_ok-end-clause-passes
 returns-in_ok-end-clause-passes g c =
     let old = parts g.P.Place.lying c.args.process.now in
+    let looked = parts g.P.Place.lying c.next_in_turn.new.process in
     let ready = parts g.P.Place.lying c.open_again-refusal.new.process in
     let decided = parts g.P.Place.lying c.look_ahead.new.process in
     let last = parts g.P.Place.lying c.answer-answered.new.self in
     let new = parts g.P.Place.lying c.went.new.process in
     let is = c.open_again-refusal.ensures.ready in
-    history.one c.args.limit old ready decided last new _ _ is.0 (g.L.Port.traffic c.accept.new.self)
+    history.one c.args.limit old looked ready decided last new _ _ is.0 (g.L.Port.traffic c.next_in_turn.new.port)
     (g.L.Port.traffic c.look_ahead.new.port) (wire g.L.Reader.Source g.L.Writer.Sink c.in-Some.reader c.in-Some.writer)
     (wire g.L.Reader.Source g.L.Writer.Sink c.answer-answered.new.reader c.answer-answered.new.writer)
-    c.answer-answered.result is.1 c.look_ahead.ensures c.answer-answered.ensures c.went.ensures.over
+    c.answer-answered.result c.in_ok-reader.ensures.looks is.1 c.look_ahead.ensures c.answer-answered.ensures
+    c.went.ensures.over
     (subst (λ after. Notes (g.O.Observer.answers c.args.observer.now) after (said_of is.0))
     (sym (c.ended.ensures ∙ c.served.ensures)) is.2)

@@ -1,9 +1,10 @@
 use Rattle.std.proofs.Common.{Some, refl, sym, ◌∙◌, subst, true≢false}
-use Rattle.gateway_server.proofs.Turns.{none_told, counted_none, unchanged}
+use Rattle.gateway_server.proofs.Turns.{none_told, counted_none}
 use Rattle.intake_process.specs.Process.{parts}
 use Rattle.intake_process.specs.History.{Passes}
 use Rattle.intake_process.specs.Turns.{AnswersSome}
-use Rattle.intake_process.proofs.Turns.{none, join, untold}
+use Rattle.intake_process.proofs.Turns.{none, none_came, join, untold}
+use Rattle.intake_process.proofs.Looking.{looks_same}
 use Rattle.intake_process.proofs.Up as up
 use Rattle.intake_process.proofs.History as history
 use Rattle.intake_process.proofs.serving.serve_port.Goals as goal
@@ -11,12 +12,12 @@ use Rattle.intake_process.proofs.serving.serve_port.Goals as goal
 pub loop-taken-init : goal.loop-taken-init
 loop-taken-init g c = record {
   answers = λ honest. none c.args.limit (g.L.Port.traffic c.args.port.now) (g.L.Port.traffic c.args.port.now)
-      (parts g.P.Place.lying c.args.process.now) (Some 0) (unchanged (g.L.Port.traffic c.args.port.now))
+      (parts g.P.Place.lying c.args.process.now) (Some 0) (none_came (g.L.Port.traffic c.args.port.now))
       (counted_none (g.L.Port.traffic c.args.port.now).coming);
   shut = λ shut. (refl, shut);
   closed = λ awake. awake;
   stays = up.same (parts g.P.Place.lying c.args.process.now);
-  passes = history.none c.args.limit _ _ _ (Some 0) refl;
+  passes = history.none c.args.limit _ _ _ _ (Some 0) refl (looks_same (parts g.P.Place.lying c.args.process.now));
 }
 
 pub returns-in_err-serve_next-clause-answers : goal.returns-in_err-serve_next-clause-answers

@@ -10,6 +10,7 @@ invariant-loop g l = record {
   told : (done : List Piece) → IsServed g.S.Stream done l.fn.self → IsServed g.S.Stream done l.self;
   held : (read : ℕ) → length l.fn.room ≤ read → HoldsWithin read l.fn.self → HoldsWithin read l.self;
   lent : l.self.is_lent ≡ l.fn.self.is_lent;
+  marked : l.self.is_put_back ≡ l.fn.self.is_put_back;
   came : KeepsFirst g.S.Stream l.fn.self.stream l.self.stream;
   owed : (most : ℕ) → length interim ≤ most → vec_len l.fn.self.owed ≤ most → vec_len l.self.owed ≤ most;
 }
