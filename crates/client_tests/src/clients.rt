@@ -121,8 +121,8 @@ fn hold(rt: &impl Abort, alloc: Global, wanted: &Play, most: u64) -> Result<(), 
 /// Clients of every kind at once. In a round each has its turn, in the order of their places. A report is put back in
 /// the first of its rounds, since others have their turn, and kept in the next, together with all that wait then. So
 /// those are numbered first that are whole in the second round; then the one behind another in the first read; and at
-/// last the one whose 166 bytes come one at a time. A reply has 110 bytes, and the interim response 25. If a client is reset before its report is whole, the report gets no number. If it is reset
-/// later, the report stands.
+/// last the one whose 166 bytes come one at a time. A reply has 110 bytes, and the interim response 25. If a client is
+/// reset before its report is whole, the report gets no number. If it is reset later, the report stands.
 static EVERY: [(Client, u32); 20] = [
     (IDLE, 1),
     (

@@ -148,7 +148,8 @@ module _ {D : Type 0} {g : Ghosts D} where
 
   -- A connection to a database, to which nothing was committed, leaves that database if it is given up.
   pub given_up : IsHonest g → SeenMayStay g → (old new : Held (FileStore D g)) (files : Files D) → IsOpened old
-      → CommitsNothing (file_state old) (file_state new) → IsGivenUp new files → HoldWithLog g files (file_state old).now
+      → CommitsNothing (file_state old) (file_state new) → IsGivenUp new files
+      → HoldWithLog g files (file_state old).now
   given_up honest stays old new files opened nothing given =
       let db = (file_state old).now in
       let sound = (opened.1 opened.0.is_open).0 in

@@ -36,8 +36,8 @@ use Rattle.intake_process.specs.Beginning.{HoldsAs, AreTotals, IsNotBegun}
 use Rattle.intake_process.specs.Turning.{TurnsAway}
 
 -- What contracts see of it: the intake, if it is open; if that is known, the files that lie in its place, if there are
--- some; whether no close failed, no register that was being made, and no opening once it had taken the files; and how
--- many calls its database refused, as far as a u64 counts.
+-- some; whether what is kept is certain: no close and no making failed, and no opening took the files and got no
+-- database; and how many calls its database refused, as far as a u64 counts.
 pub record Parts {D : Type 0} (g : Ghosts D) : Type 0 where
   pub intake : Option (Intake (FileStore D g))
   pub lying : Option (Option (Files D))

@@ -92,8 +92,8 @@ pub struct IntakeProcess<D: Disk + Drop, P: Place<D> + Drop> {
     pub(crate) place: P,
     /// `None` while the process is closed.
     intake: Option<Intake<FileStore<D>>>,
-    /// Whether no close failed, no register that was being made, and no opening once it had taken the files. After one
-    /// that did, what lies in the place may be what a crash leaves.
+    /// Whether no close and no making failed, and no opening took the files and got no database. After one that did,
+    /// what lies in the place may be what a crash leaves.
     pub(crate) is_certain: bool,
     /// How many calls its database refused, as far as this counts.
     refused_calls: u64,

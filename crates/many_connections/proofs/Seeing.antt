@@ -192,9 +192,9 @@ module _ {S N : Type 0} (s : Ghosts S N) where
           (whole at.runs.pieces bytes traffic after)
           (subst (λ (it : List ℕ). AreCopies it others copies) (fits bytes refl some) are)
 
-  given_back : (given : Option (List ℕ)) (over : List Connection) (old new : Hall S) (traffic traffic' : Option (Traffic S))
-      (ahead : List (List ℕ))
-      (left : ℕ) (text output : Vec ℕ Global) (served : Served) (closes : Bool) → is_some old.out ≡ true
+  given_back : (given : Option (List ℕ)) (over : List Connection) (old new : Hall S)
+      (traffic traffic' : Option (Traffic S)) (ahead : List (List ℕ)) (left : ℕ) (text output : Vec ℕ Global)
+      (served : Served) (closes : Bool) → is_some old.out ≡ true
       → output ≡ text → (served.ended ≡ InputEnded → left ≡ 0) → (closes ≡ false → served.ended ≡ InputEnded)
       → (closes ≡ true → served.ended ≢ InputEnded)
       → ((done : List Piece) (read : List ℕ) → IsRunning s done (Some read) old traffic

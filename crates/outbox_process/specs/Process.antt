@@ -34,7 +34,8 @@ use Rattle.outbox_process.specs.Errands.{DoesErrand}
 use Rattle.outbox_process.specs.Refusals.{RefusesOutbox}
 
 -- What contracts see of it: the outbox, if it is open; if that is known, the files that lie in its place, if there are
--- some; and whether what is kept is certain: no close failed, no making, and no opening once it had taken the files.
+-- some; and whether what is kept is certain: no close and no making failed, and no opening took the files and got no
+-- database.
 pub record Parts {D : Type 0} (g : Ghosts D) : Type 0 where
   pub outbox : Option (OutboxParts (FileStore D g))
   pub lying : Option (Option (Files D))
@@ -59,8 +60,7 @@ abbrev pub KeepsBy : {D : Type 0} {g : Ghosts D} → Option (OutboxParts (FileSt
 KeepsBy (Some outbox) lying it = HasContents over_files outbox it × (lying ≡ Some None)
 KeepsBy {D} {g} None lying it = Lie lying (λ files. HoldOutboxWithLog g files it)
 
--- The process keeps the outbox of these contents, as long as no close failed, no making, and no opening once it had
--- taken the files.
+-- The process keeps the outbox of these contents, as long as that is certain.
 abbrev pub Keeps : {D : Type 0} {g : Ghosts D} → Parts g → Contents → Type 0
 Keeps process it = process.is_certain ≡ true → KeepsBy process.outbox process.lying it
 

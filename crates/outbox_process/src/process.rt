@@ -34,8 +34,8 @@ pub struct OutboxProcess<D: Disk + Drop, P: Place<D> + Drop> {
     place: P,
     /// `None` while the process is closed.
     outbox: Option<Outbox<FileStore<D>>>,
-    /// Whether no close failed, no making, and no opening once it had taken the files. After one that did, what lies in
-    /// the place may be what a crash leaves. Any other refusal leaves an outbox of this version as it was.
+    /// Whether no close and no making failed, and no opening took the files and got no database. After one that did,
+    /// what lies in the place may be what a crash leaves. Any other refusal leaves an outbox of this version as it was.
     is_certain: bool,
 }
 

@@ -118,8 +118,8 @@ impl<S: Stream> Connection<S> {
         stream
     }
 
-    /// Writes what it owes, if it owes something, and else goes on, unless it is only to write. So the others have their
-    /// turn between what one wrote and its next piece.
+    /// Writes what it owes, if it owes something, and else goes on, unless it is only to write. So the others have
+    /// their turn between what one wrote and its next piece.
     pub(crate) fn take_turn(&mut self, alloc: Global, room: &mut [u8], only_writes: bool) -> Turn
         ensures told { (done : List Piece) → IsServed S.Stream done self.old
             → IsAfterTurn S.Stream done result self.new }

@@ -549,8 +549,8 @@ impl<S: Stream + Drop> Hall<S> {
         piece
     }
 
-    /// Takes back the output of the piece that is out, which its connection gets, and notes what became of it. What goes
-    /// of it is written at once. After one that closes, the connection is over once it is written.
+    /// Takes back the output of the piece that is out, which its connection gets, and notes what became of it. What
+    /// goes of it is written at once. After one that closes, the connection is over once it is written.
     pub fn give_back<P: Sockets<Stream = S>>(
         &mut self,
         sockets: &mut P,

@@ -58,8 +58,8 @@ pub record GivesBackMigrating {S : Type 0} (g : Ghosts S) (conn : Held S) (fault
   pub sound : HasCleanDisk (state g back)
       → (form : Earlier) (old_style : ℕ) (F : List Request) → IsEarlierOf form old_style F (state g conn).now
       → is_blocked (state g conn).now.schema form ≡ false → IsFailure fault
-  -- A crash leaves what it could leave before, or what all the statements make of the database. Nothing was committed if
-  -- the fault is one of the database.
+  -- A crash leaves what it could leave before, or what all the statements make of the database. Nothing was committed
+  -- if the fault is one of the database.
   pub crash : Survives (state g conn) (state g back) (MigratesTo g conn)
   pub unwritten : IsFailure fault ⊎ CommitsNothing (state g conn) (state g back)
 
