@@ -175,7 +175,7 @@ class Serving:
                 self.cut_off()
             for key, events in ready:
                 if key.data is None:
-                    self.accept()
+                    self.accept_all()
                 elif key.data.peer.fileno() >= 0:
                     self.go_on(key.data, events)
             lines = list(self.lines.values())
@@ -193,9 +193,8 @@ class Serving:
 
     def register_interests(self):
         wanted = {}
-        if len(self.lines) < self.at_once and self.taken < self.words.connections:
-            if time.monotonic() >= self.stalled_until:
-                wanted[self.listener] = (selectors.EVENT_READ, None)
+        if self.has_room() and time.monotonic() >= self.stalled_until:
+            wanted[self.listener] = (selectors.EVENT_READ, None)
         for line in self.lines.values():
             if line.owed:
                 wanted[line.peer] = (selectors.EVENT_WRITE, line)
@@ -223,11 +222,20 @@ class Serving:
             line.is_closing = True
         return False
 
+    def has_room(self):
+        return len(self.lines) < self.at_once and self.taken < self.words.connections
+
+    def accept_all(self):
+        """Takes all connections that wait, as many as may be served."""
+        while self.has_room() and self.accept():
+            pass
+
     def accept(self):
+        """Takes a connection, and says whether another may wait."""
         try:
             peer, _ = self.listener.accept()
         except BlockingIOError:
-            return
+            return False
         except OSError as fault:
             if fault.errno != errno.EMFILE:
                 raise
@@ -236,10 +244,11 @@ class Serving:
             if FAULT == "drops a connection without a descriptor":
                 self.end(next(iter(self.lines.values())))
             self.stalled_until = time.monotonic() + 0.1
-            return
+            return False
         peer.setblocking(False)
         self.taken += 1
         self.lines[peer] = Line(peer, self.taken)
+        return True
 
     def go_on(self, line, events):
         try:
