@@ -1,5 +1,5 @@
 -- What an opening finds in files that hold a database by their log and their database file together.
-use Rattle.std.proofs.Common.{◌≡◌, inl, inr, ap, ◌∙◌}
+use Rattle.std.proofs.Common.{◌≡◌, Option, Some, None, inl, inr, ap, subst, ◌∙◌}
 use Rattle.std.proofs.Math.Logic.{∥∥₁_elim}
 use Rattle.sqlite_disk.specs.declared.Disk.{Ghosts}
 use Rattle.sqlite_disk.specs.declared.Files.{Files}
@@ -7,11 +7,14 @@ use Rattle.sqlite_store.specs.declared.store.FileStore.{FileStore}
 use Rattle.sqlite_trees.specs.Props.{Trees-set}
 use Rattle.sqlite.specs.Effect.{Database}
 use Rattle.sqlite.specs.Held.{Held}
-use Rattle.sqlite.specs.Files.{file_state, image_of, HoldsDatabase, Finds, IsOpened, FailsToOpenFiles}
+use Rattle.sqlite.specs.Files.{file_state, Finds, IsOpened, FailsToOpenFiles}
 use Rattle.sqlite.specs.declared.error.Error.{Error}
 use Rattle.sqlite.specs.declared.file.Leftover.{Leftover}
+use Rattle.table_rows.proofs.CleanLemmas.{always_clean}
 use Rattle.table_rows.proofs.FileLemmas.{same_database}
 use Rattle.database_places.specs.Left.{HoldWithLog, FailsForCause}
+use Rattle.database_places.specs.Opening.{ComesFrom}
+use Rattle.database_places.specs.Places.{IsHonest, Lie}
 
 module _ {D : Type 0} {g : Ghosts D} where
   -- the database that the files hold
@@ -24,7 +27,16 @@ module _ {D : Type 0} {g : Ghosts D} where
       same_database (file_state conn).now db (opened.1 opened.0.is_open).0 it.sound (ap (λ (d : Database). d.trees) same
       ∙ trees)
 
-  -- which are not refused for what they hold
+  -- the database that lies in a place
+  pub found_lying : IsHonest g → (old mid : Option (Option (Files D))) (conn : Held (FileStore D g))
+      → ComesFrom old mid conn → (db : Database) → Lie old (λ files. HoldWithLog g files db)
+      → IsOpened conn × ((file_state conn).now ≡ db) × (mid ≡ Some None)
+  found_lying honest old mid conn comes db lie =
+      let came = subst (λ l. ComesFrom l mid conn) lie.1 comes in
+      let both = came.1 (always_clean honest conn) in
+      (both.1, found_there lie.0 conn both.0 both.1 db lie.2, came.0)
+
+  -- files that hold a database are not refused for what they hold
   pub fails_for_cause : (files : Files D) (db : Database) → HoldWithLog g files db
       → (left : Leftover D g) (error : Error) → FailsToOpenFiles files left error → FailsForCause files left error
   fails_for_cause files db held left error (inl memory) = inl memory

@@ -22,14 +22,14 @@ use Rattle.sqlite_trees.specs.Tree.{Trees}
 use Rattle.sqlite_trees.specs.View.{IsClean, doubt}
 use Rattle.sqlite_schema.specs.declared.schema.Schema.{Schema}
 use Rattle.sqlite_catalog.specs.Listing.{IsSound}
-use Rattle.sqlite.specs.Effect.{Database}
+use Rattle.sqlite.specs.Effect.{Database, IsDatabase}
 use Rattle.sqlite.specs.Held.{Held, AreDatabases}
 use Rattle.sqlite.specs.declared.error.Error.{Error}
 use Rattle.sqlite.specs.Files.{image_of, file_state, HoldsDatabase, IsOpened}
 use Rattle.table_rows.proofs.CleanLemmas.{always_clean, are_clean}
 use Rattle.table_rows.specs.Files.{HoldsDatabase as HoldsClosed}
-use Rattle.table_rows.specs.Standing.{CommitsNothing}
-use Rattle.database_places.specs.Closing.{IsGivenUp, IsNotClosed}
+use Rattle.table_rows.specs.Standing.{CommitsNothing, HasCommitted}
+use Rattle.database_places.specs.Closing.{IsClosedIn, IsGivenUp, IsNotClosed}
 use Rattle.database_places.specs.Places.{IsHonest}
 use Rattle.database_places.specs.Left.{AreLeftByKill, AreLeftByStop, AreLeftBy, IsNumbered, IsLastOf, EndsIn}
 use Rattle.database_places.specs.Left.{HoldWithLog}
@@ -167,3 +167,14 @@ module _ {D : Type 0} {g : Ghosts D} where
   -- files that were closed hold their database so, since the database file does alone
   pub closed_with_log : (files : Files D) (db : Database) → HoldsClosed g files db → HoldWithLog g files db
   closed_with_log files db it = record { sound = it.sound; held = it.held.both }
+
+  -- So files that a connection was closed in hold what it had committed.
+  pub closed_leaves : IsHonest g → (conn : Held (FileStore D g)) (files : Files D) → IsClosedIn g conn files
+      → {Is : Database → Type 0} → HasCommitted Is (file_state conn) → ((db : Database) → Is db → IsDatabase db)
+      → Is (file_state conn).now × HoldWithLog g files (file_state conn).now
+  closed_leaves honest conn files closed stands sound =
+      let clean = are_clean g honest files.log files.db in
+      let is_open = (closed.copied clean).was_open in
+      let now = (file_state conn).now in
+      let is = stands.now is_open in
+      (is, closed_with_log files now (closed.holds clean now (sound now is) (stands.committed is_open)))

@@ -1,6 +1,6 @@
 -- Files that hold nothing are opened as a database without tables.
 use Rattle.std.proofs.Common.{◌≡◌, ◌∙◌, ℕ, ◌≤◌, ◌<◌, min, true, false, [], length, take, slice_index, get_or-take}
-use Rattle.std.proofs.Common.{Option, Some, List, sym, ap, inl, inr, arith}
+use Rattle.std.proofs.Common.{Option, Some, None, List, sym, ap, inl, inr, arith}
 use Rattle.std.proofs.Math.Logic.{∥∥₁_elim}
 use Rattle.std.proofs.lemmas.List.{length-take}
 use Rattle.std.specs.Prelude.{unwrap_or}
@@ -22,7 +22,10 @@ use Rattle.sqlite.specs.Held.{Held}
 use Rattle.sqlite.specs.Files.{file_state, image_of, Finds, IsOpened, IsNothing, IsEmpty, AreFoundIn}
 use Rattle.sqlite.proofs.ListingLemmas.{empty_is_sound}
 use Rattle.table_rows.specs.Tables.{no_schema}
+use Rattle.table_rows.proofs.CleanLemmas.{always_clean}
 use Rattle.table_rows.proofs.FileLemmas.{same_database}
+use Rattle.database_places.specs.Opening.{ComesFrom}
+use Rattle.database_places.specs.Places.{IsHonest}
 
 -- pages of a database begin with the S of SQLite, and so the files hold something
 is_something : (size : ℕ) (image : Image) (pages : PageMap) → Adopts size image pages → IsSoundFile size pages
@@ -57,7 +60,7 @@ empty_found image db nothing (inl some) =
 empty_found image db nothing (inr none) = none.1
 
 module _ {D : Type 0} {g : Ghosts D} where
-  pub nothing_there : (files : Files D) (conn : Held (FileStore D g)) → IsNothing (image_of g files)
+  nothing_there : (files : Files D) (conn : Held (FileStore D g)) → IsNothing (image_of g files)
       → Finds files conn → IsOpened conn → (file_state conn).now.schema ≡ no_schema
   nothing_there files conn nothing found opened =
       let now = (file_state conn).now in
@@ -67,3 +70,10 @@ module _ {D : Type 0} {g : Ghosts D} where
       ap (λ (d : Database). d.schema) (same_database now
       (record { schema = no_schema; trees = (file_state conn).committed.trees })
       (opened.1 opened.0.is_open).0 sound same)
+
+  -- so is a place in which no files lie
+  pub nothing_lying : IsHonest g → (mid : Option (Option (Files D))) (conn : Held (FileStore D g))
+      → ComesFrom (Some None) mid conn → (file_state conn).now.schema ≡ no_schema
+  nothing_lying honest mid conn comes =
+      let both = comes.3 (always_clean honest conn) in
+      nothing_there comes.1 conn comes.2 both.0 both.1

@@ -1,7 +1,7 @@
 -- What is kept while a register is opened and closed.
 use Rattle.std.proofs.Common.{◌≡◌, ℕ, Bool, true, false, true≢false, List, [], length, Option, Some, None, Result, Ok}
 use Rattle.std.proofs.Common.{Err, IsSome, OnOk, refl, sym, ◌∙◌, ap, ap₂, subst}
-use Rattle.std.specs.Prelude.{◌↔◌, is_err, is_some, if◌then◌else◌, IfErr, IfSome}
+use Rattle.std.specs.Prelude.{◌↔◌, is_err, if◌then◌else◌, IfErr, IfSome}
 use Rattle.sqlite_disk.specs.declared.Disk.{Ghosts}
 use Rattle.sqlite_disk.specs.declared.Files.{Files}
 use Rattle.sqlite_store.specs.declared.store.FileStore.{FileStore}
@@ -14,16 +14,19 @@ use Rattle.register_tables.specs.Registers.{IsRegisterOf}
 use Rattle.intake_core.specs.declared.intake.Intake.{Intake}
 use Rattle.intake_core.specs.Held.{limit_of, has_stopped}
 use Rattle.http_wire.specs.Wire.{Wire}
-use Rattle.table_rows.proofs.CleanLemmas.{always_clean, are_clean}
+use Rattle.table_rows.proofs.CleanLemmas.{always_clean}
+use Rattle.table_rows.specs.Standing.{HasCommitted}
 use Rattle.sqlite_wal.proofs.LogLemmas.{SeenMayStay}
-use Rattle.command_line.specs.declared.fault.DatabaseFault.{DatabaseFault}
 use Rattle.command_line.specs.declared.fault.DatabaseFault.TheVariants.{Missing}
-use Rattle.database_places.proofs.Finding.{found_there as found_in}
-use Rattle.database_places.proofs.Leaving.{closed_with_log}
-use Rattle.database_places.specs.Closing.{IsClosedIn, IsNotClosed, IsGivenUp, LieGivenUp}
-use Rattle.database_places.specs.Opening.{ComesFrom, OpensPlace, StaysIn, untouched}
-use Rattle.database_places.specs.declared.opening.Unopened as opening
-use Rattle.database_places.specs.Places.{KeepsLying, IsHonest}
+use Rattle.database_places.proofs.Certainty.{sure_after}
+use Rattle.database_places.proofs.Finding.{found_lying}
+use Rattle.database_places.proofs.Leaving.{closed_leaves}
+use Rattle.database_places.proofs.Lying.{came_empty, gives_back, lie_left, stayed}
+use Rattle.database_places.proofs.Options.{not_some}
+pub use Rattle.database_places.proofs.Options.{none_of}
+use Rattle.database_places.specs.Closing.{IsClosedIn, IsNotClosed, IsGivenUp}
+use Rattle.database_places.specs.Opening.{ComesFrom, StaysIn}
+use Rattle.database_places.specs.Places.{IsHonest}
 use Rattle.database_places.specs.Places as place
 use Rattle.intake_process.specs.declared.beginning.Totals.{Totals}
 use Rattle.intake_process.specs.declared.fault.OpeningFault.{OpeningFault}
@@ -34,16 +37,8 @@ use Rattle.intake_process.specs.declared.process.Outcome.{Outcome}
 use Rattle.intake_process.specs.declared.process.Outcome.TheVariants as outcome
 use Rattle.intake_process.specs.Beginning.{HoldsAs, AreTotals, FindsIntake, MakesIntake, IsNotBegun}
 use Rattle.intake_process.specs.Process.{Parts, IsAwake, IsUp, AnswersBy, KeepsBy, IsNotOpened, leaves_doubt}
-use Rattle.intake_process.proofs.Left.{sure_after, keeps_left, kept_lying, lies_given, none_left}
-use Rattle.intake_process.proofs.Left.{unopened_leaves}
 use Rattle.intake_process.specs.Process.{IsLeftBy, Leaves, OpensProcess, ClosesProcess}
-
-pub none_of : {A : Type 0} (o : Option A) → is_some o ≡ false → o ≡ None
-none_of None is = refl
-none_of (Some x) is = absurd (true≢false is)
-
-not_some : {A : Type 0} (o : Option A) → o ≡ None → IsSome o → ⊥
-not_some o none some = true≢false (sym (subst (λ i. IsSome i) none some))
+use Rattle.intake_process.proofs.Left.{keeps_left, none_left, unopened_leaves}
 
 pub not_true : (b : Bool) → (b ≡ true → ⊥) → b ≡ false
 not_true true other = absurd (other refl)
@@ -61,46 +56,7 @@ pub ok_gives : {A E X : Type 0} (r : Result A E) → is_err r ≡ false → OnOk
 ok_gives (Ok a) is x = x
 ok_gives (Err e) is x = absurd (true≢false is)
 
--- what lay there lies there, or what was left of it
-pub stayed : {D : Type 0} (g : Ghosts D) (old new : Option (Option (Files D))) (fault : DatabaseFault)
-    (was_taken : Bool) → StaysIn g old new fault was_taken → (there : Files D) → old ≡ Some (Some there)
-    → (files : Files D) × (new ≡ Some (Some files))
-stayed g old new fault true stays there lies =
-    let left = subst (λ l. StaysIn g l new fault true) lies stays in
-    (left.0, left.1)
-stayed g old new fault false stays there lies = (there, subst (λ l. StaysIn g l new fault false) lies stays)
-
--- files that are left alone lie there
-pub keeps_lying : {D : Type 0} (lying : Option (Option (Files D))) → KeepsLying lying lying
-keeps_lying None = tt
-keeps_lying (Some None) = tt
-keeps_lying (Some (Some files)) = refl
-
-same_err : {A E : Type 0} (r : Result A E) (a b : E) → r ≡ Err a → r ≡ Err b → a ≡ b
-same_err r a b one other = cc
-
--- a database that has to be there where no files lie is missing, and nothing was taken
-pub missing : {D : Type 0} {g : Ghosts D} (has : Bool) (old new : Option (Option (Files D))) (it : opening.Unopened)
-    → OpensPlace g has old new (Err it) → has ≡ true → old ≡ Some None
-    → (Unopened it.fault ≡ Unopened Missing) × (it.was_taken ≡ false)
-missing has old new it opens is none =
-    let same : it ≡ untouched Missing = same_err (Err it) it (untouched Missing) refl (opens.absent is none) in
-    (ap (λ (u : opening.Unopened). Unopened u.fault) same, ap (λ (u : opening.Unopened). u.was_taken) same)
-
--- a connection that came is no such fault
-pub there : {D X : Type 0} {g : Ghosts D} (has : Bool) (old new : Option (Option (Files D)))
-    (conn : Held (FileStore D g)) → OpensPlace g has old new (Ok conn) → has ≡ true → old ≡ Some None → X
-there has old new conn opens is none =
-    let other : Ok conn ≡ Err (untouched Missing) = opens.absent is none in
-    absurd (cc)
-
 module _ {D : Type 0} (g : Ghosts D) where
-  lie_left : (old new : Option (Option (Files D))) (back : Held (FileStore D g)) → LieGivenUp old new back
-      → (there : Files D) → old ≡ Some (Some there) → (files : Files D) × (new ≡ Some (Some files))
-  lie_left old new back left there lies =
-      let at = subst (λ l. LieGivenUp l new back) lies left in
-      (at.0, at.1)
-
   -- files that lay there lie there
   back_of : (has : Bool) (old new : Option (Option (Files D))) (was_taken : Bool) (fault : OpeningFault)
       → IsNotOpened g has old new was_taken fault → (there : Files D) → old ≡ Some (Some there)
@@ -176,7 +132,7 @@ module _ {D : Type 0} {g : Ghosts D} where
         is_open = tt;
         limited = λ _. tt;
         up = λ _. tt;
-        already = λ some. absurd (not_some old.intake none some);
+        already = λ some. not_some old.intake none some;
         calls = calls;
         why = (was_taken, why, certain);
         refused = closed;
@@ -189,16 +145,16 @@ module _ {D : Type 0} {g : Ghosts D} where
   is_open has limit process some = record {
     leaves = λ honest is. record { kept = λ old_style F keeps. keeps; certain = λ certain. certain };
     counted = λ honest is certain old_style F keeps. tt;
-    made = λ honest is none known. absurd (not_some process.intake none some);
+    made = λ honest is none known. not_some process.intake none some;
     unmade = λ honest. tt;
     left = λ honest is. tt;
-    absent = λ none is lies. absurd (not_some process.intake none some);
+    absent = λ none is lies. not_some process.intake none some;
     nothing = λ honest _ lies is. tt;
-    fresh = λ honest none is files lies db held. absurd (not_some process.intake none some);
+    fresh = λ honest none is files lies db held. not_some process.intake none some;
     certain = refl;
     is_open = some;
-    limited = λ none. absurd (not_some process.intake none some);
-    up = λ none. absurd (not_some process.intake none some);
+    limited = λ none. not_some process.intake none some;
+    up = λ none. not_some process.intake none some;
     already = λ _. (refl, refl);
     calls = refl;
     why = tt;
@@ -206,46 +162,17 @@ module _ {D : Type 0} {g : Ghosts D} where
     back = tt;
   }
 
-  -- the connection came from what lay there
-  came_from : (old mid : Option (Option (Files D))) (conn : Held (FileStore D g)) → ComesFrom old mid conn
-      → ComesFrom old (Some None) conn
-  came_from None mid conn comes = comes
-  came_from (Some None) mid conn comes = (refl, comes.1, comes.2, comes.3)
-  came_from (Some (Some files)) mid conn comes = (refl, comes.1)
-
   -- no intake began over the database of the place, which was given up
-  pub not_begun : (has : Bool) (old mid after new : Option (Option (Files D))) (conn back : Held (FileStore D g))
+  pub not_begun : (has : Bool) (old mid new : Option (Option (Files D))) (conn back : Held (FileStore D g))
       (files : Files D) (fault : OpeningFault) → ComesFrom old mid conn → IsNotBegun over_files has conn fault back
-      → place.Leaves mid after files → KeepsLying after new → IsGivenUp back files
-      → IsNotOpened g has old new true fault
-  not_begun has old mid after new conn back files (Unopened why) comes is leaves keeps given = absurd is
-  not_begun has old mid after new conn back files (Taken holding) comes is leaves keeps given = (
-    conn,
-    back,
-    came_from old mid conn comes,
-    is,
-    lies_given old mid new conn back files comes (kept_lying mid after new files leaves keeps) given,
-  )
-  not_begun has old mid after new conn back files (Create why) comes is leaves keeps given = (
-    conn,
-    back,
-    came_from old mid conn comes,
-    is,
-    lies_given old mid new conn back files comes (kept_lying mid after new files leaves keeps) given,
-  )
-  not_begun has old mid after new conn back files (Open why holding) comes is leaves keeps given = (
-    conn,
-    back,
-    came_from old mid conn comes,
-    is,
-    lies_given old mid new conn back files comes (kept_lying mid after new files leaves keeps) given,
-  )
-
-  came_empty : (old mid : Option (Option (Files D))) (conn : Held (FileStore D g)) → IsSome old → ComesFrom old mid conn
-      → mid ≡ Some None
-  came_empty None mid conn known comes = absurd (true≢false (sym known))
-  came_empty (Some None) mid conn known comes = comes.0
-  came_empty (Some (Some files)) mid conn known comes = comes.0
+      → place.Leaves mid new files → IsGivenUp back files → IsNotOpened g has old new true fault
+  not_begun has old mid new conn back files (Unopened why) comes is leaves given = absurd is
+  not_begun has old mid new conn back files (Taken holding) comes is leaves given =
+      gives_back old mid new conn back files comes is leaves given
+  not_begun has old mid new conn back files (Create why) comes is leaves given =
+      gives_back old mid new conn back files comes is leaves given
+  not_begun has old mid new conn back files (Open why holding) comes is leaves given =
+      gives_back old mid new conn back files comes is leaves given
 
   found_there : (has : Bool) (limit : ℕ) (old new : Parts g) (conn : Held (FileStore D g))
       (intake : Intake (FileStore D g)) (totals : Totals) → old.intake ≡ None → ComesFrom old.lying new.lying conn
@@ -254,13 +181,12 @@ module _ {D : Type 0} {g : Ghosts D} where
       → (HoldsAs over_files limit old_style F intake × AreTotals F totals) × (new.lying ≡ Some None)
   found_there has limit old new conn intake totals none comes finds_it honest old_style F keeps =
       let lies = subst (λ i. KeepsBy {g = g} i old.lying limit old_style F) none keeps in
-      let came = subst (λ l. ComesFrom l new.lying conn) lies.1.1 comes in
-      let both = came.1 (always_clean honest conn) in
       let hold = lies.1.2 in
-      let is_db = found_in lies.1.0 conn both.0 both.1 hold.db hold.held in (
+      let found =
+      found_lying honest old.lying new.lying conn comes hold.db (lies.1.0, lies.1.1, hold.held) in (
         finds_it (always_clean honest intake.store.conn) old_style F lies.0
-            (subst (IsRegisterOf old_style F) (sym is_db) hold.register),
-        came.0,
+            (subst (IsRegisterOf old_style F) (sym found.1) hold.register),
+        found.2,
       )
 
   -- it is open
@@ -290,14 +216,13 @@ module _ {D : Type 0} {g : Ghosts D} where
     absent = λ _ is lies. absurd (there is lies);
     nothing = λ honest _ lies is. tt;
     fresh = λ honest _ is files lies db held.
-        let came = subst (λ l. ComesFrom l new.lying conn) lies comes in
-        let both = came.1 (always_clean honest conn) in
-        sym (ap (λ (d : Database). d.schema) (found_in files conn both.0 both.1 db held)) ∙ (made is).0;
+        let found = found_lying honest old.lying new.lying conn comes db (files, lies, held) in
+        sym (ap (λ (d : Database). d.schema) found.1) ∙ (made is).0;
     certain = same;
     is_open = subst (λ i. IsSome i) (sym up) refl;
     limited = λ _. subst (λ i. IfSome i (λ intake. limit_of intake ≡ limit)) (sym up) limited;
     up = λ _. subst (λ i. IsUp i) (sym up) awake;
-    already = λ some. absurd (not_some old.intake none some);
+    already = λ some. not_some old.intake none some;
     calls = calls;
     why = tt;
     refused = tt;
@@ -312,22 +237,14 @@ module _ {D : Type 0} {g : Ghosts D} where
       → KeepsBy {g = g} None lying' limit old_style F
   copied intake files lying lying' honest closed leaves limit old_style F keeps =
       let conn = intake.store.conn in
-      let clean = are_clean g honest files.log files.db in
-      let stands = keeps.0.holds.rows.stands in
-      let is_open = (closed.copied clean).was_open in
-      let now = (file_state conn).now in
-      let register : IsRegisterOf old_style F now =
-      subst (λ n. IsRegisterOf n F now) keeps.0.old_style_is (stands.now is_open) in (
+      let stands =
+      subst (λ n. HasCommitted (IsRegisterOf n F) (file_state conn)) keeps.0.old_style_is keeps.0.holds.rows.stands in
+      let left = closed_leaves honest conn files closed stands (λ db (it : IsRegisterOf old_style F db). it.sound) in (
         keeps.0.holds.firsts',
         (
           files,
           subst (λ l. place.Leaves l lying' files) keeps.1 leaves,
-          record {
-            db = now;
-            register = register;
-            held =
-                closed_with_log files now (closed.holds clean now register.sound (stands.committed is_open));
-          },
+          record { db = (file_state conn).now; register = left.0; held = left.1 },
         ),
       )
 
@@ -355,7 +272,7 @@ module _ {D : Type 0} {g : Ghosts D} where
   closes_none old new closed none same is = record {
     leaves = λ honest limit. subst (λ p. Leaves limit old p) (sym same)
         (record { kept = λ old_style F keeps. keeps; certain = λ certain. certain });
-    counted = λ honest some certain limit old_style F keeps. absurd (not_some old.intake none some);
+    counted = λ honest some certain limit old_style F keeps. not_some old.intake none some;
     certain = then_ok closed.outcome (ap (λ (p : Parts g). p.is_certain) same);
     files = subst (λ i. IfSome i (λ intake. Left intake old new closed)) (sym none) tt;
     is_closed = ap (λ (p : Parts g). p.intake) same ∙ none;

@@ -10,7 +10,7 @@ use Rattle.sqlite_wal.proofs.LogLemmas.{SeenMayStay}
 use Rattle.sqlite.specs.Files.{file_state, over_files}
 use Rattle.sqlite.specs.Held.{Held, state}
 use Rattle.sqlite.specs.Store as database
-use Rattle.table_rows.proofs.CleanLemmas.{always_clean, are_clean}
+use Rattle.table_rows.proofs.CleanLemmas.{always_clean}
 use Rattle.table_rows.specs.Standing.{CommitsNothing, HasCommitted}
 use Rattle.filing_model.specs.Request.{Request}
 use Rattle.register_pages.specs.Pages.{WritesSite}
@@ -20,8 +20,9 @@ use Rattle.register_tables.specs.declared.fault.OpenFault.{OpenFault}
 use Rattle.command_line.specs.declared.fault.DatabaseFault.{DatabaseFault}
 use Rattle.database_places.specs.declared.holding.Holding.{Holding}
 use Rattle.database_places.specs.declared.opening.Unopened.{Unopened}
-use Rattle.database_places.proofs.Finding.{found_there}
-use Rattle.database_places.proofs.Leaving.{closed_with_log}
+use Rattle.database_places.proofs.Finding.{found_lying}
+use Rattle.database_places.proofs.Leaving.{closed_leaves}
+use Rattle.database_places.proofs.Lying.{given_leaves, lies_given, not_taken}
 use Rattle.database_places.specs.Closing.{IsClosedIn, IsGivenUp, IsNotClosed}
 use Rattle.database_places.specs.Opening.{ComesFrom, OpensPlace, StaysIn}
 use Rattle.database_places.specs.Places.{IsHonest, Lie}
@@ -34,7 +35,6 @@ use Rattle.intake_process.specs.declared.visiting.Visited.{Visited}
 use Rattle.intake_process.specs.Errands.{AreMomentsFor, IsRegisterFor, MayFail, Says, Tells, is_for_pages, is_refused}
 use Rattle.intake_process.specs.Process.{Parts, HoldRegisterWithLog, KeepsBy, LeavesDatabase}
 use Rattle.intake_process.proofs.Errands.{no_begin, no_print}
-use Rattle.intake_process.proofs.Left.{given_leaves, lies_given, not_taken}
 use Rattle.intake_process.specs.Visits.{Outputs, LiesDatedFor, LiesFor, is_doubtful, leaves_doubt, IsLeftIn, GoesOn}
 use Rattle.intake_process.specs.Visits.{VisitsPlace, VisitsRegister}
 
@@ -149,14 +149,9 @@ module _ {D : Type 0} {g : Ghosts D} where
       → ComesFrom old between conn → (old_style : ℕ) (requests : List Request) → LiesFor g errand old old_style requests
       → IsRegisterFor errand old_style requests (file_state conn).now × (between ≡ Some None)
   found errand old between conn honest comes old_style requests lies =
-      let came = subst (λ l. ComesFrom l between conn) lies.1.1 comes in
-      let both = came.1 (always_clean honest conn) in
-      let hold =
-      lies.1.2 in (
-        subst (IsRegisterFor errand old_style requests)
-            (sym (found_there lies.1.0 conn both.0 both.1 hold.db hold.held)) hold.register,
-        came.0,
-      )
+      let hold = lies.1.2 in
+      let shown = found_lying honest old between conn comes hold.db (lies.1.0, lies.1.1, hold.held) in
+      (subst (IsRegisterFor errand old_style requests) (sym shown.1) hold.register, shown.2)
 
   -- and so are its moments
   found_dated : (errand : Errand) (old between : Option (Option (Files D))) (conn : Held (FileStore D g)) → IsHonest g
@@ -165,28 +160,19 @@ module _ {D : Type 0} {g : Ghosts D} where
       → IsRegisterFor errand old_style requests (file_state conn).now
       × AreMomentsFor errand requests moments (file_state conn).now
   found_dated errand old between conn honest comes old_style requests moments lies =
-      let came = subst (λ l. ComesFrom l between conn) lies.1.1 comes in
-      let both = came.1 (always_clean honest conn) in
       let hold = lies.1.2 in
-      let is = sym (found_there lies.1.0 conn both.0 both.1 hold.db hold.held) in (
-        subst (IsRegisterFor errand old_style requests) is hold.register,
-        subst (AreMomentsFor errand requests moments) is hold.received,
+      let shown = found_lying honest old between conn comes hold.db (lies.1.0, lies.1.1, hold.held) in (
+        subst (IsRegisterFor errand old_style requests) (sym shown.1) hold.register,
+        subst (AreMomentsFor errand requests moments) (sym shown.1) hold.received,
       )
 
   copied : (conn : Held (FileStore D g)) (files : Files D) → IsHonest g → IsClosedIn g conn files
       → (old_style : ℕ) (requests : List Request) → HasCommitted (IsRegisterOf old_style requests) (file_state conn)
       → HoldRegisterWithLog g files old_style requests
   copied conn files honest closed old_style requests stands =
-      let clean = are_clean g honest files.log files.db in
-      let is_open = (closed.copied clean).was_open in
-      let register = stands.now is_open in
-      record {
-        db = (file_state conn).now;
-        register = register;
-        held =
-            closed_with_log files (file_state conn).now
-            (closed.holds clean (file_state conn).now register.sound (stands.committed is_open));
-      }
+      let left =
+      closed_leaves honest conn files closed stands (λ db (it : IsRegisterOf old_style requests db). it.sound) in
+      record { db = (file_state conn).now; register = left.0; held = left.1 }
 
   closed_ok : (conn : Held (FileStore D g)) (files : Files D) (r : Result (Unit {0}) Error) → is_err r ≡ false
       → IsLeftIn false conn files r → IsClosedIn g conn files
@@ -255,7 +241,7 @@ module _ {D : Type 0} {g : Ghosts D} where
         sym goes.1 ∙ sym (ap (leaves_doubt visited.was_taken) goes.0)
         ∙ or_first (leaves_doubt visited.was_taken visited.done) (is_err visited.closed) sure in
         subst (λ l. LeavesDatabase g old l) (sym goes.3)
-        (not_taken old between it.fault (subst (StaysIn g old between it.fault) untaken opens.refused))
+        (λ db. not_taken g old between it.fault (subst (StaysIn g old between it.fault) untaken opens.refused))
     left_by stays (Ok conn) between opens goes honest sure refused =
         let files = goes.3.0 in
         let nothing =
@@ -272,12 +258,10 @@ module _ {D : Type 0} {g : Ghosts D} where
         → Lie old (λ files. HoldRegisterWithLog g files old_style requests) → is_refused visited.done ≡ true
     current_by (Err it) between opens goes honest migrates old_style requests lies = ap is_refused goes.0
     current_by (Ok conn) between opens goes honest migrates old_style requests lies =
-        let came = subst (λ l. ComesFrom l between conn) lies.1 opens.comes in
-        let both = came.1 (always_clean honest conn) in
         let hold = lies.2 in
+        let shown = found_lying honest old between conn opens.comes hold.db (lies.0, lies.1, hold.held) in
         goes.1.current (always_clean honest goes.0) migrates old_style requests
-        (subst (IsRegisterOf old_style requests) (sym (found_there lies.0 conn both.0 both.1 hold.db hold.held))
-        hold.register)
+        (subst (IsRegisterOf old_style requests) (sym shown.1) hold.register)
 
   -- ---- the process
 

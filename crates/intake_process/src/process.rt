@@ -1,11 +1,11 @@
 //! The process that an intake runs in.
 
-ghost use Rattle.std.specs.Prelude.{◌≡◌, ◌≤◌, ◌^◌, [], None, true, false, if◌then◌else◌, is_some, map, option_map};
+ghost use Rattle.std.specs.Prelude.{◌≡◌, ◌≤◌, ◌^◌, [], None, true, is_some, map, option_map};
 ghost use Rattle.std.specs.Borrow.{sem};
 ghost use Rattle.std.specs.Option.{option_copied_mut};
 ghost use Rattle.http_wire.specs.Wire.{wire};
 ghost use Rattle.database_places.specs.Opening.{is_found};
-ghost use Rattle.intake_process.specs.Process.{ServesBy, CountsRefusal, leaves_doubt};
+ghost use Rattle.intake_process.specs.Process.{ServesBy, CountsRefusal};
 
 use crate::beginning::{Totals, begin, parted};
 use crate::fault::OpeningFault;
@@ -72,17 +72,6 @@ fn refused_with(outcome: Outcome, refused_calls: u64) -> u64
         Outcome::Failed => refused_calls.saturating_add(1),
         Outcome::Served => refused_calls,
         Outcome::TurnedAway => refused_calls,
-    }
-}
-
-/// Whether it is certain what lies in a place after an opening that was refused, which took the files or didn't.
-fn is_certain_after(is_certain: bool, was_taken: bool, fault: OpeningFault) -> bool
-    ensures { result ≡ (if leaves_doubt was_taken fault then false else is_certain) }
-{
-    if fault.leaves_doubt(was_taken) {
-        false
-    } else {
-        is_certain
     }
 }
 
@@ -168,7 +157,7 @@ impl<D: Disk + Drop, P: Place<D> + Drop> IntakeProcess<D, P> {
             Ok(conn) => conn,
             Err(unopened) => {
                 let fault = OpeningFault::Files(unopened.fault);
-                self.is_certain = is_certain_after(self.is_certain, unopened.was_taken, fault);
+                self.is_certain &= !fault.leaves_doubt(unopened.was_taken);
                 return Err(fault);
             }
         };
@@ -178,7 +167,7 @@ impl<D: Disk + Drop, P: Place<D> + Drop> IntakeProcess<D, P> {
                 Ok(Some(totals))
             }
             Err((fault, back)) => {
-                self.is_certain = is_certain_after(self.is_certain, true, fault);
+                self.is_certain &= !fault.leaves_doubt(true);
                 give_up(&mut self.place, back);
                 if fault.is_of_others() {
                     remove_new_log(&mut self.place, had_log);

@@ -1,7 +1,7 @@
 -- What is kept while an outbox is opened and closed.
 use Rattle.std.proofs.Common.{◌≡◌, true, false, true≢false, Option, Some, None, Result, Ok, Err, IsSome, IfErr, OnOk}
 use Rattle.std.proofs.Common.{refl, sym, ◌∙◌, ap, subst}
-use Rattle.std.specs.Prelude.{Bool, not, ◌&&◌, if◌then◌else◌, is_err, is_some}
+use Rattle.std.specs.Prelude.{Bool, if◌then◌else◌, is_err}
 use Rattle.sqlite_disk.specs.declared.Disk.{Ghosts}
 use Rattle.sqlite_disk.specs.declared.Files.{Files}
 use Rattle.sqlite_store.specs.declared.store.FileStore.{FileStore}
@@ -10,22 +10,25 @@ use Rattle.sqlite.specs.Held.{Held}
 use Rattle.sqlite.specs.Files.{file_state, over_files}
 use Rattle.sqlite.specs.declared.error.Error.{Error}
 use Rattle.sqlite.specs.Effect.{Database}
+use Rattle.table_rows.specs.Standing.{HasCommitted}
 use Rattle.table_rows.specs.Tables.{no_schema}
-use Rattle.table_rows.proofs.CleanLemmas.{always_clean, are_clean}
+use Rattle.table_rows.proofs.CleanLemmas.{always_clean}
 use Rattle.outbox_tables.specs.Earlier.{IsAlone, IsEarlierOf}
 use Rattle.outbox_tables.specs.Entries.{Contents, contents_of}
 use Rattle.outbox_tables.specs.Rows.{IsOutboxOf}
 use Rattle.outbox_core.specs.OutboxParts.{OutboxParts}
-use Rattle.database_places.specs.Closing.{IsClosedIn, IsGivenUp, IsNotClosed, LieGivenUp}
 use Rattle.command_line.specs.declared.fault.DatabaseFault.{DatabaseFault}
 use Rattle.command_line.specs.declared.fault.DatabaseFault.TheVariants.{Missing}
+use Rattle.database_places.specs.Closing.{IsClosedIn, IsGivenUp, IsNotClosed}
 use Rattle.database_places.specs.Left.{HoldWithLog}
-use Rattle.database_places.specs.Opening.{ComesFrom, OpensPlace, StaysIn, untouched}
-use Rattle.database_places.specs.declared.opening.Unopened.{Unopened as NotOpened}
-use Rattle.database_places.specs.Places.{KeepsLying, IsHonest}
+use Rattle.database_places.specs.Opening.{ComesFrom}
+use Rattle.database_places.specs.Places.{IsHonest}
 use Rattle.database_places.specs.Places as place
-use Rattle.database_places.proofs.Finding.{found_there}
-use Rattle.database_places.proofs.Leaving.{closed_with_log}
+use Rattle.database_places.proofs.Certainty.{sure_after}
+use Rattle.database_places.proofs.Finding.{found_lying}
+use Rattle.database_places.proofs.Leaving.{closed_leaves}
+use Rattle.database_places.proofs.Lying.{came_empty, gives_back, lie_left, stayed}
+use Rattle.database_places.proofs.Options.{not_some}
 use Rattle.outbox_process.specs.declared.beginning.Beginning.{Beginning}
 use Rattle.outbox_process.specs.declared.beginning.Beginning.TheVariants.{Found, Made, Migrated}
 use Rattle.outbox_process.specs.declared.fault.OpeningFault.{OpeningFault}
@@ -37,74 +40,16 @@ use Rattle.outbox_process.specs.Process.{has_to_be_there, leaves_doubt, OpensPro
 use Rattle.outbox_process.specs.Refusals.{RefusesOutbox}
 use Rattle.outbox_process.proofs.Refusing.{lies_still, of_current, still_vacant}
 
-pub none_of : {A : Type 0} (o : Option A) → is_some o ≡ false → o ≡ None
-none_of None is = refl
-none_of (Some x) is = absurd (true≢false is)
-
-not_some : {X : Type 0} {A : Type 0} (o : Option A) → o ≡ None → IsSome o → X
-not_some None is some = absurd (true≢false (sym some))
-not_some (Some x) is some = absurd cc
-
--- what lay there lies there, or what was left of it
-stayed : {D : Type 0} (g : Ghosts D) (old new : Option (Option (Files D))) (fault : DatabaseFault) (was_taken : Bool)
-    → StaysIn g old new fault was_taken → (there : Files D) → old ≡ Some (Some there)
-    → (files : Files D) × (new ≡ Some (Some files))
-stayed g old new fault false stays there lies = (there, subst (λ l. StaysIn g l new fault false) lies stays)
-stayed g old new fault true stays there lies =
-    let left = subst (λ l. StaysIn g l new fault true) lies stays in
-    (left.0, left.1)
-
--- files that are left alone lie there
-pub keeps_lying : {D : Type 0} (lying : Option (Option (Files D))) → KeepsLying lying lying
-keeps_lying None = tt
-keeps_lying (Some None) = tt
-keeps_lying (Some (Some files)) = refl
-
-lie_left : {D : Type 0} (g : Ghosts D) (old new : Option (Option (Files D))) (back : Held (FileStore D g))
-    → LieGivenUp old new back → (there : Files D) → old ≡ Some (Some there)
-    → (files : Files D) × (new ≡ Some (Some files))
-lie_left g old new back left there lies =
-    let at = subst (λ l. LieGivenUp l new back) lies left in
-    (at.0, at.1)
-
 -- files that lay there lie there
 back_of : {D : Type 0} (g : Ghosts D) (beginning : Beginning) (old new : Option (Option (Files D)))
     (was_taken : Bool) (fault : OpeningFault) → IsNotOpened g beginning old new was_taken fault → (there : Files D)
     → old ≡ Some (Some there) → (files : Files D) × (new ≡ Some (Some files))
 back_of g beginning old new taken (Unopened why) is there lies = stayed g old new why taken is.refused there lies
-back_of g beginning old new taken (Taken holding) is there lies = lie_left g old new is.1 is.4 there lies
-back_of g beginning old new taken (Create why) is there lies = lie_left g old new is.1 is.4 there lies
-back_of g beginning old new taken (Open why holding) is there lies = lie_left g old new is.1 is.4 there lies
-back_of g beginning old new taken IsCurrent is there lies = lie_left g old new is.1 is.4 there lies
-back_of g beginning old new taken (Migrate why holding) is there lies = lie_left g old new is.1 is.4 there lies
-
-same_err : {A E : Type 0} (r : Result A E) (a b : E) → r ≡ Err a → r ≡ Err b → a ≡ b
-same_err r a b one other = cc
-
--- the fault of a database that has to be there where no files lie
-pub missing : {D : Type 0} {g : Ghosts D} (has : Bool) (old new : Option (Option (Files D))) (it : NotOpened)
-    → OpensPlace g has old new (Err it) → has ≡ true → old ≡ Some None → Unopened it.fault ≡ Unopened Missing
-missing has old new it opens is none =
-    ap (λ (w : NotOpened). Unopened w.fault) (same_err (Err it) it (untouched Missing) refl (opens.absent is none))
-
--- a connection that came is no such fault
-pub there : {D X : Type 0} {g : Ghosts D} (has : Bool) (old new : Option (Option (Files D)))
-    (conn : Held (FileStore D g)) → OpensPlace g has old new (Ok conn) → has ≡ true → old ≡ Some None → X
-there has old new conn opens is none =
-    let other : Ok conn ≡ Err (untouched Missing) = opens.absent is none in
-    absurd (cc)
-
--- the certainty falls if that leaves a doubt
-pub falls : (was told doubt : Bool) → told ≡ doubt → (was && not told) ≡ (if doubt then false else was)
-falls true true doubt is = ap (λ d. if d then false else true) is
-falls true false doubt is = ap (λ d. if d then false else true) is
-falls false true doubt is = ap (λ d. if d then false else false) is
-falls false false doubt is = ap (λ d. if d then false else false) is
-
--- the process is certain after a refusal only if that leaves no doubt, and the process was certain before it
-sure : (doubt was is : Bool) → is ≡ (if doubt then false else was) → is ≡ true → (doubt ≡ false) × (was ≡ true)
-sure true was is by certain = absurd (true≢false (sym certain ∙ by))
-sure false was is by certain = (refl, sym by ∙ certain)
+back_of g beginning old new taken (Taken holding) is there lies = lie_left old new is.1 is.4 there lies
+back_of g beginning old new taken (Create why) is there lies = lie_left old new is.1 is.4 there lies
+back_of g beginning old new taken (Open why holding) is there lies = lie_left old new is.1 is.4 there lies
+back_of g beginning old new taken IsCurrent is there lies = lie_left old new is.1 is.4 there lies
+back_of g beginning old new taken (Migrate why holding) is there lies = lie_left old new is.1 is.4 there lies
 
 module _ {D : Type 0} {g : Ghosts D} where
   -- ---- it is opened
@@ -116,11 +61,11 @@ module _ {D : Type 0} {g : Ghosts D} where
       → IsNotOpened g beginning old.lying new.lying was_taken fault → Leaves old new
   still_keeps honest stays beginning old new was_taken fault none closed by why = record {
     kept = λ it keeps certain.
-        let both = sure (leaves_doubt was_taken fault) old.is_certain new.is_certain by certain in
+        let both = sure_after (leaves_doubt was_taken fault) old.is_certain new.is_certain by certain in
         let lie = subst (λ o. KeepsBy {g = g} o old.lying it) none (keeps both.1) in
         subst (λ o. KeepsBy {g = g} o new.lying it) (sym closed)
         (lies_still honest stays beginning old.lying new.lying it lie was_taken fault both.0 why);
-    certain = λ certain. (sure (leaves_doubt was_taken fault) old.is_certain new.is_certain by certain).1;
+    certain = λ certain. (sure_after (leaves_doubt was_taken fault) old.is_certain new.is_certain by certain).1;
   }
 
   -- a refusal leaves it closed
@@ -148,7 +93,7 @@ module _ {D : Type 0} {g : Ghosts D} where
     back = back_of g beginning old.lying new.lying was_taken fault why;
     vacant = λ honest _ lies certain.
         still_vacant g honest beginning new.lying was_taken fault
-        (sure (leaves_doubt was_taken fault) old.is_certain new.is_certain by certain).0
+        (sure_after (leaves_doubt was_taken fault) old.is_certain new.is_certain by certain).0
         (subst (λ l. IsNotOpened g beginning l new.lying was_taken fault) lies why) (λ has. absent has lies);
   }
 
@@ -176,29 +121,6 @@ module _ {D : Type 0} {g : Ghosts D} where
     vacant = λ honest none lies. tt;
   }
 
-  came_empty : (old mid : Option (Option (Files D))) (conn : Held (FileStore D g)) → IsSome old → ComesFrom old mid conn
-      → mid ≡ Some None
-  came_empty None mid conn known comes = absurd (true≢false (sym known))
-  came_empty (Some None) mid conn known comes = comes.0
-  came_empty (Some (Some files)) mid conn known comes = comes.0
-
-  -- the connection came from what lay there
-  came_from : (old mid : Option (Option (Files D))) (conn : Held (FileStore D g)) → ComesFrom old mid conn
-      → ComesFrom old (Some None) conn
-  came_from None mid conn comes = comes
-  came_from (Some None) mid conn comes = (refl, comes.1, comes.2, comes.3)
-  came_from (Some (Some files)) mid conn comes = (refl, comes.1)
-
-  -- and its files lie there again
-  lie_again : (old mid after new : Option (Option (Files D))) (conn back : Held (FileStore D g)) (files : Files D)
-      → ComesFrom old mid conn → place.Leaves mid after files → KeepsLying after new → IsGivenUp back files
-      → LieGivenUp old new back
-  lie_again None mid after new conn back files comes leaves keeps given = tt
-  lie_again (Some there) mid after new conn back files comes leaves keeps given =
-      let lies : after ≡ Some (Some files) =
-      subst (λ m. place.Leaves m after files) (came_empty (Some there) mid conn refl comes) leaves in
-      (files, subst (λ a. KeepsLying a new) lies keeps, given)
-
   no_such : (beginning : Beginning) (conn back : Held (FileStore D g)) (why : DatabaseFault)
       → RefusesOutbox over_files beginning conn back (Unopened why) → ⊥
   no_such Found conn back why is = is
@@ -206,56 +128,22 @@ module _ {D : Type 0} {g : Ghosts D} where
   no_such Migrated conn back why is = is
 
   -- no outbox began over the database of the place, which was given up
-  pub not_begun : (beginning : Beginning) (old mid after new : Option (Option (Files D)))
+  pub not_begun : (beginning : Beginning) (old mid new : Option (Option (Files D)))
       (conn back : Held (FileStore D g)) (files : Files D) (fault : OpeningFault) → ComesFrom old mid conn
-      → RefusesOutbox over_files beginning conn back fault → place.Leaves mid after files → KeepsLying after new
-      → IsGivenUp back files → IsNotOpened g beginning old new true fault
-  not_begun beginning old mid after new conn back files (Unopened why) comes is leaves keeps given =
+      → RefusesOutbox over_files beginning conn back fault → place.Leaves mid new files → IsGivenUp back files
+      → IsNotOpened g beginning old new true fault
+  not_begun beginning old mid new conn back files (Unopened why) comes is leaves given =
       absurd (no_such beginning conn back why is)
-  not_begun beginning old mid after new conn back files (Taken holding) comes is leaves keeps given = (
-    conn,
-    back,
-    came_from old mid conn comes,
-    is,
-    lie_again old mid after new conn back files comes leaves keeps given,
-  )
-  not_begun beginning old mid after new conn back files (Create why) comes is leaves keeps given = (
-    conn,
-    back,
-    came_from old mid conn comes,
-    is,
-    lie_again old mid after new conn back files comes leaves keeps given,
-  )
-  not_begun beginning old mid after new conn back files (Open why holding) comes is leaves keeps given = (
-    conn,
-    back,
-    came_from old mid conn comes,
-    is,
-    lie_again old mid after new conn back files comes leaves keeps given,
-  )
-  not_begun beginning old mid after new conn back files IsCurrent comes is leaves keeps given = (
-    conn,
-    back,
-    came_from old mid conn comes,
-    is,
-    lie_again old mid after new conn back files comes leaves keeps given,
-  )
-  not_begun beginning old mid after new conn back files (Migrate why holding) comes is leaves keeps given = (
-    conn,
-    back,
-    came_from old mid conn comes,
-    is,
-    lie_again old mid after new conn back files comes leaves keeps given,
-  )
-
-  -- the database that files held is what the connection shows that came from them
-  shows_held : (files : Files D) (lying mid : Option (Option (Files D))) (conn : Held (FileStore D g)) → IsHonest g
-      → lying ≡ Some (Some files) → ComesFrom lying mid conn → (db : Database) → HoldWithLog g files db
-      → ((file_state conn).now ≡ db) × (mid ≡ Some None)
-  shows_held files lying mid conn honest lies comes db held =
-      let came = subst (λ l. ComesFrom l mid conn) lies comes in
-      let both = came.1 (always_clean honest conn) in
-      (found_there files conn both.0 both.1 db held, came.0)
+  not_begun beginning old mid new conn back files (Taken holding) comes is leaves given =
+      gives_back old mid new conn back files comes is leaves given
+  not_begun beginning old mid new conn back files (Create why) comes is leaves given =
+      gives_back old mid new conn back files comes is leaves given
+  not_begun beginning old mid new conn back files (Open why holding) comes is leaves given =
+      gives_back old mid new conn back files comes is leaves given
+  not_begun beginning old mid new conn back files IsCurrent comes is leaves given =
+      gives_back old mid new conn back files comes is leaves given
+  not_begun beginning old mid new conn back files (Migrate why holding) comes is leaves given =
+      gives_back old mid new conn back files comes is leaves given
 
   keeps_begun : (beginning : Beginning) (old new : Parts g) (conn : Held (FileStore D g))
       (outbox : OutboxParts (FileStore D g)) → old.outbox ≡ None → new.is_certain ≡ old.is_certain
@@ -264,19 +152,19 @@ module _ {D : Type 0} {g : Ghosts D} where
       → HasContents over_files outbox it × (new.lying ≡ Some None)
   keeps_begun Found old new conn outbox none same comes begun honest it begins certain =
       let lie = subst (λ o. KeepsBy {g = g} o old.lying it) none (begins (sym same ∙ certain)) in
-      let shown = shows_held lie.0 old.lying new.lying conn honest lie.1 comes lie.2.db lie.2.held in
-      (begun (always_clean honest outbox.conn) it (subst (IsOutboxOf it) (sym shown.0) lie.2.outbox), shown.1)
+      let shown = found_lying honest old.lying new.lying conn comes lie.2.db (lie.0, lie.1, lie.2.held) in
+      (begun (always_clean honest outbox.conn) it (subst (IsOutboxOf it) (sym shown.1) lie.2.outbox), shown.2)
   keeps_begun (Made filer) old new conn outbox none same comes begun honest it begins certain = (
     subst (HasContents over_files outbox) (sym begins.2) (begun.1 (always_clean honest outbox.conn)),
     came_empty old.lying new.lying conn begins.1 comes,
   )
   keeps_begun Migrated old new conn outbox none same comes begun honest it begins certain =
       let lie = begins.1 in
-      let shown = shows_held lie.0 old.lying new.lying conn honest lie.1 comes lie.2.db lie.2.held in (
+      let shown = found_lying honest old.lying new.lying conn comes lie.2.db (lie.0, lie.1, lie.2.held) in (
         (begun (always_clean honest outbox.conn)).0 it
-            (subst (λ (db : Database). IsAlone db.schema) (sym shown.0) lie.2.alone)
-            (subst (IsEarlierOf it) (sym shown.0) lie.2.earlier),
-        shown.1,
+            (subst (λ (db : Database). IsAlone db.schema) (sym shown.1) lie.2.alone)
+            (subst (IsEarlierOf it) (sym shown.1) lie.2.earlier),
+        shown.2,
       )
 
   -- an outbox is made where the database has no tables
@@ -287,8 +175,8 @@ module _ {D : Type 0} {g : Ghosts D} where
       → db.schema ≡ no_schema
   fresh Found old new conn outbox comes begun honest has files lies db held = absurd (true≢false has)
   fresh (Made filer) old new conn outbox comes begun honest has files lies db held =
-      let shown = shows_held files old.lying new.lying conn honest lies comes db held in
-      sym (ap (λ (d : Database). d.schema) shown.0) ∙ begun.0
+      let shown = found_lying honest old.lying new.lying conn comes db (files, lies, held) in
+      sym (ap (λ (d : Database). d.schema) shown.1) ∙ begun.0
   fresh Migrated old new conn outbox comes begun honest has files lies db held = absurd (true≢false has)
 
   not_current : (old new : Parts g) (conn : Held (FileStore D g)) (outbox : OutboxParts (FileStore D g))
@@ -296,8 +184,8 @@ module _ {D : Type 0} {g : Ghosts D} where
       → IsHonest g → (it : Contents) → KeepsBy old.outbox old.lying it → ⊥
   not_current old new conn outbox none comes begun honest it keeps =
       let lie = subst (λ o. KeepsBy {g = g} o old.lying it) none keeps in
-      let shown = shows_held lie.0 old.lying new.lying conn honest lie.1 comes lie.2.db lie.2.held in
-      (begun (always_clean honest outbox.conn)).1 it (subst (IsOutboxOf it) (sym shown.0) lie.2.outbox)
+      let shown = found_lying honest old.lying new.lying conn comes lie.2.db (lie.0, lie.1, lie.2.held) in
+      (begun (always_clean honest outbox.conn)).1 it (subst (IsOutboxOf it) (sym shown.1) lie.2.outbox)
 
   -- it is open
   pub opens : (beginning : Beginning) (old new : Parts g) (conn : Held (FileStore D g))
@@ -334,19 +222,13 @@ module _ {D : Type 0} {g : Ghosts D} where
       → KeepsBy (Some outbox) lying it → KeepsBy {g = g} None lying' it
   copied outbox files lying lying' honest closed leaves it keeps =
       let conn = outbox.conn in
-      let clean = are_clean g honest files.log files.db in
-      let stands = keeps.0.0.stands in
-      let is_open = (closed.copied clean).was_open in
-      let now = (file_state conn).now in
-      let outbox_is : IsOutboxOf it now =
-      subst (λ filer. IsOutboxOf (contents_of filer it.entries) now) keeps.0.1 (stands.now is_open) in (
+      let stands =
+      subst (λ filer. HasCommitted (IsOutboxOf (contents_of filer it.entries)) (file_state conn)) keeps.0.1
+      keeps.0.0.stands in
+      let left = closed_leaves honest conn files closed stands (λ db (is : IsOutboxOf it db). is.sound) in (
         files,
         subst (λ l. place.Leaves l lying' files) keeps.1 leaves,
-        record {
-          db = now;
-          outbox = outbox_is;
-          held = closed_with_log files now (closed.holds clean now outbox_is.sound (stands.committed is_open));
-        },
+        record { db = (file_state conn).now; outbox = left.0; held = left.1 },
       )
 
   pub closes : (outbox : OutboxParts (FileStore D g)) (files : Files D) (old new : Parts g) → old.outbox ≡ Some outbox

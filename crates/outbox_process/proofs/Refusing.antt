@@ -5,7 +5,7 @@ use Rattle.sqlite_disk.specs.declared.Files.{Files}
 use Rattle.sqlite_store.specs.declared.store.FileStore.{FileStore}
 use Rattle.sqlite_wal.proofs.LogLemmas.{SeenMayStay}
 use Rattle.sqlite.specs.Held.{Held}
-use Rattle.sqlite.specs.Files.{file_state, over_files, IsOpened}
+use Rattle.sqlite.specs.Files.{file_state, over_files}
 use Rattle.table_rows.specs.Standing.{CommitsNothing}
 use Rattle.table_rows.proofs.CleanLemmas.{always_clean}
 use Rattle.table_rows.proofs.StepLemmas.{nothing_yet}
@@ -15,11 +15,11 @@ use Rattle.outbox_tables.specs.Rows.{IsOutboxOf}
 use Rattle.outbox_tables.specs.declared.fault.OutboxFault.TheVariants.{NotOurs}
 use Rattle.command_line.specs.declared.fault.DatabaseFault.TheVariants.{Missing}
 use Rattle.database_places.specs.Closing.{LieGivenUp}
-use Rattle.database_places.specs.Opening.{ComesFrom, StaysIn}
+use Rattle.database_places.specs.Opening.{ComesFrom}
 use Rattle.database_places.specs.Places.{IsHonest, Lie}
-use Rattle.database_places.proofs.Finding.{found_there}
-use Rattle.database_places.proofs.Leaving.{given_up}
-use Rattle.database_places.proofs.Nothing.{nothing_there}
+use Rattle.database_places.proofs.Finding.{found_lying}
+use Rattle.database_places.proofs.Lying.{given_leaves, not_taken}
+use Rattle.database_places.proofs.Nothing.{nothing_lying}
 use Rattle.outbox_process.specs.declared.beginning.Beginning.{Beginning}
 use Rattle.outbox_process.specs.declared.beginning.Beginning.TheVariants.{Found, Made, Migrated}
 use Rattle.outbox_process.specs.declared.fault.OpeningFault.{OpeningFault}
@@ -36,14 +36,10 @@ module _ {D : Type 0} {g : Ghosts D} (honest : IsHonest g) where
   -- ---- the connection to an outbox of this version
 
   shows_outbox : (old new : Option (Option (Files D))) (conn : Held (FileStore D g)) (it : Contents)
-      → ComesFrom old new conn → Lie old (λ files. HoldOutboxWithLog g files it)
-      → IsOpened conn × IsOutboxOf it (file_state conn).now
+      → ComesFrom old new conn → Lie old (λ files. HoldOutboxWithLog g files it) → IsOutboxOf it (file_state conn).now
   shows_outbox old new conn it comes lie =
-      let came = subst (λ l. ComesFrom l new conn) lie.1 comes in
-      let both = came.1 (always_clean honest conn) in (
-        both.1,
-        subst (IsOutboxOf it) (sym (found_there lie.0 conn both.0 both.1 lie.2.db lie.2.held)) lie.2.outbox,
-      )
+      let shown = found_lying honest old new conn comes lie.2.db (lie.0, lie.1, lie.2.held) in
+      subst (IsOutboxOf it) (sym shown.1) lie.2.outbox
 
   -- a refusal that leaves no doubt commits nothing to it
   commits_nothing : (beginning : Beginning) (conn back : Held (FileStore D g)) (why : OpeningFault)
@@ -80,25 +76,18 @@ module _ {D : Type 0} {g : Ghosts D} (honest : IsHonest g) where
         × RefusesOutbox over_files beginning conn back why × LieGivenUp old new back)
         → Lie new (λ files. HoldOutboxWithLog g files it)
     lies_again why sure is =
-        let conn = is.0 in
-        let shows = shows_outbox old (Some None) conn it is.2 lie in
-        let left = subst (λ l. LieGivenUp l new is.1) lie.1 is.4 in
-        let nothing = commits_nothing beginning conn is.1 why is.3 sure it shows.1 in (
-          left.0,
-          left.1,
-          record {
-            db = (file_state conn).now;
-            outbox = shows.1;
-            held = given_up honest stays conn is.1 left.0 shows.0 nothing left.2;
-          },
-        )
+        let rows = shows_outbox old (Some None) is.0 it is.2 lie in
+        let nothing = commits_nothing beginning is.0 is.1 why is.3 sure it rows in
+        let left =
+        given_leaves honest stays old (Some None) new is.0 is.1 is.2 nothing is.4 lie.2.db
+        (lie.0, lie.1, lie.2.held) in
+        (left.0, left.1, record { db = lie.2.db; outbox = lie.2.outbox; held = left.2 })
 
     -- the outbox lies there after a refusal that leaves no doubt
     pub lies_still : (was_taken : Bool) (why : OpeningFault) → leaves_doubt was_taken why ≡ false
         → IsNotOpened g beginning old new was_taken why → Lie new (λ files. HoldOutboxWithLog g files it)
     lies_still true (Unopened fault) sure is = absurd (true≢false sure)
-    lies_still false (Unopened fault) sure is =
-        (lie.0, subst (λ l. StaysIn g l new fault false) lie.1 is.refused, lie.2)
+    lies_still false (Unopened fault) sure is = not_taken g old new fault is.refused lie
     lies_still was_taken (Create fault) sure is = absurd (true≢false sure)
     lies_still was_taken (Taken holding) sure is = lies_again (Taken holding) refl is
     lies_still was_taken (Open fault holding) sure is = lies_again (Open fault holding) refl is
@@ -116,7 +105,7 @@ module _ {D : Type 0} {g : Ghosts D} (honest : IsHonest g) where
   of_current old new was_taken (Open fault holding) it is lie = absurd is.3
   of_current old new was_taken IsCurrent it is lie = tt
   of_current old new was_taken (Migrate fault holding) it is lie =
-      let rows = (shows_outbox old (Some None) is.0 it is.2 lie).1 in
+      let rows = shows_outbox old (Some None) is.0 it is.2 lie in
       elim is.3 [
         | inl direct ↦ direct.1.sound (always_clean honest is.1) it rows
         | inr late ↦ absurd (not_ours (late.1.sound (always_clean honest late.0) it rows))
@@ -145,8 +134,7 @@ module _ {D : Type 0} (g : Ghosts D) where
   still_vacant honest (Made filer) new true (Unopened fault) sure is absent = absurd (true≢false sure)
   still_vacant honest (Made filer) new false (Unopened fault) sure is absent = is.refused
   still_vacant honest (Made filer) new was_taken (Taken holding) sure is absent =
-      let both = is.2.3 (always_clean honest is.0) in
-      absurd (is.3.0 (nothing_there is.2.1 is.0 is.2.2 both.0 both.1))
+      absurd (is.3.0 (nothing_lying honest (Some None) is.0 is.2))
   still_vacant honest (Made filer) new was_taken (Create fault) sure is absent = absurd (true≢false sure)
   still_vacant honest (Made filer) new was_taken (Open fault holding) sure is absent = absurd is.3
   still_vacant honest (Made filer) new was_taken IsCurrent sure is absent = absurd is.3

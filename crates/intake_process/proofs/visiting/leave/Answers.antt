@@ -1,6 +1,6 @@
 use Rattle.std.proofs.Common.{sym}
+use Rattle.database_places.proofs.Lying.{kept_lying}
 use Rattle.intake_process.specs.Errands.{is_refused}
-use Rattle.intake_process.proofs.Left.{kept_lying}
 use Rattle.intake_process.proofs.Visits.{closed_in, given_in}
 use Rattle.intake_process.proofs.visiting.leave.Goals as goal
 
