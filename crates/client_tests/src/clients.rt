@@ -559,7 +559,7 @@ fn a_database_refuses_beside_200_clients(rt: HostRuntime) -> Result<(), Fail> {
     let refused = Play {
         clients: &TWICE,
         places: 200,
-        calls: 30,
+        calls: 25,
         refusals: 4,
         failed: 1,
         ..LASTING
