@@ -1,5 +1,5 @@
 -- Why a script is not read, why no world is answered of it, and why nothing is shown of a world.
-use Rattle.std.specs.Prelude.{◌≡◌, ℕ, ⊤, List, Contains, Option, Ok}
+use Rattle.std.specs.Prelude.{◌≡◌, ◌⊎◌, ℕ, ⊤, List, Contains, Option, Ok}
 use Rattle.std.specs.Str.{IsUtf8}
 use Rattle.command_line.specs.declared.fault.CommandFault.TheVariants.{Memory}
 use Rattle.command_line.specs.Reading.{IsReadFailure, IsLonger}
@@ -7,7 +7,8 @@ use Rattle.event_script.specs.Restarts.{restarted}
 use Rattle.event_script.specs.Scripts.{Script, script_of, IsFaultOf}
 use Rattle.filing_model.specs.Register.{Filing, register}
 use Rattle.filing_world.specs.World.{World}
-use Rattle.filing_world.specs.Headline.{start}
+use Rattle.filing_world.specs.Headline.{Holds, start}
+use Rattle.filing_world.specs.Step.{Run}
 use Rattle.key_string.specs.Key.{IsTextFault}
 use Rattle.schedule.specs.Ending.{EndsBy}
 use Rattle.drill_commands.specs.declared.fault.Fault.{Fault}
@@ -57,3 +58,20 @@ abbrev pub IsNotShown : World → Fault → Type 0
 IsNotShown world (fault.Register why) = ⊤
 IsNotShown world (fault.Outbox why) = ⊤
 IsNotShown world why = AreNotShown (register world.done) why
+
+-- ---- scripts
+
+-- Nothing is shown of the world to which the events of the script lead that these bytes spell, with a restart of every
+-- end behind them.
+pub record IsUnshownOf (bytes : List ℕ) (why : Fault) : Type 0 where
+  pub script : Script
+  pub world : World
+  pub said : script_of bytes ≡ Ok script
+  pub run : Run (start script.filers script.limit) (restarted script).events world
+  -- the headline holds of it
+  pub holds : Holds world
+  pub not_shown : IsNotShown world why
+
+-- no world is answered of these bytes, or nothing is shown of it
+abbrev pub IsNotDrilled : List ℕ → Fault → Type 0
+IsNotDrilled bytes why = IsNotPlayed bytes why ⊎ IsUnshownOf bytes why

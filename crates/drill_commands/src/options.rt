@@ -1,10 +1,16 @@
 //! The command line, as `clap` reads it.
 
+ghost use Rattle.std.specs.Prelude.{◌≡◌, map, string_bytes};
+ghost use Rattle.clap.specs.Words.{FailsBy, app_of};
+ghost use Rattle.drill_commands.specs.Words.{app, refusals};
+
 use clap::{Command, Error};
 use command_line::VERSION;
 use std::alloc::Global;
 
-fn command<'a>(alloc: Global) -> Command<'a> {
+fn command<'a>(alloc: Global) -> Command<'a>
+    ensures { app_of result ≡ app }
+{
     Command::new(alloc, "drill")
         .version(VERSION)
         .about(
@@ -20,7 +26,11 @@ fn command<'a>(alloc: Global) -> Command<'a> {
 
 /// Reads these words, of which the first is the program's name. No other word is allowed, except one that asks for help
 /// or the version, which is answered as an error.
-pub(crate) fn read(alloc: Global, words: &[String]) -> Result<(), Error> {
-    command(alloc).try_get_matches_from(words)?;
-    Ok(())
+pub(crate) fn read(alloc: Global, words: &[String]) -> Result<(), Error>
+    ensures { FailsBy (refusals (map string_bytes words.now)) result }
+{
+    match command(alloc).try_get_matches_from(words) {
+        Ok(_) => Ok(()),
+        Err(error) => Err(error),
+    }
 }

@@ -1,10 +1,13 @@
 //! Reads a script, plays it, and shows what came of it.
 
-ghost use Rattle.std.specs.Prelude.{◌≡◌, IfOk, IfErr, OnOk};
+ghost use Rattle.std.specs.Prelude.{◌≡◌, IfOk, IfErr, OnOk, map, string_bytes};
+ghost use Rattle.clap.specs.Words.{kind_of};
 ghost use Rattle.command_line.specs.Reading.{IsWhole};
-ghost use Rattle.drill_commands.specs.Refusals.{IsNotRead};
+ghost use Rattle.drill_commands.specs.Performing.{IsWritten, PlaysScript, PerformsScript, PerformsInput, Performs};
+ghost use Rattle.drill_commands.specs.Refusals.{IsNotDrilled, IsNotRead};
 ghost use Rattle.drill_commands.specs.Shown.{IsShownOf};
-ghost use Rattle.drill_commands.specs.Status.{status_of};
+ghost use Rattle.drill_commands.specs.Status.{IsRefusalStatus, status_of};
+ghost use Rattle.drill_commands.specs.Words.{refusals};
 
 use crate::complaint::complaint;
 use crate::fault::Fault;
@@ -37,7 +40,8 @@ fn read_bytes<R: Source>(alloc: Global, reader: &mut R) -> Result<Vec<u8>, Fault
 
 /// Plays the script, starts each end that is down then, and answers what is shown.
 fn drill<D: Honest>(alloc: Global, bytes: &[u8]) -> Result<Vec<u8>, Fault>
-    ensures { IfOk result (λ text. IsShownOf bytes.now text.items) }
+    ensures shown { IfOk result (λ text. IsShownOf bytes.now text.items) }
+    ensures refusal { IfErr result (IsNotDrilled bytes.now) }
 {
     let mut world: World<D> = played(alloc, bytes)?;
     shown(alloc, &mut world)
@@ -58,29 +62,76 @@ fn tell<E: Write>(fault: Fault, script: &[u8], errors: &mut E) -> u8
     fault.tell(errors)
 }
 
-fn perform_script<R: Read, O: Write, E: Write>(
+/// Writes what is shown, and answers the status.
+fn write_shown<O: Write>(output: &mut O, text: &[u8]) -> Result<u8, Fault>
+    ensures { IsWritten text.now (O.contents output.old) (O.contents output.new) result }
+{
+    match show(output, text) {
+        Ok(()) => Ok(DONE),
+        Err(fault) => Err(Fault::Command(fault)),
+    }
+}
+
+/// Plays the script of these bytes, writes what is shown of it, and answers the status. If nothing is shown, the
+/// standard error says why.
+fn play_script<O: Write, E: Write>(
+    alloc: Global,
+    script: &[u8],
+    output: &mut O,
+    errors: &mut E,
+) -> Result<u8, Fault>
+    ensures { PlaysScript script.now (O.contents output.old) (O.contents output.new) result }
+{
+    match drill::<Durable>(alloc, script) {
+        Ok(text) => write_shown(output, text.as_slice()),
+        Err(fault) => Ok(tell(fault, script, errors)),
+    }
+}
+
+/// Reads the script to the end, plays it, and answers the status.
+fn perform_script<R: Source, O: Write, E: Write>(
+    alloc: Global,
+    reader: &mut R,
+    output: &mut O,
+    errors: &mut E,
+) -> Result<u8, Fault>
+    ensures { PerformsScript R.left R.read_failures reader.old reader.new (O.contents output.old)
+        (O.contents output.new) result }
+{
+    match read_bytes(alloc, reader) {
+        Ok(script) => play_script(alloc, script.as_slice(), output, errors),
+        Err(fault) => Err(fault),
+    }
+}
+
+/// Plays the script that the input has, and answers the status. A fault's text goes to `errors`.
+fn perform_input<R: Read, O: Write, E: Write>(
     alloc: Global,
     input: &mut R,
     output: &mut O,
     errors: &mut E,
-) -> Result<u8, Fault> {
-    let script = read_bytes(alloc, &mut Device::new(input))?;
-    match drill::<Durable>(alloc, script.as_slice()) {
-        Ok(text) => {
-            show(output, text.as_slice())?;
-            Ok(DONE)
-        }
-        Err(fault) => Ok(tell(fault, script.as_slice(), errors)),
+) -> u8
+    ensures { PerformsInput R.remaining input.old (O.contents output.old) (O.contents output.new) result }
+{
+    match perform_script(alloc, &mut Device::new(input), output, errors) {
+        Ok(status) => status,
+        Err(fault) => fault.tell(errors),
     }
 }
 
+/// Shows what `clap` says of words that it does not take, and answers the status.
 fn refuse<O: Write, E: Write>(
     alloc: Global,
     error: &clap::Error,
     output: &mut O,
     errors: &mut E,
-) -> Result<u8, Fault> {
-    Ok(show_refusal(alloc, error, output, errors)?)
+) -> u8
+    ensures { IsRefusalStatus (kind_of error.now) result }
+{
+    match show_refusal(alloc, error, output, errors) {
+        Ok(status) => status,
+        Err(fault) => Fault::Command(fault).tell(errors),
+    }
 }
 
 /// Performs what these words ask for, the program's name first, and answers the status. A fault's text
@@ -91,14 +142,13 @@ pub fn perform<R: Read, O: Write, E: Write>(
     input: &mut R,
     output: &mut O,
     errors: &mut E,
-) -> u8 {
-    let done = match options::read(alloc, words) {
-        Ok(()) => perform_script(alloc, input, output, errors),
+) -> u8
+    ensures { Performs R.remaining input.old (refusals (map string_bytes words.now)) (O.contents output.old)
+        (O.contents output.new) result }
+{
+    match options::read(alloc, words) {
+        Ok(()) => perform_input(alloc, input, output, errors),
         Err(error) => refuse(alloc, &error, output, errors),
-    };
-    match done {
-        Ok(status) => status,
-        Err(fault) => fault.tell(errors),
     }
 }
 
