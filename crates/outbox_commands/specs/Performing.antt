@@ -1,20 +1,29 @@
--- What `outbox` does with a task on the outbox of its file. `out` and `out'` are what the output has before and after.
-use Rattle.std.specs.Prelude.{◌≡◌, ◌⊎◌, ℕ, zero, suc, Bool, true, false, List, Option, Some, None, option_map}
+-- What `outbox` does with its words, and with a task on the outbox of its file. `out` and `out'` are what the output
+-- has before and after.
+use Rattle.std.specs.Prelude.{◌≡◌, ◌⊎◌, ℕ, zero, suc, Bool, true, false, List, map, Option, Some, None, option_map}
 use Rattle.std.specs.Prelude.{Result, Ok, Err}
 use Rattle.std.specs.Borrow.{Bor}
 use Rattle.sqlite_disk.specs.declared.Disk.{Ghosts}
 use Rattle.sqlite_disk.specs.declared.Files.{Files}
-use Rattle.clap.specs.Words.{Text}
+use Rattle.clap.specs.Words.{Text, kind_of}
+use Rattle.clap.specs.declared.error.Error.{Error}
+use Rattle.command_line.specs.declared.fault.CommandFault.{CommandFault}
+use Rattle.command_line.specs.declared.fault.CommandFault.TheVariants as command
+use Rattle.finding_lines.specs.Linting.{LintsReports}
+use Rattle.finding_lines.specs.declared.form.Form.{Form}
 use Rattle.outbox_process.specs.Process.{Parts}
 use Rattle.outbox_commands.specs.declared.fault.Fault.{Fault}
 use Rattle.outbox_commands.specs.declared.fault.Fault.TheVariants as fault
 use Rattle.outbox_commands.specs.declared.network.PeerDial.{PeerDial}
+use Rattle.outbox_commands.specs.declared.options.Asked.{Asked}
+use Rattle.outbox_commands.specs.declared.options.Asked.TheVariants.{Outbox, Lint}
 use Rattle.outbox_commands.specs.declared.options.Peer.{Peer}
 use Rattle.outbox_commands.specs.declared.options.Task.{Task}
 use Rattle.outbox_commands.specs.Networks.{unknown}
 use Rattle.outbox_commands.specs.Reading.{only_reads}
+use Rattle.outbox_commands.specs.Status.{IsRefusalStatus, ended_status}
 use Rattle.outbox_commands.specs.Tasks.{Does}
-use Rattle.outbox_commands.specs.Words.{Calls}
+use Rattle.outbox_commands.specs.Words.{Calls, IsRead, IsUnread}
 
 -- ---- the network of a task
 
@@ -75,3 +84,41 @@ abbrev pub PerformsOnce : {D R : Type 0} → Ghosts D → Ghosts R → Task → 
 PerformsOnce written read task out out' result =
     PerformsOver written task None out out' result
     ⊎ ((only_reads task ≡ true) × PerformsOver read task None out out' result)
+
+-- ---- what the words ask for
+
+-- a fault of the command is reported as it is
+abbrev pub as_command : Result ℕ CommandFault → Result ℕ Fault
+as_command (Ok status) = Ok status
+as_command (Err why) = Err (fault.Command why)
+
+-- the findings of the reports in these files were printed, as far as they could be read
+abbrev pub PrintsLint : Form → Bor Text → List (Bor Text) → Option (List ℕ) → Option (List ℕ) → Result ℕ Fault → Type 0
+PrintsLint form filer files out out' result =
+    (linted : Result ℕ CommandFault) × LintsReports form filer.now (map (λ file. file.now) files) out out' linted
+    × (result ≡ as_command linted)
+
+-- the task on an outbox was performed, the findings of the reports were printed, or nothing is asked for
+abbrev pub PerformsAsked : {D R : Type 0} → Ghosts D → Ghosts R → Option Asked → Option (List ℕ) → Option (List ℕ)
+    → Result ℕ Fault → Type 0
+PerformsAsked written read (Some (Outbox task wait)) out out' result = PerformsOnce written read task out out' result
+PerformsAsked written read (Some (Lint filer form files)) out out' result =
+    PrintsLint form filer files.items out out' result
+PerformsAsked written read None out out' result = (result ≡ Err (fault.Command command.NoTask)) × (out' ≡ out)
+
+-- `clap` does not take the words, and the status says why
+abbrev pub RefusesWords : List Text → Result ℕ Fault → Type 0
+RefusesWords words result =
+    (error : Error) × IsUnread words error × IsRefusalStatus (kind_of error) (ended_status result)
+
+-- what the words ask for was performed, or they are refused
+abbrev pub PerformsWords : {D R : Type 0} → Ghosts D → Ghosts R → List Text → Option (List ℕ) → Option (List ℕ)
+    → Result ℕ Fault → Type 0
+PerformsWords written read words out out' result =
+    ((asked : Option Asked) × IsRead words asked × PerformsAsked written read asked out out' result)
+    ⊎ RefusesWords words result
+
+-- the same, with the status of the program
+abbrev pub Performs : {D R : Type 0} → Ghosts D → Ghosts R → List Text → Option (List ℕ) → Option (List ℕ) → ℕ → Type 0
+Performs written read words out out' status =
+    (result : Result ℕ Fault) × PerformsWords written read words out out' result × (status ≡ ended_status result)

@@ -1,5 +1,7 @@
 -- The exit status of `outbox`.
-use Rattle.std.specs.Prelude.{ℕ, zero, suc, Bool, true, false, Result, Ok, Err}
+use Rattle.std.specs.Prelude.{◌≡◌, ◌≢◌, ◌⊎◌, ℕ, zero, suc, Bool, true, false, Result, Ok, Err}
+use Rattle.clap.specs.declared.error.kind.ErrorKind.{ErrorKind}
+use Rattle.clap.specs.declared.error.kind.ErrorKind.TheVariants as kind
 use Rattle.key_string.specs.declared.fault.KeyFault.{KeyFault}
 use Rattle.key_string.specs.declared.fault.KeyFault.TheVariants as key
 use Rattle.outbox_tables.specs.declared.fault.OutboxFault.{OutboxFault}
@@ -147,3 +149,15 @@ status_of (fault.Random error) = 3
 abbrev pub status_by : {X : Type 0} → Result X Fault → ℕ
 status_by (Ok done) = 0
 status_by (Err why) = status_of why
+
+-- the status of the program: that of what was done, or of why it was not
+abbrev pub ended_status : Result ℕ Fault → ℕ
+ended_status (Ok status) = status
+ended_status (Err why) = status_of why
+
+-- The status if `clap` does not take the words: 3 if memory ran out; 0 if they ask for help or the version, or 3 if the
+-- output failed; and otherwise 2.
+pub record IsRefusalStatus (why : ErrorKind) (status : ℕ) : Type 0 where
+  pub memory : why ≡ kind.OutOfMemory → status ≡ 3
+  pub asked : (why ≡ kind.DisplayHelp) ⊎ (why ≡ kind.DisplayVersion) → (status ≡ 0) ⊎ (status ≡ 3)
+  pub wrong : why ≢ kind.OutOfMemory → why ≢ kind.DisplayHelp → why ≢ kind.DisplayVersion → status ≡ 2

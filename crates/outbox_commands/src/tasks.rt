@@ -1,11 +1,12 @@
 //! Performs a task, and says how the program ends.
 
-ghost use Rattle.std.specs.Prelude.{◌≡◌, true, Some, None, Ok, IfOk, IfErr, option_map};
+ghost use Rattle.std.specs.Prelude.{◌≡◌, true, map, string_bytes, Some, None, Ok, IfOk, IfErr, option_map};
+ghost use Rattle.clap.specs.Words.{kind_of};
 ghost use Rattle.outbox_process.specs.Process.{parts};
 ghost use Rattle.outbox_commands.specs.Performing.{IsNetworkOf, PerformsWith, PerformsOver, PerformsOnce, IsNoFolder};
-ghost use Rattle.outbox_commands.specs.Performing.{ended_without};
+ghost use Rattle.outbox_commands.specs.Performing.{ended_without, PrintsLint, PerformsAsked, PerformsWords, Performs};
 ghost use Rattle.outbox_commands.specs.Reading.{only_reads, copies_log};
-ghost use Rattle.outbox_commands.specs.Status.{opening_status, status_of, status_by};
+ghost use Rattle.outbox_commands.specs.Status.{opening_status, status_of, status_by, ended_status, IsRefusalStatus};
 ghost use Rattle.outbox_commands.specs.Tasks.{MakesOutbox, IsJudged, IsPrinted, MigratesOutbox, Does, is_current};
 ghost use Rattle.outbox_commands.specs.Visits.{opening_verdict};
 ghost use Rattle.outbox_commands.specs.Words.{database_of};
@@ -16,11 +17,12 @@ use crate::fault::{Fault, verdict_on};
 use crate::network::{Network, PeerDial};
 use crate::options::{Asked, Task};
 use crate::putting::put;
+use clap::Error;
 use command_line::{CommandFault, DONE, show, show_refusal, words};
 use database_places::{
     Place, ReadingFile, ReadingPlace, SystemPlace, WaitingPlace, has_writable_log, show_verdict,
 };
-use finding_lines::lint_reports;
+use finding_lines::{Form, lint_reports};
 use key_string::is_filer;
 use outbox_process::{Beginning, Errand, OpeningFault, OutboxProcess};
 use receipts::Folder;
@@ -316,20 +318,70 @@ fn perform_once<'a, O: Write, E: Write>(
     perform_writing(rt, task, wait, output, errors)
 }
 
+/// Prints what is wrong with the reports in these files, and answers the status.
+fn lint<'a, O: Write, E: Write>(
+    rt: &HostRuntime,
+    form: Form,
+    filer: &'a str,
+    files: &[&'a str],
+    output: &mut O,
+    errors: &mut E,
+) -> Result<u8, Fault<'a>>
+    ensures { PrintsLint form filer.entry files.now (O.contents output.old) (O.contents output.new) result }
+{
+    match lint_reports(rt, "outbox", form, filer, files, output, errors) {
+        Ok(status) => Ok(status),
+        Err(fault) => Err(Fault::Command(fault)),
+    }
+}
+
+/// Performs what is asked for, and answers the status.
+fn perform_asked<'a, O: Write, E: Write>(
+    rt: &HostRuntime,
+    asked: Option<Asked<'a>>,
+    output: &mut O,
+    errors: &mut E,
+) -> Result<u8, Fault<'a>>
+    ensures { PerformsAsked ⟦<File as Disk>⟧ ⟦<ReadingFile as Disk>⟧ asked.entry (O.contents output.old)
+        (O.contents output.new) result }
+{
+    match asked {
+        Some(Asked::Lint { filer, form, files }) => {
+            lint(rt, form, filer, files.as_slice(), output, errors)
+        }
+        Some(Asked::Outbox { task, wait }) => perform_once(rt, task, wait, output, errors),
+        None => Err(Fault::Command(CommandFault::NoTask)),
+    }
+}
+
+/// Shows what `clap` says of words that it does not take, and answers the status.
+fn refuse<'a, O: Write, E: Write>(
+    alloc: Global,
+    error: &Error,
+    output: &mut O,
+    errors: &mut E,
+) -> Result<u8, Fault<'a>>
+    ensures { IsRefusalStatus (kind_of error.now) (ended_status result) }
+{
+    match show_refusal(alloc, error, output, errors) {
+        Ok(status) => Ok(status),
+        Err(fault) => Err(Fault::Command(fault)),
+    }
+}
+
 /// Performs what these words ask for, and answers the status.
 fn perform_words<'a, O: Write, E: Write>(
     rt: &HostRuntime,
     words: &'a [String],
     output: &mut O,
     errors: &mut E,
-) -> Result<u8, Fault<'a>> {
+) -> Result<u8, Fault<'a>>
+    ensures { PerformsWords ⟦<File as Disk>⟧ ⟦<ReadingFile as Disk>⟧ (map string_bytes words.now)
+        (O.contents output.old) (O.contents output.new) result }
+{
     match read(rt.alloc(), words) {
-        Ok(Some(Asked::Lint { filer, form, files })) => {
-            Ok(lint_reports(rt, "outbox", form, filer, files.as_slice(), output, errors)?)
-        }
-        Ok(Some(Asked::Outbox { task, wait })) => perform_once(rt, task, wait, output, errors),
-        Ok(None) => Err(Fault::Command(CommandFault::NoTask)),
-        Err(error) => Ok(show_refusal(rt.alloc(), &error, output, errors)?),
+        Ok(asked) => perform_asked(rt, asked, output, errors),
+        Err(error) => refuse(rt.alloc(), &error, output, errors),
     }
 }
 
@@ -340,7 +392,10 @@ pub fn perform<O: Write, E: Write>(
     words: &[String],
     output: &mut O,
     errors: &mut E,
-) -> u8 {
+) -> u8
+    ensures { Performs ⟦<File as Disk>⟧ ⟦<ReadingFile as Disk>⟧ (map string_bytes words.now)
+        (O.contents output.old) (O.contents output.new) result }
+{
     match perform_words(rt, words, output, errors) {
         Ok(status) => status,
         Err(fault) => fault.tell(errors),
