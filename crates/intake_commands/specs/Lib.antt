@@ -1,4 +1,5 @@
 pub mod Bounds
+pub mod Performing
 pub mod Reading
 pub mod Status
 pub mod Tasks

@@ -2,6 +2,7 @@
 -- nothing of which words give which values, since an option may have a value that begins with a hyphen.
 use Rattle.std.specs.Prelude.{◌≡◌, ◌⊎◌, ◌&&◌, ℕ, Bool, true, false, List, [], ◌∷◌, map, codes, Option, Some, None}
 use Rattle.std.specs.Prelude.{Result, Ok, Err, is_some, option_map, option_and_then, unwrap_or, if◌then◌else◌, eqb}
+use Rattle.std.specs.Prelude.{slice_get}
 use Rattle.std.specs.List.{after_first, before_first, list_any}
 use Rattle.std.specs.Option.{option_map_or}
 use Rattle.std.specs.Result.{result_ok}
@@ -171,6 +172,10 @@ IsAsked (Some (word, options)) (Ok asked) =
     IsTask word options asked.task × (asked.wait ≡ unwrap_or (number 32 (codes "wait") options) 0)
 
 -- ---- reading the command line
+
+-- the word behind the program's name is `init`, which only an outbox has
+abbrev pub asks_for_init : List Text → Bool
+asks_for_init words = option_map_or (λ word. bytes_eq word (codes "init")) (slice_get words 1) false
 
 -- `clap` found these matches with this command, and they ask for that
 abbrev pub IsReadBy : Command → List Text → Result Asked Fault → Type 0

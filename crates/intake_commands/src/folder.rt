@@ -44,7 +44,9 @@ pub(crate) struct SystemFolder<'r, 'a> {
 
 impl<'r, 'a> SystemFolder<'r, 'a> {
     /// The folder with this path.
-    pub(crate) fn new(rt: &'r HostRuntime, path: &'a str) -> SystemFolder<'r, 'a> {
+    pub(crate) fn new(rt: &'r HostRuntime, path: &'a str) -> SystemFolder<'r, 'a>
+        ensures { result.path ≡ path.entry }
+    {
         SystemFolder {
             rt,
             path,

@@ -1,9 +1,14 @@
 //! The program: it makes what a task works with, and performs the task.
 
-ghost use Rattle.std.specs.Prelude.{◌≡◌, true, IfOk};
+ghost use Rattle.std.specs.Prelude.{◌≡◌, true, map, string_bytes, Some, None, IfOk};
+ghost use Rattle.clap.specs.Words.{kind_of};
 ghost use Rattle.intake_commands.specs.Bounds.{bounds_of};
+ghost use Rattle.intake_commands.specs.Performing.{PerformsOver, PerformsOnce, PerformsServing, PerformsTask, no_port};
+ghost use Rattle.intake_commands.specs.Performing.{PerformsAsked, PerformsWords, PerformsAll};
 ghost use Rattle.intake_commands.specs.Reading.{only_reads, copies_log};
-ghost use Rattle.intake_commands.specs.Words.{database_of, folder_of};
+ghost use Rattle.intake_commands.specs.Status.{IsRefusalStatus, status_of};
+ghost use Rattle.intake_commands.specs.Words.{database_of, folder_of, asks_for_init};
+ghost use Rattle.intake_commands.specs.declared.options.Task.TheVariants.{Serve};
 
 use crate::asked::read;
 use crate::clocked::Clocked;
@@ -14,15 +19,19 @@ use crate::port::NoPort;
 use crate::record::Recorded;
 use crate::sockets::ReportedSockets;
 use crate::tasks::perform_task;
+use clap::Error;
 use command_line::{CommandFault, show_refusal, words};
-use database_places::{Place, ReadingPlace, SystemPlace, WaitingPlace, has_writable_log};
+use database_places::{
+    Place, ReadingFile, ReadingPlace, SystemPlace, WaitingPlace, has_writable_log,
+};
 use gateway_server::Port;
 use http_wire::Device;
 use intake_process::{Errand, IntakeProcess};
 use many_connections::{Many, TcpLine, TcpSockets};
 use ready_connections::Bounds;
+use sqlite::File;
 use sqlite_disk::Disk;
-use std::alloc::AllocError;
+use std::alloc::{AllocError, Global};
 use std::io::{IsTerminal, Stderr, Stdout, Write};
 
 /// The text if requests are read from a terminal.
@@ -118,79 +127,224 @@ fn copies_log(task: &Task<'_>) -> bool
     }
 }
 
-/// Performs a task over the register of this place, this port, its folder and the standard streams, and answers the
-/// status.
-fn perform_over<D: Disk + Drop, P: Place<D> + Drop, L: Port>(
+/// Performs a task over the register of this place, this port, this folder and the standard streams, and answers the
+/// status. The place is that of the task's file, and the folder the one that it names.
+fn perform_over<D: Disk + Drop, P: Place<D> + Drop, L: Port, O: Write, E: Write>(
     rt: &HostRuntime,
     task: &Task<'_>,
     place: P,
     port: &mut L,
-) -> u8 {
+    folder: &mut SystemFolder<'_, '_>,
+    output: &mut O,
+    errors: &mut E,
+) -> u8
+    requires file { P.file place ≡ Some (database_of task.now) }
+    requires folder { folder.old.path.now ≡ folder_of task.now }
+    ensures { PerformsOver D.Disk task.now (P.lying place) (L.traffic port.old) (L.traffic port.new)
+        (O.contents output.old) (O.contents output.new) result }
+{
     perform_task(
         rt,
         task,
         &mut IntakeProcess::new(place),
         port,
-        &mut SystemFolder::new(rt, folder_of(task)),
+        folder,
         &mut Clocked::new(rt, Device::new(rt.reader())),
         &mut Device::new(rt.stdout()),
-        &mut rt.stdout(),
-        &mut rt.stderr(),
+        output,
+        errors,
     )
 }
 
 /// Performs a task that changes nothing, and opens the file of its register for reading alone. So the file may lie
 /// where it may not be written.
-fn perform_reading(rt: &HostRuntime, asked: &Asked<'_>) -> u8
+fn perform_reading<O: Write, E: Write>(
+    rt: &HostRuntime,
+    asked: &Asked<'_>,
+    output: &mut O,
+    errors: &mut E,
+) -> u8
     requires { only_reads asked.now.task ≡ true }
+    ensures { PerformsOver ⟦<ReadingFile as Disk>⟧ asked.now.task None no_port no_port (O.contents output.old)
+        (O.contents output.new) result }
 {
     let place = ReadingPlace::new(rt, database_of(&asked.task));
     let waiting = WaitingPlace::new(rt, place, asked.wait);
-    perform_over(rt, &asked.task, waiting, &mut NoPort)
+    let mut folder = SystemFolder::new(rt, folder_of(&asked.task));
+    perform_over(
+        rt,
+        &asked.task,
+        waiting,
+        &mut NoPort,
+        &mut folder,
+        output,
+        errors,
+    )
 }
 
 /// Performs a task over this port, and opens the file of its register for writing.
-fn perform_writing<L: Port>(rt: &HostRuntime, asked: &Asked<'_>, port: &mut L) -> u8 {
+fn perform_writing<L: Port, O: Write, E: Write>(
+    rt: &HostRuntime,
+    asked: &Asked<'_>,
+    port: &mut L,
+    output: &mut O,
+    errors: &mut E,
+) -> u8
+    ensures { PerformsOver ⟦<File as Disk>⟧ asked.now.task None (L.traffic port.old) (L.traffic port.new)
+        (O.contents output.old) (O.contents output.new) result }
+{
     let place = SystemPlace::new(rt, database_of(&asked.task));
     let waiting = WaitingPlace::new(rt, place, asked.wait);
-    perform_over(rt, &asked.task, waiting, port)
+    let mut folder = SystemFolder::new(rt, folder_of(&asked.task));
+    perform_over(rt, &asked.task, waiting, port, &mut folder, output, errors)
 }
 
 /// Performs a task on the file of a register, and answers the status. The file is opened for writing only if the task
 /// changes the register, or is to copy the log into it and may.
-fn perform_once(rt: &HostRuntime, asked: &Asked<'_>) -> u8 {
+fn perform_once<O: Write, E: Write>(
+    rt: &HostRuntime,
+    asked: &Asked<'_>,
+    output: &mut O,
+    errors: &mut E,
+) -> u8
+    ensures { PerformsOnce ⟦<File as Disk>⟧ ⟦<ReadingFile as Disk>⟧ asked.now.task (O.contents output.old)
+        (O.contents output.new) result }
+{
     if only_reads(&asked.task) {
         if !copies_log(&asked.task) || !has_writable_log(rt, database_of(&asked.task)) {
-            return perform_reading(rt, asked);
+            return perform_reading(rt, asked, output, errors);
         }
     }
-    perform_writing(rt, asked, &mut NoPort)
+    perform_writing(rt, asked, &mut NoPort, output, errors)
+}
+
+/// Performs a task that serves this port, which has the bounds of the command line, and answers the status.
+fn perform_port<O: Write, E: Write>(
+    rt: &HostRuntime,
+    asked: &Asked<'_>,
+    serving: &Serving<'_>,
+    port: &mut SystemPort<'_>,
+    output: &mut O,
+    errors: &mut E,
+) -> u8
+    requires task { asked.now.task ≡ Serve serving.now }
+    requires bounds { port.old.hall.bounds ≡ bounds_of serving.now }
+    ensures { PerformsServing ⟦<File as Disk>⟧ asked.now.task (O.contents output.old) (O.contents output.new)
+        result }
+{
+    perform_writing(rt, asked, port, output, errors)
+}
+
+/// Performs a task that serves a port, and answers the status.
+fn perform_serving<O: Write, E: Write>(
+    rt: &HostRuntime,
+    asked: &Asked<'_>,
+    serving: &Serving<'_>,
+    output: &mut O,
+    errors: &mut E,
+) -> u8
+    requires { asked.now.task ≡ Serve serving.now }
+    ensures { PerformsServing ⟦<File as Disk>⟧ asked.now.task (O.contents output.old) (O.contents output.new)
+        result }
+{
+    match port_of(rt, serving) {
+        Ok(mut port) => perform_port(rt, asked, serving, &mut port, output, errors),
+        Err(_) => Fault::Command(CommandFault::Memory).tell(errors),
+    }
 }
 
 /// Performs a task, and answers the status.
-fn perform(rt: &HostRuntime, asked: &Asked<'_>) -> u8 {
+fn perform_asked<O: Write, E: Write>(
+    rt: &HostRuntime,
+    asked: &Asked<'_>,
+    output: &mut O,
+    errors: &mut E,
+) -> u8
+    ensures { PerformsTask ⟦<File as Disk>⟧ ⟦<ReadingFile as Disk>⟧ asked.now.task (O.contents output.old)
+        (O.contents output.new) result }
+{
     match &asked.task {
-        Task::Serve(serving) => match port_of(rt, serving) {
-            Ok(mut port) => perform_writing(rt, asked, &mut port),
-            Err(_) => Fault::Command(CommandFault::Memory).tell(&mut rt.stderr()),
-        },
-        _ => perform_once(rt, asked),
+        Task::Serve(serving) => perform_serving(rt, asked, serving, output, errors),
+        Task::Run { .. } | Task::Visit { .. } | Task::Lint { .. } => {
+            perform_once(rt, asked, output, errors)
+        }
+    }
+}
+
+/// Performs what is asked for, and answers the status; or why nothing is.
+fn perform_read<'a, O: Write, E: Write>(
+    rt: &HostRuntime,
+    asked: Result<Asked<'a>, Fault<'a>>,
+    output: &mut O,
+    errors: &mut E,
+) -> Result<u8, Fault<'a>>
+    ensures { PerformsAsked ⟦<File as Disk>⟧ ⟦<ReadingFile as Disk>⟧ asked.entry (O.contents output.old)
+        (O.contents output.new) result }
+{
+    match asked {
+        Ok(asked) => Ok(perform_asked(rt, &asked, output, errors)),
+        Err(fault) => Err(fault),
     }
 }
 
 /// Whether these words ask for `init`, which only an outbox has: a register is made by serving it.
-fn asks_for_init(words: &[String]) -> bool {
-    words.get(1).is_some_and(|word| word.as_str() == "init")
+fn asks_for_init(words: &[String]) -> bool
+    ensures { result ≡ asks_for_init (map string_bytes words.now) }
+{
+    match words.get(1) {
+        Some(word) => word.as_str() == "init",
+        None => false,
+    }
+}
+
+/// Shows what `clap` says of words that it does not take, and answers the status.
+fn refuse<'a, O: Write, E: Write>(
+    alloc: Global,
+    error: &Error,
+    output: &mut O,
+    errors: &mut E,
+) -> Result<u8, Fault<'a>>
+    ensures { IsRefusalStatus (kind_of error.now) (status_of result) }
+{
+    match show_refusal(alloc, error, output, errors) {
+        Ok(status) => Ok(status),
+        Err(fault) => Err(Fault::Command(fault)),
+    }
 }
 
 /// Performs what these words ask for, and answers the status.
-fn perform_words<'a>(rt: &HostRuntime, words: &'a [String]) -> Result<u8, Fault<'a>> {
+fn perform_words<'a, O: Write, E: Write>(
+    rt: &HostRuntime,
+    words: &'a [String],
+    output: &mut O,
+    errors: &mut E,
+) -> Result<u8, Fault<'a>>
+    ensures { PerformsWords ⟦<File as Disk>⟧ ⟦<ReadingFile as Disk>⟧ (map string_bytes words.now)
+        (O.contents output.old) (O.contents output.new) result }
+{
     if asks_for_init(words) {
         return Err(Fault::NoInit);
     }
     match read(rt.alloc(), words) {
-        Ok(asked) => Ok(perform(rt, &asked?)),
-        Err(error) => Ok(show_refusal(rt.alloc(), &error, &mut rt.stdout(), &mut rt.stderr())?),
+        Ok(asked) => perform_read(rt, asked, output, errors),
+        Err(error) => refuse(rt.alloc(), &error, output, errors),
+    }
+}
+
+/// Performs what these words ask for, the program's name first, and answers the status. A fault's text goes to
+/// `errors`.
+fn perform<O: Write, E: Write>(
+    rt: &HostRuntime,
+    words: &[String],
+    output: &mut O,
+    errors: &mut E,
+) -> u8
+    ensures { PerformsAll ⟦<File as Disk>⟧ ⟦<ReadingFile as Disk>⟧ (map string_bytes words.now)
+        (O.contents output.old) (O.contents output.new) result }
+{
+    match perform_words(rt, words, output, errors) {
+        Ok(status) => status,
+        Err(fault) => fault.tell(errors),
     }
 }
 
@@ -209,8 +363,5 @@ pub fn main(rt: &HostRuntime) -> u8 {
         Err(fault) => return Fault::Command(fault).tell(&mut rt.stderr()),
     };
     tell_terminal(rt, words.as_slice());
-    match perform_words(rt, words.as_slice()) {
-        Ok(status) => status,
-        Err(fault) => fault.tell(&mut rt.stderr()),
-    }
+    perform(rt, words.as_slice(), &mut rt.stdout(), &mut rt.stderr())
 }

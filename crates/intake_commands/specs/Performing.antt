@@ -1,0 +1,85 @@
+-- What `intake` does with its words, and with a task on the register of its file. `out` and `out'` are what the output
+-- has before and after.
+use Rattle.std.specs.Prelude.{◌≡◌, ◌⊎◌, ℕ, true, List, Option, None, Result, Ok, Err, MatchBool}
+use Rattle.sqlite_disk.specs.declared.Disk.{Ghosts}
+use Rattle.sqlite_disk.specs.declared.Files.{Files}
+use Rattle.clap.specs.Words.{Text, kind_of}
+use Rattle.clap.specs.declared.error.Error.{Error}
+use Rattle.http_wire.specs.Wire.{Wire}
+use Rattle.gateway_server.specs.Ports.{Traffic}
+use Rattle.intake_process.specs.Process.{Parts}
+use Rattle.intake_commands.specs.declared.fault.Fault.{Fault}
+use Rattle.intake_commands.specs.declared.fault.Fault.TheVariants as fault
+use Rattle.intake_commands.specs.declared.options.Asked.{Asked}
+use Rattle.intake_commands.specs.declared.options.Task.{Task}
+use Rattle.intake_commands.specs.declared.options.Task.TheVariants.{Serve}
+use Rattle.intake_commands.specs.Reading.{only_reads}
+use Rattle.intake_commands.specs.Status.{IsRefusalStatus, status_of}
+use Rattle.intake_commands.specs.Tasks.{Performs, means}
+use Rattle.intake_commands.specs.Words.{IsRead, IsUnread, asks_for_init}
+
+-- ---- a task on the register of a place
+
+-- the process of a register that lies there, and is closed
+abbrev pub closed : {D : Type 0} {g : Ghosts D} → Option (Option (Files D)) → Parts g
+closed lying = record { intake = None; lying = lying; is_certain = true; refused_calls = 0 }
+
+-- The task was performed on the register that lies there, over this port. The system alone knows what comes and goes on
+-- the connection of the standard streams, and what a folder has.
+pub record PerformsOver {D : Type 0} (g : Ghosts D) (task : Task) (lying : Option (Option (Files D)))
+    (port port' : Traffic) (out out' : Option (List ℕ)) (status : ℕ) : Type 0 where
+  pub wire : Wire
+  pub wire' : Wire
+  pub new : Parts g
+  pub performs : Performs task (means wire out None port (closed lying)) (means wire' out' None port' new) status
+
+-- ---- a task on the register of a file
+
+-- the port of a task that serves none
+abbrev pub no_port : Traffic
+no_port = record { coming = None; given = None; over = None; is_shut = true; ahead = None }
+
+-- the task was performed on the register of a file, which is written; or read alone, if the task only reads
+abbrev pub PerformsOnce : {D R : Type 0} → Ghosts D → Ghosts R → Task → Option (List ℕ) → Option (List ℕ) → ℕ → Type 0
+PerformsOnce written read task out out' status =
+    PerformsOver written task None no_port no_port out out' status
+    ⊎ ((only_reads task ≡ true) × PerformsOver read task None no_port no_port out out' status)
+
+-- the task was performed over a port of the system; or memory ran out before there was a port, and nothing was done
+abbrev pub PerformsServing : {D : Type 0} → Ghosts D → Task → Option (List ℕ) → Option (List ℕ) → ℕ → Type 0
+PerformsServing written task out out' status =
+    ((port : Traffic) × (port' : Traffic) × PerformsOver written task None port port' out out' status)
+    ⊎ ((status ≡ 3) × (out' ≡ out))
+
+abbrev pub PerformsTask : {D R : Type 0} → Ghosts D → Ghosts R → Task → Option (List ℕ) → Option (List ℕ) → ℕ → Type 0
+PerformsTask written read (Serve serving) out out' status = PerformsServing written (Serve serving) out out' status
+PerformsTask written read other out out' status = PerformsOnce written read other out out' status
+
+-- ---- what the words ask for
+
+-- the task was performed; or nothing is asked for, and that is the fault
+abbrev pub PerformsAsked : {D R : Type 0} → Ghosts D → Ghosts R → Result Asked Fault → Option (List ℕ)
+    → Option (List ℕ) → Result ℕ Fault → Type 0
+PerformsAsked written read (Ok asked) out out' result =
+    (status : ℕ) × PerformsTask written read asked.task out out' status × (result ≡ Ok status)
+PerformsAsked written read (Err why) out out' result = (result ≡ Err why) × (out' ≡ out)
+
+-- what the words ask for was performed; or `clap` does not take them, and the status says why
+abbrev pub PerformsRead : {D R : Type 0} → Ghosts D → Ghosts R → List Text → Option (List ℕ) → Option (List ℕ)
+    → Result ℕ Fault → Type 0
+PerformsRead written read words out out' result =
+    ((asked : Result Asked Fault) × IsRead words asked × PerformsAsked written read asked out out' result)
+    ⊎ ((error : Error) × IsUnread words error × IsRefusalStatus (kind_of error) (status_of result))
+
+-- the same, but `init` is refused, and nothing is done then
+abbrev pub PerformsWords : {D R : Type 0} → Ghosts D → Ghosts R → List Text → Option (List ℕ) → Option (List ℕ)
+    → Result ℕ Fault → Type 0
+PerformsWords written read words out out' result =
+    MatchBool (asks_for_init words) ((result ≡ Err fault.NoInit) × (out' ≡ out))
+    (PerformsRead written read words out out' result)
+
+-- the same, with the status of the program
+abbrev pub PerformsAll : {D R : Type 0} → Ghosts D → Ghosts R → List Text → Option (List ℕ) → Option (List ℕ) → ℕ
+    → Type 0
+PerformsAll written read words out out' status =
+    (result : Result ℕ Fault) × PerformsWords written read words out out' result × (status ≡ status_of result)
