@@ -7,5 +7,5 @@ returns-in-Ok g c = inl (
   c.in-Ok.script.items,
   c.in-Ok.ensures.whole,
   subst (λ bytes. PlaysScript bytes (g.O.Write.contents c.args.output.now) (g.O.Write.contents c.play_script.new.output)
-  c.play_script.result) c.as_slice.ensures.value c.play_script.ensures,
+      c.play_script.result) c.as_slice.ensures.value c.play_script.ensures,
 )
