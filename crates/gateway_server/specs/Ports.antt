@@ -67,11 +67,11 @@ Comes shows old new (Ok (Some (reader, writer))) =
 Comes shows old new (Ok None) = MayShut old new × (old.coming ≡ None)
 Comes shows old new (Err error) = MayShut old new × NoneIsLeft old.coming
 
--- The connection that came last is put back, and comes again; it is of a port whose connections are not known, on which
--- nothing else changed. Or it stays, and nothing changed.
+-- The connection that came last is put back, and comes again, so no connection is the one that came last; it is of a
+-- port whose connections are not known, on which nothing else changed. Or it stays, and nothing changed.
 abbrev pub PutsBack : {R W : Type 0} → (R → W → Wire) → Traffic → Traffic → R → W → Option (R × W) → Type 0
 PutsBack shows old new reader writer None =
-    (old.coming ≡ None) × (new ≡ record old { given = new.given; is_shut = new.is_shut })
+    (old.coming ≡ None) × (new ≡ record old { given = None; is_shut = new.is_shut })
     × (old.is_shut ≡ true → new.is_shut ≡ true)
 PutsBack shows old new reader writer (Some (reader', writer')) =
     (new ≡ old) × (shows reader' writer' ≡ shows reader writer)

@@ -48,7 +48,7 @@ returns-in-None g c =
       refl,
       ap (λ (seen : Seen). let it : Traffic = record {
         coming = None;
-        given = (seen_after c.and-events.result.items).given;
+        given = seen.given;
         over = Some seen.over;
         is_shut = is_shut c.put_back.new.self;
         ahead = Some (pieces_in old.handed.items);
