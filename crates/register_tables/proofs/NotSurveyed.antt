@@ -23,8 +23,8 @@ use Rattle.register_rows.specs.Audit.{OtherRows, AreRowsOf}
 use Rattle.register_tables.specs.Earlier.{form_number, tables_of, HasOldStyle, HasTargets, IsEarlierOf}
 use Rattle.register_tables.specs.Faults.{table_fault, table_fault_by}
 use Rattle.register_tables.specs.declared.opening.walk.Totals.{Totals}
-use Rattle.register_tables.specs.Migrating.{SaysNone, HasNoForm, HasNoCounts, IsNotSurveyed}
-use Rattle.register_tables.specs.Opening.{all_migrated, all_amends, IsRead, StopsFor, HasNoTotals}
+use Rattle.register_tables.specs.Migrating.{HasNoForm, HasNoCounts, IsNotSurveyed}
+use Rattle.register_tables.specs.Opening.{all_migrated, all_amends, IsRead, StopsFor, HasNoTotals, SaysNothing}
 use Rattle.register_tables.specs.Reads.{by_first}
 use Rattle.register_rows.specs.Register.{form_row, migrated_row, kept_row, amends_rows, joined_from}
 use Rattle.register_rows.specs.Schema.{HasCommon, amends_table}
@@ -86,11 +86,14 @@ module _ {S : Type 0} (g : Ghosts S) (e : Held S) (F : List Request) where
         there.amends_is)
 
     after_sound : (why : OpenFault) → HasNoTotals g amends why mid e ⊎ ((why ≡ fault.Damaged 0) × (totals : Totals)
-        × AreTotals amends totals (state g mid) (state g e) × SaysNone totals.kept migrated)
+        × AreTotals amends totals (state g mid) (state g e) × SaysNothing totals.kept migrated)
         → (why ≡ fault.Memory) ⊎ (why ≡ fault.Disk)
     after_sound why (inl none) = totals_sound why amends mid common unlimited there none
     after_sound why (inr none) =
-        absurd (none.3 old_style is_row (subst (λ n. old_style ≤ n) (sym (amount none.1 none.2)) within))
+        absurd (none.3 old_style (record {
+          migrated_is = is_row;
+          within = subst (λ n. old_style ≤ n) (sym (amount none.1 none.2)) within;
+        }))
 
   counts_sound : (form : Earlier) (why : OpenFault) (a : Held S) → BeginsWith (tables_of form) (state g a).now.schema
       → a.step_limit ≡ None → (amends : List Row) → HasTargets form (state g a).now amends

@@ -255,7 +255,7 @@ module _ (old_style : ℕ) (F : List Request) (db : Database) (is : IsRegisterOf
     amends_is = amends;
   }
 
-  pub says_old_style : (later : Later) → Three later db → SaysOldStyle (length F) old_style later
+  pub says_old_style : (later : Later) → Three later db → SaysOldStyle (length F) old_style later.migrated
   says_old_style later r = record {
     migrated_is = r.migrated_is.ordered (migrated_row old_style ∷ []) is.rows.rows.migrated_is (tt, tt);
     within = is.rows.within;
@@ -277,7 +277,7 @@ module _ (old_style : ℕ) (F : List Request) (db : Database) (is : IsRegisterOf
       }
 
 -- one row of `migrated` says one number
-pub same_old_style : (m n count most : ℕ) (later : Later) → SaysOldStyle count m later → SaysOldStyle most n later
-    → m ≡ n
-same_old_style m n count most later p q = let rows : migrated_row m ∷ [] ≡ migrated_row n ∷ [] =
+pub same_old_style : (m n count most : ℕ) (migrated : List Row) → SaysOldStyle count m migrated
+    → SaysOldStyle most n migrated → m ≡ n
+same_old_style m n count most migrated p q = let rows : migrated_row m ∷ [] ≡ migrated_row n ∷ [] =
     sym p.migrated_is ∙ q.migrated_is in cc

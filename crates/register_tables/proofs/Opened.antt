@@ -188,7 +188,7 @@ module _ {S : Type 0} (g : Ghosts S) where
       let are = are_rows old_style F db is kept_are others four (same ∙ are_amends old_style F db is later three) in
       let many : length F ≡ length kept_are = sym (rows_many kept_are F are.distinct are.kept_is) in
       elim h.1 [
-        | inl unsaid ↦ unsaid.1 old_style (subst (λ n. SaysOldStyle n old_style later) many
+        | inl unsaid ↦ unsaid.1 old_style (subst (λ n. SaysOldStyle n old_style later.migrated) many
             (says_old_style old_style F db is later three))
         | inr undated ↦ undated.1 is.rows.moments (subst (λ n. SaysMoments n later.received is.rows.moments) many
             (says_moments old_style F db is later three))

@@ -107,7 +107,7 @@ module _ {S : Type 0} (g : Ghosts S) (amends : List Row) where
 -- with the rows of the other tables
 pub counted_with : (counts : Counts) (totals : Totals) (later : Later) (db : Database) → Amounts totals later.amends db
     → (counts.kept ≡ totals.kept) × (counts.filings ≡ totals.filings) × (counts.catalogue ≡ totals.catalogue)
-    → SaysOldStyle counts.kept counts.old_style later
+    → SaysOldStyle counts.kept counts.old_style later.migrated
     × ((moments : List (Option ℕ)) × SaysMoments counts.kept later.received moments) → AreCounted counts later db
 counted_with counts totals later db amounts told says = record {
   requests = amounts.requests;

@@ -180,7 +180,7 @@ module _ (db : Database) (counts : Counts) (later : Later) (counted : AreCounted
   pub counted_only : Three later db → (old_style : ℕ) (F : List Request) → IsRegisterOf old_style F db
       → (counts.old_style ≡ old_style) × (counted.requests ≡ F)
   counted_only three old_style F is = (
-    same_old_style counts.old_style old_style counts.kept (length F) later counted.old_style_is
+    same_old_style counts.old_style old_style counts.kept (length F) later.migrated counted.old_style_is
         (says_old_style old_style F db is later three),
     only_these counted.requests later.amends db counted.are F is.rows.distinct is.rows.rows.kept_is
         (are_amends old_style F db is later three),

@@ -28,7 +28,7 @@ use Rattle.register_tables.specs.Faults.{table_fault, IsFailure}
 use Rattle.register_tables.specs.Making.{create_migrated, create_amends, create_received}
 use Rattle.register_tables.specs.Opening as opening
 use Rattle.register_tables.specs.Opening.{all_meta, all_migrated, all_amends, AreWithin, IsRead, AreRead, StopsFor}
-use Rattle.register_tables.specs.Opening.{HasNoTotals}
+use Rattle.register_tables.specs.Opening.{HasNoTotals, SaysNothing}
 use Rattle.register_rows.specs.Received.{Received}
 use Rattle.register_rows.specs.Register.{form_row, migrated_row}
 use Rattle.register_tables.specs.Registers.{ForRows, IsRegisterOf, LeavesOnly, LeavesOnlyReceived}
@@ -76,10 +76,6 @@ HasNoForm g (fault.Damaged row) old new = ⊥
 HasNoForm g fault.Memory old new = StopsFor g cause.Memory (all_meta ∷ []) old new
 HasNoForm g fault.Disk old new = StopsFor g cause.Disk (all_meta ∷ []) old new
 
--- the rows of `migrated` are not one row with a number that is at most that of the kept requests
-abbrev pub SaysNone : ℕ → List Row → Type 0
-SaysNone kept rows = (old_style : ℕ) → rows ≡ migrated_row old_style ∷ [] → old_style ≤ kept → ⊥
-
 -- the tables of this form beside `intake_meta` cannot be read, or their rows stand for no requests
 abbrev pub HasNoCounts : {S : Type 0} → Ghosts S → Earlier → OpenFault → Held S → Held S → Type 0
 HasNoCounts g Second why old new = HasNoTotals g [] why old new
@@ -87,12 +83,12 @@ HasNoCounts {S} g Third why old new =
     ((error : Error) × (why ≡ table_fault error) × StopsFor g (cause_of error) (all_migrated ∷ []) old new)
     ⊎ ((mid : Held S) × (rows : List Row) × IsRead g all_migrated old mid rows
     × (HasNoTotals g [] why mid new ⊎ ((why ≡ fault.Damaged 0) × (totals : Totals)
-    × AreTotals [] totals (state g mid) (state g new) × SaysNone totals.kept rows)))
+    × AreTotals [] totals (state g mid) (state g new) × SaysNothing totals.kept rows)))
 HasNoCounts {S} g Fourth why old new =
     ((error : Error) × (why ≡ table_fault error) × StopsFor g (cause_of error) beside_texts old new)
     ⊎ ((mid : Held S) × (migrated amends : List Row) × AreRead g beside_texts old mid (migrated ∷ amends ∷ [])
     × (HasNoTotals g amends why mid new ⊎ ((why ≡ fault.Damaged 0) × (totals : Totals)
-    × AreTotals amends totals (state g mid) (state g new) × SaysNone totals.kept migrated)))
+    × AreTotals amends totals (state g mid) (state g new) × SaysNothing totals.kept migrated)))
 
 -- no register in an earlier form was found
 abbrev pub IsNotSurveyed : {S : Type 0} → Ghosts S → OpenFault → Held S → Held S → Type 0

@@ -99,17 +99,23 @@ pub record AreWhole {S : Type 0} (g : Ghosts S) (amends : List Row) (totals : To
   pub sound : IsVerdict kept others (verdict.Sound totals.catalogue)
   pub filings_is : totals.filings ≡ length (view_lines totals.catalogue)
 
--- they cannot be read, or their rows stand for no requests; memory may also be short once they are read
-abbrev pub HasNoTotals : {S : Type 0} → Ghosts S → List Row → OpenFault → Held S → Held S → Type 0
-HasNoTotals g amends fault.NotOurs old new = ⊥
-HasNoTotals g amends (fault.Damaged row) old new =
+-- They cannot be read, or their rows are damaged in the way that is given. Memory may also be short once they are read.
+abbrev pub AreRefused : {S : Type 0} → Ghosts S → List Row → (List Row → OtherRows → ℕ → Type 0) → OpenFault → Held S
+    → Held S → Type 0
+AreRefused g amends Damaged fault.NotOurs old new = ⊥
+AreRefused g amends Damaged (fault.Damaged row) old new =
     ((row ≡ 0) × StopsFor g cause.Other row_texts old new)
     ⊎ ((kept : List Row) × (others : OtherRows)
     × AreRead g row_texts old new (kept ∷ others.finding ∷ others.filing ∷ others.fact ∷ [])
-    × (others.amends ≡ amends) × IsVerdict kept others (verdict.Damaged row))
-HasNoTotals g amends fault.Memory old new =
+    × (others.amends ≡ amends) × Damaged kept others row)
+AreRefused g amends Damaged fault.Memory old new =
     StopsFor g cause.Memory row_texts old new ⊎ ((rows : List (List Row)) × AreRead g row_texts old new rows)
-HasNoTotals g amends fault.Disk old new = StopsFor g cause.Disk row_texts old new
+AreRefused g amends Damaged fault.Disk old new = StopsFor g cause.Disk row_texts old new
+
+-- they cannot be read, or their rows stand for no requests
+abbrev pub HasNoTotals : {S : Type 0} → Ghosts S → List Row → OpenFault → Held S → Held S → Type 0
+HasNoTotals g amends why old new =
+    AreRefused g amends (λ kept others row. IsVerdict kept others (verdict.Damaged row)) why old new
 
 -- ---- the rows beside those of kept requests
 
@@ -119,21 +125,22 @@ pub record Later : Type 0 where
   pub amends : List Row
   pub received : List Row
 
--- of so many kept requests the first `old_style` keep the answers of an earlier version
-pub record SaysOldStyle (kept old_style : ℕ) (later : Later) : Type 0 where
-  pub migrated_is : later.migrated ≡ migrated_row old_style ∷ []
+-- these rows of `migrated` say that of so many kept requests the first `old_style` keep the answers of an earlier
+-- version
+pub record SaysOldStyle (kept old_style : ℕ) (migrated : List Row) : Type 0 where
+  pub migrated_is : migrated ≡ migrated_row old_style ∷ []
   pub within : old_style ≤ kept
 
--- the row of `migrated` says no such number
-abbrev pub SaysNothing : ℕ → Later → Type 0
-SaysNothing kept later = (old_style : ℕ) → SaysOldStyle kept old_style later → ⊥
+-- they say no such number
+abbrev pub SaysNothing : ℕ → List Row → Type 0
+SaysNothing kept migrated = (old_style : ℕ) → SaysOldStyle kept old_style migrated → ⊥
 
 -- The row of `migrated` says no such number, and the row to report is 0; or it says one, and the rows of `received` are
 -- those of no moments.
 abbrev pub IsBesideDamaged : ℕ → Later → ℕ → Type 0
 IsBesideDamaged kept later row =
-    ((row ≡ 0) × SaysNothing kept later)
-    ⊎ (((old_style : ℕ) × SaysOldStyle kept old_style later) × SaysNoMoments kept later.received
+    ((row ≡ 0) × SaysNothing kept later.migrated)
+    ⊎ (((old_style : ℕ) × SaysOldStyle kept old_style later.migrated) × SaysNoMoments kept later.received
     × IsUndatedAt kept later.received row)
 
 -- Why the rows stand for no register: the first kept row that is not sound, or 0; and 0 also if the five tables are
@@ -166,15 +173,8 @@ IsDamaged {S} g row old new = (mid : Held S) × IsRead g all_meta old mid (meta_
 
 -- what a refusal says of the tables with the rows of kept requests, after the other tables were read
 abbrev pub IsRefusedAfter : {S : Type 0} → Ghosts S → Later → OpenFault → Held S → Held S → Type 0
-IsRefusedAfter g later fault.NotOurs old new = ⊥
-IsRefusedAfter g later (fault.Damaged row) old new =
-    ((row ≡ 0) × StopsFor g cause.Other row_texts old new)
-    ⊎ ((kept : List Row) × (others : OtherRows)
-    × AreRead g row_texts old new (kept ∷ others.finding ∷ others.filing ∷ others.fact ∷ [])
-    × (others.amends ≡ later.amends) × AreDamaged kept others later row)
-IsRefusedAfter g later fault.Memory old new =
-    StopsFor g cause.Memory row_texts old new ⊎ ((rows : List (List Row)) × AreRead g row_texts old new rows)
-IsRefusedAfter g later fault.Disk old new = StopsFor g cause.Disk row_texts old new
+IsRefusedAfter g later why old new =
+    AreRefused g later.amends (λ kept others row. AreDamaged kept others later row) why old new
 
 -- the eight queries show their rows
 abbrev pub AreAllRead : {S : Type 0} → Ghosts S → Held S → Held S → Type 0

@@ -92,6 +92,6 @@ pub record AreCounted (counts : Counts) (later : Later) (db : Database) : Type 0
   pub kept_is : counts.kept ≡ length requests
   pub filings_is : counts.filings ≡ length (register requests)
   pub catalogue_is : view_lines counts.catalogue ≡ catalogue_of requests
-  pub old_style_is : SaysOldStyle counts.kept counts.old_style later
+  pub old_style_is : SaysOldStyle counts.kept counts.old_style later.migrated
   pub moments : List (Option ℕ)
   pub moments_are : SaysMoments counts.kept later.received moments

@@ -15,7 +15,7 @@ ghost use Rattle.register_tables.specs.Opening.{all_meta, new_texts, IsRead, Are
 ghost use Rattle.register_tables.specs.Opening.{SaysOldStyle, SaysNothing, IsRefused, IsRefusedAfter};
 ghost use Rattle.register_tables.specs.Opening.{IsBesideDamaged};
 ghost use Rattle.register_tables.specs.Opening.{AreWithin, ReadsRegister};
-ghost use Rattle.register_tables.specs.LaterRows.{ForLater, later_rows};
+ghost use Rattle.register_tables.specs.LaterRows.{ForLater};
 ghost use Rattle.register_rows.specs.Dates.{AreDates, SaysMoments};
 ghost use Rattle.register_rows.specs.Register.{meta_row, migrated_row};
 ghost use Rattle.register_rows.specs.Schema.{HasCommon};
@@ -133,7 +133,7 @@ pub struct Counts {
 }
 
 /// The number in the row, if it is the row of `migrated` and the number is at most that of the kept requests.
-pub(crate) fn number_of(row: &Row, kept: u64) -> Option<u64>
+fn number_of(row: &Row, kept: u64) -> Option<u64>
     ensures some { IfSome result (λ old_style. (row.now ≡ migrated_row old_style) × (old_style ≤ kept)) }
     ensures none { result ≡ None → (old_style : ℕ) → row.now ≡ migrated_row old_style → old_style ≤ kept → ⊥ }
 {
@@ -145,13 +145,12 @@ pub(crate) fn number_of(row: &Row, kept: u64) -> Option<u64>
     }
 }
 
-/// The number in the row of `migrated`, if that has one row and the number is at most that of the kept requests.
-fn old_style_in(kept: u64, later: &Later) -> Option<u64>
-    ensures some { IfSome result (λ old_style.
-        (received : List Row) → SaysOldStyle kept old_style (later_rows later.now received)) }
-    ensures none { result ≡ None → (received : List Row) → SaysNothing kept (later_rows later.now received) }
+/// The number in the one row of `migrated`, if it is at most that of the kept requests.
+pub(crate) fn old_style_of(migrated: &[Row], kept: u64) -> Option<u64>
+    ensures some { IfSome result (λ old_style. SaysOldStyle kept old_style migrated.now) }
+    ensures none { result ≡ None → SaysNothing kept migrated.now }
 {
-    match later.migrated.as_slice() {
+    match migrated {
         [row] => number_of(row, kept),
         _ => None,
     }
@@ -162,13 +161,13 @@ fn old_style_in(kept: u64, later: &Later) -> Option<u64>
 fn counts_of(totals: Totals, later: &Later) -> Result<Counts, u64>
     ensures told { IfOk result (λ counts.
         (counts.kept ≡ totals.kept) × (counts.filings ≡ totals.filings) × (counts.catalogue ≡ totals.catalogue)
-        × ((received : List Row) → SaysOldStyle counts.kept counts.old_style (later_rows later.now received))
+        × SaysOldStyle counts.kept counts.old_style later.now.migrated.items
         × ForLater later.now (λ rows.
         (moments : List (Option ℕ)) × SaysMoments counts.kept rows.received moments)) }
     ensures refused { IfErr result (λ row.
         ForLater later.now (λ rows. IsBesideDamaged totals.kept rows row)) }
 {
-    match old_style_in(totals.kept, later) {
+    match old_style_of(later.migrated.as_slice(), totals.kept) {
         Some(old_style) => match later.received.first_undated(totals.kept) {
             None => Ok(Counts {
                 kept: totals.kept,

@@ -6,10 +6,11 @@ ghost use Rattle.sqlite.specs.Held.{state};
 ghost use Rattle.sqlite.specs.State.{HasCleanDisk};
 ghost use Rattle.register_tables.specs.Earlier.{form_number};
 ghost use Rattle.register_tables.specs.Migrating.{IsCounted, IsSurveyed, IsNotSurveyed, HasNoForm, HasNoCounts};
-ghost use Rattle.register_tables.specs.Migrating.{SaysNone, beside_texts};
+ghost use Rattle.register_tables.specs.Migrating.{beside_texts};
 ghost use Rattle.register_tables.specs.Opening.{AreWithin, all_meta, IsRead, AreRead, StopsFor, HasNoTotals};
+ghost use Rattle.register_tables.specs.Opening.{SaysOldStyle, SaysNothing};
 ghost use Rattle.register_tables.specs.Walk.{AreTotals};
-ghost use Rattle.register_rows.specs.Register.{form_row, migrated_row};
+ghost use Rattle.register_rows.specs.Register.{form_row};
 ghost use Rattle.table_rows.specs.Causes.{cause_of};
 ghost use Rattle.table_rows.specs.Leaving.{OnlyQueries, OnlyReads};
 
@@ -17,7 +18,7 @@ use crate::fault::OpenFault;
 use crate::opening::totals::{count_walked, count_whole};
 use crate::opening::walk::Totals;
 use crate::opening::watch::Unwatched;
-use crate::opening::{Counts, meta_fault, number_of, table_fault};
+use crate::opening::{Counts, meta_fault, old_style_of, table_fault};
 use crate::select::reads;
 use register_rows::{Cell, is_row};
 use sqlite::{Alter, Connection, Error, Row};
@@ -123,17 +124,6 @@ fn count_four<S: Alter>(
     }
 }
 
-/// The number in the one row of `migrated`, if it is at most that of the kept requests.
-fn old_style_of(rows: &[Row], kept: u64) -> Option<u64>
-    ensures some { IfSome result (λ old_style. (rows.now ≡ migrated_row old_style ∷ []) × (old_style ≤ kept)) }
-    ensures none { result ≡ None → SaysNone kept rows.now }
-{
-    match rows {
-        [row] => number_of(row, kept),
-        _ => None,
-    }
-}
-
 /// How much is held in the second form.
 fn count_second<S: Alter>(alloc: Global, conn: &mut Connection<S>) -> Result<Counts, OpenFault>
     ensures counted { HasCleanDisk (state S.Store conn.new)
@@ -156,8 +146,8 @@ fn count_second<S: Alter>(alloc: Global, conn: &mut Connection<S>) -> Result<Cou
 fn counts_with(totals: Totals, migrated: &[Row]) -> Result<Counts, OpenFault>
     ensures told { IfOk result (λ counts.
         (counts.kept ≡ totals.kept) × (counts.filings ≡ totals.filings) × (counts.catalogue ≡ totals.catalogue)
-        × (migrated.now ≡ migrated_row counts.old_style ∷ []) × (counts.old_style ≤ counts.kept)) }
-    ensures refused { IfErr result (λ fault. (fault ≡ OpenFault.Damaged 0) × SaysNone totals.kept migrated.now) }
+        × SaysOldStyle counts.kept counts.old_style migrated.now) }
+    ensures refused { IfErr result (λ fault. (fault ≡ OpenFault.Damaged 0) × SaysNothing totals.kept migrated.now) }
 {
     match old_style_of(migrated, totals.kept) {
         Some(old_style) => Ok(Counts {

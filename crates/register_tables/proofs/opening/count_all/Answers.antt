@@ -41,7 +41,7 @@ returns-in-Ok-clause-counted g c clean common received are =
     let told = c.in-Ok.ensures.told in
     counted_with c.in-Ok.counts totals (later_rows c.args.later.now received) (state g.S.Store c.args.conn.now).now
     ((whole_totals g.S.Store amends c.args.conn.now c.count_whole.new.conn totals before).amounts common)
-    (told.0, told.1, told.2) (told.3 received, told.4 received are)
+    (told.0, told.1, told.2) (told.3, told.4 received are)
 
 pub returns-in-Err-clause-refused : goal.returns-in-Err-clause-refused
 returns-in-Err-clause-refused g c clean received are =
@@ -63,5 +63,5 @@ returns-in-Ok-clause-few g c =
     let told = c.in-Ok.ensures.told in (
       subst (λ n. n ≤ 2 ^ 62) (sym told.0) few.0,
       omega (arith, few.1, told.0, told.1),
-      (told.3 []).within,
+      told.3.within,
     )

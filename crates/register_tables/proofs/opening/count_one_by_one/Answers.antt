@@ -10,7 +10,7 @@ returns-in-Ok-clause-found g c clean d received are =
     let told = c.in-Ok.ensures.told in
     counted_with c.in-Ok.counts c.in-Some.totals (later_rows c.args.later.now received)
     (state g.S.Store c.args.conn.now).now (totals.amounts d) (told.0, told.1, told.2)
-    (told.3 received, told.4 received are)
+    (told.3, told.4 received are)
 
 pub returns-in-Ok-clause-few : goal.returns-in-Ok-clause-few
 returns-in-Ok-clause-few g c =
@@ -18,5 +18,5 @@ returns-in-Ok-clause-few g c =
     let told = c.in-Ok.ensures.told in (
       subst (λ n. n ≤ 2 ^ 62) (sym told.0) few.0,
       omega (arith, few.1, told.0, told.1),
-      (told.3 []).within,
+      told.3.within,
     )
