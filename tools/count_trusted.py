@@ -5,10 +5,10 @@
     tools/count_trusted.py --names    the same, each list by file, with the name of each definition
     tools/count_trusted.py --check    whether docs/TRUST.md has these tables; status 1 if it has others
 
-It reads the contracts of `run`, of the calls that show its world, of the law `any_programs`, and of `perform_task` of
-both programs. It follows each name in them through `ghost use`, `use` and `pub use` to the definition that it means,
-and so on, down to the kit's own definitions, which it names and doesn't enter. Every line of a definition counts that
-is neither blank nor a comment. A file comes after those that cite it.
+It reads the contracts of `run`, of the calls that show its world, of the law `any_programs`, of `perform_task` of both
+programs, and of `perform` of all three. It follows each name in them through `ghost use`, `use` and `pub use` to the
+definition that it means, and so on, down to the kit's own definitions, which it names and doesn't enter. Every line of
+a definition counts that is neither blank nor a comment. A file comes after those that cite it.
 
 Of a Rust type that a contract or a definition names, what contracts see of it counts: its model if it has one, and its
 declaration if it has none or has public fields. The invariant of a type does not count: it is proved,
@@ -34,6 +34,10 @@ ENDS = [(WORLD, "intake"), (WORLD, "outbox")]
 PROGRAMS = [("crates/programs/src/lib.rt", "any_programs")]
 # What each task of the programs does.
 TASKS = [(f"crates/{program}_commands/src/tasks.rt", "perform_task") for program in ("intake", "outbox")]
+# What each program does with its words.
+WORDS = [("crates/intake_commands/src/program.rt", "perform")] + [
+    (f"crates/{program}_commands/src/tasks.rt", "perform") for program in ("outbox", "drill")
+]
 
 IMPORT = re.compile(r"\s*(?:ghost |pub )*use (Rattle\.[\w.]+?)(?:\.\{(.*)\}|(?: as (\w+))?);?\s*$")
 RUST_IMPORT = re.compile(r"^use (\w+(?:::\w+)*?)::(?:\{([^}]*)\}|(\w+));", re.MULTILINE)
@@ -326,7 +330,7 @@ def kit_table(found):
 def report(with_names):
     """The totals, and the lists."""
     first, second, third = Reached(HEADLINE), Reached(HEADLINE + ENDS), Reached(HEADLINE + PROGRAMS)
-    fourth = Reached(HEADLINE + ENDS + PROGRAMS + TASKS)
+    fourth, fifth = (Reached(HEADLINE + ENDS + PROGRAMS + TASKS + more) for more in ([], WORDS))
     lists = [
         ("1. The contract of `run`, the calls that show its world, and what they rest on", beyond(first, {})),
         ("2. The calls `intake` and `outbox`, which lend the ends in that world, and what they rest on beyond that",
@@ -334,12 +338,14 @@ def report(with_names):
         ("3. The law `any_programs`, and what it rests on beyond the first list", beyond(third, first.definitions)),
         ("4. The contracts `perform_task` of `intake` and `outbox`, and what they rest on beyond these three lists",
          beyond(fourth, second.definitions | third.definitions)),
+        ("5. The contracts `perform` of `intake`, `outbox` and `drill`, and what they rest on beyond these four lists",
+         beyond(fifth, fourth.definitions)),
     ]  # fmt: skip
     parts = []
     for number, (_, new_of) in enumerate(lists, 1):
         by_crate = number > 1 and not with_names
         parts += [[f"List {number}, by {'crate' if by_crate else 'file'}:"], table(new_of, with_names, by_crate)]
-    parts += [["What they name of the kit:"], kit_table(fourth)] if with_names else [kit_names(fourth)]
+    parts += [["What they name of the kit:"], kit_table(fifth)] if with_names else [kit_names(fifth)]
     return totals(lists), "\n\n".join("\n".join(part) for part in parts)
 
 
