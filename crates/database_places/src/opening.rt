@@ -14,7 +14,7 @@ use sqlite_disk::Disk;
 use std::alloc::Global;
 
 /// How many pages of a file are kept in memory at most once they were read, while it is served: 32 MiB. A register of
-/// 100,000 small reports takes 4,400 pages.
+/// 100,000 small reports takes 4,400 pages, and with the 2,000 of the library each look-up in it would read one.
 const MOST_PAGES: u64 = 8_192;
 
 /// How many pages a command that ends at once keeps at most: 8 MiB. It goes through the tables in the order of their
@@ -114,6 +114,7 @@ fn make<D: Disk + Drop, P: Place<D>>(
     let had_log = place.has_log();
     let files = place.take()?;
 
+    // By its files, and not by its path: so `options` says how many pages stay in memory.
     // A file that is new gets the sums of SQLite's cksumvfs, by which the next opening finds a changed byte.
     match Connection::open_files_with(alloc, files, options, true) {
         Ok(conn) => Ok(conn),

@@ -17,7 +17,8 @@ const PAUSE: u64 = 50;
 /// How many tries are made in a second at most.
 const TRIES: u64 = 20;
 
-/// A place whose files are waited for: they are taken as soon as no other program has them, up to a deadline.
+/// A place whose files are waited for: they are taken as soon as no other program has them, up to a deadline. A loop
+/// around a task would have to tell this refusal from what the task printed.
 #[derive(Drop)]
 pub struct WaitingPlace<'r, P, C> {
     pub place: P,
@@ -86,6 +87,7 @@ impl<D: Disk + Drop, P: Place<D>, C: Clock> Place<D> for WaitingPlace<'_, P, C> 
 
     // Each try but the last is refused because another program has the files, and takes nothing.
     fn take(&mut self) -> Result<Files<D>, DatabaseFault> {
+        // The tries are counted, so waiting ends whatever the clock says.
         for _ in 0..self.tries {
             match self.place.take() {
                 Err(DatabaseFault::Busy) if self.has_time() => {

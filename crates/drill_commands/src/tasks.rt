@@ -82,6 +82,7 @@ fn play_script<O: Write, E: Write>(
 ) -> Result<u8, Fault>
     ensures { PlaysScript script.now (O.contents output.old) (O.contents output.new) result }
 {
+    // The kit's `Memory` would copy each file whole at every sync.
     match drill::<Durable>(alloc, script) {
         Ok(text) => write_shown(output, text.as_slice()),
         Err(fault) => Ok(tell(fault, script, errors)),

@@ -58,7 +58,8 @@ pub(crate) fn fault_in(alloc: Global, body: &[u8]) -> Result<Option<SyntaxFault>
     }
 }
 
-// The offset of the byte in that column of that line.
+/// The offset of the byte in that column of that line. The reader counts bytes in its columns; those that are shown
+/// count characters, as in editors.
 fn offset_of(body: &[u8], line: usize, column: usize) -> usize {
     let mut line_feeds = line.saturating_sub(1);
     for (index, byte) in body.iter().enumerate() {

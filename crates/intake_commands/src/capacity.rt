@@ -27,6 +27,7 @@ impl Capacity {
     pub(crate) fn after(self, marks: &[Mark]) -> Capacity {
         let done = marks.iter().filter(|mark| **mark == Mark::Done).count();
         let kept = self.kept.saturating_add(done as u64);
+        // A full register still answers repeats, so only a request that is turned away shows it.
         let is_full = kept >= self.limit && marks.contains(&Mark::Unavailable);
         Capacity {
             kept,

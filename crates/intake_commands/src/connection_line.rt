@@ -24,7 +24,7 @@ fn write_ended<W: fmt::Write>(ended: Ended, f: &mut fmt::Formatter<W>) -> fmt::R
 fn write_filers<W: fmt::Write>(list: &[String], f: &mut fmt::Formatter<W>) -> fmt::Result {
     for (at, filer) in list.iter().enumerate() {
         let comma = if at == 0 { "" } else { "," };
-        // A filer's code has letters, digits, '.', '_' and '-' alone.
+        // A filer's code has letters, digits, '.', '_' and '-' alone, so nothing is escaped.
         write!(f, "{comma}\"{filer}\"")?;
     }
     Ok(())

@@ -10,7 +10,8 @@ use finding_lines::Form;
 use intake_process::Errand;
 use std::alloc::{AllocError, Global};
 
-/// How many keys are kept at most, if the command line does not say so.
+/// How many keys are kept at most, if the command line does not say so. Each opening reads the register whole: so many
+/// small reports within half a minute.
 pub(crate) const DEFAULT_LIMIT: u64 = 1_000_000;
 
 const MOST_CONNECTIONS: i64 = (1 << 32) - 1;

@@ -8,7 +8,8 @@ const FIRST: u64 = 1;
 const LONGEST: u64 = 60;
 
 /// How long a register that failed is left alone before it is read again: not at all after the first failure, and after
-/// each one more twice as long as before, from a second to a minute.
+/// each one more twice as long as before, from a second to a minute. On a full disk it opens, which reads it whole
+/// while everybody waits, and then refuses the next new report.
 #[derive(Clone, Copy)]
 pub(crate) struct Pause {
     seconds: u64,

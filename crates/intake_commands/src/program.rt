@@ -114,7 +114,8 @@ fn only_reads(task: &Task<'_>) -> bool
     }
 }
 
-/// Whether a task that changes nothing is also to copy the log into the file, if both may be written.
+/// Whether a task that changes nothing is also to copy the log into the file, if both may be written. Units, and copies
+/// that are made by `cp` after `intake check`, rely on it.
 fn copies_log(task: &Task<'_>) -> bool
     ensures { result ≡ copies_log task.now }
 {

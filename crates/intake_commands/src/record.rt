@@ -119,7 +119,7 @@ impl Record {
     }
 }
 
-/// A stream with what is noted of its connection.
+/// A stream with what is noted of its connection. So what serves the connection knows nothing of the log.
 #[derive(Drop)]
 pub(crate) struct Recorded<S> {
     pub(crate) inner: S,

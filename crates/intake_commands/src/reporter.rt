@@ -130,6 +130,7 @@ impl<E: Write> Observer for Reporter<'_, '_, '_, E> {
     }
 
     fn closed(&mut self, closed: Closed) {
+        // A close that failed only warns: what was answered is kept, and is not to be filed again.
         if let Err(error) = closed.outcome {
             VisitFault::NotClosed(error)
                 .at(self.serving.database)

@@ -58,8 +58,8 @@ pub(crate) fn serve<'a, D: Disk + Drop, P: Place<D> + Drop, L: Port, E: Write>(
     }
 }
 
-/// Listens on a port before a new register is made. One that is there is opened first, since that takes its time, and
-/// connections would wait for it.
+/// Listens on a port before a new register is made, so that a port in use leaves no file. One that is there is opened
+/// first, since that takes its time, and connections would wait for it.
 fn listen_before<L: Port>(port: &mut L, is_made: bool) -> io::Result<()>
     ensures same { L.traffic port.new ≡ L.traffic port.old }
     ensures refused { IfErr result (λ _. (is_made ≡ true) × ((L.traffic port.old).coming ≡ None)) }

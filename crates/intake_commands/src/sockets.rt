@@ -65,6 +65,7 @@ impl<K: Sockets, O: Write, E: Write> ReportedSockets<K, O, E> {
             ended: record.ended(why),
         };
         let text = format!(in self.alloc; "{line}")?;
+        // This waits while nobody reads: the kit has no other write to standard output.
         match show(log, text.as_bytes()) {
             Ok(()) => Ok(()),
             Err(_) => Err(ConnectionFault::Output),

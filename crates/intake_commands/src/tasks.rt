@@ -23,7 +23,8 @@ use std::io::Write;
 
 /// Performs a task, and answers the status. The process is that of the register that the task is for, and closed; the
 /// port is the one that it serves, the folder the one that it writes pages into, and the reader and the writer are the
-/// connection that it runs. A fault's text goes to `errors`.
+/// connection that it runs. It is written over any of these, so that the contract is one for every disk, and what the
+/// system alone knows stays behind the traits. A fault's text goes to `errors`.
 pub(crate) fn perform_task<
     D: Disk + Drop,
     P: Place<D> + Drop,

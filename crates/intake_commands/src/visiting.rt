@@ -49,6 +49,7 @@ pub(crate) fn visit<'a, D: Disk + Drop, P: Place<D> + Drop, F: SiteFolder, O: Wr
     match done {
         Ok(()) => Ok(DONE),
         Err(fault) => {
+            // By its tables a file may look like one of this version and be none: so it is checked.
             if is_not_earlier(fault) {
                 return visit_current(rt, name, fault, process, folder, output, errors);
             }

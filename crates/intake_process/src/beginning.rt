@@ -38,6 +38,7 @@ fn totals_of<S: Alter>(register: &Store<S>) -> Totals
 fn is_empty(schema: &Schema) -> bool
     ensures { IsTrue result ↔ (schema.now ≡ no_schema) }
 {
+    // A file with a view and no table belongs to somebody too.
     schema.tables.is_empty() && schema.indexes.is_empty() && schema.views.is_empty()
 }
 
@@ -93,7 +94,7 @@ fn make_intake<S: Alter + Drop>(
 }
 
 /// The intake over the register that is made in this database or lies there, which keeps at most `limit` keys. A
-/// refusal gives the connection back.
+/// refusal gives the connection back, so that a clause can say of it what was committed.
 pub(crate) fn begin<S: Alter + Drop>(
     alloc: Global,
     conn: Connection<S>,

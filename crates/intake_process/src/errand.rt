@@ -29,7 +29,8 @@ use std::io::Write;
 /// The limit of an intake that takes no more requests.
 const NO_MORE: u64 = 0;
 
-/// Why an errand to a register is not done.
+/// Why an errand to a register is not done. Each layer has such a type, with just the cases that may come there: over a
+/// wider one a contract would have to exclude the others.
 #[derive(Clone, Copy, Debug)]
 pub enum ErrandFault {
     /// The files gave no database. The fault does not depend on the bytes of the file.

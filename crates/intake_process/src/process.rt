@@ -56,6 +56,7 @@ fn serve_by<R: Source, W: Sink, S: Alter>(
         (wire R.Source W.Sink reader.new writer.new) intake.old intake.new result }
 {
     let served = serve(alloc, reader, writer, intake);
+    // Running out of memory is no refusal of the database, and leaves the intake up.
     let outcome = if intake.is_down() {
         Outcome::Failed
     } else {
@@ -75,7 +76,8 @@ fn refused_with(outcome: Outcome, refused_calls: u64) -> u64
     }
 }
 
-/// The intake of a register that lies in a place: open, or closed.
+/// The intake of a register that lies in a place: open, or closed. It and `OutboxProcess` are two types: the contract
+/// of a generic one would name what it holds by members of a trait, to be looked up first.
 #[derive(Drop)]
 pub struct IntakeProcess<D: Disk + Drop, P: Place<D> + Drop> {
     pub(crate) place: P,

@@ -79,6 +79,7 @@ fn listen_and_serve<D: Disk + Drop, P: Place<D> + Drop, L: Port, O: Observer>(
     ensures passes { Passes limit (parts P.lying process.old) (parts P.lying process.new) (O.answers observer.old)
         (O.answers observer.new) (result_ok result) }
 {
+    // The register was read whole by now, so no connection waits for that.
     if let Err(error) = port.listen() {
         return Err(PortFault::Network(error));
     }
@@ -110,6 +111,7 @@ pub fn serve_port<D: Disk + Drop, P: Place<D> + Drop, L: Port, O: Observer>(
     ensures passes { Passes limit (parts P.lying process.old) (parts P.lying process.new) (O.answers observer.old)
         (O.answers observer.new) (result_ok result) }
 {
+    // One after another: a register has one writer, so more threads would decide nothing sooner.
     for taken in 0..most {
         if port.is_shut() {
             return Ok(taken);
@@ -196,7 +198,9 @@ fn look_ahead<D: Disk + Drop, P: Place<D> + Drop, L: Port>(
         return;
     }
     let pieces = port.waiting(alloc);
+    // The clock is read once they were copied: all had come by then.
     let moment = Moment::at(port.moment());
+    // Nothing is answered here: each is a repeat once it comes, so no reply is before its commit.
     process.decide_ahead(alloc, pieces.as_slice(), moment);
 }
 

@@ -49,6 +49,7 @@ fn leaves_doubt(was_taken: bool, done: &Result<(), ErrandFault>) -> bool
         Ok(()) => false,
         Err(fault) => match *fault {
             ErrandFault::Files(_) => was_taken,
+            // Such a migration may be committed all the same.
             ErrandFault::Migrate(OpenFault::Memory | OpenFault::Disk, _) => true,
             _ => false,
         },
@@ -109,6 +110,7 @@ fn visit_place<D: Disk + Drop, P: Place<D>, G: Progress, F: Folder, O: Write>(
     let had_log = place.has_log();
     match open(alloc, place, Opening::Found(Cache::OfTheFile)) {
         Ok(conn) => {
+            // It prints before the files are closed, since what it did is durable by then.
             let (left, done) = run_errand(alloc, conn, errand, progress, folder, output);
             let closed = leave(place, left, &done, had_log);
             Visited {

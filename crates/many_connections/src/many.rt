@@ -29,13 +29,14 @@ const MOST_AHEAD: usize = 64;
 const MOST_AHEAD_LEN: usize = 4_194_304;
 
 /// A port on which each piece of the connections of some sockets comes as a connection: a whole request, or what no
-/// request can follow. What is written on it goes out on the connection that the piece is of.
+/// request can follow. So whoever answers it never waits for a slow peer. What is written on it goes out on the
+/// connection that the piece is of.
 #[derive(Drop)]
 pub struct Many<S: Stream + Drop, K: Sockets<Stream = S> + Drop> {
     alloc: Global,
     sockets: K,
     hall: Hall<S>,
-    /// What happened, which only clauses read.
+    /// What happened, which only clauses read: no memory holds what was served.
     events: Log<Event, bool>,
     /// A copy of the piece that came last, if others may wait, until it is handed out with them.
     given: Vec<u8>,

@@ -214,6 +214,7 @@ impl Listening {
             Err(error) if error.kind() == ErrorKind::Interrupted => return Ok(()),
             Err(error) => return Err(error),
         }
+        // Each place has a mark: a queue would need memory, and its refusal would lose a turn.
         for event in self.events.iter() {
             let token = event.token();
             if token == LISTENER {
@@ -241,6 +242,7 @@ impl Sockets for TcpSockets<'_> {
     ghost traffic = { λ _. None };
 
     fn listen(&mut self) -> io::Result<()> {
+        // A caller may take the port before it can serve, and ask again then.
         if self.listening.is_none() {
             self.listening = Some(self.bind()?);
         }

@@ -52,6 +52,7 @@ fn peer_of<'a>(values: &ArgMatches<'a>) -> Option<Peer<'a>>
 fn target_of(values: &ArgMatches<'_>) -> Target
     ensures { result.number ≡ amended (options_of values.now) }
 {
+    // `--amend` is the older word, which stays since filers and scripts write it.
     match number_of(values, "amend") {
         Some(number) if 1 <= number && number <= MAX_FILING_NUMBER => Target {
             number: Some(number),

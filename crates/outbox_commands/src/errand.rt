@@ -47,6 +47,7 @@ pub(crate) fn close<D: Disk + Drop, P: Place<D> + Drop, E: Write>(
     ensures { (closed : _) × ClosesProcess D.Disk (parts P.lying process.old) (parts P.lying process.new) closed }
 {
     let closed = process.close();
+    // A close that failed only warns: after a fault somebody might put a report in twice.
     if closed.is_err() {
         VisitFault::NotClosed.at(name).tell(errors);
     }
@@ -114,6 +115,7 @@ fn fault_of_done<'a>(port: u16, is_strict: bool, done: Done) -> Result<(), Fault
 {
     match done {
         Done::Sent(round) if is_strict => fault_of_unfiled(round),
+        // If it is not strict, a refused report is a result and no failure.
         Done::Sent(round) => fault_of_failed(port, round),
         Done::Put { .. } | Done::Asked | Done::Shown => Ok(()),
     }
@@ -155,6 +157,7 @@ fn fault_of_unfiled<'a>(round: Round) -> Result<(), Fault<'a>>
 
 /// Whether two entries have one report, and replace the same filing or none.
 fn is_same(one: &Entry, other: &Entry) -> bool {
+    // The target is part of the request, as the body is.
     one.target == other.target && one.body.as_slice() == other.body.as_slice()
 }
 

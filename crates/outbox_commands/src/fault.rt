@@ -432,6 +432,7 @@ impl Fault<'_> {
             Fault::Exchange { .. } => 3,
             Fault::Patience { .. } => 3,
             Fault::Round { .. } => 3,
+            // After 1 a report has to be changed, after 3 an entry is sent again: 1 goes first.
             Fault::Unfiled { refused: 0, .. } => 3,
             Fault::Unfiled { .. } => 1,
             Fault::Contradicts { .. } => 3,

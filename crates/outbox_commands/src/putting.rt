@@ -154,6 +154,7 @@ fn put_each<'a, D: Disk + Drop, P: Place<D> + Drop, N: Network, O: Write, E: Wri
     ensures traffic { N.traffic network.new ≡ N.traffic network.old }
 {
     let are_several = reports.len() > 1;
+    // One transaction for all would lose reports whose ids were printed already.
     for report in reports {
         let named = if are_several { Some(report.file) } else { None };
         if let Err(fault) = put_one(
@@ -169,6 +170,7 @@ fn put_each<'a, D: Disk + Drop, P: Place<D> + Drop, N: Network, O: Write, E: Wri
 fn is_for_one(count: usize, key_text: Option<&str>, target: Target) -> bool
     ensures { result ≡ is_for_one count key_text.entry target }
 {
+    // Several reports go in under random keys, and a filing is replaced once.
     count <= 1 || (key_text.is_none() && target.number.is_none())
 }
 
@@ -191,6 +193,7 @@ pub(crate) fn put<'a, D: Disk + Drop, P: Place<D> + Drop, N: Network, O: Write, 
     if !is_for_one(files.len(), key_text, target) {
         return Err(Fault::ForOne);
     }
+    // If one file cannot be read, no report is put in.
     let reports = read_each(rt, files, key_text)?;
     let alloc = rt.alloc();
     if let Err(fault) = open(alloc, process, Beginning::Found) {

@@ -105,6 +105,7 @@ fn migrate<'a, D: Disk + Drop, P: Place<D> + Drop, O: Write, E: Write>(
         }
         return Err(show_refused(alloc, fault, name, output));
     }
+    // It is printed before the close, since the migration is durable by now.
     let shown = show_line(output, b"migrated\n");
     close(process, name, errors);
     shown
@@ -120,7 +121,8 @@ fn show_line<'a, O: Write>(output: &mut O, line: &[u8]) -> Result<(), Fault<'a>>
     }
 }
 
-/// Performs a task on the outbox of this process, which is closed. A network makes the connections that it needs.
+/// Performs a task on the outbox of this process, which is closed. A network makes the connections that it needs. It
+/// is written over any place and any network, so that the contract is one for every disk.
 pub(crate) fn perform_task<'a, D: Disk + Drop, P: Place<D> + Drop, N: Network, O: Write, E: Write>(
     rt: &HostRuntime,
     process: &mut OutboxProcess<D, P>,
@@ -216,7 +218,8 @@ fn only_reads(task: &Task<'_>) -> bool
     }
 }
 
-/// Whether a task that changes nothing is also to copy the log into the file, if both may be written.
+/// Whether a task that changes nothing is also to copy the log into the file, if both may be written. Copies that are
+/// made by `cp` after `outbox status` rely on it.
 fn copies_log(task: &Task<'_>) -> bool
     ensures { result ≡ copies_log task.now }
 {

@@ -24,7 +24,7 @@ pub enum Beginning<'a> {
     Found,
     /// It is made for this filer, in a database without tables. The files are made if they are missing.
     Made { filer: &'a str },
-    /// It is there in an earlier version, and is upgraded.
+    /// It is there in an earlier version, and is upgraded. No opening does that, since no way leads back.
     Migrated,
 }
 
@@ -32,6 +32,7 @@ pub enum Beginning<'a> {
 fn is_empty(schema: &Schema) -> bool
     ensures { IsTrue result ↔ (schema.now ≡ no_schema) }
 {
+    // A file with a view and no table belongs to somebody too.
     schema.tables.is_empty() && schema.indexes.is_empty() && schema.views.is_empty()
 }
 
@@ -105,6 +106,7 @@ fn migrate_outbox<S: Alter + Drop>(
     ensures up { IfOk result (λ outbox. outbox.has_failed ≡ false) }
     ensures refused { IfErr result (λ refusal. RefusesMigrating S.Store conn refusal.1 refusal.0) }
 {
+    // Opening reads it whole: by its tables alone it may look like an outbox of this version.
     match Outbox::open_or_back(alloc, conn) {
         Ok(outbox) => Err((OpeningFault::IsCurrent, outbox.into_conn())),
         Err((OutboxFault::NotOurs, back)) => migrate_earlier(alloc, back),
@@ -115,7 +117,8 @@ fn migrate_outbox<S: Alter + Drop>(
     }
 }
 
-/// The outbox that begins like this over this database. A refusal gives the connection back.
+/// The outbox that begins like this over this database. A refusal gives the connection back, so that a clause can say
+/// of it what was committed.
 pub(crate) fn begin<S: Alter + Drop>(
     alloc: Global,
     conn: Connection<S>,

@@ -61,6 +61,7 @@ impl<'a, F: Files + RandomSource> Folder<'a, F> {
     fn is_free_for(&self, path: &str, receipt: &Receipt) -> io::Result<bool> {
         match fs::symlink_metadata(self.rt, path) {
             Ok(found) if found.is_file() => {
+                // By name alone, two keys with the same eight digits would replace each other.
                 let mut text = Vec::new(self.alloc);
                 File::open(self.rt, path)?.read_to_end(&mut text)?;
                 Ok(is_receipt_of(self.alloc, text.as_slice(), receipt)?)
@@ -73,6 +74,7 @@ impl<'a, F: Files + RandomSource> Folder<'a, F> {
 
     /// Writes the text to a new file, gives that its name, and waits until the disk has both.
     fn write_by_part(&self, part: &str, whole: &str, text: &str) -> io::Result<()> {
+        // A file that is made anew follows no link in a folder that others may write to.
         let mut file = File::create_new(self.rt, part)?;
         file.write_all(text.as_bytes())?;
         file.sync_all()?;

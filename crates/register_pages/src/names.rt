@@ -17,7 +17,8 @@ fn append_letter(code: &mut Vec<u8>, letter: u8) -> Result<(), AllocError>
     Ok(())
 }
 
-/// A filer's code in the name of a file, with a tilde before each small letter.
+/// A filer's code in the name of a file, with a tilde before each small letter. So two filers have two files on a disk
+/// too that does not tell small letters from capital ones.
 fn file_code(alloc: Global, filer: &[u8]) -> Result<Vec<u8>, AllocError>
     ensures { IfOk result (λ code. code.items ≡ file_code_lem filer.now) }
 {

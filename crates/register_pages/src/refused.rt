@@ -31,7 +31,7 @@ const HEAD: &str =
 /// What the names of these pages begin with.
 const KIND: &str = "refused-";
 
-/// How many findings of a report are shown at most.
+/// How many findings of a report are shown at most. One of 16 kB can have 1,000.
 const MOST_FINDINGS: usize = 20;
 
 /// The first of these findings, as many as are shown.
@@ -50,6 +50,7 @@ fn finding_line(rows: &mut Markup, line: &str, place: &str) -> Result<(), AllocE
         .and_then(|front| front.strip_suffix(place));
     match front {
         Some(front) => {
+            // A place is shortened by itself, in its middle, since its end names the member.
             rows.short_text(front)?;
             rows.short_text(place)?;
             rows.constant(")<br>")

@@ -177,6 +177,7 @@ impl<D: Honest> Server<D> {
         ensures reopen { result ≡ Err Cause.Reopen → is_no (view_crash crash) ≡ false }
     {
         let before = self.done.len();
+        // It is taken out first, so that a refusal on the way leaves no end.
         let Some(mut process) = self.process.take() else {
             unreachable!();
         };
@@ -198,6 +199,7 @@ impl<D: Honest> Server<D> {
         ensures restarted { OnOk result (self.new ≡ record self.old { up = true }) }
         ensures store { result ≢ Err Cause.Store }
     {
+        // As in `deliver`, a refusal in between leaves no end.
         let Some(mut process) = self.process.take() else {
             return Err(Cause::Reopen);
         };

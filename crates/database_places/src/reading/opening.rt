@@ -44,6 +44,8 @@ pub fn open_for_reading<S: Start>(
         return Err(OpenError::HotJournal);
     }
     let key = RandomState::new(rt)?.hash_one(&0u8);
+    // The log is read whole before the file. So a `sqlite3` that copies it into the file meanwhile
+    // changes nothing of what is read.
     let log = read_log(
         rt,
         format!(in rt.alloc(); "{}-wal", real.as_str())?.as_str(),

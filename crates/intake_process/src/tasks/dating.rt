@@ -85,6 +85,7 @@ pub(crate) fn moment_line(
             let line = format!(in alloc; "{{\"number\":{number},\"received\":\"{text}\"}}\n")?;
             Ok(line)
         }
+        // A request that an earlier version kept has no moment.
         None => {
             let line = format!(in alloc; "{{\"number\":{number},\"received\":null}}\n")?;
             Ok(line)

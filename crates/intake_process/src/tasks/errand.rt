@@ -18,7 +18,7 @@ pub enum Errand<'a> {
     Show { number: u64, moments: bool },
     /// Say whether the register is sound, and has the requests of a digest that was published, if one is given.
     Check { against: Option<Published> },
-    /// Upgrade a register of an earlier version to this version.
+    /// Upgrade a register of an earlier version to this version. No opening does that, since no way leads back.
     Migrate,
     /// Write out all facts, or those of one filer.
     Export { form: Form, filer: Option<&'a str> },

@@ -106,6 +106,7 @@ fn fact_lines(alloc: Global, facts: &[Fact]) -> Result<String, AllocError>
     let mut text = String::new(alloc);
     for fact in facts {
         let line = fact_line(alloc, fact)?;
+        // What is escaped is escaped as in JSON, so the line stays the same JSON.
         let shown = format!(in alloc; "{}\n", OneLine(line.as_str()))?;
         text.push_str(shown.as_str())?;
     }

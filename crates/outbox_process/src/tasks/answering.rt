@@ -40,6 +40,7 @@ fn refuses(reply: &Reply) -> bool
 fn may_replace(target: Option<u64>, content: &[u8]) -> bool
     ensures { MayReplace target content.now result }
 {
+    // The report cannot show it: which filings may be replaced is known to the register alone.
     match target {
         Some(_) => !has_string(content, b"\"not-replaceable\""),
         None => true,

@@ -120,6 +120,7 @@ fn tell_reply<O: Write>(
             state: entry.state,
             told,
         }),
+        // A reply that says nothing of the entry, such as a 503, contradicts nothing.
         Said::Nothing | Said::Same => Ok(()),
     }
 }

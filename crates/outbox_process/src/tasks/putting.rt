@@ -25,6 +25,7 @@ pub fn put<S: Alter, O: Write>(
     ensures { PutsAndTells S.Store outbox.old outbox.new key target body.items (O.contents output.old)
         (O.contents output.new) result }
 {
+    // It is committed before its id is printed, so each report whose id was printed is kept.
     match outbox.put(key, target, body) {
         Ok(id) => match print_id(alloc, id, output) {
             Ok(()) => Ok(id),

@@ -15,6 +15,8 @@ use std::alloc::{AllocError, Global};
 use xbrl_report::Fact;
 
 /// The fields of a fact that its dimensions have: one for each core dimension but the concept, and one for all others.
+/// If each other dimension had one, the columns would depend on what was filed, and two exports could not be put
+/// together.
 #[derive(Drop)]
 pub(crate) struct Aspects {
     pub(crate) entity: Vec<u8>,

@@ -72,6 +72,7 @@ pub fn filing_at<S: Alter>(
         filing ≡ option_map (whole (kept F) moments) (filing_numbered number (register F)))) }
     ensures leaves { MayRead S.Store conn.old conn.new result }
 {
+    // The catalogue knows without a statement that there is no such filing.
     let Some(line) = catalogue.line(number) else {
         return Ok(None);
     };

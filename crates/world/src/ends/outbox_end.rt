@@ -80,6 +80,7 @@ impl<D: Honest> OutboxEnd<D> {
         ensures refused { IfErr result (IsNotStopped self.old) }
         ensures store { result ≢ Err Cause.Store }
     {
+        // It is taken out first, so that a refusal leaves no end.
         let Some(mut process) = self.process.take() else {
             return Err(Cause::Reopen);
         };

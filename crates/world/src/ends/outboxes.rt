@@ -29,7 +29,7 @@ use outbox_core::{Outbox, PutFault, State, StoreFault, TakeFault};
 use outbox_process::OutboxProcess;
 use std::alloc::Global;
 
-/// A call on an outbox.
+/// A call on an outbox. It is below the tasks: a task prints and dials, and an exchange of a world may end anywhere.
 pub(crate) trait Call {
     /// What the call answers, unless it is refused.
     type Answer;
