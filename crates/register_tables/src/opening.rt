@@ -167,7 +167,7 @@ fn counts_of(totals: Totals, later: &Later) -> Result<Counts, u64>
     ensures refused { IfErr result (λ row.
         ForLater later.now (λ rows. IsBesideDamaged totals.kept rows row)) }
 {
-    match old_style_of(later.migrated.as_slice(), totals.kept) {
+    match old_style_of(&later.migrated, totals.kept) {
         Some(old_style) => match later.received.first_undated(totals.kept) {
             None => Ok(Counts {
                 kept: totals.kept,
