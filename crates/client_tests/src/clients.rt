@@ -1,8 +1,8 @@
 //! The clients of a hall, over a port in memory with an adversary's order, with the whole server behind it: its
 //! register is in files in memory.
 
-use database_places::{Cache, Opening};
-use desk::{Desk, Watch};
+use database_places::{Opening, PageCache};
+use desk::{Desk, Reopener};
 use example_texts::{MALFORMED, front};
 use intake_process::{IntakeProcess, serve_register};
 use line::{Client, IDLE, PLAIN};
@@ -68,12 +68,12 @@ fn served(
         calls: play.calls,
         files: None,
     });
-    let mut watch = Watch {
+    let mut watch = Reopener {
         refusals: play.refusals,
         failed: 0,
         kept: 0,
     };
-    let opening = Opening::Made(Cache::OfTheFile);
+    let opening = Opening::Made(PageCache::OfTheFile);
     match serve_register(
         alloc,
         &mut port,

@@ -4,11 +4,11 @@ use Rattle.std.specs.Fmt.{decimal}
 use Rattle.command_line.specs.declared.fault.DatabaseFault.{DatabaseFault}
 use Rattle.command_line.specs.declared.fault.DatabaseFault.TheVariants.{Missing, Empty, NotADatabase, Foreign}
 use Rattle.command_line.specs.declared.fault.DatabaseFault.TheVariants.{AutoVacuum, Damaged, Unsummed}
-use Rattle.database_places.specs.declared.verdict.Verdict.{Verdict}
-use Rattle.database_places.specs.declared.verdict.Verdict.TheVariants as verdict
+use Rattle.database_places.specs.declared.flaw.DatabaseFlaw.{DatabaseFlaw}
+use Rattle.database_places.specs.declared.flaw.DatabaseFlaw.TheVariants as verdict
 
 -- the verdict on a file that was not opened for this cause, if the cause gives one: wrong pages are damage at row 0
-abbrev pub verdict_of : DatabaseFault → Option Verdict
+abbrev pub verdict_of : DatabaseFault → Option DatabaseFlaw
 verdict_of Missing = Some verdict.NotOurs
 verdict_of Empty = Some verdict.NotOurs
 verdict_of NotADatabase = Some verdict.NotOurs
@@ -19,7 +19,7 @@ verdict_of (Unsummed restore) = Some (verdict.Damaged 0)
 verdict_of _ = None
 
 -- the line of a verdict on a database that is expected to be this thing
-abbrev pub verdict_text : Verdict → List ℕ → List ℕ
+abbrev pub verdict_text : DatabaseFlaw → List ℕ → List ℕ
 verdict_text verdict.NotOurs thing = codes "not " ++ thing ++ codes "\n"
 verdict_text (verdict.Damaged row) thing = codes "damaged at row " ++ decimal row ++ codes "\n"
 

@@ -7,19 +7,20 @@
 mod closing;
 mod drawer;
 mod fault;
+mod flaw;
 mod holding;
 mod opening;
 mod place;
 mod reading;
 mod refused;
 mod system;
-mod verdict;
 mod waiting;
 
 pub use closing::{close, give_up};
 pub use drawer::{Blank, Drawer};
+pub use flaw::{DatabaseFlaw, show_verdict};
 pub use holding::{Holding, held_in};
-pub use opening::{Cache, Opening, Unopened, open, remove_new_log};
+pub use opening::{Opening, PageCache, Unopened, open, remove_new_log};
 pub use place::Place;
 pub use reading::opening::open_for_reading;
 pub use reading::place::{ReadingPlace, has_writable_log};
@@ -28,5 +29,4 @@ pub use reading::{ReadingFile, ReadingFileFrom};
 pub use refused::refusal;
 pub use sqlite_disk::{Start, Unknown};
 pub use system::SystemPlace;
-pub use verdict::{Verdict, show_verdict};
 pub use waiting::WaitingPlace;

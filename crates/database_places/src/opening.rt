@@ -30,7 +30,7 @@ pub(crate) const PAGE_LEN: usize = 4_096;
 /// How many pages of a file are kept in memory. Their room is taken at once, so that a command on a small file ends
 /// sooner with few.
 #[derive(Clone, Copy)]
-pub enum Cache {
+pub enum PageCache {
     /// As many as the file has and some more, up to a few: for a command that ends at once.
     OfTheFile,
     /// The most: for a file that grows while it is served.
@@ -41,9 +41,9 @@ pub enum Cache {
 #[derive(Clone, Copy)]
 pub enum Opening {
     /// It is there.
-    Found(Cache),
+    Found(PageCache),
     /// It is there, or is made if the file is missing or empty.
-    Made(Cache),
+    Made(PageCache),
 }
 
 /// Why a database was not opened.
@@ -87,7 +87,7 @@ pub fn open<D: Disk + Drop, P: Place<D>>(
 fn find<D: Disk + Drop, P: Place<D>>(
     alloc: Global,
     place: &mut P,
-    cache: Cache,
+    cache: PageCache,
 ) -> Result<Connection<FileStore<D>>, Unopened>
     ensures rest { IfOk result IsAtRest }
     ensures opens { OpensPlace D.Disk true (P.lying place.old) (P.lying place.new) result }
@@ -105,7 +105,7 @@ fn find<D: Disk + Drop, P: Place<D>>(
 fn make<D: Disk + Drop, P: Place<D>>(
     alloc: Global,
     place: &mut P,
-    cache: Cache,
+    cache: PageCache,
 ) -> Result<Connection<FileStore<D>>, Unopened>
     ensures rest { IfOk result IsAtRest }
     ensures opens { OpensPlace D.Disk false (P.lying place.old) (P.lying place.new) result }
@@ -144,10 +144,10 @@ pub fn remove_new_log<D: Disk + Drop, P: Place<D>>(place: &mut P, had_log: bool)
 }
 
 /// How many pages are kept of a file of so many bytes.
-fn pages(cache: Cache, len: u64) -> usize {
+fn pages(cache: PageCache, len: u64) -> usize {
     let pages = match cache {
-        Cache::OfTheFile => MOST_PAGES_ONCE.min(len / PAGE_LEN as u64 + SPARE_PAGES),
-        Cache::Largest => MOST_PAGES,
+        PageCache::OfTheFile => MOST_PAGES_ONCE.min(len / PAGE_LEN as u64 + SPARE_PAGES),
+        PageCache::Largest => MOST_PAGES,
     };
     pages as usize
 }

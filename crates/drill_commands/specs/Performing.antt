@@ -9,8 +9,8 @@ use Rattle.command_line.specs.declared.fault.CommandFault.TheVariants as command
 use Rattle.command_line.specs.Reading.{IsWhole}
 use Rattle.http_wire.specs.Devices.{device_inner, device_failures}
 use Rattle.http_wire.specs.declared.device.Device.{Device}
-use Rattle.drill_commands.specs.declared.fault.Fault.{Fault}
-use Rattle.drill_commands.specs.declared.fault.Fault.TheVariants as fault
+use Rattle.drill_commands.specs.declared.fault.NotDone.{NotDone}
+use Rattle.drill_commands.specs.declared.fault.NotDone.TheVariants as fault
 use Rattle.drill_commands.specs.Refusals.{IsNotDrilled, IsNotRead}
 use Rattle.drill_commands.specs.Shown.{IsShownOf}
 use Rattle.drill_commands.specs.Status.{IsRefusalStatus, status_of, status_by}
@@ -18,24 +18,24 @@ use Rattle.drill_commands.specs.Status.{IsRefusalStatus, status_of, status_by}
 -- ---- a script
 
 -- the text is written, and the status is 0; or the output failed
-abbrev pub IsWritten : List ℕ → Option (List ℕ) → Option (List ℕ) → Result ℕ Fault → Type 0
+abbrev pub IsWritten : List ℕ → Option (List ℕ) → Option (List ℕ) → Result ℕ NotDone → Type 0
 IsWritten text out out' result =
     ((result ≡ Ok 0) × Appends out out' text) ⊎ (result ≡ Err (fault.Command command.Output))
 
 -- What is shown of the script that these bytes spell is written; or the status says why nothing is shown, and nothing
 -- is written.
-abbrev pub PlaysScript : List ℕ → Option (List ℕ) → Option (List ℕ) → Result ℕ Fault → Type 0
+abbrev pub PlaysScript : List ℕ → Option (List ℕ) → Option (List ℕ) → Result ℕ NotDone → Type 0
 PlaysScript bytes out out' result =
     ((text : List ℕ) × IsShownOf bytes text × IsWritten text out out' result)
-    ⊎ ((why : Fault) × IsNotDrilled bytes why × (result ≡ Ok (status_of why)) × (out' ≡ out))
+    ⊎ ((why : NotDone) × IsNotDrilled bytes why × (result ≡ Ok (status_of why)) × (out' ≡ out))
 
 -- All bytes that the reader has left are read, at most 8,388,608, and played; or they are not read, and nothing is
 -- written. The first arguments are what contracts see of the reader.
 abbrev pub PerformsScript : {R : Type 0} → (R → Option (List ℕ)) → (R → ℕ) → R → R → Option (List ℕ)
-    → Option (List ℕ) → Result ℕ Fault → Type 0
+    → Option (List ℕ) → Result ℕ NotDone → Type 0
 PerformsScript left failures before after out out' result =
     ((bytes : List ℕ) × IsWhole (left before) (left after) 8388608 bytes × PlaysScript bytes out out' result)
-    ⊎ ((why : Fault) × IsNotRead left failures before after why × (result ≡ Err why) × (out' ≡ out))
+    ⊎ ((why : NotDone) × IsNotRead left failures before after why × (result ≡ Err why) × (out' ≡ out))
 
 -- ---- the program
 
@@ -50,7 +50,7 @@ pub record PerformsInput {R : Type 0} (remaining : R → Option (List ℕ)) (inp
   pub after : Device (MutBor R)
   pub input_is_read : (device_inner {T = MutBor R} before).now ≡ input
   pub fresh : device_failures before ≡ 0
-  pub result : Result ℕ Fault
+  pub result : Result ℕ NotDone
   pub performs : PerformsScript (left_of remaining) device_failures before after out out' result
   pub says : status ≡ status_by result
 

@@ -11,12 +11,12 @@ use Rattle.filing_world.specs.Headline.{Holds, start}
 use Rattle.filing_world.specs.Step.{Run}
 use Rattle.key_string.specs.Key.{IsTextFault}
 use Rattle.schedule.specs.Ending.{EndsBy}
-use Rattle.drill_commands.specs.declared.fault.Fault.{Fault}
-use Rattle.drill_commands.specs.declared.fault.Fault.TheVariants as fault
+use Rattle.drill_commands.specs.declared.fault.NotDone.{NotDone}
+use Rattle.drill_commands.specs.declared.fault.NotDone.TheVariants as fault
 
 -- The reader of a script had more bytes than a script may have; or reading failed before one byte more than that was
 -- read. The first arguments are what contracts see of the reader: the bytes that it has left, and its failures.
-abbrev pub IsNotRead : {R : Type 0} → (R → Option (List ℕ)) → (R → ℕ) → R → R → Fault → Type 0
+abbrev pub IsNotRead : {R : Type 0} → (R → Option (List ℕ)) → (R → ℕ) → R → R → NotDone → Type 0
 IsNotRead left failures before after (fault.Read why) = IsReadFailure left failures 8388609 before after why
 IsNotRead left failures before after fault.TooLong = IsLonger (left before) (left after) 8388608
 IsNotRead left failures before after (fault.Command why) = ⊥
@@ -28,7 +28,7 @@ IsNotRead left failures before after (fault.Outbox why) = ⊥
 IsNotRead left failures before after (fault.Key why) = ⊥
 
 -- The bytes are no UTF-8, a line of the script says nothing, an event ended the run, or memory ran out.
-abbrev pub IsNotPlayed : List ℕ → Fault → Type 0
+abbrev pub IsNotPlayed : List ℕ → NotDone → Type 0
 IsNotPlayed bytes fault.NotText = ¬ (IsUtf8 bytes)
 IsNotPlayed bytes (fault.Script why) = IsFaultOf (script_of bytes) why
 IsNotPlayed bytes (fault.World why) =
@@ -42,7 +42,7 @@ IsNotPlayed bytes (fault.Outbox why) = ⊥
 IsNotPlayed bytes (fault.Key why) = ⊥
 
 -- The key of a filing is no key, or memory ran out.
-abbrev pub AreNotShown : List Filing → Fault → Type 0
+abbrev pub AreNotShown : List Filing → NotDone → Type 0
 AreNotShown filings (fault.Key why) = (filing : Filing) × Contains filings filing × IsTextFault filing.request.key why
 AreNotShown filings (fault.Command why) = why ≡ Memory
 AreNotShown filings fault.NotText = ⊥
@@ -54,7 +54,7 @@ AreNotShown filings (fault.Register why) = ⊥
 AreNotShown filings (fault.Outbox why) = ⊥
 
 -- The register or an outbox does not give its rows, or its filings are not shown.
-abbrev pub IsNotShown : World → Fault → Type 0
+abbrev pub IsNotShown : World → NotDone → Type 0
 IsNotShown world (fault.Register why) = ⊤
 IsNotShown world (fault.Outbox why) = ⊤
 IsNotShown world why = AreNotShown (register world.done) why
@@ -63,7 +63,7 @@ IsNotShown world why = AreNotShown (register world.done) why
 
 -- Nothing is shown of the world to which the events of the script lead that these bytes spell, with a restart of every
 -- end behind them.
-pub record IsUnshownOf (bytes : List ℕ) (why : Fault) : Type 0 where
+pub record IsUnshownOf (bytes : List ℕ) (why : NotDone) : Type 0 where
   pub script : Script
   pub world : World
   pub said : script_of bytes ≡ Ok script
@@ -73,5 +73,5 @@ pub record IsUnshownOf (bytes : List ℕ) (why : Fault) : Type 0 where
   pub not_shown : IsNotShown world why
 
 -- no world is answered of these bytes, or nothing is shown of it
-abbrev pub IsNotDrilled : List ℕ → Fault → Type 0
+abbrev pub IsNotDrilled : List ℕ → NotDone → Type 0
 IsNotDrilled bytes why = IsNotPlayed bytes why ⊎ IsUnshownOf bytes why

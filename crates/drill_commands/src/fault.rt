@@ -2,7 +2,8 @@
 
 ghost use Rattle.std.specs.Prelude.{◌≡◌};
 ghost use Rattle.command_line.specs.declared.fault.CommandFault.TheVariants.{Memory};
-ghost use Rattle.drill_commands.specs.declared.fault.Fault.TheVariants.{Command, Script, World, Register, Outbox, Key};
+ghost use Rattle.drill_commands.specs.declared.fault.NotDone.TheVariants.{Command, Script, World, Register};
+ghost use Rattle.drill_commands.specs.declared.fault.NotDone.TheVariants.{Outbox, Key};
 
 use command_line::{CommandFault, ReadFault};
 use event_script::ScriptFault;
@@ -16,7 +17,7 @@ use thiserror::Error;
 
 /// Why nothing is shown. Its text is one line.
 #[derive(Clone, Copy, Debug, Error)]
-pub enum Fault {
+pub enum NotDone {
     #[error("{0}")]
     Command(#[from] CommandFault<'static>),
     #[error("the script: {0}")]
@@ -37,55 +38,55 @@ pub enum Fault {
     Key(KeyFault),
 }
 
-impl From<AllocError> for Fault {
+impl From<AllocError> for NotDone {
     ghost from_gives = { λ _ fault. fault ≡ Command Memory };
 
-    fn from(_error: AllocError) -> Fault {
-        Fault::Command(CommandFault::Memory)
+    fn from(_error: AllocError) -> NotDone {
+        NotDone::Command(CommandFault::Memory)
     }
 }
 
-impl From<ScriptFault> for Fault {
+impl From<ScriptFault> for NotDone {
     ghost from_gives = { λ why fault. fault ≡ Script why };
 
-    fn from(why: ScriptFault) -> Fault {
-        Fault::Script(why)
+    fn from(why: ScriptFault) -> NotDone {
+        NotDone::Script(why)
     }
 }
 
-impl From<WorldFault> for Fault {
+impl From<WorldFault> for NotDone {
     ghost from_gives = { λ why fault. fault ≡ World why };
 
-    fn from(why: WorldFault) -> Fault {
-        Fault::World(why)
+    fn from(why: WorldFault) -> NotDone {
+        NotDone::World(why)
     }
 }
 
-impl From<Unavailable> for Fault {
+impl From<Unavailable> for NotDone {
     ghost from_gives = { λ why fault. fault ≡ Register why };
 
-    fn from(why: Unavailable) -> Fault {
-        Fault::Register(why)
+    fn from(why: Unavailable) -> NotDone {
+        NotDone::Register(why)
     }
 }
 
-impl From<StoreFault> for Fault {
+impl From<StoreFault> for NotDone {
     ghost from_gives = { λ why fault. fault ≡ Outbox why };
 
-    fn from(why: StoreFault) -> Fault {
-        Fault::Outbox(why)
+    fn from(why: StoreFault) -> NotDone {
+        NotDone::Outbox(why)
     }
 }
 
-impl From<KeyFault> for Fault {
+impl From<KeyFault> for NotDone {
     ghost from_gives = { λ why fault. fault ≡ Key why };
 
-    fn from(why: KeyFault) -> Fault {
-        Fault::Key(why)
+    fn from(why: KeyFault) -> NotDone {
+        NotDone::Key(why)
     }
 }
 
-impl Fault {
+impl NotDone {
     ghost use Rattle.drill_commands.specs.Status.{status_of};
 
     /// The status that the program ends with: 1 if an event names nothing, 2 for the command line
@@ -94,9 +95,9 @@ impl Fault {
         ensures { result ≡ status_of self.now }
     {
         match self {
-            Fault::Command(fault) => fault.status(),
-            Fault::World(WorldFault::NoSuch { .. }) => 1,
-            Fault::Script(ScriptFault::Unreadable { .. }) => 2,
+            NotDone::Command(fault) => fault.status(),
+            NotDone::World(WorldFault::NoSuch { .. }) => 1,
+            NotDone::Script(ScriptFault::Unreadable { .. }) => 2,
             _ => 3,
         }
     }

@@ -10,7 +10,7 @@ mod options;
 mod playing;
 mod tasks;
 
-pub use fault::Fault;
+pub use fault::NotDone;
 pub use lines::shown;
 pub use playing::played;
 pub use tasks::{main, perform};

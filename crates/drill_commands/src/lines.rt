@@ -9,7 +9,7 @@ ghost use Rattle.drill_commands.specs.Shown.{filing_shown, entry_shown, world_sh
 ghost use Rattle.world.specs.Listed.{view_listed, are_up};
 ghost use Rattle.world.specs.Played.{IsSame};
 
-use crate::fault::Fault;
+use crate::fault::NotDone;
 use event_script::{append_done, append_entry, append_filing};
 use filing_model::Registered;
 use outbox_core::State;
@@ -17,7 +17,7 @@ use schedule::{Honest, World};
 use std::alloc::Global;
 
 /// Appends a line for each filing.
-fn append_filings(filings: &[Registered], text: &mut Vec<u8>) -> Result<(), Fault>
+fn append_filings(filings: &[Registered], text: &mut Vec<u8>) -> Result<(), NotDone>
     ensures lines { OnOk result (text.new.items ≡ text.old.items ++ flat_map filing_shown filings.now) }
     ensures refusal { IfErr result (AreNotShown filings.now) }
 {
@@ -34,10 +34,10 @@ fn append_filings(filings: &[Registered], text: &mut Vec<u8>) -> Result<(), Faul
 }
 
 /// Appends a line for each entry: the number of its outbox, its own, and its state.
-fn append_entries(entries: &[(u64, u64, State)], text: &mut Vec<u8>) -> Result<(), Fault>
+fn append_entries(entries: &[(u64, u64, State)], text: &mut Vec<u8>) -> Result<(), NotDone>
     ensures lines { OnOk result
         (text.new.items ≡ text.old.items ++ flat_map entry_shown (map view_listed entries.now)) }
-    ensures memory { OnErr result (result ≡ Err (Fault.Command Memory)) }
+    ensures memory { OnErr result (result ≡ Err (NotDone.Command Memory)) }
 {
     for &(outbox, entry, state) in entries {
         append_entry(outbox, entry, state, text)?;
@@ -47,10 +47,10 @@ fn append_entries(entries: &[(u64, u64, State)], text: &mut Vec<u8>) -> Result<(
 
 /// A line for each filing and for each entry, and one that counts the completed requests. The fault is `Register` if
 /// the intake is down; nothing is shown if an outbox is down.
-pub fn shown<D: Honest>(alloc: Global, world: &mut World<D>) -> Result<Vec<u8>, Fault>
+pub fn shown<D: Honest>(alloc: Global, world: &mut World<D>) -> Result<Vec<u8>, NotDone>
     ensures lines { IfOk result (λ text. text.items ≡ world_shown world.old.world) }
     ensures refusal { IfErr result (IsNotShown world.old.world) }
-    ensures down { world.old.world.up ≡ false → result ≡ Err (Fault.Register Down) }
+    ensures down { world.old.world.up ≡ false → result ≡ Err (NotDone.Register Down) }
     ensures outbox_down { are_up world.old.world.outboxes ≡ false → IsErr result }
     ensures same { IsSame world.old world.new }
 {

@@ -8,13 +8,13 @@ ghost use Rattle.event_script.specs.Scripts.{Script as Said, script_of, view_scr
 ghost use Rattle.filing_world.specs.Headline.{AreFilers, Holds, start};
 ghost use Rattle.filing_world.specs.Step.{Run};
 
-use crate::fault::Fault;
+use crate::fault::NotDone;
 use event_script::{Script, read_script};
 use schedule::{Honest, World, run};
 use std::alloc::Global;
 
 /// What the bytes say, with a restart of every end after its events.
-fn read(alloc: Global, bytes: &[u8]) -> Result<Script, Fault>
+fn read(alloc: Global, bytes: &[u8]) -> Result<Script, NotDone>
     ensures said { IfOk result (λ script.
         (said : Said) × (script_of bytes.now ≡ Ok said) × (view_script script ≡ restarted said)) }
     ensures wrong { IfErr result (IsNotPlayed bytes.now) }
@@ -23,7 +23,7 @@ fn read(alloc: Global, bytes: &[u8]) -> Result<Script, Fault>
     ensures targets { IfOk result (λ script. HaveTargets (map view_event script.events.items)) }
 {
     let Ok(text) = str::from_utf8(bytes) else {
-        return Err(Fault::NotText);
+        return Err(NotDone::NotText);
     };
     let mut script = read_script(alloc, text)?;
     script.restart_all(alloc)?;
@@ -32,7 +32,7 @@ fn read(alloc: Global, bytes: &[u8]) -> Result<Script, Fault>
 
 /// The world after the events of a script and a restart of every end, so that none is down. The script is as
 /// `event_script::read_script` reads it. A refusal says what is wrong with it, or which event ended the run.
-pub fn played<D: Honest>(alloc: Global, bytes: &[u8]) -> Result<World<D>, Fault>
+pub fn played<D: Honest>(alloc: Global, bytes: &[u8]) -> Result<World<D>, NotDone>
     ensures run { IfOk result (λ w. (said : Said) × (script_of bytes.now ≡ Ok said)
         × Run (start said.filers said.limit) (restarted said).events w.world) }
     ensures holds { IfOk result (λ w. Holds w.world) }

@@ -10,7 +10,7 @@ ghost use Rattle.drill_commands.specs.Status.{IsRefusalStatus, status_of};
 ghost use Rattle.drill_commands.specs.Words.{refusals};
 
 use crate::complaint::complaint;
-use crate::fault::Fault;
+use crate::fault::NotDone;
 use crate::lines::shown;
 use crate::options;
 use crate::playing::played;
@@ -25,7 +25,7 @@ use std::io::{Read, Write};
 const MAX_SCRIPT_LEN: usize = 8_388_608;
 
 /// The bytes of the script, of which there may be 8,388,608.
-fn read_bytes<R: Source>(alloc: Global, reader: &mut R) -> Result<Vec<u8>, Fault>
+fn read_bytes<R: Source>(alloc: Global, reader: &mut R) -> Result<Vec<u8>, NotDone>
     ensures whole { IfOk result (λ bytes.
         IsWhole (R.left reader.old) (R.left reader.new) MAX_SCRIPT_LEN bytes.items) }
     ensures fine { OnOk result (R.read_failures reader.new ≡ R.read_failures reader.old) }
@@ -33,13 +33,13 @@ fn read_bytes<R: Source>(alloc: Global, reader: &mut R) -> Result<Vec<u8>, Fault
 {
     match read_whole(alloc, reader, MAX_SCRIPT_LEN) {
         Ok(Some(bytes)) => Ok(bytes),
-        Ok(None) => Err(Fault::TooLong),
-        Err(why) => Err(Fault::Read(why)),
+        Ok(None) => Err(NotDone::TooLong),
+        Err(why) => Err(NotDone::Read(why)),
     }
 }
 
 /// Plays the script, starts each end that is down then, and answers what is shown.
-fn drill<D: Honest>(alloc: Global, bytes: &[u8]) -> Result<Vec<u8>, Fault>
+fn drill<D: Honest>(alloc: Global, bytes: &[u8]) -> Result<Vec<u8>, NotDone>
     ensures shown { IfOk result (λ text. IsShownOf bytes.now text.items) }
     ensures refusal { IfErr result (IsNotDrilled bytes.now) }
 {
@@ -49,10 +49,10 @@ fn drill<D: Honest>(alloc: Global, bytes: &[u8]) -> Result<Vec<u8>, Fault>
 
 /// Says on the standard error why a script is not played to its end, and answers the status. Of a line that may not
 /// stand there it says what is wrong.
-fn tell<E: Write>(fault: Fault, script: &[u8], errors: &mut E) -> u8
+fn tell<E: Write>(fault: NotDone, script: &[u8], errors: &mut E) -> u8
     ensures { result ≡ status_of fault }
 {
-    if let Fault::Script(ScriptFault::Unreadable { line }) = fault {
+    if let NotDone::Script(ScriptFault::Unreadable { line }) = fault {
         if let Some(complaint) = complaint(script, line) {
             // Nothing is left to be done if this text can't be written either.
             let _ = writeln!(errors, "drill: line {line}: {complaint}");
@@ -63,12 +63,12 @@ fn tell<E: Write>(fault: Fault, script: &[u8], errors: &mut E) -> u8
 }
 
 /// Writes what is shown, and answers the status.
-fn write_shown<O: Write>(output: &mut O, text: &[u8]) -> Result<u8, Fault>
+fn write_shown<O: Write>(output: &mut O, text: &[u8]) -> Result<u8, NotDone>
     ensures { IsWritten text.now (O.contents output.old) (O.contents output.new) result }
 {
     match show(output, text) {
         Ok(()) => Ok(DONE),
-        Err(fault) => Err(Fault::Command(fault)),
+        Err(fault) => Err(NotDone::Command(fault)),
     }
 }
 
@@ -79,7 +79,7 @@ fn play_script<O: Write, E: Write>(
     script: &[u8],
     output: &mut O,
     errors: &mut E,
-) -> Result<u8, Fault>
+) -> Result<u8, NotDone>
     ensures { PlaysScript script.now (O.contents output.old) (O.contents output.new) result }
 {
     // The kit's `Memory` would copy each file whole at every sync.
@@ -95,7 +95,7 @@ fn perform_script<R: Source, O: Write, E: Write>(
     reader: &mut R,
     output: &mut O,
     errors: &mut E,
-) -> Result<u8, Fault>
+) -> Result<u8, NotDone>
     ensures { PerformsScript R.left R.read_failures reader.old reader.new (O.contents output.old)
         (O.contents output.new) result }
 {
@@ -131,7 +131,7 @@ fn refuse<O: Write, E: Write>(
 {
     match show_refusal(alloc, error, output, errors) {
         Ok(status) => status,
-        Err(fault) => Fault::Command(fault).tell(errors),
+        Err(fault) => NotDone::Command(fault).tell(errors),
     }
 }
 
@@ -164,6 +164,6 @@ pub fn main(rt: &HostRuntime) -> u8 {
             &mut rt.stdout(),
             &mut rt.stderr(),
         ),
-        Err(fault) => Fault::Command(fault).tell(&mut rt.stderr()),
+        Err(fault) => NotDone::Command(fault).tell(&mut rt.stderr()),
     }
 }

@@ -2,8 +2,8 @@
 use Rattle.std.specs.Prelude.{ℕ, Bool, false, ◌||◌, List, [], ◌∷◌, codes, bytes_eq, Option, Some, None, is_some}
 use Rattle.std.specs.Prelude.{if◌then◌else◌, unwrap_or}
 use Rattle.event_script.specs.declared.complaint.Complaint.{Complaint as Told}
-use Rattle.event_script.specs.declared.complaint.Kind.{Kind}
-use Rattle.event_script.specs.declared.complaint.Kind.TheVariants as kind
+use Rattle.event_script.specs.declared.complaint.ScriptPart.{ScriptPart}
+use Rattle.event_script.specs.declared.complaint.ScriptPart.TheVariants as kind
 use Rattle.event_script.specs.declared.complaint.Wrong.{Wrong}
 use Rattle.event_script.specs.declared.complaint.Wrong.TheVariants.{NoEvent, Not, Missing, TooMany}
 use Rattle.event_script.specs.Words.{has_space, first_word, behind_first_word, number, filing_number, arrival_number}
@@ -20,7 +20,7 @@ view_complaint told = record { wrong = told.wrong; word = told.word.now }
 -- ---- what has to stand at a place
 
 -- whether a word is of this kind; no report or text is, since one is looked at only where all else is right
-abbrev pub fits : Kind → List ℕ → Bool
+abbrev pub fits : ScriptPart → List ℕ → Bool
 fits kind.Number word = is_some (number word)
 fits kind.FilingNumber word = is_some (filing_number word)
 fits kind.Amount word = is_some (amount word)
@@ -35,12 +35,12 @@ abbrev pub behind_word : List ℕ → Option (List ℕ)
 behind_word words = if has_space words then Some (behind_first_word words) else None
 
 -- the word at the front, and what stands behind it; a report and a text go up to the end of the line
-abbrev pub word_of : Kind → List ℕ → List ℕ
+abbrev pub word_of : ScriptPart → List ℕ → List ℕ
 word_of kind.Report words = words
 word_of kind.Text words = words
 word_of _ words = first_word words
 
-abbrev pub rest_of : Kind → List ℕ → Option (List ℕ)
+abbrev pub rest_of : ScriptPart → List ℕ → Option (List ℕ)
 rest_of kind.Report words = None
 rest_of kind.Text words = None
 rest_of _ words = behind_word words
@@ -48,7 +48,7 @@ rest_of _ words = behind_word words
 -- ---- lines
 
 -- what an event of this name has behind it; for a restart it goes by the word that follows
-abbrev pub form_of : List ℕ → List ℕ → Option (List Kind)
+abbrev pub form_of : List ℕ → List ℕ → Option (List ScriptPart)
 form_of name next =
     if bytes_eq name (codes "put") then Some (kind.Number ∷ kind.Report ∷ [])
     else (if bytes_eq name (codes "amend") then Some (kind.Number ∷ kind.FilingNumber ∷ kind.Report ∷ [])
@@ -61,7 +61,7 @@ form_of name next =
     else None))))))
 
 -- the first word that is not what has to stand there, or that one is missing, or one too many
-abbrev pub complaint_in : List Kind → Option (List ℕ) → Option Complaint
+abbrev pub complaint_in : List ScriptPart → Option (List ℕ) → Option Complaint
 complaint_in [] None = None
 complaint_in [] (Some words) = Some (record { wrong = TooMany; word = first_word words })
 complaint_in (kind ∷ form) None = Some (record { wrong = Missing kind; word = [] })
@@ -70,7 +70,7 @@ complaint_in (kind ∷ form) (Some words) =
     else Some (record { wrong = Not kind; word = word_of kind words })
 
 -- of a line that has this form, if its first word names an event
-abbrev pub complaint_by : Option (List Kind) → List ℕ → Option Complaint
+abbrev pub complaint_by : Option (List ScriptPart) → List ℕ → Option Complaint
 complaint_by None line = Some (record { wrong = NoEvent; word = first_word line })
 complaint_by (Some form) line = complaint_in form (behind_word line)
 

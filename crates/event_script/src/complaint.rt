@@ -11,7 +11,7 @@ use terminal_text::OneLine;
 
 /// What has to stand at a place of a line.
 #[derive(Clone, Copy, Debug, PartialEq, Eq)]
-pub enum Kind {
+pub enum ScriptPart {
     Number,
     FilingNumber,
     Amount,
@@ -24,17 +24,17 @@ pub enum Kind {
     Text,
 }
 
-impl fmt::Display for Kind {
+impl fmt::Display for ScriptPart {
     fn fmt<W: fmt::Write>(&self, f: &mut fmt::Formatter<W>) -> fmt::Result {
         f.write_str(match self {
-            Kind::Number => "number from 0 to 9223372036854775807",
-            Kind::FilingNumber => "number of a filing, from 1 on",
-            Kind::Amount => "number of bytes, nor `all`",
-            Kind::Stop => "`before`, nor `after`",
-            Kind::Arrival => "number from 0 to 4294967295",
-            Kind::End => "`server`, nor `outbox`",
-            Kind::Report => "key in double quotes, a space and a report",
-            Kind::Text => "text in which a backslash stands before r, n or a backslash alone",
+            ScriptPart::Number => "number from 0 to 9223372036854775807",
+            ScriptPart::FilingNumber => "number of a filing, from 1 on",
+            ScriptPart::Amount => "number of bytes, nor `all`",
+            ScriptPart::Stop => "`before`, nor `after`",
+            ScriptPart::Arrival => "number from 0 to 4294967295",
+            ScriptPart::End => "`server`, nor `outbox`",
+            ScriptPart::Report => "key in double quotes, a space and a report",
+            ScriptPart::Text => "text in which a backslash stands before r, n or a backslash alone",
         })
     }
 }
@@ -45,9 +45,9 @@ pub enum Wrong {
     /// Its first word names no event.
     NoEvent,
     /// A word, or the rest of the line, is not what has to stand there.
-    Not(Kind),
+    Not(ScriptPart),
     /// It ends before this.
-    Missing(Kind),
+    Missing(ScriptPart),
     /// It goes on behind its last word.
     TooMany,
     /// It says neither a limit nor an outbox, and is the first line.
@@ -100,14 +100,14 @@ fn front_of(word: &str) -> &str {
     }
 }
 
-impl Kind {
+impl ScriptPart {
     /// What has to be of this kind at the front of the rest of a line, and what follows it, if anything does.
     fn split(self, words: &str) -> (&str, Option<&str>)
         ensures word { result.0.now ≡ word_of self words.entry.now }
         ensures rest { option_copied result.1 ≡ rest_of self words.entry.now }
     {
         match self {
-            Kind::Report | Kind::Text => (words, None),
+            ScriptPart::Report | ScriptPart::Text => (words, None),
             _ => split_word(words),
         }
     }
@@ -117,13 +117,13 @@ impl Kind {
         ensures { result ≡ fits self word.now }
     {
         match self {
-            Kind::Number => read_number(word).is_some(),
-            Kind::FilingNumber => read_filing_number(word).is_some(),
-            Kind::Amount => read_amount(word).is_some(),
-            Kind::Arrival => read_arrival(word).is_some(),
-            Kind::Stop => word == "before" || word == "after",
-            Kind::End => word == "server" || word == "outbox",
-            Kind::Report | Kind::Text => false,
+            ScriptPart::Number => read_number(word).is_some(),
+            ScriptPart::FilingNumber => read_filing_number(word).is_some(),
+            ScriptPart::Amount => read_amount(word).is_some(),
+            ScriptPart::Arrival => read_arrival(word).is_some(),
+            ScriptPart::Stop => word == "before" || word == "after",
+            ScriptPart::End => word == "server" || word == "outbox",
+            ScriptPart::Report | ScriptPart::Text => false,
         }
     }
 }
@@ -140,24 +140,33 @@ fn split_word(words: &str) -> (&str, Option<&str>)
 }
 
 /// What an event of this name has behind it; for a restart it goes by the word that follows.
-fn form_of(name: &str, next: &str) -> Option<&'static [Kind]>
+fn form_of(name: &str, next: &str) -> Option<&'static [ScriptPart]>
     ensures { option_copied result ≡ form_of name.now next.now }
 {
     match name {
-        "put" => Some(&[Kind::Number, Kind::Report]),
-        "amend" => Some(&[Kind::Number, Kind::FilingNumber, Kind::Report]),
-        "send" => Some(&[Kind::Number, Kind::Number]),
-        "stranger" => Some(&[Kind::Text]),
-        "deliver" => Some(&[Kind::Number, Kind::Amount, Kind::Stop, Kind::Arrival]),
-        "hand" => Some(&[Kind::Number, Kind::Amount, Kind::Stop]),
-        "restart" if next == "server" => Some(&[Kind::End]),
-        "restart" => Some(&[Kind::End, Kind::Number]),
+        "put" => Some(&[ScriptPart::Number, ScriptPart::Report]),
+        "amend" => Some(&[
+            ScriptPart::Number,
+            ScriptPart::FilingNumber,
+            ScriptPart::Report,
+        ]),
+        "send" => Some(&[ScriptPart::Number, ScriptPart::Number]),
+        "stranger" => Some(&[ScriptPart::Text]),
+        "deliver" => Some(&[
+            ScriptPart::Number,
+            ScriptPart::Amount,
+            ScriptPart::Stop,
+            ScriptPart::Arrival,
+        ]),
+        "hand" => Some(&[ScriptPart::Number, ScriptPart::Amount, ScriptPart::Stop]),
+        "restart" if next == "server" => Some(&[ScriptPart::End]),
+        "restart" => Some(&[ScriptPart::End, ScriptPart::Number]),
         _ => None,
     }
 }
 
 /// What is wrong with the rest of a line that has to have this form.
-fn complaint_in<'l>(form: &[Kind], rest: Option<&'l str>) -> Option<Complaint<'l>>
+fn complaint_in<'l>(form: &[ScriptPart], rest: Option<&'l str>) -> Option<Complaint<'l>>
     ensures { option_map view_complaint result ≡ complaint_in form.now (option_copied rest.entry) }
 {
     let mut rest = rest;

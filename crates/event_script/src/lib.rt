@@ -15,7 +15,7 @@ mod shown;
 mod stranger;
 mod words;
 
-pub use complaint::{Complaint, Kind, Wrong, complaint_of};
+pub use complaint::{Complaint, ScriptPart, Wrong, complaint_of};
 pub use event::{Crash, Event};
 pub use fault::ScriptFault;
 pub use read::read_script;

@@ -6,7 +6,7 @@ use Rattle.std.proofs.lemmas.List.{take_more, take_all, flat_map_more}
 use Rattle.std.proofs.lemmas.Slice.Zip.{length-zip, get_or-zip}
 use Rattle.json.specs.Json.{Json}
 use Rattle.report_places.specs.Place.{ArePlacesOf}
-use Rattle.report_places.specs.declared.place.Place.{Place}
+use Rattle.report_places.specs.declared.place.ValuePlace.{ValuePlace}
 
 module _ {A B C : Type 0} (f : A × B → List C) (ks : List A) (vs : List B) (i : ℕ) where
   pub pair_more : (k : A) (d : B) (old piece : List C) → i < length ks → i < length vs → k ≡ get_or ks i k
@@ -22,7 +22,7 @@ module _ {A B C : Type 0} (f : A × B → List C) (ks : List A) (vs : List B) (i
   pub all_pairs : length ks ≤ i → flat_map f (take i (zip ks vs)) ≡ flat_map f (zip ks vs)
   all_pairs h = ap (flat_map f) (take_all i (zip ks vs) (omega (arith, length-zip ks vs)))
 
-pub as_many : (text : List ℕ) (value : Json) (pointers : List (List ℕ)) (places : List Place)
+pub as_many : (text : List ℕ) (value : Json) (pointers : List (List ℕ)) (places : List ValuePlace)
     → ArePlacesOf text value pointers places → length places ≡ length pointers
 as_many text value [] [] are = refl
 as_many text value [] (q ∷ places) are = absurd are

@@ -5,7 +5,7 @@ use Rattle.std.specs.List.{flat_map, zip}
 use Rattle.serde_json.specs.Data.{Data}
 use Rattle.serde_json.specs.Read.{read}
 use Rattle.report_places.specs.Place.{Answers}
-use Rattle.report_places.specs.declared.place.Place.{Place}
+use Rattle.report_places.specs.declared.place.ValuePlace.{ValuePlace}
 use Rattle.report_places.specs.declared.position.Position.{Position}
 use Rattle.xbrl_report.specs.Pair.{Pair}
 use Rattle.finding_lines.specs.Messages.{message, value}
@@ -21,7 +21,7 @@ line_with Sentences file position pair value words = sentence file position pair
 line_with Objects file position pair value words = object_line file position pair value words
 
 -- the line of a finding in a body, with its place there
-abbrev pub line : Form → List ℕ → List ℕ → Pair × Place → List ℕ
+abbrev pub line : Form → List ℕ → List ℕ → Pair × ValuePlace → List ℕ
 line form file body told =
     line_with form file told.1.position told.0 (value body told.1) (message body told.1 told.0.code)
 
@@ -36,12 +36,12 @@ abbrev pub at_the_start : SyntaxFault
 at_the_start = record { position = record { line = 1; column = 1 }; is_cut = false }
 
 -- the lines by the places that are found in a body, if they are found
-abbrev pub lines_at : Form → List ℕ → List ℕ → List Pair → Option (Vec Place Global) → List ℕ
+abbrev pub lines_at : Form → List ℕ → List ℕ → List Pair → Option (Vec ValuePlace Global) → List ℕ
 lines_at form file body findings (Some places) = flat_map (line form file body) (zip findings places.items)
 lines_at form file body findings None = flat_map (fault_line form file at_the_start) findings
 
 pub record TellsByPlaces (form : Form) (file body : List ℕ) (findings : List Pair) (written : List ℕ) : Type 0 where
-  pub places : Option (Vec Place Global)
+  pub places : Option (Vec ValuePlace Global)
   pub answered : Answers body (map (λ finding. finding.place) findings) places
   pub lines : written ≡ lines_at form file body findings places
 

@@ -2,7 +2,7 @@
 use Rattle.std.specs.Prelude.{ℕ, ◌==◌, List, [], ◌∷◌, ◌++◌, length, drop, nat_lt, if◌then◌else◌, codes, Option, Some}
 use Rattle.std.specs.Prelude.{None}
 use Rattle.report_places.specs.Shown.{scalar, value_text}
-use Rattle.report_places.specs.declared.place.Place.{Place}
+use Rattle.report_places.specs.declared.place.ValuePlace.{ValuePlace}
 use Rattle.xbrl_report.specs.declared.code.Code.{Code}
 use Rattle.xbrl_report.specs.declared.code.Code.TheVariants.{NotJson, NotObject, DocumentInfo, DocumentType, Namespaces}
 use Rattle.xbrl_report.specs.declared.code.Code.TheVariants.{NamespaceUri, Taxonomy, Facts, Fact, Value, Decimals}
@@ -57,11 +57,11 @@ subject_of _ _ bytes = bracket_words bytes
 abbrev pub subject : List ℕ → List ℕ
 subject bytes = subject_of (value_text bytes) (scalar bytes) bytes
 
-abbrev pub message : List ℕ → Place → Code → List ℕ
+abbrev pub message : List ℕ → ValuePlace → Code → List ℕ
 message body place code =
     if place.is_there then subject (drop place.offset body) ++ codes " " ++ phrase code
     else codes "the member is missing"
 
 -- the string, number or literal at a place, as it is in the body
-abbrev pub value : List ℕ → Place → Option (List ℕ)
+abbrev pub value : List ℕ → ValuePlace → Option (List ℕ)
 value body place = if place.is_there then scalar (drop place.offset body) else None

@@ -3,7 +3,7 @@ ghost use Rattle.std.specs.Prelude.{◌≡◌, option_map, IfOk};
 ghost use Rattle.finding_lines.specs.Messages.{phrase, subject, bracket_words, message, value as value_lem};
 
 use crate::text::copied;
-use report_places::{Place, value_text, whole_value};
+use report_places::{ValuePlace, value_text, whole_value};
 use std::alloc::{AllocError, Global};
 use xbrl_report::Code;
 
@@ -11,7 +11,7 @@ use xbrl_report::Code;
 pub(crate) fn message(
     alloc: Global,
     body: &[u8],
-    place: &Place,
+    place: &ValuePlace,
     code: Code,
 ) -> Result<Vec<u8>, AllocError>
     ensures { IfOk result (λ written. written.items ≡ message body.now place.now code) }
@@ -27,7 +27,7 @@ pub(crate) fn message(
 
 /// The string, number or literal at a place, as it is in the body. `None` if the value is an object or an array, or is
 /// missing.
-pub(crate) fn value<'a>(body: &'a [u8], place: &Place) -> Option<&'a [u8]>
+pub(crate) fn value<'a>(body: &'a [u8], place: &ValuePlace) -> Option<&'a [u8]>
     ensures { option_map (λ value. value.now) result ≡ value_lem body.now place.now }
 {
     if place.is_there {

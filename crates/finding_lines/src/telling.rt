@@ -8,7 +8,7 @@ use crate::message::{message, value};
 use crate::object::object_line;
 use crate::sentence::sentence_of;
 use crate::syntax_fault::{SyntaxFault, fault_in};
-use report_places::{Place, Position, places};
+use report_places::{Position, ValuePlace, places};
 use std::alloc::{AllocError, Global};
 use xbrl_report::Finding;
 
@@ -64,7 +64,7 @@ fn lines_at(
     file: &str,
     body: &[u8],
     findings: &[Finding],
-    places: &[Place],
+    places: &[ValuePlace],
 ) -> Result<Vec<u8>, AllocError>
     requires { length places.now ≡ length findings.now }
     ensures { IfOk result (λ lines. lines.items
@@ -84,7 +84,7 @@ fn line(
     file: &str,
     body: &[u8],
     finding: &Finding,
-    place: &Place,
+    place: &ValuePlace,
 ) -> Result<Vec<u8>, AllocError>
     ensures { IfOk result (λ written. written.items ≡ line form file.now body.now (finding.now, place.now)) }
 {

@@ -1,11 +1,11 @@
 //! Where the values of a JSON text are, and how they are shown.
 
 use crate::rows::hold;
-use report_places::{Place, places, position_of, value_text, whole_value};
+use report_places::{ValuePlace, places, position_of, value_text, whole_value};
 use std::alloc::{AllocError, Global};
 
 /// A place as `OFFSET LINE:COLUMN`, with `above` for one of a value that is above the missing one.
-fn told_place(alloc: Global, place: &Place) -> Result<String, AllocError> {
+fn told_place(alloc: Global, place: &ValuePlace) -> Result<String, AllocError> {
     let offset = place.offset;
     let line = place.position.line;
     let column = place.position.column;

@@ -7,7 +7,7 @@ use Rattle.intake_commands.specs.declared.options.Serving.{Serving}
 use Rattle.intake_process.specs.Process.{Parts}
 use Rattle.intake_process.specs.Turns.{ServesRegister}
 use Rattle.intake_process.specs.declared.serving.ServingFault.{ServingFault}
-use Rattle.intake_commands.specs.declared.fault.Fault.{Fault}
+use Rattle.intake_commands.specs.declared.fault.NotDone.{NotDone}
 use Rattle.intake_commands.specs.Tasks.{IsServingTold, Serves, most_asked}
 
 -- ---- what is wanted, and what is not
@@ -23,7 +23,7 @@ unwanted false P Q is q = q
 -- ---- a port is served
 
 pub served_as : {D : Type 0} {g : Ghosts D} (task : Serving) (found : Bool) (keys : ℕ) (port port' : Traffic)
-    (old new : Parts g) (served : Result ℕ ServingFault) (result : Result ℕ Fault) → found ≡ not task.new
+    (old new : Parts g) (served : Result ℕ ServingFault) (result : Result ℕ NotDone) → found ≡ not task.new
     → keys ≡ task.limit → keys ≤ 2 ^ 62
     → ServesRegister found keys most_asked port port' None None old new served → IsServingTold task served result
     → Serves task port port' old new result

@@ -8,8 +8,8 @@ use Rattle.clap.specs.declared.error.Error.{Error}
 use Rattle.http_wire.specs.Wire.{Wire}
 use Rattle.gateway_server.specs.Ports.{Traffic}
 use Rattle.intake_process.specs.Process.{Parts}
-use Rattle.intake_commands.specs.declared.fault.Fault.{Fault}
-use Rattle.intake_commands.specs.declared.fault.Fault.TheVariants as fault
+use Rattle.intake_commands.specs.declared.fault.NotDone.{NotDone}
+use Rattle.intake_commands.specs.declared.fault.NotDone.TheVariants as fault
 use Rattle.intake_commands.specs.declared.options.Asked.{Asked}
 use Rattle.intake_commands.specs.declared.options.Task.{Task}
 use Rattle.intake_commands.specs.declared.options.Task.TheVariants.{Serve}
@@ -58,22 +58,22 @@ PerformsTask written read other out out' status = PerformsOnce written read othe
 -- ---- what the words ask for
 
 -- the task was performed; or nothing is asked for, and that is the fault
-abbrev pub PerformsAsked : {D R : Type 0} → Ghosts D → Ghosts R → Result Asked Fault → Option (List ℕ)
-    → Option (List ℕ) → Result ℕ Fault → Type 0
+abbrev pub PerformsAsked : {D R : Type 0} → Ghosts D → Ghosts R → Result Asked NotDone → Option (List ℕ)
+    → Option (List ℕ) → Result ℕ NotDone → Type 0
 PerformsAsked written read (Ok asked) out out' result =
     (status : ℕ) × PerformsTask written read asked.task out out' status × (result ≡ Ok status)
 PerformsAsked written read (Err why) out out' result = (result ≡ Err why) × (out' ≡ out)
 
 -- what the words ask for was performed; or `clap` does not take them, and the status says why
 abbrev pub PerformsRead : {D R : Type 0} → Ghosts D → Ghosts R → List Text → Option (List ℕ) → Option (List ℕ)
-    → Result ℕ Fault → Type 0
+    → Result ℕ NotDone → Type 0
 PerformsRead written read words out out' result =
-    ((asked : Result Asked Fault) × IsRead words asked × PerformsAsked written read asked out out' result)
+    ((asked : Result Asked NotDone) × IsRead words asked × PerformsAsked written read asked out out' result)
     ⊎ ((error : Error) × IsUnread words error × IsRefusalStatus (kind_of error) (status_of result))
 
 -- the same, but `init` is refused, and nothing is done then
 abbrev pub PerformsWords : {D R : Type 0} → Ghosts D → Ghosts R → List Text → Option (List ℕ) → Option (List ℕ)
-    → Result ℕ Fault → Type 0
+    → Result ℕ NotDone → Type 0
 PerformsWords written read words out out' result =
     MatchBool (asks_for_init words) ((result ≡ Err fault.NoInit) × (out' ≡ out))
     (PerformsRead written read words out out' result)
@@ -82,4 +82,4 @@ PerformsWords written read words out out' result =
 abbrev pub PerformsAll : {D R : Type 0} → Ghosts D → Ghosts R → List Text → Option (List ℕ) → Option (List ℕ) → ℕ
     → Type 0
 PerformsAll written read words out out' status =
-    (result : Result ℕ Fault) × PerformsWords written read words out out' result × (status ≡ status_of result)
+    (result : Result ℕ NotDone) × PerformsWords written read words out out' result × (status ≡ status_of result)

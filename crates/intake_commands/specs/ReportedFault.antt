@@ -12,15 +12,15 @@ use Rattle.intake_process.specs.declared.errand.ErrandFault.{ErrandFault}
 use Rattle.intake_process.specs.declared.errand.ErrandFault.TheVariants as errand
 use Rattle.intake_process.specs.declared.fault.OpeningFault.{OpeningFault}
 use Rattle.intake_process.specs.declared.fault.OpeningFault.TheVariants as opening
-use Rattle.intake_commands.specs.declared.fault.Fault.{Fault}
-use Rattle.intake_commands.specs.declared.fault.Fault.TheVariants as fault
+use Rattle.intake_commands.specs.declared.fault.NotDone.{NotDone}
+use Rattle.intake_commands.specs.declared.fault.NotDone.TheVariants as fault
 use Rattle.intake_commands.specs.declared.fault.VisitFault.{VisitFault}
 use Rattle.intake_commands.specs.declared.folder.PageFault.{PageFault}
 use Rattle.intake_commands.specs.declared.fault.VisitFault.TheVariants as visit
 
 -- the files with this name gave no database, and the fault says why, by their first page if the refusal depends on the
 -- pages
-abbrev pub IsDatabaseTold : Bor (List ℕ) → DatabaseFault → Fault → Type 0
+abbrev pub IsDatabaseTold : Bor (List ℕ) → DatabaseFault → NotDone → Type 0
 IsDatabaseTold name why told =
     (shown : DatabaseFault) × IsRefusalOf why shown × (told ≡ fault.Command (command.Database name shown))
 
@@ -30,7 +30,7 @@ not_migrated register.NotOurs holding = visit.NotMigrated holding
 not_migrated why holding = visit.Migrate (record { fault = why; holding = holding })
 
 -- the fault of an errand to the register in the file with this name
-abbrev pub IsErrandTold : Bor (List ℕ) → ErrandFault → Fault → Type 0
+abbrev pub IsErrandTold : Bor (List ℕ) → ErrandFault → NotDone → Type 0
 IsErrandTold name (errand.Files why) told = IsDatabaseTold name why told
 IsErrandTold name (errand.Open why holding) told =
     told ≡ fault.Register name (visit.Open (record { fault = why; holding = holding }))
@@ -45,7 +45,7 @@ IsErrandTold name (errand.Text text.Output) told = told ≡ fault.Command comman
 IsErrandTold name errand.Folder told = (why : PageFault) × (told ≡ fault.Page why)
 
 -- the fault of opening the register in the file with this name to serve it
-abbrev pub IsOpeningTold : Bor (List ℕ) → OpeningFault → Fault → Type 0
+abbrev pub IsOpeningTold : Bor (List ℕ) → OpeningFault → NotDone → Type 0
 IsOpeningTold name (opening.Files why) told = IsDatabaseTold name why told
 IsOpeningTold name (opening.Taken holding) told = told ≡ fault.Register name (visit.Taken holding)
 IsOpeningTold name (opening.Create why) told = told ≡ fault.Register name (visit.Create why)

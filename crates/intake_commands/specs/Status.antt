@@ -3,15 +3,15 @@ use Rattle.std.specs.Prelude.{◌≡◌, ◌≢◌, ◌⊎◌, ℕ, Option, Some
 use Rattle.clap.specs.declared.error.kind.ErrorKind.{ErrorKind}
 use Rattle.clap.specs.declared.error.kind.ErrorKind.TheVariants as kind
 use Rattle.database_places.specs.Verdicts.{verdict_of}
-use Rattle.database_places.specs.declared.verdict.Verdict.{Verdict}
-use Rattle.database_places.specs.declared.verdict.Verdict.TheVariants as verdict
+use Rattle.database_places.specs.declared.flaw.DatabaseFlaw.{DatabaseFlaw}
+use Rattle.database_places.specs.declared.flaw.DatabaseFlaw.TheVariants as verdict
 use Rattle.command_line.specs.declared.fault.CommandFault.TheVariants as command
 use Rattle.command_line.specs.Status as command_line
 use Rattle.register_tables.specs.declared.fault.CreateFault.TheVariants as create
 use Rattle.register_tables.specs.declared.fault.OpenFault.{OpenFault}
 use Rattle.register_tables.specs.declared.fault.OpenFault.TheVariants as opening
-use Rattle.intake_commands.specs.declared.fault.Fault.{Fault}
-use Rattle.intake_commands.specs.declared.fault.Fault.TheVariants as fault
+use Rattle.intake_commands.specs.declared.fault.NotDone.{NotDone}
+use Rattle.intake_commands.specs.declared.fault.NotDone.TheVariants as fault
 use Rattle.intake_commands.specs.declared.fault.VisitFault.{VisitFault}
 use Rattle.intake_commands.specs.declared.fault.VisitFault.TheVariants as visit
 
@@ -42,7 +42,7 @@ visit_status (visit.TooFew kept) = 4
 visit_status (visit.Another count) = 1
 
 -- 2 if the command line is at fault, and 3 for memory, the disk, a folder and the network
-abbrev pub fault_status : Fault → ℕ
+abbrev pub fault_status : NotDone → ℕ
 fault_status (fault.Command why) = command_line.status_of why
 fault_status fault.NoInit = 2
 fault_status fault.Limit = 2
@@ -54,7 +54,7 @@ fault_status (fault.Network port error) = 3
 fault_status (fault.Page why) = 3
 
 -- the status of a task, by its result
-abbrev pub status_of : Result ℕ Fault → ℕ
+abbrev pub status_of : Result ℕ NotDone → ℕ
 status_of (Ok status) = status
 status_of (Err why) = fault_status why
 
@@ -67,19 +67,19 @@ pub record IsRefusalStatus (why : ErrorKind) (status : ℕ) : Type 0 where
 
 -- ---- verdicts
 
-abbrev pub opening_verdict : OpenFault → Option Verdict
+abbrev pub opening_verdict : OpenFault → Option DatabaseFlaw
 opening_verdict opening.NotOurs = Some verdict.NotOurs
 opening_verdict (opening.Damaged row) = Some (verdict.Damaged row)
 opening_verdict opening.Memory = None
 opening_verdict opening.Disk = None
 
-abbrev pub visit_verdict : VisitFault → Option Verdict
+abbrev pub visit_verdict : VisitFault → Option DatabaseFlaw
 visit_verdict (visit.Open refusal) = opening_verdict refusal.fault
 visit_verdict (visit.Migrate refusal) = opening_verdict refusal.fault
 visit_verdict (visit.NotMigrated holding) = Some verdict.NotOurs
 visit_verdict other = None
 
-abbrev pub fault_verdict : Fault → Option Verdict
+abbrev pub fault_verdict : NotDone → Option DatabaseFlaw
 fault_verdict (fault.Register name why) = visit_verdict why
 fault_verdict (fault.Command (command.Database name why)) = verdict_of why
 fault_verdict other = None

@@ -16,7 +16,7 @@ use Rattle.command_line.specs.declared.fault.CommandFault.{CommandFault}
 use Rattle.command_line.specs.declared.fault.CommandFault.TheVariants as command
 use Rattle.finding_lines.specs.Linting.{LintsReports}
 use Rattle.database_places.specs.Verdicts.{verdict_text}
-use Rattle.database_places.specs.declared.verdict.Verdict.{Verdict}
+use Rattle.database_places.specs.declared.flaw.DatabaseFlaw.{DatabaseFlaw}
 use Rattle.register_tables.specs.declared.fault.OpenFault.TheVariants as register
 use Rattle.intake_process.specs.Tasks.{ServesAlone}
 use Rattle.intake_process.specs.declared.tasks.errand.Errand.{Errand}
@@ -32,8 +32,8 @@ use Rattle.intake_process.specs.declared.errand.ErrandFault.TheVariants as unmet
 use Rattle.intake_process.specs.declared.serving.ServingFault.{ServingFault}
 use Rattle.intake_process.specs.declared.serving.ServingFault.TheVariants as refused
 use Rattle.intake_process.specs.declared.visiting.Visited.{Visited}
-use Rattle.intake_commands.specs.declared.fault.Fault.{Fault}
-use Rattle.intake_commands.specs.declared.fault.Fault.TheVariants as fault
+use Rattle.intake_commands.specs.declared.fault.NotDone.{NotDone}
+use Rattle.intake_commands.specs.declared.fault.NotDone.TheVariants as fault
 use Rattle.intake_commands.specs.Status.{status_of, fault_verdict}
 use Rattle.intake_commands.specs.ReportedFault.{IsErrandTold, IsOpeningTold}
 
@@ -59,7 +59,7 @@ IsOver ended.Closed = Unit {0}
 IsOver ended.InputEnded = Unit {0}
 IsOver (ended.Fault why) = ⊥
 
-abbrev pub Runs : ℕ → Wire → Wire → Result ℕ Fault → Type 0
+abbrev pub Runs : ℕ → Wire → Wire → Result ℕ NotDone → Type 0
 Runs limit from to (Ok status) = (status ≡ 0) × (ended : Ended) × IsOver ended × ServesAlone limit from to ended
 Runs limit from to (Err (fault.Connection why)) = ServesAlone limit from to (ended.Fault why)
 Runs limit from to (Err (fault.InMemory why)) = to ≡ from
@@ -69,21 +69,21 @@ Runs limit from to (Err other) = ⊥
 -- ---- serve: connections of a port are served on the register of a file
 
 -- the status is 0 if the port was served; otherwise a fault is reported, by why it was not
-abbrev pub IsServingTold : Serving → Result ℕ ServingFault → Result ℕ Fault → Type 0
+abbrev pub IsServingTold : Serving → Result ℕ ServingFault → Result ℕ NotDone → Type 0
 IsServingTold task (Ok taken) result = result ≡ Ok 0
 IsServingTold task (Err (refused.Register why)) result =
-    (told : Fault) × IsOpeningTold task.database why told × (result ≡ Err told)
+    (told : NotDone) × IsOpeningTold task.database why told × (result ≡ Err told)
 IsServingTold task (Err (refused.Port (network.Network error))) result = result ≡ Err (fault.Network task.port error)
 IsServingTold task (Err (refused.Port network.Memory)) result = result ≡ Err (fault.Command command.Memory)
 
 -- this fault says that this port is not to be had
-abbrev pub IsPortRefused : ℕ → Result ℕ Fault → Type 0
+abbrev pub IsPortRefused : ℕ → Result ℕ NotDone → Type 0
 IsPortRefused port (Err (fault.Network number error)) = number ≡ port
 IsPortRefused port other = ⊥
 
 -- the port of a new register is not to be had, and nothing is made; only the system refuses a port
 pub record IsWithoutPort {D : Type 0} {g : Ghosts D} (task : Serving) (port port' : Traffic) (old new : Parts g)
-    (result : Result ℕ Fault) : Type 0 where
+    (result : Result ℕ NotDone) : Type 0 where
   pub new_one : task.new ≡ true
   pub unknown : port.coming ≡ None
   pub same : port' ≡ port
@@ -95,7 +95,7 @@ abbrev pub most_asked : ℕ
 most_asked = 2 ^ 64 - 1
 
 -- the port is served with the task's limit until it is shut, on a register that is new or not
-abbrev pub Serves : {D : Type 0} {g : Ghosts D} → Serving → Traffic → Traffic → Parts g → Parts g → Result ℕ Fault
+abbrev pub Serves : {D : Type 0} {g : Ghosts D} → Serving → Traffic → Traffic → Parts g → Parts g → Result ℕ NotDone
     → Type 0
 Serves task port port' old new result =
     ((2 ^ 62 < task.limit) × (port' ≡ port) × (new ≡ old) × (result ≡ Err fault.Limit))
@@ -113,23 +113,23 @@ is_wanted (asked.Export form (Some filer)) = is_filer filer.now
 is_wanted other = true
 
 -- the verdict that is printed, beside the text of a fault on standard error: that of a check or a migration
-abbrev pub shown_verdict : Errand → Fault → Option Verdict
+abbrev pub shown_verdict : Errand → NotDone → Option DatabaseFlaw
 shown_verdict (asked.Check against) why = fault_verdict why
 shown_verdict asked.Migrate why = fault_verdict why
 shown_verdict other why = None
 
 -- the fault is the result, unless there is a verdict that cannot be printed
-abbrev pub EndsWith : Option Verdict → Fault → Option (List ℕ) → Option (List ℕ) → Result ℕ Fault → Type 0
+abbrev pub EndsWith : Option DatabaseFlaw → NotDone → Option (List ℕ) → Option (List ℕ) → Result ℕ NotDone → Type 0
 EndsWith None told out out' result = (result ≡ Err told) × (out' ≡ out)
 EndsWith (Some verdict) told out out' result =
     ((result ≡ Err told) × Appends out out' (verdict_text verdict (codes "a register")))
     ⊎ ((result ≡ Err (fault.Command command.Output)) ⊎ ((result ≡ Err (fault.Command command.Memory)) × (out' ≡ out)))
 
 -- a fault is reported, by why the errand is not done
-abbrev pub IsFaultTold : Bor (List ℕ) → Errand → ErrandFault → Option (List ℕ) → Option (List ℕ) → Result ℕ Fault
+abbrev pub IsFaultTold : Bor (List ℕ) → Errand → ErrandFault → Option (List ℕ) → Option (List ℕ) → Result ℕ NotDone
     → Type 0
 IsFaultTold name errand why out out' result =
-    (told : Fault) × IsErrandTold name why told × EndsWith (shown_verdict errand told) told out out' result
+    (told : NotDone) × IsErrandTold name why told × EndsWith (shown_verdict errand told) told out out' result
 
 -- ---- migrate: a register that has this version already
 
@@ -147,20 +147,20 @@ abbrev pub current_line : List ℕ
 current_line = codes "has this version already\n"
 
 -- that is printed, and the status is 0, unless the output failed
-abbrev pub IsCurrentShown : Option (List ℕ) → Option (List ℕ) → Result ℕ Fault → Type 0
+abbrev pub IsCurrentShown : Option (List ℕ) → Option (List ℕ) → Result ℕ NotDone → Type 0
 IsCurrentShown out out' result =
     ((result ≡ Ok 0) × Appends out out' current_line) ⊎ (result ≡ Err (fault.Command command.Output))
 
 -- if the check found a sound register, that is printed; otherwise a fault is reported
 abbrev pub IsCurrentTold : Bor (List ℕ) → ErrandFault → Result (Unit {0}) ErrandFault → Option (List ℕ)
-    → Option (List ℕ) → Result ℕ Fault → Type 0
+    → Option (List ℕ) → Result ℕ NotDone → Type 0
 IsCurrentTold name not_earlier (Ok done) out out' result = IsCurrentShown out out' result
 IsCurrentTold name not_earlier (Err why) out out' result =
     IsFaultTold name asked.Migrate (refusal_of not_earlier why) out out' result
 
 -- The register is checked, which writes nothing to it, and what the check prints is not shown.
 abbrev pub VisitsCurrent : {D : Type 0} {g : Ghosts D} → Bor (List ℕ) → ErrandFault → Outputs → Outputs → Parts g
-    → Parts g → Result ℕ Fault → Type 0
+    → Parts g → Result ℕ NotDone → Type 0
 VisitsCurrent name not_earlier out out' old new result =
     (unshown : Option (List ℕ)) × (unshown' : Option (List ℕ)) × (visited : Visited)
     × VisitsRegister (asked.Check None) (outputs unshown out.pages) (outputs unshown' out'.pages) old new visited
@@ -171,14 +171,14 @@ VisitsCurrent name not_earlier out out' old new result =
 -- The status is 0 if the errand is done. A register that was to be migrated and is none of an earlier version is
 -- checked; otherwise a fault is reported, by why the errand is not done.
 abbrev pub IsVisitTold : {D : Type 0} {g : Ghosts D} → Bor (List ℕ) → Errand → Result (Unit {0}) ErrandFault → Outputs
-    → Outputs → Parts g → Parts g → Result ℕ Fault → Type 0
+    → Outputs → Parts g → Parts g → Result ℕ NotDone → Type 0
 IsVisitTold name errand (Ok done) out out' old new result = (result ≡ Ok 0) × (out' ≡ out) × (new ≡ old)
 IsVisitTold name errand (Err why) out out' old new result =
     MatchBool (is_not_earlier why) (VisitsCurrent name why out out' old new result)
     (IsFaultTold name errand why out.text out'.text result × (out'.pages ≡ out.pages) × (new ≡ old))
 
 abbrev pub Visits : {D : Type 0} {g : Ghosts D} → Bor (List ℕ) → Errand → Outputs → Outputs → Parts g → Parts g
-    → Result ℕ Fault → Type 0
+    → Result ℕ NotDone → Type 0
 Visits {D} {g} name errand out out' old new result =
     (between : Outputs) × (mid : Parts g) × (visited : Visited) × VisitsRegister errand out between old mid visited
     × IsVisitTold name errand visited.done between out' mid new result
@@ -186,16 +186,16 @@ Visits {D} {g} name errand out out' old new result =
 -- ---- a task
 
 -- the fault that a code is no filer's is reported, and nothing is done
-abbrev pub IsNoFiler : {D : Type 0} {g : Ghosts D} → Means g → Means g → Result ℕ Fault → Type 0
+abbrev pub IsNoFiler : {D : Type 0} {g : Ghosts D} → Means g → Means g → Result ℕ NotDone → Type 0
 IsNoFiler old new result = (new ≡ old) × (result ≡ Err (fault.Command command.Filer))
 
 -- a fault of the command is reported as it is
-abbrev pub as_command : Result ℕ CommandFault → Result ℕ Fault
+abbrev pub as_command : Result ℕ CommandFault → Result ℕ NotDone
 as_command (Ok status) = Ok status
 as_command (Err why) = Err (fault.Command why)
 
 -- what each task does; nothing changes but what is named
-abbrev pub Does : {D : Type 0} {g : Ghosts D} → Task → Means g → Means g → Result ℕ Fault → Type 0
+abbrev pub Does : {D : Type 0} {g : Ghosts D} → Task → Means g → Means g → Result ℕ NotDone → Type 0
 Does (task.Run limit) old new result = (new ≡ record old { wire = new.wire }) × Runs limit old.wire new.wire result
 Does (task.Serve serving) old new result =
     (new ≡ record old { port = new.port; process = new.process })
@@ -211,4 +211,4 @@ Does (task.Lint filer form files) old new result =
 
 -- What performing a task does, and which status it answers.
 abbrev pub Performs : {D : Type 0} {g : Ghosts D} → Task → Means g → Means g → ℕ → Type 0
-Performs task old new status = (result : Result ℕ Fault) × Does task old new result × (status ≡ status_of result)
+Performs task old new status = (result : Result ℕ NotDone) × Does task old new result × (status ≡ status_of result)

@@ -14,16 +14,16 @@ use Rattle.clap.specs.declared.error.kind.ErrorKind.TheVariants.{OutOfMemory}
 use Rattle.clap.specs.declared.parser.matches.ArgMatches.{ArgMatches}
 use Rattle.hex.specs.Hex.{decode_sized}
 use Rattle.command_line.specs.declared.fault.CommandFault.TheVariants as command
-use Rattle.register_export.specs.declared.facts.record.Form.{Form as Format}
-use Rattle.register_export.specs.declared.facts.record.Form.TheVariants.{Csv, JsonLines}
+use Rattle.register_export.specs.declared.facts.record.FactForm.{FactForm}
+use Rattle.register_export.specs.declared.facts.record.FactForm.TheVariants.{Csv, JsonLines}
 use Rattle.finding_lines.specs.declared.form.Form.{Form}
 use Rattle.finding_lines.specs.declared.form.Form.TheVariants.{Sentences, Objects}
 use Rattle.intake_process.specs.declared.tasks.errand.Errand.{Errand}
 use Rattle.intake_process.specs.declared.tasks.errand.Errand.TheVariants.{List as ListOf, Show, Check, Migrate, Export}
 use Rattle.intake_process.specs.declared.tasks.errand.Errand.TheVariants.{Digest, Pages}
 use Rattle.intake_process.specs.declared.tasks.errand.Published.{Published}
-use Rattle.intake_commands.specs.declared.fault.Fault.{Fault}
-use Rattle.intake_commands.specs.declared.fault.Fault.TheVariants as fault
+use Rattle.intake_commands.specs.declared.fault.NotDone.{NotDone}
+use Rattle.intake_commands.specs.declared.fault.NotDone.TheVariants as fault
 use Rattle.intake_commands.specs.declared.options.Asked.{Asked}
 use Rattle.intake_commands.specs.declared.options.Serving.{Serving}
 use Rattle.intake_commands.specs.declared.options.Task.{Task}
@@ -40,14 +40,14 @@ limit_of options = unwrap_or (number 64 (codes "limit") options) 1000000
 abbrev pub form_of : List Row → Form
 form_of options = if is_set (codes "json") options then Objects else Sentences
 
-abbrev pub format_named : Text → Option Format
+abbrev pub format_named : Text → Option FactForm
 format_named text =
     if bytes_eq text (codes "csv") then Some Csv
     else if bytes_eq text (codes "jsonl") then Some JsonLines
     else None
 
 -- the format that `--format` names
-abbrev pub format_of : List Row → Option Format
+abbrev pub format_of : List Row → Option FactForm
 format_of options = option_and_then format_named (value (codes "format") options)
 
 -- what stands before the first colon of a text, and behind it; nothing if it has none
@@ -160,12 +160,12 @@ folder_of other = []
 -- ---- what is asked for
 
 -- the fault of options that ask for nothing: the value of `--against` writes no digest, or there is no task
-abbrev pub unasked : List Row → Fault
+abbrev pub unasked : List Row → NotDone
 unasked options = if is_against options then fault.Command command.NoTask else fault.Against
 
 -- a task, if the word that was found asks for one, and its file is waited for as long as `--wait` says, or not at all;
 -- without a word one connection is run, with the limit that is set if nothing is said
-abbrev pub IsAsked : Option (Text × List Row) → Result Asked Fault → Type 0
+abbrev pub IsAsked : Option (Text × List Row) → Result Asked NotDone → Type 0
 IsAsked None asked = asked ≡ Ok (record { task = Run 1000000; wait = 0 })
 IsAsked (Some (word, options)) (Err why) = (has_task word options ≡ false) × (why ≡ unasked options)
 IsAsked (Some (word, options)) (Ok asked) =
@@ -178,7 +178,7 @@ abbrev pub asks_for_init : List Text → Bool
 asks_for_init words = option_map_or (λ word. bytes_eq word (codes "init")) (slice_get words 1) false
 
 -- `clap` found these matches with this command, and they ask for that
-abbrev pub IsReadBy : Command → List Text → Result Asked Fault → Type 0
+abbrev pub IsReadBy : Command → List Text → Result Asked NotDone → Type 0
 IsReadBy command words asked =
     (matches : ArgMatches) × IsParsedFrom command matches × HasMatchesOf (app_of command) words matches
     × IsAsked (subcommand_rows_of matches) asked
@@ -187,7 +187,7 @@ IsReadBy command words asked =
 abbrev pub IsUnreadBy : Command → List Text → Error → Type 0
 IsUnreadBy command words error = takes (app_of command) words ≡ true → kind_of error ≡ OutOfMemory
 
-abbrev pub IsRead : List Text → Result Asked Fault → Type 0
+abbrev pub IsRead : List Text → Result Asked NotDone → Type 0
 IsRead words asked = (command : Command) × IsReadBy command words asked
 
 abbrev pub IsUnread : List Text → Error → Type 0

@@ -7,7 +7,7 @@ ghost use Rattle.intake_commands.specs.Words.{limit_of, form_of, format_of, has_
 ghost use Rattle.intake_commands.specs.Words.{unasked};
 ghost use Rattle.intake_commands.specs.Words.{IsErrandBy, IsTaskBy, IsAsked, IsRead, IsReadBy, IsUnread, IsUnreadBy};
 
-use crate::fault::Fault;
+use crate::fault::NotDone;
 use crate::options::{
     Asked, DEFAULT_AT_ONCE, DEFAULT_LIMIT, DEFAULT_MEMORY, Serving, Task, command,
 };
@@ -19,7 +19,7 @@ use command_line::{
 };
 use finding_lines::Form;
 use intake_process::Errand;
-use register_export::Form as Format;
+use register_export::FactForm;
 use std::alloc::{AllocError, Global};
 
 /// How many keys are kept at most.
@@ -41,12 +41,12 @@ fn form_of(values: &ArgMatches<'_>) -> Form
 }
 
 /// How facts are written.
-fn format_of(values: &ArgMatches<'_>) -> Option<Format>
+fn format_of(values: &ArgMatches<'_>) -> Option<FactForm>
     ensures { result ≡ format_of (options_of values.now) }
 {
     match value_of(values, "format")? {
-        "csv" => Some(Format::Csv),
-        "jsonl" => Some(Format::JsonLines),
+        "csv" => Some(FactForm::Csv),
+        "jsonl" => Some(FactForm::JsonLines),
         _ => None,
     }
 }
@@ -200,12 +200,12 @@ fn default_asked<'a>() -> Asked<'a>
 }
 
 /// Why the values of a word ask for nothing.
-fn unasked<'a>(values: &ArgMatches<'a>) -> Fault<'a>
+fn unasked<'a>(values: &ArgMatches<'a>) -> NotDone<'a>
     ensures { result ≡ unasked (options_of values.now) }
 {
     match value_of(values, "against") {
-        Some(text) if read_published(text).is_none() => Fault::Against,
-        _ => Fault::Command(CommandFault::NoTask),
+        Some(text) if read_published(text).is_none() => NotDone::Against,
+        _ => NotDone::Command(CommandFault::NoTask),
     }
 }
 
@@ -214,7 +214,7 @@ fn asked_by<'a>(
     alloc: Global,
     word: &str,
     values: &ArgMatches<'a>,
-) -> Result<Result<Asked<'a>, Fault<'a>>, AllocError>
+) -> Result<Result<Asked<'a>, NotDone<'a>>, AllocError>
     ensures { IfOk result (IsAsked (Some (word.now, options_of values.now))) }
 {
     match task_of(alloc, word, values)? {
@@ -230,7 +230,7 @@ fn asked_by<'a>(
 fn asked<'a>(
     alloc: Global,
     matches: &ArgMatches<'a>,
-) -> Result<Result<Asked<'a>, Fault<'a>>, AllocError>
+) -> Result<Result<Asked<'a>, NotDone<'a>>, AllocError>
     ensures { IfOk result (IsAsked (subcommand_rows_of matches.now)) }
 {
     match matches.subcommand() {
@@ -244,7 +244,7 @@ fn read_by<'a>(
     alloc: Global,
     command: Command<'a>,
     words: &'a [String],
-) -> Result<Result<Asked<'a>, Fault<'a>>, Error>
+) -> Result<Result<Asked<'a>, NotDone<'a>>, Error>
     ensures read { IfOk result (IsReadBy command.entry (map string_bytes words.now)) }
     ensures unread { IfErr result (IsUnreadBy command.entry (map string_bytes words.now)) }
 {
@@ -259,7 +259,7 @@ fn read_by<'a>(
 pub(crate) fn read<'a>(
     alloc: Global,
     words: &'a [String],
-) -> Result<Result<Asked<'a>, Fault<'a>>, Error>
+) -> Result<Result<Asked<'a>, NotDone<'a>>, Error>
     ensures read { IfOk result (IsRead (map string_bytes words.now)) }
     ensures unread { IfErr result (IsUnread (map string_bytes words.now)) }
 {

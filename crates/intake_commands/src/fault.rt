@@ -4,7 +4,7 @@ ghost use Rattle.std.specs.Prelude.{◌≡◌};
 
 use crate::folder::PageFault;
 use command_line::CommandFault;
-use database_places::{Holding, Verdict};
+use database_places::{DatabaseFlaw, Holding};
 use http_wire::ConnFault;
 use intake_core::Unavailable;
 use register_store::{CreateFault, OpenFault, StoreFault};
@@ -17,21 +17,21 @@ use thiserror::Error;
 
 /// Why a database gave no register, and what it holds.
 #[derive(Clone, Copy, Debug)]
-pub struct Refusal {
+pub struct NoRegister {
     pub(crate) fault: OpenFault,
     pub(crate) holding: Holding,
 }
 
-impl Refusal {
+impl NoRegister {
     ghost use Rattle.intake_commands.specs.Status.{opening_status, opening_verdict};
 
     /// The verdict of this refusal on the database, if it has one.
-    fn verdict(self) -> Option<Verdict>
+    fn verdict(self) -> Option<DatabaseFlaw>
         ensures { result ≡ opening_verdict self.fault }
     {
         match self.fault {
-            OpenFault::NotOurs => Some(Verdict::NotOurs),
-            OpenFault::Damaged { row } => Some(Verdict::Damaged(row)),
+            OpenFault::NotOurs => Some(DatabaseFlaw::NotOurs),
+            OpenFault::Damaged { row } => Some(DatabaseFlaw::Damaged(row)),
             OpenFault::Memory | OpenFault::Disk => None,
         }
     }
@@ -48,7 +48,7 @@ impl Refusal {
     }
 }
 
-impl fmt::Display for Refusal {
+impl fmt::Display for NoRegister {
     fn fmt<W: fmt::Write>(&self, f: &mut fmt::Formatter<W>) -> fmt::Result {
         match self.fault {
             OpenFault::NotOurs => f.write_str(not_a_register(self.holding)),
@@ -126,10 +126,10 @@ pub enum VisitFault {
     #[error("{text}", text = not_made(*.0))]
     Create(CreateFault),
     #[error("{0}")]
-    Open(Refusal),
+    Open(NoRegister),
     /// A register was to be migrated.
     #[error("{0}")]
-    Migrate(Refusal),
+    Migrate(NoRegister),
     /// The database that should be migrated is no register of an earlier version.
     #[error("{text}", text = not_migrated(*.0))]
     NotMigrated(Holding),
@@ -153,10 +153,10 @@ impl VisitFault {
     ghost use Rattle.intake_commands.specs.Status.{visit_status, visit_verdict};
 
     /// Why a task was not done with the register of the file with this name.
-    pub(crate) fn at(self, name: &str) -> Fault<'_>
-        ensures { result ≡ Fault.Register name.entry self }
+    pub(crate) fn at(self, name: &str) -> NotDone<'_>
+        ensures { result ≡ NotDone.Register name.entry self }
     {
-        Fault::Register { name, fault: self }
+        NotDone::Register { name, fault: self }
     }
 
     /// The status that the program ends with: 1 for a database that is no sound register, cannot become one or is
@@ -181,13 +181,13 @@ impl VisitFault {
     }
 
     /// The verdict of this fault on the register, if it has one.
-    fn verdict(self) -> Option<Verdict>
+    fn verdict(self) -> Option<DatabaseFlaw>
         ensures { result ≡ visit_verdict self }
     {
         match self {
             VisitFault::Open(refusal) => refusal.verdict(),
             VisitFault::Migrate(refusal) => refusal.verdict(),
-            VisitFault::NotMigrated(_) => Some(Verdict::NotOurs),
+            VisitFault::NotMigrated(_) => Some(DatabaseFlaw::NotOurs),
             VisitFault::Taken(_) => None,
             VisitFault::Create(_) => None,
             VisitFault::Store(_) => None,
@@ -202,7 +202,7 @@ impl VisitFault {
 
 /// Why a task was not done. Its text is one line.
 #[derive(Debug, Drop, Error)]
-pub enum Fault<'a> {
+pub enum NotDone<'a> {
     #[error("{0}")]
     Command(CommandFault<'a>),
     #[error("there is no init: intake serve --new makes a register")]
@@ -223,17 +223,17 @@ pub enum Fault<'a> {
     Page(PageFault),
 }
 
-impl<'a> From<CommandFault<'a>> for Fault<'a> {
-    ghost use Rattle.intake_commands.specs.declared.fault.Fault.TheVariants as fault;
+impl<'a> From<CommandFault<'a>> for NotDone<'a> {
+    ghost use Rattle.intake_commands.specs.declared.fault.NotDone.TheVariants as fault;
 
     ghost from_gives = { λ why given. given ≡ fault.Command why };
 
     fn from(fault: CommandFault<'a>) -> Self {
-        Fault::Command(fault)
+        NotDone::Command(fault)
     }
 }
 
-impl Fault<'_> {
+impl NotDone<'_> {
     ghost use Rattle.intake_commands.specs.Status.{fault_status, fault_verdict};
 
     /// The status that the program ends with: 1 for a database that is no sound register, cannot become one or is
@@ -243,31 +243,31 @@ impl Fault<'_> {
         ensures { result ≡ fault_status self.now }
     {
         match self {
-            Fault::Command(fault) => fault.status(),
-            Fault::Register { name: _, fault } => fault.status(),
-            Fault::Limit | Fault::Against | Fault::NoInit => 2,
-            Fault::InMemory(_) => 3,
-            Fault::Connection(_) => 3,
-            Fault::Network { port: _, error: _ } => 3,
-            Fault::Page(_) => 3,
+            NotDone::Command(fault) => fault.status(),
+            NotDone::Register { name: _, fault } => fault.status(),
+            NotDone::Limit | NotDone::Against | NotDone::NoInit => 2,
+            NotDone::InMemory(_) => 3,
+            NotDone::Connection(_) => 3,
+            NotDone::Network { port: _, error: _ } => 3,
+            NotDone::Page(_) => 3,
         }
     }
 
     /// The verdict of the fault on the register, if it has one.
-    pub(crate) fn verdict(&self) -> Option<Verdict>
+    pub(crate) fn verdict(&self) -> Option<DatabaseFlaw>
         ensures { result ≡ fault_verdict self.now }
     {
         match self {
-            Fault::Register { name: _, fault } => fault.verdict(),
-            Fault::Command(CommandFault::Database { name: _, fault }) => Verdict::of(*fault),
-            Fault::Command(CommandFault::NotText | CommandFault::NoTask | CommandFault::Filer) =>
+            NotDone::Register { name: _, fault } => fault.verdict(),
+            NotDone::Command(CommandFault::Database { name: _, fault }) => DatabaseFlaw::of(*fault),
+            NotDone::Command(CommandFault::NotText | CommandFault::NoTask | CommandFault::Filer) =>
                 None,
-            Fault::Command(CommandFault::Output | CommandFault::Memory) => None,
-            Fault::Limit | Fault::Against | Fault::NoInit => None,
-            Fault::InMemory(_) => None,
-            Fault::Connection(_) => None,
-            Fault::Network { port: _, error: _ } => None,
-            Fault::Page(_) => None,
+            NotDone::Command(CommandFault::Output | CommandFault::Memory) => None,
+            NotDone::Limit | NotDone::Against | NotDone::NoInit => None,
+            NotDone::InMemory(_) => None,
+            NotDone::Connection(_) => None,
+            NotDone::Network { port: _, error: _ } => None,
+            NotDone::Page(_) => None,
         }
     }
 

@@ -27,7 +27,7 @@ mod sockets;
 mod tasks;
 mod visiting;
 
-pub use fault::{Fault, Refusal, VisitFault};
+pub use fault::{NoRegister, NotDone, VisitFault};
 pub use folder::PageFault;
 pub use options::{Serving, Task};
 pub use program::main;

@@ -12,7 +12,7 @@ ghost use Rattle.intake_commands.specs.declared.options.Task.TheVariants.{Serve}
 
 use crate::asked::read;
 use crate::clocked::Clocked;
-use crate::fault::Fault;
+use crate::fault::NotDone;
 use crate::folder::SystemFolder;
 use crate::options::{Asked, Serving, Task};
 use crate::port::NoPort;
@@ -250,7 +250,7 @@ fn perform_serving<O: Write, E: Write>(
 {
     match port_of(rt, serving) {
         Ok(mut port) => perform_port(rt, asked, serving, &mut port, output, errors),
-        Err(_) => Fault::Command(CommandFault::Memory).tell(errors),
+        Err(_) => NotDone::Command(CommandFault::Memory).tell(errors),
     }
 }
 
@@ -275,10 +275,10 @@ fn perform_asked<O: Write, E: Write>(
 /// Performs what is asked for, and answers the status; or why nothing is.
 fn perform_read<'a, O: Write, E: Write>(
     rt: &HostRuntime,
-    asked: Result<Asked<'a>, Fault<'a>>,
+    asked: Result<Asked<'a>, NotDone<'a>>,
     output: &mut O,
     errors: &mut E,
-) -> Result<u8, Fault<'a>>
+) -> Result<u8, NotDone<'a>>
     ensures { PerformsAsked ⟦<File as Disk>⟧ ⟦<ReadingFile as Disk>⟧ asked.entry (O.contents output.old)
         (O.contents output.new) result }
 {
@@ -304,12 +304,12 @@ fn refuse<'a, O: Write, E: Write>(
     error: &Error,
     output: &mut O,
     errors: &mut E,
-) -> Result<u8, Fault<'a>>
+) -> Result<u8, NotDone<'a>>
     ensures { IsRefusalStatus (kind_of error.now) (status_of result) }
 {
     match show_refusal(alloc, error, output, errors) {
         Ok(status) => Ok(status),
-        Err(fault) => Err(Fault::Command(fault)),
+        Err(fault) => Err(NotDone::Command(fault)),
     }
 }
 
@@ -319,12 +319,12 @@ fn perform_words<'a, O: Write, E: Write>(
     words: &'a [String],
     output: &mut O,
     errors: &mut E,
-) -> Result<u8, Fault<'a>>
+) -> Result<u8, NotDone<'a>>
     ensures { PerformsWords ⟦<File as Disk>⟧ ⟦<ReadingFile as Disk>⟧ (map string_bytes words.now)
         (O.contents output.old) (O.contents output.new) result }
 {
     if asks_for_init(words) {
-        return Err(Fault::NoInit);
+        return Err(NotDone::NoInit);
     }
     match read(rt.alloc(), words) {
         Ok(asked) => perform_read(rt, asked, output, errors),
@@ -361,7 +361,7 @@ fn tell_terminal(rt: &HostRuntime, words: &[String]) {
 pub fn main(rt: &HostRuntime) -> u8 {
     let words = match words(rt) {
         Ok(words) => words,
-        Err(fault) => return Fault::Command(fault).tell(&mut rt.stderr()),
+        Err(fault) => return NotDone::Command(fault).tell(&mut rt.stderr()),
     };
     tell_terminal(rt, words.as_slice());
     perform(rt, words.as_slice(), &mut rt.stdout(), &mut rt.stderr())

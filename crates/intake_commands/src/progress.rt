@@ -1,6 +1,6 @@
 //! How far the check of a register is.
 
-use intake_process::Progress;
+use intake_process::CheckProgress;
 use register_store::Watch;
 use std::io::{IsTerminal, Write};
 
@@ -35,7 +35,7 @@ impl Watch for TerminalProgress<'_> {
     }
 }
 
-impl Progress for TerminalProgress<'_> {
+impl CheckProgress for TerminalProgress<'_> {
     /// Ends the line, if there is one.
     fn end(&mut self) {
         if self.has_told {

@@ -3,7 +3,7 @@
 ghost use Rattle.std.specs.Prelude.{◌≡◌};
 ghost use Rattle.intake_commands.specs.ReportedFault.{IsDatabaseTold, IsErrandTold, IsOpeningTold, not_migrated};
 
-use crate::fault::{Fault, Refusal, VisitFault};
+use crate::fault::{NoRegister, NotDone, VisitFault};
 use crate::folder::SiteFolder;
 use command_line::{CommandFault, DatabaseFault};
 use database_places::{Holding, Place, refusal};
@@ -18,11 +18,11 @@ fn database_fault<'a, D: Disk + Drop, P: Place<D>>(
     place: &P,
     name: &'a str,
     fault: DatabaseFault,
-) -> Fault<'a>
+) -> NotDone<'a>
     ensures { IsDatabaseTold name.entry fault result }
 {
     let fault = refusal(alloc, place, fault);
-    Fault::Command(CommandFault::Database { name, fault })
+    NotDone::Command(CommandFault::Database { name, fault })
 }
 
 /// Why a database that holds this is not migrated.
@@ -31,8 +31,8 @@ fn not_migrated(fault: OpenFault, holding: Holding) -> VisitFault
 {
     match fault {
         OpenFault::NotOurs => VisitFault::NotMigrated(holding),
-        OpenFault::Damaged { row: _ } => VisitFault::Migrate(Refusal { fault, holding }),
-        OpenFault::Memory | OpenFault::Disk => VisitFault::Migrate(Refusal { fault, holding }),
+        OpenFault::Damaged { row: _ } => VisitFault::Migrate(NoRegister { fault, holding }),
+        OpenFault::Memory | OpenFault::Disk => VisitFault::Migrate(NoRegister { fault, holding }),
     }
 }
 
@@ -43,22 +43,24 @@ pub(crate) fn errand_fault<'a, D: Disk + Drop, P: Place<D>, F: SiteFolder>(
     folder: &mut F,
     name: &'a str,
     fault: ErrandFault,
-) -> Fault<'a>
+) -> NotDone<'a>
     ensures told { IsErrandTold name.entry fault result }
     ensures same { F.Folder.pages folder.new ≡ F.Folder.pages folder.old }
 {
     match fault {
         ErrandFault::Files(fault) => database_fault(alloc, place, name, fault),
-        ErrandFault::Open(fault, holding) => VisitFault::Open(Refusal { fault, holding }).at(name),
+        ErrandFault::Open(fault, holding) => VisitFault::Open(NoRegister { fault, holding }).at(
+            name,
+        ),
         ErrandFault::Migrate(fault, holding) => not_migrated(fault, holding).at(name),
         ErrandFault::List(fault) => VisitFault::List(fault).at(name),
         ErrandFault::Store(fault) => VisitFault::Store(fault).at(name),
         ErrandFault::NoFiling { number } => VisitFault::NoFiling { number }.at(name),
         ErrandFault::TooFew { kept } => VisitFault::TooFew { kept }.at(name),
         ErrandFault::Another { count } => VisitFault::Another { count }.at(name),
-        ErrandFault::Text(TextFault::Memory) => Fault::Command(CommandFault::Memory),
-        ErrandFault::Text(TextFault::Output) => Fault::Command(CommandFault::Output),
-        ErrandFault::Folder => Fault::Page(folder.take_fault()),
+        ErrandFault::Text(TextFault::Memory) => NotDone::Command(CommandFault::Memory),
+        ErrandFault::Text(TextFault::Output) => NotDone::Command(CommandFault::Output),
+        ErrandFault::Folder => NotDone::Page(folder.take_fault()),
     }
 }
 
@@ -68,13 +70,15 @@ pub(crate) fn opening_fault<'a, D: Disk + Drop, P: Place<D>>(
     place: &P,
     name: &'a str,
     fault: OpeningFault,
-) -> Fault<'a>
+) -> NotDone<'a>
     ensures { IsOpeningTold name.entry fault result }
 {
     match fault {
         OpeningFault::Files(fault) => database_fault(alloc, place, name, fault),
         OpeningFault::Taken(holding) => VisitFault::Taken(holding).at(name),
         OpeningFault::Create(fault) => VisitFault::Create(fault).at(name),
-        OpeningFault::Open(fault, holding) => VisitFault::Open(Refusal { fault, holding }).at(name),
+        OpeningFault::Open(fault, holding) => VisitFault::Open(NoRegister { fault, holding }).at(
+            name,
+        ),
     }
 }

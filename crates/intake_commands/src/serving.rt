@@ -5,13 +5,13 @@ ghost use Rattle.database_places.specs.Opening.{is_found};
 ghost use Rattle.intake_process.specs.Process.{parts};
 ghost use Rattle.intake_commands.specs.Tasks.{Serves, IsServingTold};
 
-use crate::fault::Fault;
+use crate::fault::NotDone;
 use crate::limit::Limit;
 use crate::options::Serving;
 use crate::reported_fault::opening_fault;
 use crate::reporter::Reporter;
 use command_line::{CommandFault, DONE};
-use database_places::{Cache, Opening, Place};
+use database_places::{Opening, PageCache, Place};
 use gateway_server::{Port, PortFault};
 use intake_process::{IntakeProcess, ServingFault, serve_register};
 use sqlite_disk::Disk;
@@ -26,15 +26,15 @@ pub(crate) fn serve<'a, D: Disk + Drop, P: Place<D> + Drop, L: Port, E: Write>(
     process: &mut IntakeProcess<D, P>,
     port: &mut L,
     errors: &mut E,
-) -> Result<u8, Fault<'a>>
+) -> Result<u8, NotDone<'a>>
     ensures { Serves serving.entry (L.traffic port.old) (L.traffic port.new)
         (parts P.lying process.old) (parts P.lying process.new) result }
 {
     let Some(limit) = Limit::new(serving.limit) else {
-        return Err(Fault::Limit);
+        return Err(NotDone::Limit);
     };
     if let Err(error) = listen_before(port, serving.new) {
-        return Err(Fault::Network {
+        return Err(NotDone::Network {
             port: serving.port,
             error,
         });
@@ -72,9 +72,9 @@ fn opening(is_new: bool) -> Opening
     ensures { is_found result ≡ not is_new }
 {
     if is_new {
-        Opening::Made(Cache::Largest)
+        Opening::Made(PageCache::Largest)
     } else {
-        Opening::Found(Cache::Largest)
+        Opening::Found(PageCache::Largest)
     }
 }
 
@@ -84,15 +84,15 @@ fn serving_fault<'a, D: Disk + Drop, P: Place<D>>(
     place: &P,
     serving: Serving<'a>,
     fault: ServingFault,
-) -> Fault<'a>
+) -> NotDone<'a>
     ensures { IsServingTold serving.entry (Err fault) (Err result) }
 {
     match fault {
         ServingFault::Register(fault) => opening_fault(alloc, place, serving.database, fault),
-        ServingFault::Port(PortFault::Network(error)) => Fault::Network {
+        ServingFault::Port(PortFault::Network(error)) => NotDone::Network {
             port: serving.port,
             error,
         },
-        ServingFault::Port(PortFault::Memory) => Fault::Command(CommandFault::Memory),
+        ServingFault::Port(PortFault::Memory) => NotDone::Command(CommandFault::Memory),
     }
 }

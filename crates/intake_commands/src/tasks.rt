@@ -5,7 +5,7 @@ ghost use Rattle.http_wire.specs.Wire.{wire};
 ghost use Rattle.intake_process.specs.Process.{parts};
 ghost use Rattle.intake_commands.specs.Tasks.{Does, Performs, is_wanted, means};
 
-use crate::fault::Fault;
+use crate::fault::NotDone;
 use crate::folder::SiteFolder;
 use crate::options::Task;
 use crate::running::run_once;
@@ -82,7 +82,7 @@ fn do_task<
     writer: &mut W,
     output: &mut O,
     errors: &mut E,
-) -> Result<u8, Fault<'a>>
+) -> Result<u8, NotDone<'a>>
     requires { (parts P.lying process.old).intake ≡ None }
     ensures { Does {g = D.Disk} task.now
         (means (wire R.Source W.Sink reader.old writer.old) (O.contents output.old) (F.Folder.pages folder.old)
@@ -96,14 +96,14 @@ fn do_task<
         Task::Serve(serving) => serve(rt, *serving, process, port, errors),
         Task::Visit { database, errand } => {
             if !is_wanted(*errand) {
-                return Err(Fault::Command(CommandFault::Filer));
+                return Err(NotDone::Command(CommandFault::Filer));
             }
             visit(rt, database, *errand, process, folder, output, errors)
         }
         Task::Lint { filer, form, files } => {
             match lint_reports(rt, "intake", *form, filer, files, output, errors) {
                 Ok(status) => Ok(status),
-                Err(fault) => Err(Fault::Command(fault)),
+                Err(fault) => Err(NotDone::Command(fault)),
             }
         }
     }

@@ -6,12 +6,12 @@ ghost use Rattle.intake_process.specs.Visits.{outputs};
 ghost use Rattle.intake_commands.specs.Tasks.{EndsWith, IsFaultTold, Visits, VisitsCurrent, shown_verdict};
 ghost use Rattle.intake_commands.specs.Tasks.{IsCurrentShown, is_not_earlier, refusal_of};
 
-use crate::fault::{Fault, VisitFault};
+use crate::fault::{NotDone, VisitFault};
 use crate::folder::SiteFolder;
 use crate::progress::TerminalProgress;
 use crate::reported_fault::errand_fault;
 use command_line::{DONE, show};
-use database_places::{Place, Verdict, show_verdict};
+use database_places::{DatabaseFlaw, Place, show_verdict};
 use intake_process::{Errand, ErrandFault, IntakeProcess, Visited};
 use register_store::OpenFault;
 use sqlite::Error;
@@ -31,7 +31,7 @@ pub(crate) fn visit<'a, D: Disk + Drop, P: Place<D> + Drop, F: SiteFolder, O: Wr
     folder: &mut F,
     output: &mut O,
     errors: &mut E,
-) -> Result<u8, Fault<'a>>
+) -> Result<u8, NotDone<'a>>
     requires { (parts P.lying process.old).intake ≡ None }
     ensures { Visits name.entry errand.entry (outputs (O.contents output.old) (F.Folder.pages folder.old))
         (outputs (O.contents output.new) (F.Folder.pages folder.new)) (parts P.lying process.old)
@@ -76,7 +76,7 @@ fn visit_current<'a, D: Disk + Drop, P: Place<D> + Drop, F: SiteFolder, O: Write
     folder: &mut F,
     output: &mut O,
     errors: &mut E,
-) -> Result<u8, Fault<'a>>
+) -> Result<u8, NotDone<'a>>
     requires { (parts P.lying process.old).intake ≡ None }
     ensures { VisitsCurrent name.entry not_earlier (outputs (O.contents output.old) (F.Folder.pages folder.old))
         (outputs (O.contents output.new) (F.Folder.pages folder.new)) (parts P.lying process.old)
@@ -107,12 +107,12 @@ fn visit_current<'a, D: Disk + Drop, P: Place<D> + Drop, F: SiteFolder, O: Write
 }
 
 /// Prints that a register has this version already.
-fn show_current<'a, O: Write>(output: &mut O) -> Result<u8, Fault<'a>>
+fn show_current<'a, O: Write>(output: &mut O) -> Result<u8, NotDone<'a>>
     ensures { IsCurrentShown (O.contents output.old) (O.contents output.new) result }
 {
     match show(output, b"has this version already\n") {
         Ok(()) => Ok(DONE),
-        Err(fault) => Err(Fault::Command(fault)),
+        Err(fault) => Err(NotDone::Command(fault)),
     }
 }
 
@@ -168,7 +168,7 @@ fn end_refused<'a, D: Disk + Drop, P: Place<D>, F: SiteFolder, O: Write>(
     fault: ErrandFault,
     folder: &mut F,
     output: &mut O,
-) -> Result<u8, Fault<'a>>
+) -> Result<u8, NotDone<'a>>
     ensures told { IsFaultTold name.entry errand.entry fault (O.contents output.old) (O.contents output.new) result }
     ensures same { F.Folder.pages folder.new ≡ F.Folder.pages folder.old }
 {
@@ -185,7 +185,7 @@ fn tell_close<E: Write>(closed: Result<(), Error>, name: &str, errors: &mut E) {
 }
 
 /// The verdict that is printed beside the text of a fault: that of a check or a migration on the register.
-fn shown_verdict(errand: Errand<'_>, fault: &Fault<'_>) -> Option<Verdict>
+fn shown_verdict(errand: Errand<'_>, fault: &NotDone<'_>) -> Option<DatabaseFlaw>
     ensures { result ≡ shown_verdict errand.entry fault.now }
 {
     match errand {
@@ -208,17 +208,17 @@ fn shown_verdict(errand: Errand<'_>, fault: &Fault<'_>) -> Option<Verdict>
 /// Prints the verdict, if there is one, and gives the fault back.
 fn end_with<'a, O: Write>(
     alloc: Global,
-    verdict: Option<Verdict>,
-    told: Fault<'a>,
+    verdict: Option<DatabaseFlaw>,
+    told: NotDone<'a>,
     output: &mut O,
-) -> Result<u8, Fault<'a>>
+) -> Result<u8, NotDone<'a>>
     ensures { EndsWith verdict told.entry (O.contents output.old) (O.contents output.new) result }
 {
     match verdict {
         None => Err(told),
         Some(verdict) => match show_verdict(alloc, verdict, "a register", output) {
             Ok(()) => Err(told),
-            Err(fault) => Err(Fault::Command(fault)),
+            Err(fault) => Err(NotDone::Command(fault)),
         },
     }
 }

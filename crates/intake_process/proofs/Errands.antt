@@ -37,7 +37,7 @@ use Rattle.register_digest.specs.declared.fault.DigestFault.TheVariants as diges
 use Rattle.register_digest.specs.Digest.{digest_until}
 use Rattle.register_digest.specs.Registers.{DigestsRegister, digested}
 use Rattle.register_digest.specs.Views.{Digested, view_digest}
-use Rattle.register_export.specs.declared.facts.record.Form.{Form}
+use Rattle.register_export.specs.declared.facts.record.FactForm.{FactForm}
 use Rattle.register_export.specs.Exports.{ExportsFacts}
 use Rattle.register_export.specs.Exports.{UnlessOutput}
 use Rattle.register_export.specs.Records.{export_begun, export_text}
@@ -636,7 +636,7 @@ module _ {S : Type 0} (g : Ghosts S) (out out' : Option (List ℕ)) (conn : Held
 
 -- ---- export
 
-module _ (form : Form) (filer : Option (Bor (List ℕ))) where
+module _ (form : FactForm) (filer : Option (Bor (List ℕ))) where
   records_may : (requests : List Request) (moments : List (Option ℕ)) (why : RecordsFault)
       → MayFail (asked.Export form filer) requests moments (records_fault why)
   records_may requests moments (records.Store why) = tt

@@ -33,8 +33,8 @@ use Rattle.intake_process.specs.declared.fault.OpeningFault.{OpeningFault}
 use Rattle.intake_process.specs.declared.fault.OpeningFault.TheVariants.{Files as Unopened, Taken, Create, Open}
 use Rattle.intake_process.specs.declared.process.Answered.{Answered}
 use Rattle.intake_process.specs.declared.process.Closed.{Closed}
-use Rattle.intake_process.specs.declared.process.Outcome.{Outcome}
-use Rattle.intake_process.specs.declared.process.Outcome.TheVariants as outcome
+use Rattle.intake_process.specs.declared.process.AnsweredBy.{AnsweredBy}
+use Rattle.intake_process.specs.declared.process.AnsweredBy.TheVariants as outcome
 use Rattle.intake_process.specs.Beginning.{HoldsAs, AreTotals, FindsIntake, MakesIntake, IsNotBegun}
 use Rattle.intake_process.specs.Process.{Parts, IsAwake, IsUp, AnswersBy, KeepsBy, IsNotOpened, leaves_doubt}
 use Rattle.intake_process.specs.Process.{IsLeftBy, Leaves, OpensProcess, ClosesProcess}
@@ -326,7 +326,7 @@ module _ {D : Type 0} {g : Ghosts D} where
 
   -- ---- its database refused a call, or not
 
-  awake_by : (o : Outcome) (intake : Intake (FileStore D g)) (last new : Option (Intake (FileStore D g)))
+  awake_by : (o : AnsweredBy) (intake : Intake (FileStore D g)) (last new : Option (Intake (FileStore D g)))
       → last ≡ Some intake → (o ≡ outcome.Failed) ↔ (has_stopped intake ≡ true) → (o ≡ outcome.Failed → new ≡ None)
       → ((o ≡ outcome.Failed → ⊥) → new ≡ last) → IsAwake new
   awake_by outcome.Served intake last new is stops closed others =

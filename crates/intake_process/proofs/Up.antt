@@ -8,23 +8,23 @@ use Rattle.http_wire.specs.Wire.{Wire}
 use Rattle.intake_core.specs.declared.intake.Intake.{Intake}
 use Rattle.intake_core.specs.Held.{has_stopped}
 use Rattle.intake_process.specs.declared.process.Answered.{Answered}
-use Rattle.intake_process.specs.declared.process.Outcome.{Outcome}
-use Rattle.intake_process.specs.declared.process.Outcome.TheVariants as outcome
+use Rattle.intake_process.specs.declared.process.AnsweredBy.{AnsweredBy}
+use Rattle.intake_process.specs.declared.process.AnsweredBy.TheVariants as outcome
 use Rattle.intake_process.specs.Process.{Parts, IsUp, IsUnrefused, StaysUp, CountsRefusal, AnswersBy, AnswersWire}
 use Rattle.intake_process.specs.Process.{DecidesBy, GoesAhead}
 use Rattle.intake_process.proofs.Keeping.{not_true}
 
 -- ---- calls that were refused
 
-grows_by : (o : Outcome) (old new : ℕ) → CountsRefusal o old new → old ≤ new
+grows_by : (o : AnsweredBy) (old new : ℕ) → CountsRefusal o old new → old ≤ new
 grows_by outcome.Failed old new (inl more) = omega (arith, more)
 grows_by outcome.Failed old new (inr full) = omega (arith, full.0)
 grows_by outcome.Served old new same = omega (arith, same)
 grows_by outcome.TurnedAway old new same = omega (arith, same)
 
 -- none was, where none was counted
-not_failed : (o : Outcome) (old new : ℕ) → CountsRefusal o old new → new ≡ old → new < 2 ^ 64 - 1 → o ≡ outcome.Failed
-    → ⊥
+not_failed : (o : AnsweredBy) (old new : ℕ) → CountsRefusal o old new → new ≡ old → new < 2 ^ 64 - 1
+    → o ≡ outcome.Failed → ⊥
 not_failed outcome.Failed old new (inl more) same counts failed = omega (arith, more, same)
 not_failed outcome.Failed old new (inr full) same counts failed = omega (arith, full.1, same, counts)
 not_failed outcome.Served old new is same counts failed = cc

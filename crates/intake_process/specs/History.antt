@@ -8,8 +8,8 @@ use Rattle.intake_process.specs.declared.beginning.Totals.{Totals}
 use Rattle.intake_process.specs.declared.fault.OpeningFault.{OpeningFault}
 use Rattle.intake_process.specs.declared.process.Answered.{Answered}
 use Rattle.intake_process.specs.declared.process.Closed.{Closed}
-use Rattle.intake_process.specs.declared.process.Outcome.{Outcome}
-use Rattle.intake_process.specs.declared.process.Outcome.TheVariants as outcome
+use Rattle.intake_process.specs.declared.process.AnsweredBy.{AnsweredBy}
+use Rattle.intake_process.specs.declared.process.AnsweredBy.TheVariants as outcome
 use Rattle.intake_process.specs.Process.{Parts, IsAwake, IsUp, OpensProcess, GoesAhead, AnswersWire, ClosesProcess}
 use Rattle.intake_process.specs.Observing.{Notes}
 
@@ -61,7 +61,7 @@ IsReady {D} {g} limit (Some true) old new =
     (old.intake ≡ None) × ((result : Result (Option Totals) OpeningFault) × OpensProcess g true limit old new result)
 
 -- it is closed if its database refused a call, and otherwise left as it is
-abbrev pub IsOver : {D : Type 0} {g : Ghosts D} → Outcome → Parts g → Parts g → Type 0
+abbrev pub IsOver : {D : Type 0} {g : Ghosts D} → AnsweredBy → Parts g → Parts g → Type 0
 IsOver {D} {g} outcome.Failed old new = (closed : Closed) × ClosesProcess g old new closed
 IsOver outcome.Served old new = new ≡ old
 IsOver outcome.TurnedAway old new = new ≡ old

@@ -30,8 +30,8 @@ use Rattle.intake_process.specs.declared.fault.OpeningFault.TheVariants as fault
 use Rattle.intake_process.specs.declared.process.Answered.{Answered}
 use Rattle.intake_process.specs.declared.process.Closed.{Closed}
 use Rattle.intake_process.specs.declared.process.IntakeProcess.{IntakeProcess}
-use Rattle.intake_process.specs.declared.process.Outcome.{Outcome}
-use Rattle.intake_process.specs.declared.process.Outcome.TheVariants as outcome
+use Rattle.intake_process.specs.declared.process.AnsweredBy.{AnsweredBy}
+use Rattle.intake_process.specs.declared.process.AnsweredBy.TheVariants as outcome
 use Rattle.intake_process.specs.Beginning.{HoldsAs, AreTotals, IsNotBegun}
 use Rattle.intake_process.specs.Turning.{TurnsAway}
 
@@ -205,7 +205,7 @@ AnswersBy from to None new answered =
     (new ≡ None) × TurnsAway from to answered.served × (answered.outcome ≡ outcome.TurnedAway)
 
 -- a call that the database refused is counted, as far as a u64 counts
-abbrev pub CountsRefusal : Outcome → ℕ → ℕ → Type 0
+abbrev pub CountsRefusal : AnsweredBy → ℕ → ℕ → Type 0
 CountsRefusal outcome.Failed old new = (new ≡ old + 1) ⊎ ((new ≡ old) × (2 ^ 64 - 1 ≤ old))
 CountsRefusal outcome.Served old new = new ≡ old
 CountsRefusal outcome.TurnedAway old new = new ≡ old

@@ -7,7 +7,7 @@ ghost use Rattle.table_rows.specs.Standing.{IsAtRest};
 ghost use Rattle.intake_process.specs.Errands.{FillsFolder, RunsErrand, is_refusal};
 ghost use Rattle.intake_process.specs.Outcomes.{listed_as, records_fault, shown_as, printed_as, writing_fault};
 
-use crate::tasks::checking::{CheckFault, Progress, check};
+use crate::tasks::checking::{CheckFault, CheckProgress, check};
 use crate::tasks::dating::list_moments;
 use crate::tasks::digesting::print_digest;
 use crate::tasks::errand::{Errand, Published};
@@ -19,7 +19,7 @@ use command_line::DatabaseFault;
 use database_places::{Holding, held_in};
 use intake_core::{Intake, Unavailable};
 use register_digest::{DigestFault, digest_register};
-use register_export::{ExportFault, Form, RecordsFault, export};
+use register_export::{ExportFault, FactForm, RecordsFault, export};
 use register_pages::{Folder, PagesFault, WritingFault, write_pages};
 use register_store::{OpenFault, Store, StoreFault};
 use sqlite::{Alter, Connection};
@@ -134,7 +134,7 @@ fn writing_fault(fault: WritingFault) -> ErrandFault
 
 /// Does an errand to the register that this database is, and gives the connection back. `progress` learns how far a
 /// check is, and pages go into `folder`.
-pub(crate) fn run_errand<S: Alter + Drop, P: Progress, F: Folder, O: Write>(
+pub(crate) fn run_errand<S: Alter + Drop, P: CheckProgress, F: Folder, O: Write>(
     alloc: Global,
     conn: Connection<S>,
     errand: Errand<'_>,
@@ -251,7 +251,7 @@ fn show_filing<S: Alter + Drop, O: Write>(
 }
 
 /// Checks the register, and prints how much it holds, if it is sound and has the requests of the published digest.
-fn check_register<S: Alter + Drop, P: Progress, O: Write>(
+fn check_register<S: Alter + Drop, P: CheckProgress, O: Write>(
     alloc: Global,
     mut conn: Connection<S>,
     against: Option<Published>,
@@ -298,7 +298,7 @@ fn migrate_register<S: Alter + Drop, O: Write>(
 fn export_facts<S: Alter + Drop, O: Write>(
     alloc: Global,
     mut conn: Connection<S>,
-    form: Form,
+    form: FactForm,
     filer: Option<&str>,
     output: &mut O,
 ) -> (Connection<S>, Result<(), ErrandFault>)

@@ -29,7 +29,7 @@ pub struct Closed {
 
 /// Who answered a connection.
 #[derive(Clone, Copy, Debug, PartialEq, Eq)]
-pub enum Outcome {
+pub enum AnsweredBy {
     /// The intake.
     Served,
     /// The intake, whose database refused a call.
@@ -42,7 +42,7 @@ pub enum Outcome {
 #[derive(Drop)]
 pub struct Answered {
     pub served: Served,
-    pub outcome: Outcome,
+    pub outcome: AnsweredBy,
 }
 
 /// Serves a connection, and says whether the database refused a call.
@@ -58,21 +58,21 @@ fn serve_by<R: Source, W: Sink, S: Alter>(
     let served = serve(alloc, reader, writer, intake);
     // Running out of memory is no refusal of the database, and leaves the intake up.
     let outcome = if intake.is_down() {
-        Outcome::Failed
+        AnsweredBy::Failed
     } else {
-        Outcome::Served
+        AnsweredBy::Served
     };
     Answered { served, outcome }
 }
 
 /// How many calls were refused, with one more if the database refused one for this connection.
-fn refused_with(outcome: Outcome, refused_calls: u64) -> u64
+fn refused_with(outcome: AnsweredBy, refused_calls: u64) -> u64
     ensures { CountsRefusal outcome refused_calls result }
 {
     match outcome {
-        Outcome::Failed => refused_calls.saturating_add(1),
-        Outcome::Served => refused_calls,
-        Outcome::TurnedAway => refused_calls,
+        AnsweredBy::Failed => refused_calls.saturating_add(1),
+        AnsweredBy::Served => refused_calls,
+        AnsweredBy::TurnedAway => refused_calls,
     }
 }
 
@@ -219,7 +219,7 @@ impl<D: Disk + Drop, P: Place<D> + Drop> IntakeProcess<D, P> {
             }
             None => Answered {
                 served: turn_away(alloc, reader, writer),
-                outcome: Outcome::TurnedAway,
+                outcome: AnsweredBy::TurnedAway,
             },
         }
     }

@@ -15,8 +15,8 @@ ghost use Rattle.database_places.specs.Opening.{is_found};
 use crate::beginning::Totals;
 use crate::fault::OpeningFault;
 use crate::observer::{Observer, Went};
-use crate::process::{IntakeProcess, Outcome};
-use database_places::{Cache, Opening, Place};
+use crate::process::{AnsweredBy, IntakeProcess};
+use database_places::{Opening, PageCache, Place};
 use gateway_server::{Port, PortFault, files_first};
 use intake_core::Moment;
 use sqlite_disk::Disk;
@@ -225,7 +225,7 @@ fn open_again<D: Disk + Drop, P: Place<D> + Drop, O: Observer>(
     if !observer.may_open() {
         return None;
     }
-    match process.open(alloc, Opening::Found(Cache::Largest), limit) {
+    match process.open(alloc, Opening::Found(PageCache::Largest), limit) {
         Ok(Some(totals)) => {
             observer.opened(totals);
             None
@@ -238,20 +238,20 @@ fn open_again<D: Disk + Drop, P: Place<D> + Drop, O: Observer>(
 /// What came of a connection that was answered like this. If the database refused a call, the register is closed.
 fn went<D: Disk + Drop, P: Place<D> + Drop>(
     process: &mut IntakeProcess<D, P>,
-    outcome: Outcome,
+    outcome: AnsweredBy,
     refusal: Option<OpeningFault>,
 ) -> Went
     ensures leaves { IsHonest D.Disk → (limit : ℕ)
         → Leaves limit (parts P.lying process.old) (parts P.lying process.new) }
-    ensures failed { outcome ≡ Outcome.Failed → process.new.intake ≡ None }
-    ensures others { outcome ≢ Outcome.Failed → process.new ≡ process.old }
+    ensures failed { outcome ≡ AnsweredBy.Failed → process.new.intake ≡ None }
+    ensures others { outcome ≢ AnsweredBy.Failed → process.new ≡ process.old }
     ensures over { IsOver outcome (parts P.lying process.old) (parts P.lying process.new) }
     ensures calls { process.new.refused_calls ≡ process.old.refused_calls }
 {
     match (outcome, refusal) {
-        (Outcome::Served, _) => Went::Served,
-        (Outcome::Failed, _) => Went::Failed(process.close()),
-        (Outcome::TurnedAway, Some(fault)) => Went::NotOpened(fault),
-        (Outcome::TurnedAway, None) => Went::TurnedAway,
+        (AnsweredBy::Served, _) => Went::Served,
+        (AnsweredBy::Failed, _) => Went::Failed(process.close()),
+        (AnsweredBy::TurnedAway, Some(fault)) => Went::NotOpened(fault),
+        (AnsweredBy::TurnedAway, None) => Went::TurnedAway,
     }
 }

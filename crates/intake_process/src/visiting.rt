@@ -10,9 +10,9 @@ ghost use Rattle.intake_process.specs.Visits.{outputs};
 
 use crate::errand::{ErrandFault, run_errand};
 use crate::process::IntakeProcess;
-use crate::tasks::checking::Progress;
+use crate::tasks::checking::CheckProgress;
 use crate::tasks::errand::Errand;
-use database_places::{Cache, Opening, Place, close, give_up, open, remove_new_log};
+use database_places::{Opening, PageCache, Place, close, give_up, open, remove_new_log};
 use register_pages::Folder;
 use register_store::OpenFault;
 use sqlite::{Connection, Error, FileStore};
@@ -96,7 +96,7 @@ fn leave<D: Disk + Drop, P: Place<D>>(
 }
 
 /// Opens the database that lies in a place, does an errand to the register that it is, and closes it.
-fn visit_place<D: Disk + Drop, P: Place<D>, G: Progress, F: Folder, O: Write>(
+fn visit_place<D: Disk + Drop, P: Place<D>, G: CheckProgress, F: Folder, O: Write>(
     alloc: Global,
     place: &mut P,
     errand: Errand<'_>,
@@ -108,7 +108,7 @@ fn visit_place<D: Disk + Drop, P: Place<D>, G: Progress, F: Folder, O: Write>(
         (outputs (O.contents output.new) (F.pages folder.new)) (P.lying place.old) (P.lying place.new) result }
 {
     let had_log = place.has_log();
-    match open(alloc, place, Opening::Found(Cache::OfTheFile)) {
+    match open(alloc, place, Opening::Found(PageCache::OfTheFile)) {
         Ok(conn) => {
             // It prints before the files are closed, since what it did is durable by then.
             let (left, done) = run_errand(alloc, conn, errand, progress, folder, output);
@@ -131,7 +131,7 @@ impl<D: Disk + Drop, P: Place<D> + Drop> IntakeProcess<D, P> {
     /// Opens the register, which is closed, does an errand to it, and closes it. A refusal leaves the files in the
     /// place, and leaves the database in them as it was, whatever that is, if it was not to be migrated. `progress`
     /// learns how far a check is, and pages go into the folder.
-    pub fn visit<G: Progress, F: Folder, O: Write>(
+    pub fn visit<G: CheckProgress, F: Folder, O: Write>(
         &mut self,
         alloc: Global,
         errand: Errand<'_>,

@@ -17,19 +17,19 @@ use Rattle.ready_connections.specs.Pieces.{Piece, IsWhole}
 use Rattle.ready_connections.specs.Waiting.{AreHeld, CameBehind, KeepsCame}
 use Rattle.ready_connections.specs.Running.{IsRunning, IsOutOf, KeepsOut, is_shut, items_out_of, piece_of}
 use Rattle.ready_connections.specs.Streams.{Traffic}
-use Rattle.many_connections.specs.declared.event.Event.{Event}
-use Rattle.many_connections.specs.declared.event.Event.TheVariants.{Came, PutBack, Over}
+use Rattle.many_connections.specs.declared.event.PieceEvent.{PieceEvent}
+use Rattle.many_connections.specs.declared.event.PieceEvent.TheVariants.{Came, PutBack, Over}
 use Rattle.many_connections.specs.Events.{Seen, read_but, and_given, after_event, seen_from, seen_after, IsServedAs}
 use Rattle.many_connections.specs.Events.{AreCopies, AreServedAs, Runs, RunsAhead}
 use Rattle.many_connections.proofs.Ahead.{ahead_done, ahead_on, all_join, copies_behind}
 
-from_more : (seen : Seen) (events : List (Event × Bool)) (event : Event × Bool)
+from_more : (seen : Seen) (events : List (PieceEvent × Bool)) (event : PieceEvent × Bool)
     → seen_from seen (events ++ event ∷ []) ≡ after_event (seen_from seen events) event.0
 from_more seen [] event = refl
 from_more seen (e ∷ events) event = from_more (after_event seen e.0) events event
 
 -- one more event
-pub seen_more : (events events' : List (Event × Bool)) (event : Event × Bool) → events' ≡ events ++ event ∷ []
+pub seen_more : (events events' : List (PieceEvent × Bool)) (event : PieceEvent × Bool) → events' ≡ events ++ event ∷ []
     → seen_after events' ≡ after_event (seen_after events) event.0
 seen_more events events' event is = ap seen_after is ∙ from_more (record { given = None; over = [] }) events event
 

@@ -12,8 +12,8 @@ use Rattle.ready_connections.specs.Pieces.{Piece}
 use Rattle.ready_connections.specs.Running.{IsRunning}
 use Rattle.ready_connections.specs.Streams.{Traffic}
 use Rattle.ready_connections.specs.Waiting.{CameBehind}
-use Rattle.many_connections.specs.declared.event.Event.{Event}
-use Rattle.many_connections.specs.declared.event.Event.TheVariants.{Came, PutBack, Over}
+use Rattle.many_connections.specs.declared.event.PieceEvent.{PieceEvent}
+use Rattle.many_connections.specs.declared.event.PieceEvent.TheVariants.{Came, PutBack, Over}
 
 -- the bytes of the piece that came last, until it is over or is put back, and those that are over, as connections
 pub record Seen : Type 0 where
@@ -29,18 +29,18 @@ abbrev pub and_given : Option (List ℕ) → List Connection → ℕ → List �
 and_given None over left text served = over
 and_given (Some bytes) over left text served = over ++ connection_with served (read_but left bytes) text ∷ []
 
-abbrev pub after_event : Seen → Event → Seen
+abbrev pub after_event : Seen → PieceEvent → Seen
 after_event seen (Came piece) = record { given = Some piece.items; over = seen.over }
 after_event seen (PutBack piece) = record { given = None; over = seen.over }
 after_event seen (Over left text served) =
     record { given = None; over = and_given seen.given seen.over left text.items served }
 
-abbrev pub seen_from : Seen → List (Event × Bool) → Seen
+abbrev pub seen_from : Seen → List (PieceEvent × Bool) → Seen
 seen_from seen [] = seen
 seen_from seen (event ∷ events) = seen_from (after_event seen event.0) events
 
 -- what was seen after these events
-abbrev pub seen_after : List (Event × Bool) → Seen
+abbrev pub seen_after : List (PieceEvent × Bool) → Seen
 seen_after events = seen_from (record { given = None; over = [] }) events
 
 -- This piece was served as that connection: its first bytes were read, and all of them if its input ended. Its own

@@ -7,7 +7,7 @@ use gateway_server::Served;
 
 /// What happened to a piece.
 #[derive(Drop)]
-pub enum Event {
+pub enum PieceEvent {
     /// It came, with these bytes.
     Came(Vec<u8>),
     /// It was put back, with these bytes, and comes again.
@@ -20,14 +20,14 @@ pub enum Event {
     },
 }
 
-impl Event {
+impl PieceEvent {
     /// The bytes that came, or those that were written.
     pub(crate) fn into_bytes(self) -> Vec<u8>
         ensures { result ≡ bytes_in self }
     {
         match self {
-            Event::Came(piece) | Event::PutBack(piece) => piece,
-            Event::Over {
+            PieceEvent::Came(piece) | PieceEvent::PutBack(piece) => piece,
+            PieceEvent::Over {
                 left: _,
                 text,
                 served: _,

@@ -9,7 +9,7 @@ mod note;
 mod piece_reader;
 mod tcp;
 
-pub use event::Event;
+pub use event::PieceEvent;
 pub use many::Many;
 pub use note::Note;
 pub use piece_reader::PieceReader;

@@ -6,7 +6,7 @@ ghost use Rattle.ready_connections.specs.Running.{IsEmpty, is_shut};
 ghost use Rattle.gateway_server.specs.Ports.{IsGiven, most_ahead, most_ahead_len};
 ghost use Rattle.many_connections.specs.Events.{AreCopies, RunsAhead, pieces_in, seen_after};
 
-use crate::event::Event;
+use crate::event::PieceEvent;
 use crate::note::Note;
 use crate::piece_reader::PieceReader;
 use gateway_server::{Ended, Port, Served};
@@ -37,7 +37,7 @@ pub struct Many<S: Stream + Drop, K: Sockets<Stream = S> + Drop> {
     sockets: K,
     hall: Hall<S>,
     /// What happened, which only clauses read: no memory holds what was served.
-    events: Log<Event, bool>,
+    events: Log<PieceEvent, bool>,
     /// A copy of the piece that came last, if others may wait, until it is handed out with them.
     given: Vec<u8>,
     /// What was handed out ahead, which only clauses read.
@@ -126,7 +126,7 @@ impl<S: Stream<Note = Note> + Drop, K: Sockets<Stream = S> + Drop> Port for Many
         match self.hall.next_piece(&mut self.sockets, wait, TURNS)? {
             Some(piece) => {
                 self.given = copy_of(self.alloc, piece.as_slice(), self.hall.has_waiting());
-                let event = Event::Came(piece);
+                let event = PieceEvent::Came(piece);
                 self.events = self.events.and(&event, &true);
                 let writer = MemoryWriter::new(self.alloc);
                 let reader = PieceReader::new(event.into_bytes(), self.sockets.moment());
@@ -146,7 +146,7 @@ impl<S: Stream<Note = Note> + Drop, K: Sockets<Stream = S> + Drop> Port for Many
         writer: MemoryWriter,
     ) -> Option<(PieceReader, MemoryWriter)> {
         let moment = reader.moment();
-        let event = Event::PutBack(reader.into_rest());
+        let event = PieceEvent::PutBack(reader.into_rest());
         let events = self.events.and(&event, &true);
         match self.hall.put_back(event.into_bytes()) {
             Some(piece) => Some((PieceReader::new(piece, moment), writer)),
@@ -187,7 +187,7 @@ impl<S: Stream<Note = Note> + Drop, K: Sockets<Stream = S> + Drop> Port for Many
         let left = reader.left();
         let text = writer.into_text();
         let note = Note::new(reader.into_piece(), &served, &text);
-        let event = Event::Over { left, text, served };
+        let event = PieceEvent::Over { left, text, served };
         self.events = self.events.and(&event, &true);
         let text = event.into_bytes();
         self.hall

@@ -17,9 +17,9 @@ use Rattle.outbox_process.specs.declared.errand.Errand.{Errand}
 use Rattle.outbox_process.specs.declared.errand.Errand.TheVariants as errand
 use Rattle.outbox_process.specs.declared.target.Target.{Target}
 use Rattle.outbox_process.specs.Process.{Parts, Leaves, OpensProcess, PerformsErrand, ClosesProcess}
-use Rattle.outbox_commands.specs.declared.fault.Fault.{Fault}
-use Rattle.outbox_commands.specs.declared.fault.Fault.TheVariants as fault
-use Rattle.outbox_commands.specs.declared.putting.Report.{Report}
+use Rattle.outbox_commands.specs.declared.fault.NotDone.{NotDone}
+use Rattle.outbox_commands.specs.declared.fault.NotDone.TheVariants as fault
+use Rattle.outbox_commands.specs.declared.putting.ReportFile.{ReportFile}
 use Rattle.outbox_commands.specs.Status.{status_by, task_status}
 use Rattle.outbox_commands.specs.Visits.{IsRefused}
 
@@ -31,31 +31,31 @@ IsKeyFor (Some text) key = key ≡ text.now
 IsKeyFor None key = Unit {0}
 
 -- why there is no key: the text that was given is no key; or no text was given, and the system or memory failed
-abbrev pub IsNoKeyFor : Option (Bor (List ℕ)) → Fault → Type 0
+abbrev pub IsNoKeyFor : Option (Bor (List ℕ)) → NotDone → Type 0
 IsNoKeyFor (Some text) (fault.Key why) = IsTextFault text.now why
 IsNoKeyFor None (fault.Random error) = Unit {0}
 IsNoKeyFor None (fault.Command why) = why ≡ command.Memory
 IsNoKeyFor _ _ = ⊥
 
 -- there is no such key, the report could not be read, or memory failed
-abbrev pub IsNotRead : Option (Bor (List ℕ)) → Fault → Type 0
+abbrev pub IsNotRead : Option (Bor (List ℕ)) → NotDone → Type 0
 IsNotRead text (fault.Report why) = Unit {0}
 IsNotRead text (fault.Command why) = why ≡ command.Memory
 IsNotRead text why = IsNoKeyFor text why
 
 -- it was read in the file of this name, and has such a key
-abbrev pub IsReadFor : Option (Bor (List ℕ)) → Bor (List ℕ) → Report → Type 0
+abbrev pub IsReadFor : Option (Bor (List ℕ)) → Bor (List ℕ) → ReportFile → Type 0
 IsReadFor text file report = (report.file ≡ file) × IsKeyFor text report.key
 
 -- one was read in each of these files, in order, and each has such a key
-abbrev pub AreReadFor : Option (Bor (List ℕ)) → List (Bor (List ℕ)) → List Report → Type 0
+abbrev pub AreReadFor : Option (Bor (List ℕ)) → List (Bor (List ℕ)) → List ReportFile → Type 0
 AreReadFor text files reports =
     (map (λ report. report.file) reports ≡ files) × All (λ report. IsKeyFor text report.key) reports
 
 -- ---- they are put in
 
 -- a report is put in under its key, to replace the filing that was named, or none
-abbrev pub put_of : Target → Report → Errand
+abbrev pub put_of : Target → ReportFile → Errand
 put_of target report = errand.Put report.key target report.body
 
 -- whether it was put in, and its id printed
@@ -117,12 +117,12 @@ IsUntouched net net' out out' old new = (new ≡ old) × (net' ≡ net) × (out'
 -- A key or a filing was given for several reports, and nothing was done. Otherwise all reports were read, and then put
 -- in, or the outbox was refused; or one was not read, and nothing was done.
 abbrev pub PutsReports : {D X : Type 0} (g : Ghosts D) → List (Bor (List ℕ)) → Option (Bor (List ℕ)) → Target → Traffic
-    → Traffic → Option (List ℕ) → Option (List ℕ) → Parts g → Parts g → Result X Fault → Type 0
+    → Traffic → Option (List ℕ) → Option (List ℕ) → Parts g → Parts g → Result X NotDone → Type 0
 PutsReports g files text target net net' out out' old new result =
     ((is_for_one (length files) text target ≡ false) × (result ≡ Err fault.ForOne)
     × IsUntouched net net' out out' old new)
     ⊎ ((is_for_one (length files) text target ≡ true)
-    × (((reports : List Report) × AreReadFor text files reports × (net' ≡ net)
+    × (((reports : List ReportFile) × AreReadFor text files reports × (net' ≡ net)
     × (PutsThem g (map (put_of target) reports) net out out' old new (status_by result)
     ⊎ (IsRefused g Found old new (status_by result) × (out' ≡ out))))
-    ⊎ ((why : Fault) × (result ≡ Err why) × IsNotRead text why × IsUntouched net net' out out' old new)))
+    ⊎ ((why : NotDone) × (result ≡ Err why) × IsNotRead text why × IsUntouched net net' out out' old new)))

@@ -25,8 +25,8 @@ use Rattle.outbox_process.specs.declared.fault.OpeningFault.{OpeningFault}
 use Rattle.outbox_process.specs.declared.fault.OpeningFault.TheVariants as opening
 use Rattle.outbox_commands.specs.declared.fault.VisitFault.{VisitFault}
 use Rattle.outbox_commands.specs.declared.fault.VisitFault.TheVariants as visit
-use Rattle.outbox_commands.specs.declared.fault.Fault.{Fault}
-use Rattle.outbox_commands.specs.declared.fault.Fault.TheVariants as fault
+use Rattle.outbox_commands.specs.declared.fault.NotDone.{NotDone}
+use Rattle.outbox_commands.specs.declared.fault.NotDone.TheVariants as fault
 
 -- ---- of what went wrong in the libraries
 
@@ -127,7 +127,7 @@ abbrev pub key_status : KeyFault → ℕ
 key_status key.Memory = 3
 key_status _ = 2
 
-abbrev pub status_of : Fault → ℕ
+abbrev pub status_of : NotDone → ℕ
 status_of (fault.Command why) = command.status_of why
 status_of (fault.Key why) = key_status why
 status_of fault.ForOne = 2
@@ -146,12 +146,12 @@ status_of (fault.Receipts lost) = 3
 status_of (fault.Random error) = 3
 
 -- 0 if the task is done
-abbrev pub status_by : {X : Type 0} → Result X Fault → ℕ
+abbrev pub status_by : {X : Type 0} → Result X NotDone → ℕ
 status_by (Ok done) = 0
 status_by (Err why) = status_of why
 
 -- the status of the program: that of what was done, or of why it was not
-abbrev pub ended_status : Result ℕ Fault → ℕ
+abbrev pub ended_status : Result ℕ NotDone → ℕ
 ended_status (Ok status) = status
 ended_status (Err why) = status_of why
 

@@ -9,7 +9,7 @@ use Rattle.sqlite.specs.declared.error.Error.{Error}
 use Rattle.key_string.specs.Filer.{is_filer}
 use Rattle.outbox_tables.specs.Entries.{Contents}
 use Rattle.database_places.specs.Places.{IsHonest}
-use Rattle.database_places.specs.declared.verdict.Verdict.{Verdict}
+use Rattle.database_places.specs.declared.flaw.DatabaseFlaw.{DatabaseFlaw}
 use Rattle.database_places.specs.Verdicts.{verdict_text}
 use Rattle.outbox_process.specs.Dials.{Traffic}
 use Rattle.outbox_process.specs.declared.beginning.Beginning.TheVariants as beginning
@@ -17,7 +17,7 @@ use Rattle.outbox_process.specs.declared.errand.Errand.TheVariants as errand
 use Rattle.outbox_process.specs.declared.fault.OpeningFault.{OpeningFault}
 use Rattle.outbox_process.specs.declared.fault.OpeningFault.TheVariants as opening
 use Rattle.outbox_process.specs.Process.{Parts, Keeps, IsOfCurrent, OpensProcess, ClosesProcess}
-use Rattle.outbox_commands.specs.declared.fault.Fault.{Fault}
+use Rattle.outbox_commands.specs.declared.fault.NotDone.{NotDone}
 use Rattle.outbox_commands.specs.declared.options.Task.{Task}
 use Rattle.outbox_commands.specs.declared.options.Task.TheVariants.{Init, Put, Migrate, Send, Ask, Status, Show}
 use Rattle.outbox_commands.specs.Puts.{PutsReports}
@@ -52,7 +52,7 @@ abbrev pub IsPrinted : Option (List ℕ) → Option (List ℕ) → List ℕ → 
 IsPrinted out out' text done status = ((status ≡ done) × Appends out out' text) ⊎ (status ≡ 3)
 
 -- the verdict on the database was printed, if the refusal says something of it
-abbrev pub IsJudged : Option Verdict → Option (List ℕ) → Option (List ℕ) → ℕ → ℕ → Type 0
+abbrev pub IsJudged : Option DatabaseFlaw → Option (List ℕ) → Option (List ℕ) → ℕ → ℕ → Type 0
 IsJudged (Some verdict) out out' done status = IsPrinted out out' (verdict_text verdict (codes "an outbox")) done status
 IsJudged None out out' done status = (status ≡ done) × (out' ≡ out)
 
@@ -77,7 +77,7 @@ MigratesOutbox g out out' old new status =
 -- ---- all tasks
 
 abbrev pub Does : {D X : Type 0} (g : Ghosts D) → Task → Traffic → Traffic → Option (List ℕ) → Option (List ℕ) → Parts g
-    → Parts g → Result X Fault → Type 0
+    → Parts g → Result X NotDone → Type 0
 Does g (Init database filer) net net' out out' old new result =
     MakesOutbox g filer old new (status_by result) × (net' ≡ net) × (out' ≡ out)
 Does g (Put database files key target) net net' out out' old new result =

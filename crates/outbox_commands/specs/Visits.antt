@@ -2,8 +2,8 @@
 use Rattle.std.specs.Prelude.{◌≡◌, ◌⊎◌, ℕ, Bool, List, Option, Some, None, Result, Ok, Err}
 use Rattle.sqlite_disk.specs.declared.Disk.{Ghosts}
 use Rattle.sqlite.specs.declared.error.Error.{Error}
-use Rattle.database_places.specs.declared.verdict.Verdict.{Verdict}
-use Rattle.database_places.specs.declared.verdict.Verdict.TheVariants as verdict
+use Rattle.database_places.specs.declared.flaw.DatabaseFlaw.{DatabaseFlaw}
+use Rattle.database_places.specs.declared.flaw.DatabaseFlaw.TheVariants as verdict
 use Rattle.database_places.specs.Verdicts.{verdict_of, IsRefusalOf}
 use Rattle.outbox_tables.specs.declared.fault.OutboxFault.{OutboxFault}
 use Rattle.outbox_tables.specs.declared.fault.OutboxFault.TheVariants as made
@@ -66,7 +66,7 @@ VisitsOutbox g strict errand net net' out out' old new status =
 
 -- ---- the verdict on a database that is not migrated
 
-abbrev pub outbox_verdict : OutboxFault → Option Verdict
+abbrev pub outbox_verdict : OutboxFault → Option DatabaseFlaw
 outbox_verdict made.BadFiler = None
 outbox_verdict made.Taken = None
 outbox_verdict made.NotOurs = Some verdict.NotOurs
@@ -75,7 +75,7 @@ outbox_verdict made.Memory = None
 outbox_verdict made.Disk = None
 
 -- the verdict on the database: no outbox that can be migrated, or a damaged one
-abbrev pub opening_verdict : OpeningFault → Option Verdict
+abbrev pub opening_verdict : OpeningFault → Option DatabaseFlaw
 opening_verdict (fault.Files why) = verdict_of why
 opening_verdict (fault.Taken holding) = None
 opening_verdict (fault.Create why) = outbox_verdict why

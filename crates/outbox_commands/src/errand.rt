@@ -7,7 +7,7 @@ ghost use Rattle.outbox_commands.specs.Looking.{KeepsEntries};
 ghost use Rattle.outbox_commands.specs.Status.{status_by, failed_status, strict_status, done_status};
 ghost use Rattle.outbox_commands.specs.Visits.{OpensTold, VisitsOutbox};
 
-use crate::fault::{Fault, VisitFault};
+use crate::fault::{NotDone, VisitFault};
 use crate::network::Network;
 use database_places::{Place, refusal};
 use outbox_core::{Entry, Outbox};
@@ -64,14 +64,14 @@ pub(crate) fn run_errand<'a, D: Disk + Drop, P: Place<D> + Drop, N: Network, O: 
     is_strict: bool,
     output: &mut O,
     errors: &mut E,
-) -> Result<(), Fault<'a>>
+) -> Result<(), NotDone<'a>>
     requires { process.old.outbox ≡ None }
     ensures { VisitsOutbox D.Disk is_strict errand (N.traffic network.old) (N.traffic network.new)
         (O.contents output.old) (O.contents output.new) (parts P.lying process.old) (parts P.lying process.new)
         (status_by result) }
 {
     if let Err(fault) = open(alloc, process, Beginning::Found) {
-        return Err(Fault::of_opening(fault, name));
+        return Err(NotDone::of_opening(fault, name));
     }
     let came = process.perform(alloc, network, errand, output);
     let done = answer(network, came, is_strict, name);
@@ -86,7 +86,7 @@ fn answer<'a, N: Network>(
     came: Result<Done, TaskFault>,
     is_strict: bool,
     name: &'a str,
-) -> Result<(), Fault<'a>>
+) -> Result<(), NotDone<'a>>
     ensures status { status_by result ≡ done_status is_strict came }
     ensures traffic { N.traffic network.new ≡ N.traffic network.old }
 {
@@ -95,7 +95,7 @@ fn answer<'a, N: Network>(
             tell_outcome(network, done);
             fault_of_done(network.port(), is_strict, done)
         }
-        Err(fault) => Err(Fault::of_task(fault, name, network.port(), network.lost_patience())),
+        Err(fault) => Err(NotDone::of_task(fault, name, network.port(), network.lost_patience())),
     }
 }
 
@@ -110,7 +110,7 @@ fn tell_outcome<N: Network>(network: &mut N, done: Done)
 }
 
 /// The fault of an errand that sent entries: exchanges failed, or, if it is strict, entries were not filed.
-fn fault_of_done<'a>(port: u16, is_strict: bool, done: Done) -> Result<(), Fault<'a>>
+fn fault_of_done<'a>(port: u16, is_strict: bool, done: Done) -> Result<(), NotDone<'a>>
     ensures { status_by result ≡ done_status is_strict (Ok done) }
 {
     match done {
@@ -122,18 +122,18 @@ fn fault_of_done<'a>(port: u16, is_strict: bool, done: Done) -> Result<(), Fault
 }
 
 /// The fault of a round in which exchanges failed.
-fn fault_of_failed<'a>(port: u16, round: Round) -> Result<(), Fault<'a>>
+fn fault_of_failed<'a>(port: u16, round: Round) -> Result<(), NotDone<'a>>
     ensures { status_by result ≡ failed_status round.failed }
 {
     let Round { sent, failed, .. } = round;
     if failed == 0 {
         return Ok(());
     }
-    Err(Fault::Round { port, sent, failed })
+    Err(NotDone::Round { port, sent, failed })
 }
 
 /// The fault of a round in which entries were not filed.
-fn fault_of_unfiled<'a>(round: Round) -> Result<(), Fault<'a>>
+fn fault_of_unfiled<'a>(round: Round) -> Result<(), NotDone<'a>>
     ensures { status_by result ≡ strict_status round.refused round.left_open round.failed }
 {
     match round {
@@ -148,7 +148,7 @@ fn fault_of_unfiled<'a>(round: Round) -> Result<(), Fault<'a>>
             left_open,
             refused,
             ..
-        } => Err(Fault::Unfiled {
+        } => Err(NotDone::Unfiled {
             refused,
             open: left_open.saturating_add(failed),
         }),

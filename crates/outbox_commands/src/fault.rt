@@ -8,7 +8,7 @@ ghost use Rattle.outbox_commands.specs.Visits.{outbox_verdict, opening_verdict};
 
 use crate::held::{taken, unfit};
 use command_line::{CommandFault, ReportFault};
-use database_places::{Holding, Verdict};
+use database_places::{DatabaseFlaw, Holding};
 use filer_client::ExchangeFault;
 use http_wire::ReplyFault;
 use key_string::KeyFault;
@@ -128,10 +128,10 @@ impl VisitFault {
     }
 
     /// Why a task was not done that visited the outbox of the file with this name.
-    pub(crate) fn at(self, name: &str) -> Fault<'_>
+    pub(crate) fn at(self, name: &str) -> NotDone<'_>
         ensures { status_of result ≡ visit_status self }
     {
-        Fault::Outbox { name, fault: self }
+        NotDone::Outbox { name, fault: self }
     }
 
     /// The status that the program ends with: 1 for a database that is no outbox or cannot become
@@ -156,9 +156,9 @@ impl VisitFault {
 
 /// What went wrong in an exchange, in words.
 #[derive(Clone, Copy, Debug)]
-pub struct Cause(pub(crate) ExchangeFault);
+pub struct ExchangeInWords(pub(crate) ExchangeFault);
 
-impl fmt::Display for Cause {
+impl fmt::Display for ExchangeInWords {
     fn fmt<W: fmt::Write>(&self, f: &mut fmt::Formatter<W>) -> fmt::Result {
         match self.0 {
             ExchangeFault::Write { sent } => {
@@ -191,7 +191,7 @@ const OTHER_REGISTER: &str = "another register answers, or it was restored; ask 
 
 /// Why a task was not done. Its text is one line.
 #[derive(Debug, Drop, Error)]
-pub enum Fault<'a> {
+pub enum NotDone<'a> {
     #[error("{0}")]
     Command(#[from] CommandFault<'a>),
     #[error("--key: {0}")]
@@ -224,7 +224,7 @@ pub enum Fault<'a> {
         port: u16,
         error: io::Error,
     },
-    #[error("127.0.0.1:{port}: {cause}", cause = Cause(*.fault))]
+    #[error("127.0.0.1:{port}: {cause}", cause = ExchangeInWords(*.fault))]
     Exchange {
         port: u16,
         fault: ExchangeFault,
@@ -266,15 +266,15 @@ pub enum Fault<'a> {
     Random(io::Error),
 }
 
-impl From<AllocError> for Fault<'_> {
+impl From<AllocError> for NotDone<'_> {
     ghost use Rattle.std.specs.Prelude.{◌≡◌};
     ghost use Rattle.command_line.specs.declared.fault.CommandFault.TheVariants as common;
-    ghost use Rattle.outbox_commands.specs.declared.fault.Fault.TheVariants.{Command};
+    ghost use Rattle.outbox_commands.specs.declared.fault.NotDone.TheVariants.{Command};
 
     ghost from_gives = { λ _ fault. fault ≡ Command common.Memory };
 
     fn from(_error: AllocError) -> Self {
-        Fault::Command(CommandFault::Memory)
+        NotDone::Command(CommandFault::Memory)
     }
 }
 
@@ -288,50 +288,50 @@ fn unprinted<'a>(fault: LineFault) -> CommandFault<'a>
     }
 }
 
-impl From<LineFault> for Fault<'_> {
+impl From<LineFault> for NotDone<'_> {
     ghost use Rattle.std.specs.Prelude.{◌≡◌};
     ghost use Rattle.outbox_commands.specs.Status.{status_of};
 
     ghost from_gives = { λ _ fault. status_of fault ≡ 3 };
 
     fn from(fault: LineFault) -> Self {
-        Fault::Command(unprinted(fault))
+        NotDone::Command(unprinted(fault))
     }
 }
 
 /// The verdict of a fault on a database that should be migrated, if it has one.
-pub(crate) fn verdict_on(fault: OpeningFault) -> Option<Verdict>
+pub(crate) fn verdict_on(fault: OpeningFault) -> Option<DatabaseFlaw>
     ensures { result ≡ opening_verdict fault }
 {
     match fault {
-        OpeningFault::Files(fault) => Verdict::of(fault),
+        OpeningFault::Files(fault) => DatabaseFlaw::of(fault),
         OpeningFault::Taken(_) => None,
-        OpeningFault::IsCurrent => Some(Verdict::NotOurs),
+        OpeningFault::IsCurrent => Some(DatabaseFlaw::NotOurs),
         OpeningFault::Create(fault) => verdict_on_outbox(fault),
         OpeningFault::Open(fault, _) => verdict_on_outbox(fault),
         OpeningFault::Migrate(fault, _) => verdict_on_outbox(fault),
     }
 }
 
-fn verdict_on_outbox(fault: OutboxFault) -> Option<Verdict>
+fn verdict_on_outbox(fault: OutboxFault) -> Option<DatabaseFlaw>
     ensures { result ≡ outbox_verdict fault }
 {
     match fault {
-        OutboxFault::NotOurs => Some(Verdict::NotOurs),
-        OutboxFault::Damaged { row } => Some(Verdict::Damaged(row)),
+        OutboxFault::NotOurs => Some(DatabaseFlaw::NotOurs),
+        OutboxFault::Damaged { row } => Some(DatabaseFlaw::Damaged(row)),
         OutboxFault::BadFiler | OutboxFault::Taken | OutboxFault::Memory | OutboxFault::Disk => {
             None
         }
     }
 }
 
-impl<'a> Fault<'a> {
+impl<'a> NotDone<'a> {
     /// Why the outbox of the file with this name was not opened.
-    pub(crate) fn of_opening(fault: OpeningFault, name: &'a str) -> Fault<'a>
+    pub(crate) fn of_opening(fault: OpeningFault, name: &'a str) -> NotDone<'a>
         ensures { status_of result ≡ opening_status fault }
     {
         match fault {
-            OpeningFault::Files(fault) => Fault::Command(CommandFault::Database { name, fault }),
+            OpeningFault::Files(fault) => NotDone::Command(CommandFault::Database { name, fault }),
             OpeningFault::Taken(held) => VisitFault::Taken(held).at(name),
             OpeningFault::Create(fault) => {
                 VisitFault::of_outbox(fault, Holding::Nothing).at(name)
@@ -349,7 +349,7 @@ impl<'a> Fault<'a> {
         name: &'a str,
         port: u16,
         late: Option<u64>,
-    ) -> Fault<'a>
+    ) -> NotDone<'a>
         ensures { status_of result ≡ task_status fault }
     {
         match fault {
@@ -362,8 +362,8 @@ impl<'a> Fault<'a> {
                 fault: LineFault::Output,
             } => VisitFault::NotTold { id }.at(name),
             TaskFault::NotTold { fault, .. } => fault.into(),
-            TaskFault::Send { id, fault } => Fault::of_sending(fault, name, id, port, late),
-            TaskFault::Contradicts { id, state, told } => Fault::Contradicts {
+            TaskFault::Send { id, fault } => NotDone::of_sending(fault, name, id, port, late),
+            TaskFault::Contradicts { id, state, told } => NotDone::Contradicts {
                 port,
                 id,
                 state,
@@ -375,20 +375,20 @@ impl<'a> Fault<'a> {
 
     /// Why, of several reports, that of this file was the last that was put into the outbox of the file with this name,
     /// or was not put in.
-    pub(crate) fn of_stop(fault: TaskFault, name: &'a str, file: &'a str) -> Fault<'a>
+    pub(crate) fn of_stop(fault: TaskFault, name: &'a str, file: &'a str) -> NotDone<'a>
         ensures { status_of result ≡ task_status fault }
     {
         match fault {
-            TaskFault::Put(fault) => Fault::NotPut {
+            TaskFault::Put(fault) => NotDone::NotPut {
                 name: file,
                 fault: fault.into(),
             },
-            TaskFault::NotTold { id, fault } => Fault::LastPut {
+            TaskFault::NotTold { id, fault } => NotDone::LastPut {
                 name: file,
                 id,
                 fault: unprinted(fault),
             },
-            other => Fault::of_task(other, name, 0, None),
+            other => NotDone::of_task(other, name, 0, None),
         }
     }
 
@@ -399,21 +399,21 @@ impl<'a> Fault<'a> {
         id: u64,
         port: u16,
         late: Option<u64>,
-    ) -> Fault<'a>
+    ) -> NotDone<'a>
         ensures { status_of result ≡ send_status fault }
     {
         match (fault, late) {
-            (SendFault::Connect(error), _) => Fault::Connect { port, error },
+            (SendFault::Connect(error), _) => NotDone::Connect { port, error },
             (SendFault::Exchange(ExchangeFault::Take(fault)), _) => {
                 VisitFault::of_taking(fault, id).at(name)
             }
-            (SendFault::Exchange(_), Some(seconds)) => Fault::Patience { port, seconds },
-            (SendFault::Exchange(fault), None) => Fault::Exchange { port, fault },
+            (SendFault::Exchange(_), Some(seconds)) => NotDone::Patience { port, seconds },
+            (SendFault::Exchange(fault), None) => NotDone::Exchange { port, fault },
         }
     }
 }
 
-impl Fault<'_> {
+impl NotDone<'_> {
     /// The status that the program ends with: 1 for a database that is no outbox or cannot become one and for entries
     /// that were refused, 2 for the command line, 3 for a fault of memory, the disk or the network and for entries that
     /// are open, 4 if an entry is missing.
@@ -421,24 +421,24 @@ impl Fault<'_> {
         ensures { result ≡ status_of self.now }
     {
         match self {
-            Fault::Command(fault) => fault.status(),
-            Fault::Report(fault) => fault.status(),
-            Fault::Outbox { fault, .. } => fault.status(),
-            Fault::NotPut { fault, .. } => fault.status(),
-            Fault::LastPut { fault, .. } => fault.status(),
-            Fault::Key(KeyFault::Memory) => 3,
-            Fault::Key(_) | Fault::ForOne => 2,
-            Fault::Connect { .. } => 3,
-            Fault::Exchange { .. } => 3,
-            Fault::Patience { .. } => 3,
-            Fault::Round { .. } => 3,
+            NotDone::Command(fault) => fault.status(),
+            NotDone::Report(fault) => fault.status(),
+            NotDone::Outbox { fault, .. } => fault.status(),
+            NotDone::NotPut { fault, .. } => fault.status(),
+            NotDone::LastPut { fault, .. } => fault.status(),
+            NotDone::Key(KeyNotDone::Memory) => 3,
+            NotDone::Key(_) | NotDone::ForOne => 2,
+            NotDone::Connect { .. } => 3,
+            NotDone::Exchange { .. } => 3,
+            NotDone::Patience { .. } => 3,
+            NotDone::Round { .. } => 3,
             // After 1 a report has to be changed, after 3 an entry is sent again: 1 goes first.
-            Fault::Unfiled { refused: 0, .. } => 3,
-            Fault::Unfiled { .. } => 1,
-            Fault::Contradicts { .. } => 3,
-            Fault::Folder { .. } => 3,
-            Fault::Receipts { .. } => 3,
-            Fault::Random(_) => 3,
+            NotDone::Unfiled { refused: 0, .. } => 3,
+            NotDone::Unfiled { .. } => 1,
+            NotDone::Contradicts { .. } => 3,
+            NotDone::Folder { .. } => 3,
+            NotDone::Receipts { .. } => 3,
+            NotDone::Random(_) => 3,
         }
     }
 

@@ -13,7 +13,7 @@ mod options;
 mod putting;
 mod tasks;
 
-pub use fault::{Cause, Fault, VisitFault};
+pub use fault::{ExchangeInWords, NotDone, VisitFault};
 pub use options::{Peer, Task};
-pub use putting::Report;
+pub use putting::ReportFile;
 pub use tasks::{main, perform};

@@ -4,7 +4,7 @@
 ghost use Rattle.std.specs.Prelude.{◌≡◌, false};
 
 use crate::answer::{MOST_NOTED, Noted, tell_open, tell_refused};
-use crate::fault::{Cause, NoReceipt};
+use crate::fault::{ExchangeInWords, NoReceipt};
 use crate::options::Peer;
 use command_line::{Deadline, Patient};
 use filer_client::ExchangeFault;
@@ -12,7 +12,7 @@ use http_wire::{Device, ReplyFault};
 use jiff::Timestamp;
 use outbox_core::State;
 use outbox_process::Dial;
-use receipts::{Exchange, Folder, ReceiptFault, receipt_of};
+use receipts::{Exchange, ReceiptFault, ReceiptFolder, receipt_of};
 use std::alloc::Global;
 use std::io::{self, Stderr, Write};
 use std::net::TcpStream;
@@ -52,7 +52,7 @@ pub(crate) struct PeerDial<'r> {
     /// What has to be reported of the last exchange, once the line of its entry is printed.
     untold: Option<Exchanged>,
     /// Where receipts are kept, if they are.
-    receipts: Option<Folder<'r, HostRuntime>>,
+    receipts: Option<ReceiptFolder<'r, HostRuntime>>,
     /// How many receipts could not be written.
     lost_receipts: u64,
     errors: Stderr,
@@ -69,7 +69,7 @@ fn stream_to(rt: &HostRuntime, port: u16) -> io::Result<TcpStream> {
 /// Keeps the receipt of an exchange with this port, whose reply came now.
 fn keep_receipt(
     rt: &HostRuntime,
-    folder: &Folder<'_, HostRuntime>,
+    folder: &ReceiptFolder<'_, HostRuntime>,
     exchange: &Exchange<'_>,
     port: u16,
 ) -> Result<(), NoReceipt> {
@@ -84,7 +84,7 @@ impl<'r> PeerDial<'r> {
     pub(crate) fn new(
         rt: &'r HostRuntime,
         peer: Peer<'_>,
-        receipts: Option<Folder<'r, HostRuntime>>,
+        receipts: Option<ReceiptFolder<'r, HostRuntime>>,
     ) -> PeerDial<'r>
         ensures port { result.port ≡ peer.entry.port }
         ensures patience { result.patience ≡ peer.entry.patience }
@@ -161,7 +161,7 @@ fn explain<E: Write>(alloc: Global, exchanged: &Exchanged, errors: &mut E) -> io
             "outbox: entry {id}: clashed; the register has another report under its key: put it in under a new one"
         ),
         Ok(State::Confirmed(_)) => Ok(()),
-        Err(fault) => writeln!(errors, "outbox: entry {id}: {}", Cause(fault)),
+        Err(fault) => writeln!(errors, "outbox: entry {id}: {}", ExchangeInWords(fault)),
     }
 }
 

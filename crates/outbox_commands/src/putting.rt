@@ -7,7 +7,7 @@ ghost use Rattle.outbox_commands.specs.Puts.{PutsOne, PutsInTurn, EndsTurns, Put
 ghost use Rattle.outbox_commands.specs.Status.{status_of, status_by, task_status};
 
 use crate::errand::{close, open, tell_same};
-use crate::fault::Fault;
+use crate::fault::NotDone;
 use crate::network::Network;
 use command_line::{CommandFault, report};
 use database_places::Place;
@@ -23,28 +23,28 @@ use uuid::Uuid;
 
 /// A report that was read in the file of this name, and its key.
 #[derive(Drop)]
-pub struct Report<'a> {
+pub struct ReportFile<'a> {
     file: &'a str,
     key: KeyText,
     body: Vec<u8>,
 }
 
 /// A version 4 UUID from the system's random bytes.
-fn random_key<'a>(rt: &HostRuntime) -> Result<KeyText, Fault<'a>>
+fn random_key<'a>(rt: &HostRuntime) -> Result<KeyText, NotDone<'a>>
     ensures { IfErr result (IsNoKeyFor None) }
 {
     let mut generator: StdRng = match make_rng(rt) {
         Ok(generator) => generator,
-        Err(error) => return Err(Fault::Random(error)),
+        Err(error) => return Err(NotDone::Random(error)),
     };
     match key_of(rt.alloc(), Uuid::new_v4(&mut generator)) {
         Ok(key) => Ok(key),
-        Err(_) => Err(Fault::Command(CommandFault::Memory)),
+        Err(_) => Err(NotDone::Command(CommandFault::Memory)),
     }
 }
 
 /// The key that was given, or one at random.
-fn key<'a>(rt: &HostRuntime, text: Option<&str>) -> Result<KeyText, Fault<'a>>
+fn key<'a>(rt: &HostRuntime, text: Option<&str>) -> Result<KeyText, NotDone<'a>>
     ensures given { IfOk result (IsKeyFor text.entry) }
     ensures refused { IfErr result (IsNoKeyFor text.entry) }
 {
@@ -53,7 +53,7 @@ fn key<'a>(rt: &HostRuntime, text: Option<&str>) -> Result<KeyText, Fault<'a>>
     };
     match KeyText::new(rt.alloc(), text) {
         Ok(key) => Ok(key),
-        Err(fault) => Err(Fault::Key(fault)),
+        Err(fault) => Err(NotDone::Key(fault)),
     }
 }
 
@@ -62,14 +62,14 @@ fn read_report<'a>(
     rt: &HostRuntime,
     file: &'a str,
     key_text: Option<&str>,
-) -> Result<Report<'a>, Fault<'a>>
+) -> Result<ReportFile<'a>, NotDone<'a>>
     ensures read { IfOk result (IsReadFor key_text.entry file.entry) }
     ensures refused { IfErr result (IsNotRead key_text.entry) }
 {
     let key = key(rt, key_text)?;
     match report(rt, file) {
-        Ok(body) => Ok(Report { file, key, body }),
-        Err(fault) => Err(Fault::Report(fault)),
+        Ok(body) => Ok(ReportFile { file, key, body }),
+        Err(fault) => Err(NotDone::Report(fault)),
     }
 }
 
@@ -79,7 +79,7 @@ fn read_each<'a>(
     rt: &HostRuntime,
     files: &[&'a str],
     key_text: Option<&str>,
-) -> Result<Vec<Report<'a>>, Fault<'a>>
+) -> Result<Vec<ReportFile<'a>>, NotDone<'a>>
     ensures read { IfOk result (λ reports. AreReadFor key_text.entry files.now reports.items) }
     ensures refused { IfErr result (IsNotRead key_text.entry) }
 {
@@ -87,7 +87,7 @@ fn read_each<'a>(
     for &file in files {
         let report = read_report(rt, file, key_text)?;
         if reports.push(report).is_err() {
-            return Err(Fault::Command(CommandFault::Memory));
+            return Err(NotDone::Command(CommandFault::Memory));
         }
     }
     Ok(reports)
@@ -99,7 +99,7 @@ fn put_one<'a, D: Disk + Drop, P: Place<D> + Drop, N: Network, O: Write, E: Writ
     alloc: Global,
     process: &mut OutboxProcess<D, P>,
     network: &mut N,
-    report: Report<'a>,
+    report: ReportFile<'a>,
     target: Target,
     is_random: bool,
     named: Option<&str>,
@@ -112,7 +112,7 @@ fn put_one<'a, D: Disk + Drop, P: Place<D> + Drop, N: Network, O: Write, E: Writ
     ensures traffic { N.traffic network.new ≡ N.traffic network.old }
     ensures stays_open { IsSome process.new.outbox }
 {
-    let Report { key, body, .. } = report;
+    let ReportFile { key, body, .. } = report;
     let came = process.perform(alloc, network, Errand::Put { key, target, body }, output);
     if is_random {
         tell_same(process, &came, named, errors);
@@ -125,12 +125,12 @@ fn put_one<'a, D: Disk + Drop, P: Place<D> + Drop, N: Network, O: Write, E: Writ
 
 /// Why the report of a file was the last that was put into the outbox of the file with this name, or was not put in. If
 /// it is one of several, its file is named too.
-fn fault_of_put<'a>(fault: TaskFault, name: &'a str, named: Option<&'a str>) -> Fault<'a>
+fn fault_of_put<'a>(fault: TaskFault, name: &'a str, named: Option<&'a str>) -> NotDone<'a>
     ensures { status_of result ≡ task_status fault }
 {
     match named {
-        Some(file) => Fault::of_stop(fault, name, file),
-        None => Fault::of_task(fault, name, 0, None),
+        Some(file) => NotDone::of_stop(fault, name, file),
+        None => NotDone::of_task(fault, name, 0, None),
     }
 }
 
@@ -141,12 +141,12 @@ fn put_each<'a, D: Disk + Drop, P: Place<D> + Drop, N: Network, O: Write, E: Wri
     process: &mut OutboxProcess<D, P>,
     network: &mut N,
     name: &'a str,
-    reports: Vec<Report<'a>>,
+    reports: Vec<ReportFile<'a>>,
     target: Target,
     is_random: bool,
     output: &mut O,
     errors: &mut E,
-) -> Result<(), Fault<'a>>
+) -> Result<(), NotDone<'a>>
     requires { IsSome process.old.outbox }
     ensures puts { EndsTurns (map (put_of target) reports.entry.items) (N.traffic network.old)
         (O.contents output.old) (O.contents output.new) (parts P.lying process.old) (parts P.lying process.new)
@@ -185,19 +185,19 @@ pub(crate) fn put<'a, D: Disk + Drop, P: Place<D> + Drop, N: Network, O: Write, 
     target: Target,
     output: &mut O,
     errors: &mut E,
-) -> Result<(), Fault<'a>>
+) -> Result<(), NotDone<'a>>
     requires { process.old.outbox ≡ None }
     ensures { PutsReports D.Disk files.now key_text.entry target (N.traffic network.old) (N.traffic network.new)
         (O.contents output.old) (O.contents output.new) (parts P.lying process.old) (parts P.lying process.new) result }
 {
     if !is_for_one(files.len(), key_text, target) {
-        return Err(Fault::ForOne);
+        return Err(NotDone::ForOne);
     }
     // If one file cannot be read, no report is put in.
     let reports = read_each(rt, files, key_text)?;
     let alloc = rt.alloc();
     if let Err(fault) = open(alloc, process, Beginning::Found) {
-        return Err(Fault::of_opening(fault, name));
+        return Err(NotDone::of_opening(fault, name));
     }
     let done = put_each(
         alloc,

@@ -13,7 +13,7 @@ ghost use Rattle.outbox_commands.specs.Words.{database_of};
 
 use crate::asked::read;
 use crate::errand::{close, open, run_errand};
-use crate::fault::{Fault, verdict_on};
+use crate::fault::{NotDone, verdict_on};
 use crate::network::{Network, PeerDial};
 use crate::options::{Asked, Task};
 use crate::putting::put;
@@ -25,7 +25,7 @@ use database_places::{
 use finding_lines::{Form, lint_reports};
 use key_string::is_filer;
 use outbox_process::{Beginning, Errand, OpeningFault, OutboxProcess};
-use receipts::Folder;
+use receipts::ReceiptFolder;
 use sqlite::File;
 use sqlite_disk::Disk;
 use std::alloc::Global;
@@ -38,16 +38,16 @@ fn init<'a, D: Disk + Drop, P: Place<D> + Drop, E: Write>(
     name: &'a str,
     filer: &str,
     errors: &mut E,
-) -> Result<(), Fault<'a>>
+) -> Result<(), NotDone<'a>>
     requires { process.old.outbox ≡ None }
     ensures { MakesOutbox D.Disk filer.entry (parts P.lying process.old) (parts P.lying process.new)
         (status_by result) }
 {
     if !is_filer(filer) {
-        return Err(Fault::Command(CommandFault::Filer));
+        return Err(NotDone::Command(CommandFault::Filer));
     }
     if let Err(fault) = open(alloc, process, Beginning::Made { filer }) {
-        return Err(Fault::of_opening(fault, name));
+        return Err(NotDone::of_opening(fault, name));
     }
     close(process, name, errors);
     Ok(())
@@ -59,16 +59,16 @@ fn show_refused<'a, O: Write>(
     fault: OpeningFault,
     name: &'a str,
     output: &mut O,
-) -> Fault<'a>
+) -> NotDone<'a>
     ensures { IsJudged (opening_verdict fault) (O.contents output.old) (O.contents output.new) (opening_status fault)
         (status_of result) }
 {
     let Some(verdict) = verdict_on(fault) else {
-        return Fault::of_opening(fault, name);
+        return NotDone::of_opening(fault, name);
     };
     match show_verdict(alloc, verdict, "an outbox", output) {
-        Ok(()) => Fault::of_opening(fault, name),
-        Err(unshown) => Fault::Command(unshown),
+        Ok(()) => NotDone::of_opening(fault, name),
+        Err(unshown) => NotDone::Command(unshown),
     }
 }
 
@@ -94,7 +94,7 @@ fn migrate<'a, D: Disk + Drop, P: Place<D> + Drop, O: Write, E: Write>(
     name: &'a str,
     output: &mut O,
     errors: &mut E,
-) -> Result<(), Fault<'a>>
+) -> Result<(), NotDone<'a>>
     requires { process.old.outbox ≡ None }
     ensures { MigratesOutbox D.Disk (O.contents output.old) (O.contents output.new) (parts P.lying process.old)
         (parts P.lying process.new) (status_by result) }
@@ -112,12 +112,12 @@ fn migrate<'a, D: Disk + Drop, P: Place<D> + Drop, O: Write, E: Write>(
 }
 
 /// Prints what became of an outbox that should be migrated.
-fn show_line<'a, O: Write>(output: &mut O, line: &[u8]) -> Result<(), Fault<'a>>
+fn show_line<'a, O: Write>(output: &mut O, line: &[u8]) -> Result<(), NotDone<'a>>
     ensures { IsPrinted (O.contents output.old) (O.contents output.new) line.now 0 (status_by result) }
 {
     match show(output, line) {
         Ok(()) => Ok(()),
-        Err(fault) => Err(Fault::Command(fault)),
+        Err(fault) => Err(NotDone::Command(fault)),
     }
 }
 
@@ -130,7 +130,7 @@ pub(crate) fn perform_task<'a, D: Disk + Drop, P: Place<D> + Drop, N: Network, O
     task: Task<'a>,
     output: &mut O,
     errors: &mut E,
-) -> Result<(), Fault<'a>>
+) -> Result<(), NotDone<'a>>
     requires { process.old.outbox ≡ None }
     ensures { Does D.Disk task.entry (N.traffic network.old) (N.traffic network.new) (O.contents output.old)
         (O.contents output.new) (parts P.lying process.old) (parts P.lying process.new) result }
@@ -184,7 +184,7 @@ pub(crate) fn perform_task<'a, D: Disk + Drop, P: Place<D> + Drop, N: Network, O
 fn receipt_folder<'r, 'a: 'r>(
     rt: &'r HostRuntime,
     path: Option<&'a str>,
-) -> Result<Option<Folder<'r, HostRuntime>>, Fault<'a>>
+) -> Result<Option<ReceiptFolder<'r, HostRuntime>>, NotDone<'a>>
     ensures named { IfOk result (λ folder.
         option_map (λ it. it.path.now) folder ≡ option_map (λ name. name.now) path.entry) }
     ensures refused { IfErr result (IsNoFolder path.entry) }
@@ -192,18 +192,18 @@ fn receipt_folder<'r, 'a: 'r>(
     let Some(name) = path else {
         return Ok(None);
     };
-    match Folder::open(rt, rt.alloc(), name) {
+    match ReceiptFolder::open(rt, rt.alloc(), name) {
         Ok(folder) => Ok(Some(folder)),
-        Err(error) => Err(Fault::Folder { name, error }),
+        Err(error) => Err(NotDone::Folder { name, error }),
     }
 }
 
 /// The result of a task of which this many receipts are missing: it is done if none is.
-fn done_but_for<'a>(lost: u64) -> Result<u8, Fault<'a>>
+fn done_but_for<'a>(lost: u64) -> Result<u8, NotDone<'a>>
     ensures { result ≡ ended_without lost (Ok tt) }
 {
     if lost > 0 {
-        return Err(Fault::Receipts { lost });
+        return Err(NotDone::Receipts { lost });
     }
     Ok(DONE)
 }
@@ -238,7 +238,7 @@ fn perform_with<'a, D: Disk + Drop, P: Place<D> + Drop, O: Write, E: Write>(
     network: &mut PeerDial<'_>,
     output: &mut O,
     errors: &mut E,
-) -> Result<u8, Fault<'a>>
+) -> Result<u8, NotDone<'a>>
     requires file { P.file place ≡ Some (database_of task).now }
     requires peer { IsNetworkOf task network.old }
     ensures { PerformsWith D.Disk task.entry (P.lying place) network.new (O.contents output.old)
@@ -257,7 +257,7 @@ fn perform_over<'a, D: Disk + Drop, P: Place<D> + Drop, O: Write, E: Write>(
     place: P,
     output: &mut O,
     errors: &mut E,
-) -> Result<u8, Fault<'a>>
+) -> Result<u8, NotDone<'a>>
     requires { P.file place ≡ Some (database_of task).now }
     ensures { PerformsOver D.Disk task.entry (P.lying place) (O.contents output.old) (O.contents output.new)
         result }
@@ -276,7 +276,7 @@ fn perform_reading<'a, O: Write, E: Write>(
     wait: u32,
     output: &mut O,
     errors: &mut E,
-) -> Result<u8, Fault<'a>>
+) -> Result<u8, NotDone<'a>>
     requires { only_reads task ≡ true }
     ensures { PerformsOver ⟦<ReadingFile as Disk>⟧ task.entry None (O.contents output.old) (O.contents output.new)
         result }
@@ -293,7 +293,7 @@ fn perform_writing<'a, O: Write, E: Write>(
     wait: u32,
     output: &mut O,
     errors: &mut E,
-) -> Result<u8, Fault<'a>>
+) -> Result<u8, NotDone<'a>>
     ensures { PerformsOver ⟦<File as Disk>⟧ task.entry None (O.contents output.old) (O.contents output.new) result }
 {
     let place = SystemPlace::new(rt, task.database());
@@ -309,7 +309,7 @@ fn perform_once<'a, O: Write, E: Write>(
     wait: u32,
     output: &mut O,
     errors: &mut E,
-) -> Result<u8, Fault<'a>>
+) -> Result<u8, NotDone<'a>>
     ensures { PerformsOnce ⟦<File as Disk>⟧ ⟦<ReadingFile as Disk>⟧ task.entry (O.contents output.old)
         (O.contents output.new) result }
 {
@@ -329,12 +329,12 @@ fn lint<'a, O: Write, E: Write>(
     files: &[&'a str],
     output: &mut O,
     errors: &mut E,
-) -> Result<u8, Fault<'a>>
+) -> Result<u8, NotDone<'a>>
     ensures { PrintsLint form filer.entry files.now (O.contents output.old) (O.contents output.new) result }
 {
     match lint_reports(rt, "outbox", form, filer, files, output, errors) {
         Ok(status) => Ok(status),
-        Err(fault) => Err(Fault::Command(fault)),
+        Err(fault) => Err(NotDone::Command(fault)),
     }
 }
 
@@ -344,7 +344,7 @@ fn perform_asked<'a, O: Write, E: Write>(
     asked: Option<Asked<'a>>,
     output: &mut O,
     errors: &mut E,
-) -> Result<u8, Fault<'a>>
+) -> Result<u8, NotDone<'a>>
     ensures { PerformsAsked ⟦<File as Disk>⟧ ⟦<ReadingFile as Disk>⟧ asked.entry (O.contents output.old)
         (O.contents output.new) result }
 {
@@ -353,7 +353,7 @@ fn perform_asked<'a, O: Write, E: Write>(
             lint(rt, form, filer, files.as_slice(), output, errors)
         }
         Some(Asked::Outbox { task, wait }) => perform_once(rt, task, wait, output, errors),
-        None => Err(Fault::Command(CommandFault::NoTask)),
+        None => Err(NotDone::Command(CommandFault::NoTask)),
     }
 }
 
@@ -363,12 +363,12 @@ fn refuse<'a, O: Write, E: Write>(
     error: &Error,
     output: &mut O,
     errors: &mut E,
-) -> Result<u8, Fault<'a>>
+) -> Result<u8, NotDone<'a>>
     ensures { IsRefusalStatus (kind_of error.now) (ended_status result) }
 {
     match show_refusal(alloc, error, output, errors) {
         Ok(status) => Ok(status),
-        Err(fault) => Err(Fault::Command(fault)),
+        Err(fault) => Err(NotDone::Command(fault)),
     }
 }
 
@@ -378,7 +378,7 @@ fn perform_words<'a, O: Write, E: Write>(
     words: &'a [String],
     output: &mut O,
     errors: &mut E,
-) -> Result<u8, Fault<'a>>
+) -> Result<u8, NotDone<'a>>
     ensures { PerformsWords ⟦<File as Disk>⟧ ⟦<ReadingFile as Disk>⟧ (map string_bytes words.now)
         (O.contents output.old) (O.contents output.new) result }
 {
@@ -409,6 +409,6 @@ pub fn perform<O: Write, E: Write>(
 pub fn main(rt: &HostRuntime) -> u8 {
     match words(rt) {
         Ok(words) => perform(rt, words.as_slice(), &mut rt.stdout(), &mut rt.stderr()),
-        Err(fault) => Fault::Command(fault).tell(&mut rt.stderr()),
+        Err(fault) => NotDone::Command(fault).tell(&mut rt.stderr()),
     }
 }

@@ -11,7 +11,7 @@ use crate::errand::{Done, Errand, do_errand};
 use crate::fault::OpeningFault;
 use crate::tasks::dial::Dial;
 use crate::tasks::fault::TaskFault;
-use database_places::{Cache, Opening, Place, close, give_up, open, remove_new_log};
+use database_places::{Opening, PageCache, Place, close, give_up, open, remove_new_log};
 use outbox_core::Outbox;
 use sqlite::{Error, FileStore};
 use sqlite_disk::Disk;
@@ -23,8 +23,8 @@ fn opening_of(beginning: Beginning<'_>) -> Opening
     ensures { is_found result ≡ has_to_be_there beginning.entry }
 {
     match beginning {
-        Beginning::Found | Beginning::Migrated => Opening::Found(Cache::OfTheFile),
-        Beginning::Made { .. } => Opening::Made(Cache::OfTheFile),
+        Beginning::Found | Beginning::Migrated => Opening::Found(PageCache::OfTheFile),
+        Beginning::Made { .. } => Opening::Made(PageCache::OfTheFile),
     }
 }
 

@@ -22,7 +22,7 @@ use Rattle.intake_process.specs.declared.serving.ServingFault.{ServingFault}
 use Rattle.intake_process.specs.declared.serving.ServingFault.TheVariants.{Register, Port}
 use Rattle.intake_process.specs.declared.visiting.Visited.{Visited}
 use Rattle.intake_commands.specs.Tasks.{IsServingTold, Serves, most_asked}
-use Rattle.intake_commands.specs.declared.fault.Fault.{Fault}
+use Rattle.intake_commands.specs.declared.fault.NotDone.{NotDone}
 use Rattle.intake_commands.specs.declared.options.Serving.{Serving}
 use Rattle.program_runs.specs.Beside.{Service, Answered, Away, Killed, InTurn}
 use Rattle.std.specs.Prelude.{MatchBool, Bool}
@@ -234,7 +234,7 @@ module _ {D : Type 0} {g : Ghosts D} where
   by_steps limit keys most has port port' noted noted' old new (Err (Register why)) requests honest few lies is certain
       = refused limit keys has why old new requests honest lies is.0 certain
 
-  serve_task : (limit : ℕ) (task : Serving) (port port' : Traffic) (old new : Parts g) (result : Result ℕ Fault)
+  serve_task : (limit : ℕ) (task : Serving) (port port' : Traffic) (old new : Parts g) (result : Result ℕ NotDone)
       (requests : List Request) → IsHonest g → task.limit ≤ limit → LiesRegister old requests
       → Serves task port port' old new result → new.is_certain ≡ true → IsServiceBy limit requests old new
   serve_task limit task port port' old new result requests honest few lies serves certain = elim serves [
@@ -358,7 +358,7 @@ module _ {D : Type 0} {g : Ghosts D} where
       (lies (sym (ap (λ (p : Parts g). p.is_certain) same) ∙ certain))
 
   by_told : (name : Bor (List ℕ)) (errand : Errand) (done : Result (Unit {0}) ErrandFault)
-      (out out' : Outputs) (old mid new : Parts g) (result : Result ℕ Fault) (requests : List Request) → IsHonest g
+      (out out' : Outputs) (old mid new : Parts g) (result : Result ℕ NotDone) (requests : List Request) → IsHonest g
       → (mid.is_certain ≡ true → LiesRegister mid requests × AreNotGone old.lying mid.lying)
       → IsVisitTold name errand done out out' mid new result → new.is_certain ≡ true
       → LiesRegister new requests × AreNotGone old.lying new.lying
@@ -377,7 +377,7 @@ module _ {D : Type 0} {g : Ghosts D} where
       same_lies old mid new requests fault.2 lies certain)
 
   visit : {name : Bor (List ℕ)} (limit : ℕ) (errand : Errand) (out out' : Outputs) (old new : Parts g)
-      (result : Result ℕ Fault) (requests : List Request) → IsHonest g → LiesRegister old requests
+      (result : Result ℕ NotDone) (requests : List Request) → IsHonest g → LiesRegister old requests
       → Visits name errand out out' old new result → new.is_certain ≡ true
       → IsServiceBy limit requests old new
   visit {name} limit errand out out' old new result requests honest lies is certain =
@@ -387,7 +387,7 @@ module _ {D : Type 0} {g : Ghosts D} where
       (visited errand out is.0 old is.1 is.2 requests honest lies visits) is.4 certain in
       record { services = []; after = requests; in_turn = refl; lies = left.0; stays = left.1 }
 
-  does : (limit : ℕ) (what : Task) (old new : Means g) (result : Result ℕ Fault) (requests : List Request)
+  does : (limit : ℕ) (what : Task) (old new : Means g) (result : Result ℕ NotDone) (requests : List Request)
       → IsHonest g → IsLimited limit what → LiesRegister old.process requests → Does what old new result
       → new.process.is_certain ≡ true → IsServiceBy limit requests old.process new.process
   does limit (task.Run most) old new result requests honest covered lies is certain =

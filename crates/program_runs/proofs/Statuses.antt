@@ -28,8 +28,8 @@ use Rattle.outbox_process.specs.declared.tasks.fault.TaskFault.TheVariants as ta
 use Rattle.outbox_commands.specs.Puts.{turns_status}
 use Rattle.outbox_commands.specs.Status.{exchange_status, key_status, put_status, send_status, status_by, status_of}
 use Rattle.outbox_commands.specs.Status.{opening_status, outbox_status, task_status, unfiled_status, visit_status}
-use Rattle.outbox_commands.specs.declared.fault.Fault.{Fault}
-use Rattle.outbox_commands.specs.declared.fault.Fault.TheVariants as fault
+use Rattle.outbox_commands.specs.declared.fault.NotDone.{NotDone}
+use Rattle.outbox_commands.specs.declared.fault.NotDone.TheVariants as fault
 use Rattle.outbox_commands.specs.declared.fault.VisitFault.{VisitFault}
 use Rattle.outbox_commands.specs.declared.fault.VisitFault.TheVariants as visit
 
@@ -139,7 +139,7 @@ unfiled_fails : (refused : ℕ) → Fails (unfiled_status refused)
 unfiled_fails zero = refl
 unfiled_fails (suc refused) = refl
 
-fault_fails : (why : Fault) → Fails (status_of why)
+fault_fails : (why : NotDone) → Fails (status_of why)
 fault_fails (fault.Command why) = command_fails why
 fault_fails (fault.Key why) = key_fails why
 fault_fails fault.ForOne = refl
@@ -157,9 +157,9 @@ fault_fails (fault.Folder name error) = refl
 fault_fails (fault.Receipts lost) = refl
 fault_fails (fault.Random error) = refl
 
-pub failed_by : {X : Type 0} (result : Result X Fault) (why : Fault) → result ≡ Err why → status_by result ≢ 0
+pub failed_by : {X : Type 0} (result : Result X NotDone) (why : NotDone) → result ≡ Err why → status_by result ≢ 0
 failed_by result why is done =
-    not_0 (status_of why) (fault_fails why) (sym (ap (λ (r : Result _ Fault). status_by r) is) ∙ done)
+    not_0 (status_of why) (fault_fails why) (sym (ap (λ (r : Result _ NotDone). status_by r) is) ∙ done)
 
 -- ---- an outbox that was not opened
 

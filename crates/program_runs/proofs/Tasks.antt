@@ -35,11 +35,11 @@ use Rattle.outbox_commands.specs.Puts.{PutsInTurn, PutsOne, PutsReports, PutsThe
 use Rattle.outbox_commands.specs.Status.{status_by}
 use Rattle.outbox_commands.specs.Tasks.{Does, MakesOutbox, MigratesOutbox}
 use Rattle.outbox_commands.specs.Visits.{VisitsOutbox}
-use Rattle.outbox_commands.specs.declared.fault.Fault.{Fault}
-use Rattle.outbox_commands.specs.declared.fault.Fault.TheVariants as fault
+use Rattle.outbox_commands.specs.declared.fault.NotDone.{NotDone}
+use Rattle.outbox_commands.specs.declared.fault.NotDone.TheVariants as fault
 use Rattle.outbox_commands.specs.declared.options.Task.{Task}
 use Rattle.outbox_commands.specs.declared.options.Task.TheVariants.{Init, Put, Migrate, Send, Ask, Status, Show}
-use Rattle.outbox_commands.specs.declared.putting.Report.{Report}
+use Rattle.outbox_commands.specs.declared.putting.ReportFile.{ReportFile}
 use Rattle.program_runs.specs.Deeds.{Deed, Added}
 use Rattle.program_runs.specs.Runs.{LiesClosed, IsRunBy, putting, AreOfPutting, AreOfSend, AreOfAsk, AreOfTask, IsFor}
 use Rattle.program_runs.proofs.Joining.{done_join}
@@ -50,7 +50,7 @@ use Rattle.program_runs.proofs.Results.{not_err}
 use Rattle.program_runs.proofs.Sends.{send_entry_brings, send_next_brings, send_all_brings}
 use Rattle.program_runs.proofs.Statuses.{failed_by, opening_failed, all_put}
 
-abbrev deed_of : Target → Report → Deed
+abbrev deed_of : Target → ReportFile → Deed
 deed_of target report = Added report.key target.number report.body.items
 
 -- ---- the first of the deeds of some reports
@@ -99,7 +99,7 @@ not_bare it db is none =
     absurd (cc)
 
 module _ {D : Type 0} {g : Ghosts D} where
-  was_put : (target : Target) (report : Report) (net : Traffic) (out out' : Option (List ℕ)) (old new : Parts g)
+  was_put : (target : Target) (report : ReportFile) (net : Traffic) (out out' : Option (List ℕ)) (old new : Parts g)
       → (puts : PutsOne (put_of target report) net out out' old new (Ok tt)) → (deeds : List Deed)
       → AreBy puts.performs.does.0.1.came (deed_of target report) deeds → deeds ≡ deed_of target report ∷ []
   was_put target report net out out' old new puts deeds are =
@@ -151,7 +151,7 @@ module _ {D : Type 0} {g : Ghosts D} where
   -- ---- reports are put in
 
   -- a report was put in, or that failed
-  put_one : (target : Target) (report : Report) (net : Traffic) (out out' : Option (List ℕ)) (old new : Parts g)
+  put_one : (target : Target) (report : ReportFile) (net : Traffic) (out out' : Option (List ℕ)) (old new : Parts g)
       (ended : Result (Unit {0}) TaskFault) (it : Contents) → IsHonest g
       → (puts : PutsOne (put_of target report) net out out' old new ended) → Keeps old it → new.is_certain ≡ true
       → Goes old new it (AreBy puts.performs.does.0.1.came (deed_of target report))
@@ -188,7 +188,7 @@ module _ {D : Type 0} {g : Ghosts D} where
   ]
 
   -- reports were put in, one after another
-  turns : (target : Target) (reports : List Report) (net : Traffic) (out out' : Option (List ℕ)) (old new : Parts g)
+  turns : (target : Target) (reports : List ReportFile) (net : Traffic) (out out' : Option (List ℕ)) (old new : Parts g)
       (ended : Result (Unit {0}) TaskFault) (it : Contents) → IsHonest g
       → PutsInTurn (map (put_of target) reports) net out out' old new ended → Keeps old it → new.is_certain ≡ true
       → Goes old new it (AreAsEnded (putting target reports) ended)
@@ -226,7 +226,7 @@ module _ {D : Type 0} {g : Ghosts D} where
         }
   ]
 
-  puts_them : (target : Target) (reports : List Report) (net : Traffic) (out out' : Option (List ℕ))
+  puts_them : (target : Target) (reports : List ReportFile) (net : Traffic) (out out' : Option (List ℕ))
       (old new : Parts g) (status : ℕ) (it : Contents) → IsHonest g → LiesClosed old it
       → (puts : PutsThem g (map (put_of target) reports) net out out' old new status) → new.is_certain ≡ true
       → IsRunBy it old new (AreAsEnded (putting target reports) puts.turns.0)
@@ -236,7 +236,7 @@ module _ {D : Type 0} {g : Ghosts D} where
       turns target reports net out out' puts.opened puts.done puts.turns.0 it honest puts.turns.1 keeps sure)
 
   put : {X : Type 0} (files : List (Bor (List ℕ))) (text : Option (Bor (List ℕ))) (target : Target)
-      (net net' : Traffic) (out out' : Option (List ℕ)) (old new : Parts g) (result : Result X Fault) (it : Contents)
+      (net net' : Traffic) (out out' : Option (List ℕ)) (old new : Parts g) (result : Result X NotDone) (it : Contents)
       → IsHonest g → LiesClosed old it → PutsReports g files text target net net' out out' old new result
       → new.is_certain ≡ true → IsRunBy it old new (AreOfPutting files text target (status_by result))
   put files text target net net' out out' old new result it honest lies puts certain = elim puts [
@@ -331,7 +331,7 @@ module _ {D : Type 0} {g : Ghosts D} where
   ]
 
   pub run : {X : Type 0} (task : Task) (net net' : Traffic) (out out' : Option (List ℕ)) (old new : Parts g)
-      (result : Result X Fault) (it : Contents) → IsHonest g → LiesClosed old it → IsFor it.filer task
+      (result : Result X NotDone) (it : Contents) → IsHonest g → LiesClosed old it → IsFor it.filer task
       → Does g task net net' out out' old new result → new.is_certain ≡ true
       → IsRunBy it old new (AreOfTask task (status_by result))
   run (Init database filer) net net' out out' old new result it honest lies made does certain =

@@ -11,7 +11,7 @@ use Rattle.outbox_process.specs.Dials.{Traffic}
 use Rattle.outbox_process.specs.Process.{Parts}
 use Rattle.outbox_commands.specs.Tasks.{Does}
 use Rattle.outbox_commands.specs.Status.{status_by}
-use Rattle.outbox_commands.specs.declared.fault.Fault.{Fault}
+use Rattle.outbox_commands.specs.declared.fault.NotDone.{NotDone}
 use Rattle.outbox_commands.specs.declared.options.Task.{Task}
 use Rattle.intake_commands.specs.Tasks.{Means, Performs}
 use Rattle.intake_commands.specs.declared.options.Task.{Task as IntakeTask}
@@ -34,7 +34,7 @@ module _ {D : Type 0} (g : Ghosts D) where
     pub out' : Option (List ℕ)
     pub old : Parts g
     pub new : Parts g
-    pub result : Result (Unit {0}) Fault
+    pub result : Result (Unit {0}) NotDone
 
   -- a run that came to its end, or one that was killed after these deeds
   pub data OutboxTurn : Type 0 where

@@ -11,7 +11,7 @@ use Rattle.outbox_process.specs.declared.errand.Which.TheVariants.{Next, Entry, 
 use Rattle.database_places.specs.Places.{Lie}
 use Rattle.outbox_process.specs.declared.target.Target.{Target}
 use Rattle.outbox_commands.specs.Puts.{AreReadFor}
-use Rattle.outbox_commands.specs.declared.putting.Report.{Report}
+use Rattle.outbox_commands.specs.declared.putting.ReportFile.{ReportFile}
 use Rattle.outbox_commands.specs.declared.options.Task.{Task}
 use Rattle.outbox_commands.specs.declared.options.Task.TheVariants.{Init, Put, Migrate, Send, Ask, Status, Show}
 use Rattle.program_runs.specs.Deeds.{Deed, Added, Wrote, Heard, Asked, AreDone}
@@ -45,7 +45,7 @@ pub record IsRunBy {D : Type 0} {g : Ghosts D} (it : Contents) (old new : Parts 
 -- ---- which deeds
 
 -- these reports are put in, one after another
-abbrev pub putting : Target → List Report → List Deed
+abbrev pub putting : Target → List ReportFile → List Deed
 putting target reports = map (λ report. Added report.key target.number report.body.items) reports
 
 -- Reports of these files were put in, under the key that was given, or each under one at random, to replace the filing
@@ -53,7 +53,7 @@ putting target reports = map (λ report. Added report.key target.number report.b
 abbrev pub AreOfPutting : List (Bor (List ℕ)) → Option (Bor (List ℕ)) → Target → ℕ → List Deed → Type 0
 AreOfPutting files text target status deeds =
     ((status ≢ 0) × (deeds ≡ []))
-    ⊎ ((reports : List Report) × AreReadFor text files reports × IsPrefixOf deeds (putting target reports)
+    ⊎ ((reports : List ReportFile) × AreReadFor text files reports × IsPrefixOf deeds (putting target reports)
     × (status ≡ 0 → deeds ≡ putting target reports))
 
 -- what was written for one entry and what was read for it, if it was read

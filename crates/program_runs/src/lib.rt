@@ -9,7 +9,7 @@ ghost use Rattle.database_places.specs.Places.{IsHonest};
 ghost use Rattle.outbox_tables.specs.Entries.{Contents, empty};
 ghost use Rattle.outbox_process.specs.Dials.{Traffic};
 ghost use Rattle.outbox_process.specs.Process.{Parts};
-ghost use Rattle.outbox_commands.specs.declared.fault.Fault.{Fault};
+ghost use Rattle.outbox_commands.specs.declared.fault.NotDone.{NotDone};
 ghost use Rattle.outbox_commands.specs.declared.options.Task.{Task};
 ghost use Rattle.outbox_commands.specs.declared.options.Task.TheVariants.{Init};
 ghost use Rattle.outbox_commands.specs.Tasks.{Does};
@@ -32,7 +32,7 @@ use sqlite_disk::Disk;
 /// certain at the end. If it makes an outbox, that is this filer's.
 pub fn a_run_of_outbox_is_deeds<D: Disk>()
     ensures { (task : Task) (net net' : Traffic) (out out' : Option (List ℕ)) (old new : Parts D.Disk)
-        (result : Result (Unit {0}) Fault) (it : Contents) → IsHonest D.Disk → LiesClosed old it → IsFor it.filer task
+        (result : Result (Unit {0}) NotDone) (it : Contents) → IsHonest D.Disk → LiesClosed old it → IsFor it.filer task
         → Does D.Disk task net net' out out' old new result → new.is_certain ≡ true
         → IsRunBy it old new (AreOfTask task (status_by result)) }
 {}

@@ -14,18 +14,18 @@ use std::rt::Files;
 
 /// A folder of receipts.
 #[derive(Drop)]
-pub struct Folder<'a, F> {
+pub struct ReceiptFolder<'a, F> {
     rt: &'a F,
     alloc: Global,
     path: &'a str,
 }
 
-impl<'a, F: Files + RandomSource> Folder<'a, F> {
+impl<'a, F: Files + RandomSource> ReceiptFolder<'a, F> {
     /// The folder of this path, in which files can be made: one was, and is removed again.
-    pub fn open(rt: &'a F, alloc: Global, path: &'a str) -> io::Result<Folder<'a, F>>
+    pub fn open(rt: &'a F, alloc: Global, path: &'a str) -> io::Result<ReceiptFolder<'a, F>>
         ensures { IfOk result (λ folder. folder.path ≡ path.entry) }
     {
-        let folder = Folder { rt, alloc, path };
+        let folder = ReceiptFolder { rt, alloc, path };
         let probe = folder.new_path("probe")?;
         File::create_new(rt, probe.as_str())?;
         fs::remove_file(rt, probe.as_str())?;

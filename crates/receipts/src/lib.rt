@@ -12,5 +12,5 @@ mod sent;
 mod text;
 
 pub use fault::{KeepFault, ReceiptFault};
-pub use folder::Folder;
+pub use folder::ReceiptFolder;
 pub use receipt::{Exchange, Receipt, receipt_of};

@@ -7,7 +7,7 @@ use Rattle.sqlite.specs.State.{HasCleanDisk}
 use Rattle.table_rows.specs.Leaving.{Leaves}
 use Rattle.table_rows.specs.Leaving.Ending.{Ended, Passed}
 use Rattle.table_rows.proofs.LeavingLemmas.{asked_before, clean_before}
-use Rattle.register_export.specs.declared.facts.record.Form.{Form}
+use Rattle.register_export.specs.declared.facts.record.FactForm.{FactForm}
 use Rattle.filing_model.specs.Request.{Request}
 use Rattle.filing_model.specs.Register.{kept, register}
 use Rattle.register_rows.specs.Catalogue.{catalogue_of, view_lines}
@@ -23,7 +23,7 @@ use Rattle.register_export.specs.Exports.{ExportsFacts, UnlessOutput}
 use Rattle.register_export.specs.Records.{export_begun, export_text}
 
 -- the records of the first filings are written, so many
-abbrev pub Begun : Form → Option (List ℕ) → Option (List ℕ) → Option (List ℕ) → List Request → List (Option ℕ)
+abbrev pub Begun : FactForm → Option (List ℕ) → Option (List ℕ) → Option (List ℕ) → List Request → List (Option ℕ)
     → Type 0
 Begun form filer out out' F moments = (many : ℕ) × Appends out out' (export_begun many form filer (kept F) moments)
 
@@ -32,7 +32,7 @@ unless (records.Store fault) p = p
 unless records.Memory p = p
 unless records.Output p = tt
 
-module _ {S : Type 0} (g : Ghosts S) (form : Form) (filer : Option (List ℕ)) (out out' : Option (List ℕ))
+module _ {S : Type 0} (g : Ghosts S) (form : FactForm) (filer : Option (List ℕ)) (out out' : Option (List ℕ))
     (old mid new : Held S) (counts : Counts) (read : ReadsRegister g old mid (Ok counts)) where
   begun_by : Leaves Ended (state g mid) (state g new) → HasCleanDisk (state g new) → (why : RecordsFault)
       → ForDated g mid new (λ F moments. view_lines counts.catalogue ≡ catalogue_of F
@@ -48,7 +48,7 @@ module _ {S : Type 0} (g : Ghosts S) (form : Form) (filer : Option (List ℕ)) (
       begun clean old_style F it.1 moments one_each (still g old mid counts read before it.1 received) it.4 it.3
   begun_by leaves clean records.Output begun = tt
 
-module _ {S X : Type 0} (g : Ghosts S) (form : Form) (filer : Option (List ℕ)) (out out' : Option (List ℕ))
+module _ {S X : Type 0} (g : Ghosts S) (form : FactForm) (filer : Option (List ℕ)) (out out' : Option (List ℕ))
     (old mid new : Held S) (counts : Counts) (read : ReadsRegister g old mid (Ok counts)) where
   -- all records are written
   pub done : Leaves Passed (state g mid) (state g new)

@@ -5,7 +5,7 @@ use Rattle.sqlite.specs.Store.{Ghosts}
 use Rattle.sqlite.specs.Held.{Held, state}
 use Rattle.sqlite.specs.State.{HasCleanDisk}
 use Rattle.table_rows.specs.Standing.{HasCommitted, CommitsNothing, StaysOnOk}
-use Rattle.register_export.specs.declared.facts.record.Form.{Form}
+use Rattle.register_export.specs.declared.facts.record.FactForm.{FactForm}
 use Rattle.filing_model.specs.Request.{Request}
 use Rattle.filing_model.specs.Register.{kept}
 use Rattle.register_rows.specs.Schema.{IsDeclared}
@@ -42,7 +42,7 @@ UnlessRefused (Err (fault.Records why)) Holds = Holds
 UnlessRefused (Err (fault.Open why)) Holds = Unit {0}
 
 -- What `export` writes out of the register that a database is: all facts, or those of one filer, byte for byte.
-pub record ExportsFacts {S X : Type 0} (g : Ghosts S) (form : Form) (filer : Option (List ℕ))
+pub record ExportsFacts {S X : Type 0} (g : Ghosts S) (form : FactForm) (filer : Option (List ℕ))
     (out out' : Option (List ℕ)) (old new : Held S) (result : Result X ExportFault) : Type 0 where
   -- The rows stand for requests with moments, and there is one such list of each at most.
   pub exported : HasCleanDisk (state g new)

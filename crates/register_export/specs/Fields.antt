@@ -11,10 +11,10 @@ use Rattle.register_store.specs.Moments.{milliseconds_of}
 use Rattle.register_moments.specs.Text.{moment_text}
 use Rattle.register_export.specs.Dimensions.{dimension, other_dimensions}
 use Rattle.register_export.specs.declared.facts.aspects.Aspects.{Aspects as HeldAspects}
-use Rattle.register_export.specs.declared.facts.record.Form.{Form}
-use Rattle.register_export.specs.declared.facts.record.Form.TheVariants.{Csv, JsonLines}
+use Rattle.register_export.specs.declared.facts.record.FactForm.{FactForm}
+use Rattle.register_export.specs.declared.facts.record.FactForm.TheVariants.{Csv, JsonLines}
 use Rattle.register_export.specs.declared.facts.record.Fields.{Fields as Held}
-use Rattle.register_export.specs.declared.facts.record.Head.{Head as Given}
+use Rattle.register_export.specs.declared.facts.record.FilingHead.{FilingHead}
 
 -- ---- what a record says
 
@@ -38,25 +38,25 @@ abbrev pub quoted : List ℕ → List ℕ
 quoted text = codes "\"" ++ flat_map doubled text ++ codes "\""
 
 -- In CSV a text is in quotes, so that an empty text is another field than no value, which is empty without quotes.
-abbrev pub text_field : Form → List ℕ → List ℕ
+abbrev pub text_field : FactForm → List ℕ → List ℕ
 text_field Csv text = quoted text
 text_field JsonLines text = compact_text (string text)
 
-abbrev pub absent : Form → List ℕ
+abbrev pub absent : FactForm → List ℕ
 absent Csv = []
 absent JsonLines = codes "null"
 
 -- a value, written by this function, if there is one
-abbrev pub field_or_absent : {X : Type 0} → Form → (X → List ℕ) → Option X → List ℕ
+abbrev pub field_or_absent : {X : Type 0} → FactForm → (X → List ℕ) → Option X → List ℕ
 field_or_absent form written None = absent form
 field_or_absent form written (Some x) = written x
 
 -- a moment: its text, in UTC
-abbrev pub moment_field : Form → ℕ → List ℕ
+abbrev pub moment_field : FactForm → ℕ → List ℕ
 moment_field form moment = text_field form (moment_text moment)
 
 -- a JSON object: as the text of one in CSV, and as itself in a line of JSON
-abbrev pub object_field : Form → Data → List ℕ
+abbrev pub object_field : FactForm → Data → List ℕ
 object_field Csv d = quoted (compact_text d)
 object_field JsonLines d = compact_text d
 
@@ -70,10 +70,10 @@ pub record Aspects : Type 0 where
   pub dimensions : List ℕ
 
 -- the text of the dimension of this name, if there is one
-abbrev pub dimension_field : Form → Option Data → List ℕ → List ℕ
+abbrev pub dimension_field : FactForm → Option Data → List ℕ → List ℕ
 dimension_field form tree name = field_or_absent form (text_field form) (dimension tree name)
 
-abbrev pub aspects : Form → Option Data → Aspects
+abbrev pub aspects : FactForm → Option Data → Aspects
 aspects form tree = record {
   entity = dimension_field form tree (codes "entity");
   period = dimension_field form tree (codes "period");
@@ -96,7 +96,7 @@ pub record Fields : Type 0 where
   pub replaced_by : List ℕ
   pub received : List ℕ
 
-abbrev pub fields : Form → Head → FactRecord → Fields
+abbrev pub fields : FactForm → Head → FactRecord → Fields
 fields form head fact = record {
   number = decimal head.number;
   filer = text_field form head.filer;
@@ -133,16 +133,16 @@ json_line f =
     ++ codes ",\"decimals\":" ++ f.decimals ++ codes ",\"replaced_by\":" ++ f.replaced_by
     ++ codes ",\"received\":" ++ f.received ++ codes "}\n"
 
-abbrev pub record_of : Form → Fields → List ℕ
+abbrev pub record_of : FactForm → Fields → List ℕ
 record_of Csv f = csv_record f
 record_of JsonLines f = json_line f
 
 -- the record of a fact
-abbrev pub record_text : Form → Head → FactRecord → List ℕ
+abbrev pub record_text : FactForm → Head → FactRecord → List ℕ
 record_text form head fact = record_of form (fields form head fact)
 
 -- CSV has the names of the fields first
-abbrev pub first_line : Form → List ℕ
+abbrev pub first_line : FactForm → List ℕ
 first_line Csv =
     codes "number,filer,key,id,concept,entity,period,unit,language,note_id,dimensions,value,decimals,replaced_by,"
     ++ codes "received\r\n"
@@ -150,7 +150,7 @@ first_line JsonLines = []
 
 -- ---- as code holds it
 
-abbrev pub view_head : Given → Head
+abbrev pub view_head : FilingHead → Head
 view_head h = record {
   number = h.number;
   filer = h.filer.now;

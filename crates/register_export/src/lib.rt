@@ -9,8 +9,8 @@ mod records;
 mod walk;
 mod writing;
 
-pub use facts::record::{Form, Head, first_line, record_text};
+pub use facts::record::{FactForm, FilingHead, first_line, record_text};
 pub use fault::{ExportFault, RecordsFault};
 pub use walk::filing::{WholeFiling, filing_at};
-pub use walk::sent::{Sent, sent_at};
+pub use walk::kept_report::{KeptReport, sent_at};
 pub use writing::export;

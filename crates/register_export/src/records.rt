@@ -6,7 +6,7 @@ ghost use Rattle.std.specs.Io.KnownBytes.{Appends};
 ghost use Rattle.register_export.specs.Fields.{record_text, view_head};
 ghost use Rattle.register_export.specs.Records.{head_of, is_wanted, records, wanted_records};
 
-use crate::facts::record::{Form, Head, record_text};
+use crate::facts::record::{FactForm, FilingHead, record_text};
 use crate::fault::RecordsFault;
 use crate::walk::filing::WholeFiling;
 use command_line::show;
@@ -36,10 +36,10 @@ fn is_wanted(filer: Option<&str>, own: &str) -> bool
 }
 
 /// What the records say of the filing.
-fn head_of(filing: &WholeFiling) -> Head<'_>
+fn head_of(filing: &WholeFiling) -> FilingHead<'_>
     ensures { view_head result ≡ head_of filing.now }
 {
-    Head {
+    FilingHead {
         number: filing.number,
         filer: filing.filer.as_str(),
         key: filing.key.as_str(),
@@ -51,8 +51,8 @@ fn head_of(filing: &WholeFiling) -> Head<'_>
 /// A record for each of these facts.
 fn records_of(
     alloc: Global,
-    form: Form,
-    head: &Head<'_>,
+    form: FactForm,
+    head: &FilingHead<'_>,
     facts: &[Fact],
 ) -> Result<Vec<u8>, AllocError>
     ensures { IfOk result (λ text. text.items ≡ flat_map (record_text form (view_head head.now)) facts.now) }
@@ -66,7 +66,7 @@ fn records_of(
 }
 
 /// A record for each fact of the filing.
-fn records(alloc: Global, form: Form, filing: &WholeFiling) -> Result<Vec<u8>, AllocError>
+fn records(alloc: Global, form: FactForm, filing: &WholeFiling) -> Result<Vec<u8>, AllocError>
     ensures { IfOk result (λ text. text.items ≡ records form filing.now) }
 {
     let head = head_of(filing);
@@ -76,7 +76,7 @@ fn records(alloc: Global, form: Form, filing: &WholeFiling) -> Result<Vec<u8>, A
 /// Writes the records of the filing, if its filer's are written.
 pub(crate) fn write_filing<O: Write>(
     alloc: Global,
-    form: Form,
+    form: FactForm,
     filer: Option<&str>,
     filing: &WholeFiling,
     output: &mut O,

@@ -2,5 +2,5 @@
 //! which filing that is.
 
 pub(crate) mod filing;
+pub(crate) mod kept_report;
 pub(crate) mod reads;
-pub(crate) mod sent;

@@ -11,7 +11,7 @@ ghost use Rattle.register_moments.specs.Dated.{ForDated};
 ghost use Rattle.register_export.specs.Records.{export_begun, export_text, filing_records};
 ghost use Rattle.register_export.specs.Exports.{ExportsFacts, UnlessOutput};
 
-use crate::facts::record::{Form, first_line};
+use crate::facts::record::{FactForm, first_line};
 use crate::fault::{ExportFault, RecordsFault};
 use crate::records::{print, write_filing};
 use crate::walk::filing::filing_at;
@@ -27,7 +27,7 @@ use std::io::Write;
 pub fn export<S: Alter, O: Write>(
     alloc: Global,
     conn: &mut Connection<S>,
-    form: Form,
+    form: FactForm,
     filer: Option<&str>,
     output: &mut O,
 ) -> Result<(), ExportFault>
@@ -45,7 +45,7 @@ fn write_records<S: Alter, O: Write>(
     alloc: Global,
     conn: &mut Connection<S>,
     counts: &Counts,
-    form: Form,
+    form: FactForm,
     filer: Option<&str>,
     output: &mut O,
 ) -> Result<(), RecordsFault>
@@ -72,7 +72,7 @@ fn write_numbered<S: Alter, O: Write>(
     conn: &mut Connection<S>,
     catalogue: &Catalogue,
     number: u64,
-    form: Form,
+    form: FactForm,
     filer: Option<&str>,
     output: &mut O,
 ) -> Result<(), RecordsFault>

@@ -13,7 +13,7 @@ use crate::parts::{MOST_REPORTS, Part, behind, first, neighbours, pages_for};
 use crate::reads::{findings_at, target_at};
 use finding_lines::{Form, lines, one_line};
 use markup::Markup;
-use register_export::{Sent, sent_at};
+use register_export::{KeptReport, sent_at};
 use register_rows::Catalogue;
 use sqlite::{Alter, Connection};
 use std::alloc::{AllocError, Global};
@@ -129,7 +129,7 @@ fn refused_row(
     rows: &mut Markup,
     alloc: Global,
     catalogue: &Catalogue,
-    sent: &Sent,
+    sent: &KeptReport,
     target: Option<u64>,
     findings: &[Finding],
 ) -> Result<(), AllocError> {

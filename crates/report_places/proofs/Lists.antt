@@ -10,10 +10,10 @@ use Rattle.json.specs.Token.{Token}
 use Rattle.report_places.specs.Lead.{Found, behind, later_or}
 use Rattle.report_places.specs.OnTape.{IsFound, StandsAt}
 use Rattle.report_places.specs.Place.{IsPlaceOf, ArePlacesOf}
-use Rattle.report_places.specs.declared.place.Place.{Place}
+use Rattle.report_places.specs.declared.place.ValuePlace.{ValuePlace}
 
-pub push_place : (text : List ℕ) (value : Json) (pointers : List (List ℕ)) (places : List Place) (pointer : List ℕ)
-    (place : Place)
+pub push_place : (text : List ℕ) (value : Json) (pointers : List (List ℕ)) (places : List ValuePlace) (pointer : List ℕ)
+    (place : ValuePlace)
     → ArePlacesOf text value pointers places → IsPlaceOf text value pointer place
     → ArePlacesOf text value (pointers ++ pointer ∷ []) (places ++ place ∷ [])
 push_place text value [] [] pointer place are is = (is, tt)

@@ -17,6 +17,6 @@ mod shown;
 mod spot;
 mod tape;
 
-pub use place::{Place, places};
+pub use place::{ValuePlace, places};
 pub use position::{Position, position_of};
 pub use shown::{value_text, whole_value};

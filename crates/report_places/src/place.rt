@@ -13,7 +13,7 @@ use std::alloc::{AllocError, Global};
 
 /// Where a value begins in the bytes of a text.
 #[derive(Clone, Copy, PartialEq, Eq, Debug)]
-pub struct Place {
+pub struct ValuePlace {
     pub offset: usize,
     pub position: Position,
     /// Whether this is the value that was asked for, or the nearest one above it that is there.
@@ -27,7 +27,7 @@ pub fn places(
     alloc: Global,
     text: &[u8],
     pointers: &[&str],
-) -> Result<Option<Vec<Place>>, AllocError>
+) -> Result<Option<Vec<ValuePlace>>, AllocError>
     ensures { IfOk result (Answers text.now (map (λ pointer. pointer.now) pointers.now)) }
 {
     match simdutf8::compat::from_utf8(text) {
@@ -36,7 +36,11 @@ pub fn places(
     }
 }
 
-fn places_in(alloc: Global, text: &str, pointers: &[&str]) -> Result<Option<Vec<Place>>, AllocError>
+fn places_in(
+    alloc: Global,
+    text: &str,
+    pointers: &[&str],
+) -> Result<Option<Vec<ValuePlace>>, AllocError>
     ensures { IfOk result (AnswersText text.now (map (λ pointer. pointer.now) pointers.now)) }
 {
     let mut scratch = Scratch::new(alloc);
@@ -52,7 +56,7 @@ fn places_on(
     text: &str,
     tape: &Tape<'_>,
     pointers: &[&str],
-) -> Result<Vec<Place>, AllocError>
+) -> Result<Vec<ValuePlace>, AllocError>
     requires { (value : Json) × (document text.now ≡ Some value) × (tape.now ≡ tokens text.now) }
     ensures { IfOk result (λ places. (value : Json) → document text.now ≡ Some value
         → ArePlacesOf text.now value (map (λ pointer. pointer.now) pointers.now) places.items) }
@@ -64,7 +68,7 @@ fn places_on(
     for pointer in pointers {
         let lead = lead_of(nodes, &mut index, pointer)?;
         let spot = spots[lead.token];
-        places.push(Place {
+        places.push(ValuePlace {
             offset: spot.offset,
             position: spot.position,
             is_there: lead.is_there,

@@ -1,6 +1,6 @@
 //! What came of a script, without the world in which it was played.
 
-use drill_commands::{Fault, played, shown};
+use drill_commands::{NotDone, played, shown};
 use filing_model::Registered;
 use schedule::{Honest, Output, World};
 use sqlite_disk::Memory;
@@ -40,16 +40,16 @@ impl Outcome {
 }
 
 /// Plays a script over databases in memory, starts each end that is down then, and answers what came of it.
-pub(crate) fn play(alloc: Global, script: &str) -> Result<Outcome, Fault> {
+pub(crate) fn play(alloc: Global, script: &str) -> Result<Outcome, NotDone> {
     play_on::<Memory>(alloc, script)
 }
 
-fn play_on<D: Honest>(alloc: Global, script: &str) -> Result<Outcome, Fault> {
+fn play_on<D: Honest>(alloc: Global, script: &str) -> Result<Outcome, NotDone> {
     let mut world = played::<D>(alloc, script.as_bytes())?;
     outcome_of(alloc, &mut world)
 }
 
-fn outcome_of<D: Honest>(alloc: Global, world: &mut World<D>) -> Result<Outcome, Fault> {
+fn outcome_of<D: Honest>(alloc: Global, world: &mut World<D>) -> Result<Outcome, NotDone> {
     let shown = shown(alloc, world)?;
     let filings = filings(world)?;
     let written = written(alloc, world.outputs())?;
@@ -60,11 +60,11 @@ fn outcome_of<D: Honest>(alloc: Global, world: &mut World<D>) -> Result<Outcome,
     })
 }
 
-fn filings<D: Honest>(world: &mut World<D>) -> Result<Vec<Registered>, Fault> {
+fn filings<D: Honest>(world: &mut World<D>) -> Result<Vec<Registered>, NotDone> {
     Ok(world.register()?)
 }
 
-fn written(alloc: Global, outputs: &[Output]) -> Result<Vec<Vec<u8>>, Fault> {
+fn written(alloc: Global, outputs: &[Output]) -> Result<Vec<Vec<u8>>, NotDone> {
     let mut written = Vec::new(alloc);
     for output in outputs {
         let bytes = output.bytes.as_slice().to_vec(alloc)?;

@@ -3,7 +3,7 @@
 
 use crate::outcome::play;
 use command_line::CommandFault;
-use drill_commands::Fault;
+use drill_commands::NotDone;
 use event_script::ScriptFault;
 use example_texts::{REGISTERED_CLOSED, REPORT, SMALLEST};
 use intake_core::Unavailable;
@@ -38,14 +38,14 @@ pub(crate) fn run(alloc: Global, number: u32) -> Result<bool, AllocError> {
 }
 
 /// Whether memory was refused.
-fn wants_memory(fault: Fault) -> bool {
+fn wants_memory(fault: NotDone) -> bool {
     match fault {
-        Fault::Command(CommandFault::Memory)
-        | Fault::Script(ScriptFault::Memory)
-        | Fault::World(WorldFault::Memory)
-        | Fault::Register(Unavailable::Memory)
-        | Fault::Outbox(StoreFault::Memory)
-        | Fault::Key(KeyFault::Memory) => true,
+        NotDone::Command(CommandFault::Memory)
+        | NotDone::Script(ScriptFault::Memory)
+        | NotDone::World(WorldFault::Memory)
+        | NotDone::Register(Unavailable::Memory)
+        | NotDone::Outbox(StoreFault::Memory)
+        | NotDone::Key(KeyFault::Memory) => true,
         _ => false,
     }
 }
@@ -64,7 +64,7 @@ struct Scene<'a> {
 
 impl Scene<'_> {
     /// Whether the script has the expected result.
-    fn holds(&self, alloc: Global) -> Result<bool, Fault> {
+    fn holds(&self, alloc: Global) -> Result<bool, NotDone> {
         let outcome = play(alloc, self.script)?;
         Ok(
             outcome.shown.as_slice() == self.shown.as_bytes()
@@ -76,7 +76,7 @@ impl Scene<'_> {
 
 /// Vector 15: the intake stops after it has kept the request and before it replies, both ends start again, and the
 /// request is sent again. A front of the reply confirms nothing.
-fn stopped_after_keeping(alloc: Global) -> Result<bool, Fault> {
+fn stopped_after_keeping(alloc: Global) -> Result<bool, NotDone> {
     let cut = format!(in alloc;
         r#"outbox ACME
 put 1 "k-1" {REPORT}
@@ -111,7 +111,7 @@ done 2
 }
 
 /// The beginning of vector 27: a report replaces one that was filed before, and the intake stops after it is kept.
-fn a_report_replaced(alloc: Global) -> Result<bool, Fault> {
+fn a_report_replaced(alloc: Global) -> Result<bool, NotDone> {
     let script = format!(in alloc;
         r#"outbox ACME
 put 1 "k-1" {REPORT}
@@ -141,11 +141,11 @@ done 3
 }
 
 /// Vector 16: two outboxes of a filer send under one key, and what is delivered first is kept.
-fn two_outboxes(alloc: Global) -> Result<bool, Fault> {
+fn two_outboxes(alloc: Global) -> Result<bool, NotDone> {
     Ok(one_body_twice(alloc)? && two_bodies(alloc)?)
 }
 
-fn one_body_twice(alloc: Global) -> Result<bool, Fault> {
+fn one_body_twice(alloc: Global) -> Result<bool, NotDone> {
     let script = under_one_key(alloc, SMALLEST, SMALLEST)?;
     Scene {
         script: &script,
@@ -160,7 +160,7 @@ done 2
     .holds(alloc)
 }
 
-fn two_bodies(alloc: Global) -> Result<bool, Fault> {
+fn two_bodies(alloc: Global) -> Result<bool, NotDone> {
     let script = under_one_key(alloc, SMALLEST, REPORT)?;
     Scene {
         script: &script,
@@ -176,7 +176,7 @@ done 2
 }
 
 /// Two outboxes send a body each, and the second's comes first. Each gets the reply to its own body, the second twice.
-fn under_one_key(alloc: Global, first: &str, second: &str) -> Result<String, Fault> {
+fn under_one_key(alloc: Global, first: &str, second: &str) -> Result<String, NotDone> {
     Ok(format!(in alloc;
         r#"outbox ACME
 outbox ACME
@@ -194,9 +194,9 @@ hand 1 all
 }
 
 /// The end of vector 24: nothing was sent that the first event could deliver.
-fn nothing_to_deliver(alloc: Global) -> Result<bool, Fault> {
+fn nothing_to_deliver(alloc: Global) -> Result<bool, NotDone> {
     match play(alloc, "outbox ACME\ndeliver 1 all\n") {
-        Err(Fault::World(WorldFault::NoSuch { event })) => Ok(event == 1),
+        Err(NotDone::World(WorldFault::NoSuch { event })) => Ok(event == 1),
         Err(fault) => Err(fault),
         Ok(_) => Ok(false),
     }

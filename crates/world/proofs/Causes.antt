@@ -13,7 +13,7 @@ use Rattle.outbox_process.specs.declared.beginning.Beginning.TheVariants.{Found}
 use Rattle.outbox_process.specs.declared.fault.OpeningFault.{OpeningFault}
 use Rattle.outbox_process.specs.declared.fault.OpeningFault.TheVariants as opening
 use Rattle.world.specs.Causes.{closing_cause, files_cause, outbox_cause, outbox_opening_cause}
-use Rattle.world.specs.declared.ends.cause.Cause.TheVariants as cause
+use Rattle.world.specs.declared.ends.fault.EndFault.TheVariants as cause
 
 pub of_closing : (fault : StoreFault) → closing_cause fault ≢ cause.Store
 of_closing store.Memory e = cc

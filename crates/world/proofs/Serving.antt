@@ -31,7 +31,7 @@ use Rattle.intake_process.specs.Beginning.{HoldsAs}
 use Rattle.intake_process.specs.Process.{IsNotOpened, IsLeftBy, KeepsBy, AnswersBy}
 use Rattle.database_places.specs.Places as place
 use Rattle.world.specs.Causes.{register_cause, opening_cause, close_cause}
-use Rattle.world.specs.declared.ends.cause.Cause.TheVariants as cause
+use Rattle.world.specs.declared.ends.fault.EndFault.TheVariants as cause
 use Rattle.world.proofs.Causes.{of_files}
 use Rattle.world.specs.Processes.{IsNotStopped}
 

@@ -1,7 +1,7 @@
 -- As what fault it is reported that an event was not played.
 use Rattle.std.proofs.Common.{◌≡◌, ℕ, refl}
-use Rattle.world.specs.declared.ends.cause.Cause.{Cause}
-use Rattle.world.specs.declared.ends.cause.Cause.TheVariants as cause
+use Rattle.world.specs.declared.ends.fault.EndFault.{EndFault}
+use Rattle.world.specs.declared.ends.fault.EndFault.TheVariants as cause
 use Rattle.world.specs.declared.fault.Fault.TheVariants.{NoSuch, Store, Reopen}
 use Rattle.world.specs.declared.fault.Unplayed.{Unplayed}
 use Rattle.world.specs.declared.fault.Unplayed.TheVariants as why
@@ -30,7 +30,7 @@ reopen_why event n (why.Refused cause.Store) is = absurd (cc)
 reopen_why event n (why.Refused cause.Reopen) is = refl
 
 -- the fault at an event tells that event
-pub refused_tells_own : (event : ℕ) (c : Cause) → Tells event (refused_at event c)
+pub refused_tells_own : (event : ℕ) (c : EndFault) → Tells event (refused_at event c)
 refused_tells_own event cause.Memory = tt
 refused_tells_own event cause.Store = refl
 refused_tells_own event cause.Reopen = refl

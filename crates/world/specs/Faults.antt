@@ -1,14 +1,14 @@
 -- Why an event was not played, once the event is numbered.
 use Rattle.std.specs.Prelude.{ℕ}
-use Rattle.world.specs.declared.ends.cause.Cause.{Cause}
-use Rattle.world.specs.declared.ends.cause.Cause.TheVariants as cause
+use Rattle.world.specs.declared.ends.fault.EndFault.{EndFault}
+use Rattle.world.specs.declared.ends.fault.EndFault.TheVariants as cause
 use Rattle.world.specs.declared.fault.Fault.{Fault}
 use Rattle.world.specs.declared.fault.Fault.TheVariants as fault
 use Rattle.world.specs.declared.fault.Unplayed.{Unplayed}
 use Rattle.world.specs.declared.fault.Unplayed.TheVariants.{NoSuch, Refused}
 
 -- the fault if an end refused at the event of this number
-abbrev pub refused_at : ℕ → Cause → Fault
+abbrev pub refused_at : ℕ → EndFault → Fault
 refused_at event cause.Memory = fault.Memory
 refused_at event cause.Store = fault.Store event
 refused_at event cause.Reopen = fault.Reopen event

@@ -13,9 +13,9 @@ use Rattle.outbox_process.specs.declared.beginning.Beginning.TheVariants.{Found}
 use Rattle.outbox_process.specs.declared.fault.OpeningFault.{OpeningFault}
 use Rattle.outbox_process.specs.declared.process.OutboxProcess.{OutboxProcess}
 use Rattle.world.specs.Causes.{outbox_opening_cause, close_cause}
-use Rattle.world.specs.declared.ends.cause.Cause.{Cause}
+use Rattle.world.specs.declared.ends.fault.EndFault.{EndFault}
 use Rattle.world.specs.declared.ends.outbox_end.OutboxEnd.{OutboxEnd}
-use Rattle.world.specs.declared.ends.cause.Cause.TheVariants.{Reopen}
+use Rattle.world.specs.declared.ends.fault.EndFault.TheVariants.{Reopen}
 
 -- the files that lie in it
 abbrev pub lying_in : {D : Type 0} → Drawer D → Option (Option (Files D))
@@ -75,7 +75,7 @@ IfUp None Holds = Unit {0}
 -- ---- why it is not opened or closed
 
 -- the outbox that was to lie there was not opened, for a fault of this cause
-abbrev pub IsNotOpenedIn : {D : Type 0} → Ghosts D → Option (Option (Files D)) → Option (Option (Files D)) → Cause
+abbrev pub IsNotOpenedIn : {D : Type 0} → Ghosts D → Option (Option (Files D)) → Option (Option (Files D)) → EndFault
     → Type 0
 IsNotOpenedIn g old new why =
     (was_taken : Bool) × (fault : OpeningFault) × IsNotOpened g Found old new was_taken fault
@@ -83,22 +83,22 @@ IsNotOpenedIn g old new why =
 
 -- the outbox was open, and was not closed for an error of this cause
 abbrev pub IsNotClosedIn : {D : Type 0} {g : Ghosts D} → Option (OutboxParts (FileStore D g))
-    → Option (Option (Files D)) → Option (Option (Files D)) → Cause → Type 0
+    → Option (Option (Files D)) → Option (Option (Files D)) → EndFault → Type 0
 IsNotClosedIn outbox old new why = (error : Error) × IsLeftOpen outbox old new error × (why ≡ close_cause error)
 
 -- What was left in the drawer is given up with the process.
-abbrev pub IsNotStoppedBy : {D : Type 0} {g : Ghosts D} → Option (OutboxProcess D (Drawer D) g) → Cause → Type 0
+abbrev pub IsNotStoppedBy : {D : Type 0} {g : Ghosts D} → Option (OutboxProcess D (Drawer D) g) → EndFault → Type 0
 IsNotStoppedBy {D} (Some process) why =
     (left : Option (Option (Files D))) × IsNotClosedIn process.outbox (lying_in process.place) left why
 IsNotStoppedBy None why = why ≡ Reopen
 
-abbrev pub IsNotStopped : {D : Type 0} {g : Ghosts D} → OutboxEnd D g → Cause → Type 0
+abbrev pub IsNotStopped : {D : Type 0} {g : Ghosts D} → OutboxEnd D g → EndFault → Type 0
 IsNotStopped end why = IsNotStoppedBy end.process why
 
-abbrev pub IsNotStartedBy : {D : Type 0} {g : Ghosts D} → Option (OutboxProcess D (Drawer D) g) → Cause → Type 0
+abbrev pub IsNotStartedBy : {D : Type 0} {g : Ghosts D} → Option (OutboxProcess D (Drawer D) g) → EndFault → Type 0
 IsNotStartedBy {D} {g} (Some process) why =
     (left : Option (Option (Files D))) × IsNotOpenedIn g (lying_in process.place) left why
 IsNotStartedBy None why = why ≡ Reopen
 
-abbrev pub IsNotStarted : {D : Type 0} {g : Ghosts D} → OutboxEnd D g → Cause → Type 0
+abbrev pub IsNotStarted : {D : Type 0} {g : Ghosts D} → OutboxEnd D g → EndFault → Type 0
 IsNotStarted end why = IsNotStartedBy end.process why

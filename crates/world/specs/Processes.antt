@@ -19,7 +19,7 @@ use Rattle.intake_process.specs.declared.fault.OpeningFault.{OpeningFault}
 use Rattle.intake_process.specs.declared.process.IntakeProcess.{IntakeProcess}
 use Rattle.world.specs.Causes.{opening_cause, close_cause}
 use Rattle.world.specs.OutboxEnd.{lying_in}
-use Rattle.world.specs.declared.ends.cause.Cause.{Cause}
+use Rattle.world.specs.declared.ends.fault.EndFault.{EndFault}
 
 -- The process keeps these requests, none of which is old-style, and is certain of it.
 abbrev pub KeepsSurely : {D : Type 0} {g : Ghosts D} → IntakeProcess D (Drawer D) g → ℕ → List Request → Type 0
@@ -48,15 +48,15 @@ is_asleep None = true
 -- ---- why it is not opened or closed
 
 -- its register was not opened, or not made, for a fault of this cause
-abbrev pub IsNotStarted : {D : Type 0} → Ghosts D → Bool → Option (Option (Files D)) → Option (Option (Files D)) → Cause
-    → Type 0
+abbrev pub IsNotStarted : {D : Type 0} → Ghosts D → Bool → Option (Option (Files D)) → Option (Option (Files D))
+    → EndFault → Type 0
 IsNotStarted g has_to_be_there old new why =
     (fault : OpeningFault) × (was_taken : Bool) × IsNotOpened g has_to_be_there old new was_taken fault
     × (why ≡ opening_cause fault)
 
 -- its register was open, and was not closed for an error of this cause; the files that were left lie in its place
 abbrev pub IsNotStopped : {D : Type 0} {g : Ghosts D} → Option (Intake (FileStore D g)) → Option (Option (Files D))
-    → Cause → Type 0
+    → EndFault → Type 0
 IsNotStopped (Some intake) lying why =
     (files : Files _) × (error : Error) × (lying ≡ Some (Some files)) × IsNotClosed (store_of intake).conn files error
     × (why ≡ close_cause error)

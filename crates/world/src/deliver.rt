@@ -8,7 +8,7 @@ ghost use Rattle.world.specs.Filers.{FilerParts};
 ghost use Rattle.world.specs.Played.{world_of};
 
 use crate::element::{first, index_of};
-use crate::ends::cause::Cause;
+use crate::ends::fault::EndFault;
 use crate::ends::honest::Honest;
 use crate::fault::Unplayed;
 use crate::lists::{Output, Sent};
@@ -29,8 +29,8 @@ pub(crate) fn deliver<D: Honest>(
     ensures stays { OnOk result (server.new.taken ≡ server.old.taken) }
     ensures no_such { result ≡ Err Unplayed.NoSuch → (filers : List FilerParts)
         → CannotPlay (world_of server.old sent.now outputs.old.items filers) (Deliver item bytes (view_crash crash)) }
-    ensures store { result ≢ Err (Unplayed.Refused Cause.Store) }
-    ensures reopen { result ≡ Err (Unplayed.Refused Cause.Reopen)
+    ensures store { result ≢ Err (Unplayed.Refused EndFault.Store) }
+    ensures reopen { result ≡ Err (Unplayed.Refused EndFault.Reopen)
         → (is_no (view_crash crash) ≡ false) × ((filers : List FilerParts)
         → ¬ CannotPlay (world_of server.old sent.now outputs.old.items filers)
         (Deliver item bytes (view_crash crash))) }

@@ -7,7 +7,7 @@ ghost use Rattle.filing_world.specs.Step.{IsAway};
 ghost use Rattle.world.specs.Filers.{FilerParts, boxes};
 ghost use Rattle.world.specs.Played.{IsLent};
 
-use crate::ends::cause::Cause;
+use crate::ends::fault::EndFault;
 use crate::ends::honest::Honest;
 use crate::fault::Unplayed;
 use crate::filer::Filer;
@@ -56,11 +56,11 @@ pub(crate) fn sender_of(sent: &[Sent], item: u64) -> Result<(u64, u64), Unplayed
     ensures some { IfOk result (λ from. (it : Item) × (numbered sent.now item ≡ Some it) × (it.from ≡ Some from)) }
     ensures stranger { result ≡ Err Unplayed.NoSuch
         → (it : Item) × (numbered sent.now item ≡ Some it) × (it.from ≡ None) }
-    ensures gone { result ≡ Err (Unplayed.Refused Cause.Store) → numbered sent.now item ≡ None }
-    ensures reopen { result ≢ Err (Unplayed.Refused Cause.Reopen) }
+    ensures gone { result ≡ Err (Unplayed.Refused EndFault.Store) → numbered sent.now item ≡ None }
+    ensures reopen { result ≢ Err (Unplayed.Refused EndFault.Reopen) }
 {
     let Some(at) = index_of(item, sent.len()) else {
-        return Err(Unplayed::Refused(Cause::Store));
+        return Err(Unplayed::Refused(EndFault::Store));
     };
     let from = &sent[at];
     match from.from {

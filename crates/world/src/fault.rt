@@ -1,6 +1,6 @@
 //! Why an event was not played.
 
-use crate::ends::cause::Cause;
+use crate::ends::fault::EndFault;
 use outbox_core::StoreFault;
 use std::alloc::AllocError;
 use thiserror::Error;
@@ -28,16 +28,16 @@ pub(crate) enum Unplayed {
     /// A number names nothing, an output answers a stranger, or an end that the event needs is down.
     NoSuch,
     /// An end refused.
-    Refused(Cause),
+    Refused(EndFault),
 }
 
-impl From<Cause> for Unplayed {
+impl From<EndFault> for Unplayed {
     ghost use Rattle.std.specs.Prelude.{◌≡◌};
     ghost use Rattle.world.specs.declared.fault.Unplayed.TheVariants.{Refused};
 
     ghost from_gives = { λ cause why. why ≡ Refused cause };
 
-    fn from(cause: Cause) -> Unplayed {
+    fn from(cause: EndFault) -> Unplayed {
         Unplayed::Refused(cause)
     }
 }
@@ -50,19 +50,19 @@ impl From<StoreFault> for Unplayed {
     ghost from_gives = { λ fault why. why ≡ Refused (store_cause fault) };
 
     fn from(fault: StoreFault) -> Unplayed {
-        Unplayed::Refused(Cause::from(fault))
+        Unplayed::Refused(EndFault::from(fault))
     }
 }
 
 impl From<AllocError> for Unplayed {
     ghost use Rattle.std.specs.Prelude.{◌≡◌};
-    ghost use Rattle.world.specs.declared.ends.cause.Cause.TheVariants.{Memory};
+    ghost use Rattle.world.specs.declared.ends.fault.EndFault.TheVariants.{Memory};
     ghost use Rattle.world.specs.declared.fault.Unplayed.TheVariants.{Refused};
 
     ghost from_gives = { λ _ why. why ≡ Refused Memory };
 
     fn from(_error: AllocError) -> Unplayed {
-        Unplayed::Refused(Cause::Memory)
+        Unplayed::Refused(EndFault::Memory)
     }
 }
 
@@ -71,13 +71,13 @@ impl Fault {
     ghost use Rattle.world.specs.Faults.{fault_at, refused_at};
 
     /// The event of this number was not played, as an end refused.
-    pub(crate) fn of_refusal(cause: Cause, event: u64) -> Fault
+    pub(crate) fn of_refusal(cause: EndFault, event: u64) -> Fault
         ensures { result ≡ refused_at event cause }
     {
         match cause {
-            Cause::Memory => Fault::Memory,
-            Cause::Store => Fault::Store { event },
-            Cause::Reopen => Fault::Reopen { event },
+            EndFault::Memory => Fault::Memory,
+            EndFault::Store => Fault::Store { event },
+            EndFault::Reopen => Fault::Reopen { event },
         }
     }
 

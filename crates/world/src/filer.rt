@@ -18,7 +18,7 @@ ghost use Rattle.event_script.specs.Events.{view_crash};
 ghost use Rattle.filer_client.specs.Exchange.{request_at};
 ghost use Rattle.world.specs.OutboxListed.{listed};
 
-use crate::ends::cause::Cause;
+use crate::ends::fault::EndFault;
 use crate::ends::honest::Honest;
 use crate::ends::outbox_end::OutboxEnd;
 use crate::report::{Report, set_state};
@@ -67,7 +67,7 @@ impl<D: Honest> Drop for Filer<D> {
 impl<D: Honest> Filer<D> {
     /// A filer with an outbox that is up and has no entry. For another cause than memory it answers `Reopen` if its
     /// files were not opened, and `Store` if its tables were not made.
-    pub(crate) fn new(alloc: Global, code: &str) -> Result<Filer<D>, Cause>
+    pub(crate) fn new(alloc: Global, code: &str) -> Result<Filer<D>, EndFault>
         requires { is_filer code.now ≡ true }
         ensures made { IfOk result (λ f. f.box ≡ new_outbox code.now) }
         ensures there { IfOk result (λ f. f.taken ≡ false) }
@@ -125,14 +125,14 @@ impl<D: Honest> Filer<D> {
     /// Hands these bytes to the entry of this number as the reply to its request. Bytes that give no reply move
     /// nothing, and are no error. Before a stop nothing is read of them. For another cause than memory it answers
     /// `Store` if the outbox did not take the reply, and `Reopen` if it did not give its files.
-    pub(crate) fn hand(&mut self, entry: u64, bytes: &[u8], crash: Crash) -> Result<(), Cause>
+    pub(crate) fn hand(&mut self, entry: u64, bytes: &[u8], crash: Crash) -> Result<(), EndFault>
         requires { self.old.box.up ≡ true }
         ensures heard { OnOk result ((what : Item) → numbered self.old.box.entries entry ≡ Some what
             → (heard : Option ReplyParts) × Hears bytes.now (view_crash crash) heard
             × (self.new.box ≡ box_after self.old.box entry what heard (view_crash crash))) }
         ensures stays { OnOk result (self.new.taken ≡ self.old.taken) }
-        ensures store { result ≡ Err Cause.Store → (j : ℕ) → view_crash crash ≢ Before j }
-        ensures reopen { result ≡ Err Cause.Reopen → is_no (view_crash crash) ≡ false }
+        ensures store { result ≡ Err EndFault.Store → (j : ℕ) → view_crash crash ≢ Before j }
+        ensures reopen { result ≡ Err EndFault.Reopen → is_no (view_crash crash) ≡ false }
     {
         match crash {
             Crash::No => Ok(self.hear(entry, bytes)?),
@@ -159,20 +159,20 @@ impl<D: Honest> Filer<D> {
     }
 
     /// Closes the outbox, if it is up. Answers `Reopen` if it was not closed for another cause than memory.
-    fn stop(&mut self) -> Result<(), Cause>
+    fn stop(&mut self) -> Result<(), EndFault>
         ensures down { OnOk result (self.new.box ≡ record self.old.box { up = false }) }
         ensures stays { OnOk result (self.new.taken ≡ self.old.taken) }
-        ensures store { result ≢ Err Cause.Store }
+        ensures store { result ≢ Err EndFault.Store }
     {
         self.end.stop()
     }
 
     /// Closes the outbox, if it is up, and opens it again, with the entries that it had. Answers `Reopen` if it was not
     /// closed or opened for another cause than memory.
-    pub(crate) fn restart(&mut self) -> Result<(), Cause>
+    pub(crate) fn restart(&mut self) -> Result<(), EndFault>
         ensures restarted { OnOk result (self.new.box ≡ record self.old.box { up = true }) }
         ensures stays { OnOk result (self.new.taken ≡ self.old.taken) }
-        ensures store { result ≢ Err Cause.Store }
+        ensures store { result ≢ Err EndFault.Store }
     {
         self.end.stop()?;
         self.end.start(self.alloc)

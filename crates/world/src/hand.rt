@@ -11,7 +11,7 @@ ghost use Rattle.world.specs.Played.{world_of};
 ghost use Rattle.world.specs.Playing.{AsksOutbox};
 
 use crate::element::{first, index_of, sender_of, up_at};
-use crate::ends::cause::Cause;
+use crate::ends::fault::EndFault;
 use crate::ends::honest::Honest;
 use crate::fault::Unplayed;
 use crate::filer::Filer;
@@ -33,10 +33,10 @@ pub(crate) fn hand<D: Honest>(
     ensures stays { OnOk result (takens filers.new.items ≡ takens filers.old.items) }
     ensures no_such { result ≡ Err Unplayed.NoSuch → (server : Served)
         → CannotPlay (world_of server sent.now outputs.now filers.old.items) (Hand output bytes (view_crash crash)) }
-    ensures store { result ≡ Err (Unplayed.Refused Cause.Store) → (server : Served)
+    ensures store { result ≡ Err (Unplayed.Refused EndFault.Store) → (server : Served)
         → Keeps (world_of server sent.now outputs.now filers.old.items)
         → AsksOutbox (world_of server sent.now outputs.now filers.old.items) (Hand output bytes (view_crash crash)) }
-    ensures reopen { result ≡ Err (Unplayed.Refused Cause.Reopen)
+    ensures reopen { result ≡ Err (Unplayed.Refused EndFault.Reopen)
         → (is_no (view_crash crash) ≡ false) × ((server : Served)
         → ¬ CannotPlay (world_of server sent.now outputs.now filers.old.items)
         (Hand output bytes (view_crash crash))) }

@@ -21,8 +21,8 @@ mod send;
 mod server;
 mod world;
 
-pub use ends::cause::Cause;
 pub use ends::durable::Durable;
+pub use ends::fault::EndFault;
 pub use ends::honest::Honest;
 pub use ends::keys::copy_key;
 pub use ends::outbox_end::OutboxEnd;

@@ -6,9 +6,9 @@ ghost use Rattle.filing_model.specs.Register.{register};
 ghost use Rattle.world.specs.OutboxEnd.{lying_in};
 ghost use Rattle.world.specs.Processes.{KeepsSurely, IsNotStarted, IsNotStopped, is_asleep};
 
-use crate::ends::cause::Cause;
+use crate::ends::fault::EndFault;
 use crate::ends::honest::Honest;
-use database_places::{Cache, Drawer, Opening};
+use database_places::{Drawer, Opening, PageCache};
 use intake_core::Unavailable;
 use intake_process::{Closed, IntakeProcess};
 use register_store::Registered;
@@ -18,13 +18,13 @@ use std::alloc::Global;
 pub(crate) fn make<D: Honest>(
     alloc: Global,
     limit: u64,
-) -> Result<IntakeProcess<D, Drawer<D>>, Cause>
+) -> Result<IntakeProcess<D, Drawer<D>>, EndFault>
     requires { limit ≤ 2 ^ 62 }
     ensures kept { IfOk result (λ process. KeepsSurely process limit []) }
     ensures up { IfOk result (λ process. is_some process.intake ≡ true) }
 {
     let mut process = IntakeProcess::new(Drawer::new(alloc));
-    process.open(alloc, Opening::Made(Cache::OfTheFile), limit)?;
+    process.open(alloc, Opening::Made(PageCache::OfTheFile), limit)?;
     Ok(process)
 }
 
@@ -33,33 +33,33 @@ pub(crate) fn open<D: Honest>(
     alloc: Global,
     process: &mut IntakeProcess<D, Drawer<D>>,
     limit: u64,
-) -> Result<(), Cause>
+) -> Result<(), EndFault>
     requires { limit ≤ 2 ^ 62 }
     ensures kept { (requests : List Request) → KeepsSurely process.old limit requests
         → OnOk result (KeepsSurely process.new limit requests) }
     ensures up { OnOk result (is_some process.new.intake ≡ true) }
     ensures refused { IfErr result
         (IsNotStarted D.Disk true (lying_in process.old.place) (lying_in process.new.place)) }
-    ensures store { result ≢ Err Cause.Store }
+    ensures store { result ≢ Err EndFault.Store }
 {
-    match process.open(alloc, Opening::Found(Cache::OfTheFile), limit) {
+    match process.open(alloc, Opening::Found(PageCache::OfTheFile), limit) {
         Ok(_) => Ok(()),
-        Err(fault) => Err(Cause::from(fault)),
+        Err(fault) => Err(EndFault::from(fault)),
     }
 }
 
 /// Closes the register of a process, if it is open.
-pub(crate) fn close<D: Honest>(process: &mut IntakeProcess<D, Drawer<D>>) -> Result<(), Cause>
+pub(crate) fn close<D: Honest>(process: &mut IntakeProcess<D, Drawer<D>>) -> Result<(), EndFault>
     ensures kept { (limit : ℕ) (requests : List Request) → KeepsSurely process.old limit requests
         → OnOk result (KeepsSurely process.new limit requests) }
     ensures closed { process.new.intake ≡ None }
     ensures refused { IfErr result (IsNotStopped process.old.intake (lying_in process.new.place)) }
-    ensures store { result ≢ Err Cause.Store }
+    ensures store { result ≢ Err EndFault.Store }
 {
     let Closed { kept: _, outcome } = process.close();
     match outcome {
         Ok(()) => Ok(()),
-        Err(error) => Err(Cause::of_close(error)),
+        Err(error) => Err(EndFault::of_close(error)),
     }
 }
 

@@ -11,7 +11,7 @@ ghost use Rattle.world.specs.Played.{world_of};
 ghost use Rattle.world.specs.Playing.{IsUp};
 
 use crate::element::up_at;
-use crate::ends::cause::Cause;
+use crate::ends::fault::EndFault;
 use crate::ends::honest::Honest;
 use crate::fault::Unplayed;
 use crate::filer::Filer;
@@ -31,8 +31,8 @@ pub(crate) fn put<D: Honest>(
     ensures stays { OnOk result (takens filers.new.items ≡ takens filers.old.items) }
     ensures no_such { result ≡ Err Unplayed.NoSuch → (server : Served) (sent : List Item) (outputs : List Left)
         → CannotPlay (world_of server sent outputs filers.old.items) (Put outbox key.now target body.now) }
-    ensures store { result ≡ Err (Unplayed.Refused Cause.Store) → IsUp (boxes filers.old.items) outbox }
-    ensures reopen { result ≢ Err (Unplayed.Refused Cause.Reopen) }
+    ensures store { result ≡ Err (Unplayed.Refused EndFault.Store) → IsUp (boxes filers.old.items) outbox }
+    ensures reopen { result ≢ Err (Unplayed.Refused EndFault.Reopen) }
 {
     let Some(at) = up_at(filers.as_slice(), outbox) else {
         return Err(Unplayed::NoSuch);

@@ -8,7 +8,7 @@ ghost use Rattle.world.specs.Served.{Served};
 ghost use Rattle.world.specs.Played.{world_of};
 
 use crate::element::index_of;
-use crate::ends::cause::Cause;
+use crate::ends::fault::EndFault;
 use crate::ends::honest::Honest;
 use crate::fault::Unplayed;
 use crate::filer::Filer;
@@ -23,8 +23,8 @@ pub(crate) fn restart_outbox<D: Honest>(
     ensures stays { OnOk result (takens filers.new.items ≡ takens filers.old.items) }
     ensures no_such { result ≡ Err Unplayed.NoSuch → (server : Served) (sent : List Item) (outputs : List Left)
         → CannotPlay (world_of server sent outputs filers.old.items) (RestartOutbox outbox) }
-    ensures store { result ≢ Err (Unplayed.Refused Cause.Store) }
-    ensures reopen { result ≡ Err (Unplayed.Refused Cause.Reopen)
+    ensures store { result ≢ Err (Unplayed.Refused EndFault.Store) }
+    ensures reopen { result ≡ Err (Unplayed.Refused EndFault.Reopen)
         → (server : Served) (sent : List Item) (outputs : List Left)
         → ¬ CannotPlay (world_of server sent outputs filers.old.items) (RestartOutbox outbox) }
 {

@@ -9,7 +9,7 @@ ghost use Rattle.world.specs.Played.{world_of};
 ghost use Rattle.world.specs.Playing.{IsUp};
 
 use crate::element::up_at;
-use crate::ends::cause::Cause;
+use crate::ends::fault::EndFault;
 use crate::ends::honest::Honest;
 use crate::fault::Unplayed;
 use crate::filer::Filer;
@@ -28,8 +28,8 @@ pub(crate) fn send<D: Honest>(
     ensures stays { OnOk result (takens filers.new.items ≡ takens filers.old.items) }
     ensures no_such { result ≡ Err Unplayed.NoSuch → (server : Served) (outputs : List Left)
         → CannotPlay (world_of server sent.old.items outputs filers.old.items) (Send outbox entry) }
-    ensures store { result ≡ Err (Unplayed.Refused Cause.Store) → IsUp (boxes filers.old.items) outbox }
-    ensures reopen { result ≢ Err (Unplayed.Refused Cause.Reopen) }
+    ensures store { result ≡ Err (Unplayed.Refused EndFault.Store) → IsUp (boxes filers.old.items) outbox }
+    ensures reopen { result ≢ Err (Unplayed.Refused EndFault.Reopen) }
 {
     let Some(at) = up_at(filers.as_slice(), outbox) else {
         return Err(Unplayed::NoSuch);

@@ -15,7 +15,7 @@ ghost use Rattle.gateway_server.specs.Stopping.{view_stop};
 ghost use Rattle.world.specs.Processes.{KeepsSurely};
 
 use crate::delivery::{Exchange, serve_bytes};
-use crate::ends::cause::Cause;
+use crate::ends::fault::EndFault;
 use crate::ends::honest::Honest;
 use crate::opening::{close, make, open, registered};
 use database_places::Drawer;
@@ -92,13 +92,16 @@ fn stop_of(crash: Crash) -> Stop
 }
 
 /// Closes the register of a process after a delivery with a crash.
-fn stop_by<D: Honest>(process: &mut IntakeProcess<D, Drawer<D>>, crash: Crash) -> Result<(), Cause>
+fn stop_by<D: Honest>(
+    process: &mut IntakeProcess<D, Drawer<D>>,
+    crash: Crash,
+) -> Result<(), EndFault>
     ensures kept { (limit : ℕ) (requests : List Request) → KeepsSurely process.old limit requests
         → OnOk result (KeepsSurely process.new limit requests) }
     ensures up { is_some process.old.intake ≡ true
         → OnOk result (is_some process.new.intake ≡ is_no (view_crash crash)) }
-    ensures store { result ≢ Err Cause.Store }
-    ensures reopen { result ≡ Err Cause.Reopen → is_no (view_crash crash) ≡ false }
+    ensures store { result ≢ Err EndFault.Store }
+    ensures reopen { result ≡ Err EndFault.Reopen → is_no (view_crash crash) ≡ false }
 {
     match crash {
         Crash::No => Ok(()),
@@ -129,7 +132,7 @@ impl<D: Honest> Server<D> {
     ghost use Rattle.world.specs.Delivery.{IsDelivered};
 
     /// An intake that is up, over an empty register, which keeps at most `limit` keys.
-    pub(crate) fn new(alloc: Global, limit: u64) -> Result<Server<D>, Cause>
+    pub(crate) fn new(alloc: Global, limit: u64) -> Result<Server<D>, EndFault>
         requires { limit ≤ 2 ^ 62 }
         ensures made { IfOk result (λ s. s ≡ record { limit = limit; done = []; up = true; taken = false }) }
     {
@@ -170,11 +173,11 @@ impl<D: Honest> Server<D> {
     }
 
     /// Serves the bytes of a delivery, and stops where the crash says.
-    pub(crate) fn deliver(&mut self, bytes: &[u8], crash: Crash) -> Result<Delivered, Cause>
+    pub(crate) fn deliver(&mut self, bytes: &[u8], crash: Crash) -> Result<Delivered, EndFault>
         requires { self.old.up ≡ true }
         ensures delivered { IfOk result (IsDelivered self.old self.new bytes.now (view_crash crash)) }
-        ensures store { result ≢ Err Cause.Store }
-        ensures reopen { result ≡ Err Cause.Reopen → is_no (view_crash crash) ≡ false }
+        ensures store { result ≢ Err EndFault.Store }
+        ensures reopen { result ≡ Err EndFault.Reopen → is_no (view_crash crash) ≡ false }
     {
         let before = self.done.len();
         // It is taken out first, so that a refusal on the way leaves no end.
@@ -195,13 +198,13 @@ impl<D: Honest> Server<D> {
     }
 
     /// Closes the register, if it is open, and opens it again.
-    pub(crate) fn restart(&mut self) -> Result<(), Cause>
+    pub(crate) fn restart(&mut self) -> Result<(), EndFault>
         ensures restarted { OnOk result (self.new ≡ record self.old { up = true }) }
-        ensures store { result ≢ Err Cause.Store }
+        ensures store { result ≢ Err EndFault.Store }
     {
         // As in `deliver`, a refusal in between leaves no end.
         let Some(mut process) = self.process.take() else {
-            return Err(Cause::Reopen);
+            return Err(EndFault::Reopen);
         };
         close(&mut process)?;
         open(self.alloc, &mut process, self.limit)?;

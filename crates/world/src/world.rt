@@ -19,7 +19,7 @@ ghost use Rattle.world.specs.Listed.{view_listed, are_up};
 
 use crate::deliver::deliver;
 use crate::element::outbox_at;
-use crate::ends::cause::Cause;
+use crate::ends::fault::EndFault;
 use crate::ends::honest::Honest;
 use crate::fault::{Fault, Unplayed};
 use crate::filer::Filer;
@@ -100,10 +100,10 @@ fn play_on<D: Honest>(
         × (takens filers.new.items ≡ takens filers.old.items)) }
     ensures no_such { result ≡ Err Unplayed.NoSuch
         → CannotPlay (world_of server.old sent.old.items outputs.old.items filers.old.items) (view_event event.now) }
-    ensures store { result ≡ Err (Unplayed.Refused Cause.Store)
+    ensures store { result ≡ Err (Unplayed.Refused EndFault.Store)
         → Keeps (world_of server.old sent.old.items outputs.old.items filers.old.items)
         → AsksOutbox (world_of server.old sent.old.items outputs.old.items filers.old.items) (view_event event.now) }
-    ensures reopen { result ≡ Err (Unplayed.Refused Cause.Reopen) → Closes (view_event event.now)
+    ensures reopen { result ≡ Err (Unplayed.Refused EndFault.Reopen) → Closes (view_event event.now)
         × (¬ CannotPlay (world_of server.old sent.old.items outputs.old.items filers.old.items)
         (view_event event.now)) }
 {
@@ -141,7 +141,7 @@ fn append_outbox<D: Honest>(
     alloc: Global,
     list: &mut Vec<Filer<D>>,
     code: &str,
-) -> Result<(), Cause>
+) -> Result<(), EndFault>
     requires { is_filer code.now ≡ true }
     ensures appended { OnOk result (boxes list.new.items ≡ boxes list.old.items ++ new_outbox code.now ∷ []) }
     ensures there { is_any_taken list.old.items ≡ false → OnOk result (is_any_taken list.new.items ≡ false) }
@@ -152,7 +152,7 @@ fn append_outbox<D: Honest>(
 }
 
 /// An empty outbox for each of these filer codes, in order.
-fn outboxes<D: Honest>(alloc: Global, filers: &[&str]) -> Result<Vec<Filer<D>>, Cause>
+fn outboxes<D: Honest>(alloc: Global, filers: &[&str]) -> Result<Vec<Filer<D>>, EndFault>
     requires { AreFilers (map (λ f. f.now) filers.now) }
     ensures outboxes { IfOk result (λ list. boxes list.items ≡ map new_outbox (map (λ f. f.now) filers.now)) }
     ensures there { IfOk result (λ list. is_any_taken list.items ≡ false) }
@@ -165,7 +165,7 @@ fn outboxes<D: Honest>(alloc: Global, filers: &[&str]) -> Result<Vec<Filer<D>>, 
 }
 
 /// The world at first.
-fn start<D: Honest>(alloc: Global, filers: &[&str], limit: u64) -> Result<World<D>, Cause>
+fn start<D: Honest>(alloc: Global, filers: &[&str], limit: u64) -> Result<World<D>, EndFault>
     requires filers { AreFilers (map (λ f. f.now) filers.now) }
     requires limit { limit ≤ 2 ^ 62 }
     ensures start { IfOk result (λ w. w.world ≡ start (map (λ f. f.now) filers.now) limit) }

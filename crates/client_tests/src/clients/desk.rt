@@ -86,7 +86,7 @@ impl Place<Fuse<Memory>> for Desk {
 
 /// Lets a register that was closed be opened again only after so many refusals, and counts.
 #[derive(Drop)]
-pub struct Watch {
+pub struct Reopener {
     pub refusals: u64,
     /// How many connections the database refused a call for.
     pub failed: u64,
@@ -94,7 +94,7 @@ pub struct Watch {
     pub kept: u64,
 }
 
-impl Observer for Watch {
+impl Observer for Reopener {
     ghost answers = { λ _. None };
 
     fn ready(&mut self, _totals: Totals) {}

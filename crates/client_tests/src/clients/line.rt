@@ -63,7 +63,7 @@ pub const IDLE: Client = Client {
 /// What a client sends and takes. After each read that gives something one finds nothing, so that the others have
 /// their turn.
 #[derive(Drop)]
-pub struct Line {
+pub struct ClientLine {
     client: Client,
     /// The number of the client, from 1.
     pub number: u32,
@@ -80,12 +80,12 @@ pub struct Line {
     is_broken: bool,
 }
 
-impl Line {
+impl ClientLine {
     /// The connection of a client that asks by this text.
-    pub fn new(client: &Client, number: u32, text: Vec<u8>, written: Vec<u8>) -> Line
+    pub fn new(client: &Client, number: u32, text: Vec<u8>, written: Vec<u8>) -> ClientLine
         ensures { result.is_ended ≡ false }
     {
-        Line {
+        ClientLine {
             client: *client,
             number,
             text,
@@ -165,7 +165,7 @@ impl Line {
     }
 }
 
-impl Stream for Line {
+impl Stream for ClientLine {
     type Note = Note;
 
     ghost came = { λ _. None };

@@ -2,7 +2,7 @@
 
 ghost use Rattle.std.specs.Prelude.{None};
 
-use super::line::{Client, Line};
+use super::line::{Client, ClientLine};
 use super::texts::sent;
 use ready_connections::{Sockets, Why};
 use std::alloc::Global;
@@ -59,7 +59,7 @@ pub struct Order<'a> {
 }
 
 impl Sockets for Order<'_> {
-    type Stream = Line;
+    type Stream = ClientLine;
 
     ghost traffic = { λ _. None };
 
@@ -67,14 +67,14 @@ impl Sockets for Order<'_> {
         Ok(())
     }
 
-    fn accept(&mut self, _place: usize) -> io::Result<Option<Line>> {
+    fn accept(&mut self, _place: usize) -> io::Result<Option<ClientLine>> {
         let number = self.came.saturating_add(1);
         let Some(client) = client_of(self.clients, number) else {
             return Ok(None);
         };
         self.came = number;
         let text = sent(self.alloc, number, client.asks)?;
-        Ok(Some(Line::new(client, number, text, Vec::new(self.alloc))))
+        Ok(Some(ClientLine::new(client, number, text, Vec::new(self.alloc))))
     }
 
     fn ask(&mut self, has_turn: &mut [bool], _wait: Duration) -> io::Result<()> {
@@ -95,7 +95,7 @@ impl Sockets for Order<'_> {
         self.now
     }
 
-    fn end(&mut self, stream: Line, why: Why) {
+    fn end(&mut self, stream: ClientLine, why: Why) {
         let gone = Gone {
             number: stream.number,
             written: stream.written,

@@ -63,7 +63,7 @@ impl From<TextFault> for CheckFault {
 }
 
 /// Shows how far a check is, and learns when it is over. It decides nothing.
-pub trait Progress: Watch {
+pub trait CheckProgress: Watch {
     /// All rows are read; the result is printed next.
     fn end(&mut self);
 }
@@ -71,7 +71,7 @@ pub trait Progress: Watch {
 /// Reads the whole register that the database is, and prints how much it holds, if it is sound and its first requests
 /// are those of the digest that was published, if one is given. Nothing is written to the database. One request is in
 /// memory at a time.
-pub fn check<S: Alter, P: Progress, O: Write>(
+pub fn check<S: Alter, P: CheckProgress, O: Write>(
     alloc: Global,
     conn: &mut Connection<S>,
     against: Option<Published>,

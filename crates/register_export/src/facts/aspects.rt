@@ -8,7 +8,7 @@ ghost use Rattle.register_export.specs.Fields.{aspects, field_or_absent, object_
 
 use crate::facts::field::{absent, object, text_or_absent};
 use crate::facts::others::others_text;
-use crate::facts::record::Form;
+use crate::facts::record::FactForm;
 use json::Scratch;
 use json_tree::{Tree, Unread, read_tree};
 use std::alloc::{AllocError, Global};
@@ -40,7 +40,7 @@ fn dimension<'t, 'a>(dimensions: Option<&'t Tree<'a>>, name: &str) -> Option<&'a
 /// The dimensions that have no column of their own, as an object, or no value.
 fn others_or_absent(
     alloc: Global,
-    form: Form,
+    form: FactForm,
     dimensions: Option<&Tree<'_>>,
 ) -> Result<Vec<u8>, AllocError>
     ensures { IfOk result (λ field. field.items ≡ field_or_absent form (object_field form)
@@ -55,7 +55,7 @@ fn others_or_absent(
 /// The fields of these dimensions. If there are none, none has a value.
 fn aspects_of(
     alloc: Global,
-    form: Form,
+    form: FactForm,
     dimensions: Option<&Tree<'_>>,
 ) -> Result<Aspects, AllocError>
     ensures { IfOk result (λ found.
@@ -72,7 +72,11 @@ fn aspects_of(
 }
 
 /// The fields of a fact that its dimensions have, which are a JSON text.
-pub(crate) fn read_aspects(alloc: Global, form: Form, fact: &Fact) -> Result<Aspects, AllocError>
+pub(crate) fn read_aspects(
+    alloc: Global,
+    form: FactForm,
+    fact: &Fact,
+) -> Result<Aspects, AllocError>
     ensures { IfOk result (λ found. view_aspects found ≡ aspects form (read fact.now.dimensions)) }
 {
     let mut scratch = Scratch::new(alloc);

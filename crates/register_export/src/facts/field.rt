@@ -8,7 +8,7 @@ ghost use Rattle.register_store.specs.Moments.{milliseconds_of};
 ghost use Rattle.register_export.specs.Fields.{absent, doubled, field_or_absent, moment_field, object_field, quoted};
 ghost use Rattle.register_export.specs.Fields.{text_field};
 
-use crate::facts::record::Form;
+use crate::facts::record::FactForm;
 use register_moments::{Moment, moment_text};
 use serde_json::json;
 use std::alloc::{AllocError, Global};
@@ -54,40 +54,40 @@ fn json_text(alloc: Global, text: &str) -> Result<Vec<u8>, AllocError>
 }
 
 /// A text.
-pub(crate) fn text(alloc: Global, form: Form, text: &str) -> Result<Vec<u8>, AllocError>
+pub(crate) fn text(alloc: Global, form: FactForm, text: &str) -> Result<Vec<u8>, AllocError>
     ensures { IfOk result (λ field. field.items ≡ text_field form text.now) }
 {
     match form {
-        Form::Csv => quoted(alloc, text.as_bytes()),
-        Form::JsonLines => json_text(alloc, text),
+        FactForm::Csv => quoted(alloc, text.as_bytes()),
+        FactForm::JsonLines => json_text(alloc, text),
     }
 }
 
 /// An object, whose JSON text this is.
-pub(crate) fn object(alloc: Global, form: Form, text: Vec<u8>) -> Result<Vec<u8>, AllocError>
+pub(crate) fn object(alloc: Global, form: FactForm, text: Vec<u8>) -> Result<Vec<u8>, AllocError>
     ensures { IfOk result (λ field.
         (d : Data) → text.items ≡ compact_text d → field.items ≡ object_field form d) }
 {
     match form {
-        Form::Csv => quoted(alloc, &text),
-        Form::JsonLines => Ok(text),
+        FactForm::Csv => quoted(alloc, &text),
+        FactForm::JsonLines => Ok(text),
     }
 }
 
 /// No value.
-pub(crate) fn absent(alloc: Global, form: Form) -> Result<Vec<u8>, AllocError>
+pub(crate) fn absent(alloc: Global, form: FactForm) -> Result<Vec<u8>, AllocError>
     ensures { IfOk result (λ field. field.items ≡ absent form) }
 {
     match form {
-        Form::Csv => Ok(Vec::new(alloc)),
-        Form::JsonLines => copied(alloc, b"null"),
+        FactForm::Csv => Ok(Vec::new(alloc)),
+        FactForm::JsonLines => copied(alloc, b"null"),
     }
 }
 
 /// A text, or no value.
 pub(crate) fn text_or_absent(
     alloc: Global,
-    form: Form,
+    form: FactForm,
     value: Option<&str>,
 ) -> Result<Vec<u8>, AllocError>
     ensures { IfOk result (λ field.
@@ -102,7 +102,7 @@ pub(crate) fn text_or_absent(
 /// A moment in UTC, or no value.
 pub(crate) fn moment_or_absent(
     alloc: Global,
-    form: Form,
+    form: FactForm,
     value: Option<Moment>,
 ) -> Result<Vec<u8>, AllocError>
     ensures { IfOk result (λ field.
@@ -125,7 +125,7 @@ pub(crate) fn number(alloc: Global, number: u64) -> Result<Vec<u8>, AllocError>
 /// A number in decimal, or no value.
 pub(crate) fn number_or_absent(
     alloc: Global,
-    form: Form,
+    form: FactForm,
     value: Option<u64>,
 ) -> Result<Vec<u8>, AllocError>
     ensures { IfOk result (λ field. field.items ≡ field_or_absent form decimal value) }
@@ -147,7 +147,7 @@ fn integer(alloc: Global, number: i64) -> Result<Vec<u8>, AllocError>
 /// A whole number in decimal, or no value.
 pub(crate) fn integer_or_absent(
     alloc: Global,
-    form: Form,
+    form: FactForm,
     value: Option<i64>,
 ) -> Result<Vec<u8>, AllocError>
     ensures { IfOk result (λ field. field.items ≡ field_or_absent form signed_decimal value) }

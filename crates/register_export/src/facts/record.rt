@@ -14,7 +14,7 @@ use xbrl_report::Fact;
 
 /// How facts are written.
 #[derive(Clone, Copy, Debug, PartialEq, Eq)]
-pub enum Form {
+pub enum FactForm {
     /// Records of CSV (RFC 4180), behind one with the names of the fields.
     Csv,
     /// A JSON object for each fact, on a line of its own.
@@ -24,7 +24,7 @@ pub enum Form {
 /// What a record says of the filing of a fact: its number, who filed it, under which key, which filing replaces it, and
 /// when it was received, if that is known.
 #[derive(Clone, Copy)]
-pub struct Head<'a> {
+pub struct FilingHead<'a> {
     pub number: u64,
     pub filer: &'a str,
     pub key: &'a str,
@@ -48,36 +48,41 @@ pub(crate) struct Fields {
 }
 
 /// What is written before the first record.
-pub fn first_line(form: Form) -> &'static str
+pub fn first_line(form: FactForm) -> &'static str
     ensures { result.now ≡ first_line form }
 {
     match form {
-        Form::Csv => {
+        FactForm::Csv => {
             "number,filer,key,id,concept,entity,period,unit,language,note_id,dimensions,value,decimals,replaced_by,\
             received\r\n"
         }
-        Form::JsonLines => "",
+        FactForm::JsonLines => "",
     }
 }
 
 /// The record of a fact of this filing, with the end of its line.
 pub fn record_text(
     alloc: Global,
-    form: Form,
-    head: &Head<'_>,
+    form: FactForm,
+    head: &FilingHead<'_>,
     fact: &Fact,
 ) -> Result<Vec<u8>, AllocError>
     ensures { IfOk result (λ written. written.items ≡ record_text form (view_head head.now) fact.now) }
 {
     let fields = fields_of(alloc, form, head, fact)?;
     match form {
-        Form::Csv => csv_record(alloc, &fields),
-        Form::JsonLines => json_line(alloc, &fields),
+        FactForm::Csv => csv_record(alloc, &fields),
+        FactForm::JsonLines => json_line(alloc, &fields),
     }
 }
 
 /// The fields of the record.
-fn fields_of(alloc: Global, form: Form, head: &Head<'_>, fact: &Fact) -> Result<Fields, AllocError>
+fn fields_of(
+    alloc: Global,
+    form: FactForm,
+    head: &FilingHead<'_>,
+    fact: &Fact,
+) -> Result<Fields, AllocError>
     ensures { IfOk result (λ written. view_fields written ≡ fields form (view_head head.now) fact.now) }
 {
     Ok(Fields {

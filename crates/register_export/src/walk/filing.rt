@@ -8,7 +8,7 @@ ghost use Rattle.register_store.specs.Numbered.{filing_numbered};
 ghost use Rattle.register_moments.specs.Dated.{ForDated};
 ghost use Rattle.register_export.specs.Filings.{whole};
 
-use crate::walk::sent::{Dated, Sent, dated_at};
+use crate::walk::kept_report::{Dated, KeptReport, dated_at};
 use register_moments::Moment;
 use register_rows::Catalogue;
 use sqlite::{Alter, Connection};
@@ -77,7 +77,7 @@ pub fn filing_at<S: Alter>(
         return Ok(None);
     };
     let Dated { sent, received } = dated_at(conn, line.seq())?;
-    let Sent { filer, key, body } = sent;
+    let KeptReport { filer, key, body } = sent;
     match judge(alloc, filer.as_str(), &body)? {
         Judged::Valid(report) => Ok(Some(WholeFiling {
             number,

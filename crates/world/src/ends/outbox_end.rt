@@ -18,7 +18,7 @@ ghost use Rattle.world.specs.OutboxEnd.{Keeps, is_up, is_asleep, is_taken, IsNot
 ghost use Rattle.world.specs.OutboxEnd.{IsNotStarted};
 ghost use Rattle.world.specs.Outboxes.{up_with, after_answer, state_or, entries_after};
 
-use crate::ends::cause::Cause;
+use crate::ends::fault::EndFault;
 use crate::ends::honest::Honest;
 use crate::ends::opening::{close, make, open};
 use crate::ends::outboxes::{HearReply, ListStates, Put, WriteRequest, ask};
@@ -39,7 +39,7 @@ pub struct OutboxEnd<D: Blank> {
 impl<D: Honest> OutboxEnd<D> {
     /// An outbox of this filer that is up and has no entries. Answers `Reopen` if its files were not opened, and
     /// `Store` if its tables were not made, for another cause than memory.
-    pub fn new(alloc: Global, filer: &str) -> Result<OutboxEnd<D>, Cause>
+    pub fn new(alloc: Global, filer: &str) -> Result<OutboxEnd<D>, EndFault>
         ensures kept { IfOk result (λ end. Keeps end filer.now []) }
         ensures up { IfOk result (λ end. is_up end ≡ true) }
     {
@@ -72,17 +72,17 @@ impl<D: Honest> OutboxEnd<D> {
 
     /// Closes the outbox, if it is up. Answers `Reopen` if it was not closed for another cause than memory, or if a
     /// fault took it before.
-    pub fn stop(&mut self) -> Result<(), Cause>
+    pub fn stop(&mut self) -> Result<(), EndFault>
         ensures kept { (filer : List ℕ) (entries : List Item) → Keeps self.old filer entries
             → Keeps self.new filer entries }
         ensures down { OnOk result (is_up self.new ≡ false) }
         ensures stays { OnOk result ((is_taken self.old ≡ false) × (is_taken self.new ≡ false)) }
         ensures refused { IfErr result (IsNotStopped self.old) }
-        ensures store { result ≢ Err Cause.Store }
+        ensures store { result ≢ Err EndFault.Store }
     {
         // It is taken out first, so that a refusal leaves no end.
         let Some(mut process) = self.process.take() else {
-            return Err(Cause::Reopen);
+            return Err(EndFault::Reopen);
         };
         close(&mut process)?;
         self.process = Some(process);
@@ -91,16 +91,16 @@ impl<D: Honest> OutboxEnd<D> {
 
     /// Opens the outbox again, unless it is up. Answers `Reopen` if it was not opened for another cause than memory, or
     /// if a fault took it before.
-    pub fn start(&mut self, alloc: Global) -> Result<(), Cause>
+    pub fn start(&mut self, alloc: Global) -> Result<(), EndFault>
         ensures kept { (filer : List ℕ) (entries : List Item) → Keeps self.old filer entries
             → Keeps self.new filer entries }
         ensures up { OnOk result (is_up self.new ≡ true) }
         ensures stays { OnOk result ((is_taken self.old ≡ false) × (is_taken self.new ≡ false)) }
         ensures refused { IfErr result (IsNotStarted self.old) }
-        ensures store { result ≢ Err Cause.Store }
+        ensures store { result ≢ Err EndFault.Store }
     {
         let Some(mut process) = self.process.take() else {
-            return Err(Cause::Reopen);
+            return Err(EndFault::Reopen);
         };
         open(alloc, &mut process)?;
         self.process = Some(process);

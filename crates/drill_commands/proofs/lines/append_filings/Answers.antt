@@ -4,7 +4,7 @@ use Rattle.std.proofs.lemmas.List.{append-nil, take_all}
 use Rattle.event_script.specs.Shown.{filing_line}
 use Rattle.filing_model.specs.Register.{Filing}
 use Rattle.key_string.specs.Key.{IsTextFault}
-use Rattle.drill_commands.specs.declared.fault.Fault.TheVariants as fault
+use Rattle.drill_commands.specs.declared.fault.NotDone.TheVariants as fault
 use Rattle.drill_commands.specs.Shown.{filing_shown}
 use Rattle.drill_commands.proofs.GoingThrough.{shown_next}
 use Rattle.drill_commands.proofs.lines.append_filings.Goals as goal

@@ -1,6 +1,6 @@
 use Rattle.std.proofs.Common.{rules, ◌≡◌, ◌∙◌, Err, ap}
 use Rattle.intake_core.specs.declared.intake.Unavailable.TheVariants.{Down}
-use Rattle.drill_commands.specs.declared.fault.Fault.TheVariants as fault
+use Rattle.drill_commands.specs.declared.fault.NotDone.TheVariants as fault
 use Rattle.drill_commands.proofs.lines.shown.Goals as goal
 
 pub returns-in_err-filings-clause-refusal : goal.returns-in_err-filings-clause-refusal

@@ -3,7 +3,7 @@ use Rattle.event_script.specs.Events.{view_event}
 use Rattle.filing_world.specs.Headline.{start}
 use Rattle.filing_world.specs.Step.{Run}
 use Rattle.schedule.specs.Ending.{EndsBy}
-use Rattle.drill_commands.specs.declared.fault.Fault.TheVariants as fault
+use Rattle.drill_commands.specs.declared.fault.NotDone.TheVariants as fault
 use Rattle.drill_commands.proofs.playing.played.Goals as goal
 
 pub returns-clause-run : goal.returns-clause-run

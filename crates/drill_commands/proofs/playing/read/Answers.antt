@@ -2,7 +2,7 @@ use Rattle.std.proofs.Common.{rules, ◌≡◌, ◌∙◌, ap, sym, subst, Err}
 use Rattle.event_script.specs.Events.{HaveTargets}
 use Rattle.event_script.specs.Scripts.{script_of, view_script, IsFaultOf}
 use Rattle.event_script.proofs.Restarting.{restarted_targets}
-use Rattle.drill_commands.specs.declared.fault.Fault.TheVariants as fault
+use Rattle.drill_commands.specs.declared.fault.NotDone.TheVariants as fault
 use Rattle.drill_commands.proofs.playing.read.Goals as goal
 
 pub returns-clause-said : goal.returns-clause-said

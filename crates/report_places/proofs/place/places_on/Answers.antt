@@ -9,7 +9,7 @@ use Rattle.report_places.specs.Position.{start}
 use Rattle.report_places.specs.Scan.{spots_from}
 use Rattle.report_places.specs.Place.{ArePlacesOf}
 use Rattle.report_places.proofs.Tapes.{within_nodes}
-use Rattle.report_places.specs.declared.place.Place.{Place}
+use Rattle.report_places.specs.declared.place.ValuePlace.{ValuePlace}
 use Rattle.report_places.proofs.Lists.{push_place, one_pointer_more}
 use Rattle.report_places.proofs.Spots.{length-spots, place_is}
 use Rattle.report_places.proofs.Tokens.{length-tokens}
@@ -59,7 +59,7 @@ loop-pointer-preserved c = (
         length-tokens text value spelled,
         length-spots text,
       ) in
-      let place : Place = record { offset = spot.offset; position = spot.position; is_there = lead.is_there } in
+      let place : ValuePlace = record { offset = spot.offset; position = spot.position; is_there = lead.is_there } in
       let is = place_is text value _ lead spot spelled (c.in_ok-lead.ensures.same value on_tape) (
         stands.0,
         ap (drop lead.token) (sym (c.nodes-nodes.ensures.tokens ∙ c.requires.2))
@@ -68,7 +68,7 @@ loop-pointer-preserved c = (
       let before = map (λ pointer. pointer.now) (take c.loop-pointer.pointer-index c.args.pointers.now) in
       let pushed =
       push_place text value before c.loop-pointer.places.items _ place (c.loop-pointer.invariant.0 value doc) is in
-      let P : List (List ℕ) → List Place → Type 0 = ArePlacesOf text value in
+      let P : List (List ℕ) → List ValuePlace → Type 0 = ArePlacesOf text value in
       subst (P _) (sym c.in_ok-push.ensures.items) (subst
       (λ ps. ArePlacesOf text value ps (c.loop-pointer.places.items ++ place ∷ []))
       (sym (one_pointer_more c.args.pointers.now c.loop-pointer.pointer-index _ (omega arith))) pushed),

@@ -4,7 +4,7 @@ use Rattle.std.specs.declared.alloc.Global.{Global}
 use Rattle.std.proofs.Math.Logic.{∥∥₁_map}
 use Rattle.gateway_server.specs.Ports.{IsGiven}
 use Rattle.ready_connections.specs.Running.{items_out_of}
-use Rattle.many_connections.specs.declared.event.Event.TheVariants.{Came}
+use Rattle.many_connections.specs.declared.event.PieceEvent.TheVariants.{Came}
 use Rattle.many_connections.specs.Events.{RunsAhead, Seen, pieces_in, seen_after}
 use Rattle.many_connections.proofs.Seeing.{seen_more, given_came, none_came, one_came}
 use Rattle.many_connections.proofs.many.ManyPort.accept.Goals as goal

@@ -3,7 +3,7 @@ use Rattle.std.specs.Prelude.{◌≢◌, not}
 use Rattle.std.proofs.Math.Logic.{∥∥₁_map}
 use Rattle.gateway_server.specs.Ports.{Adds, IsGiven}
 use Rattle.many_connections.specs.PieceReader.{bytes_left}
-use Rattle.many_connections.specs.declared.event.Event.TheVariants.{Over}
+use Rattle.many_connections.specs.declared.event.PieceEvent.TheVariants.{Over}
 use Rattle.many_connections.specs.Events.{RunsAhead, Seen, after_event, pieces_in, seen_after}
 use Rattle.many_connections.proofs.Seeing.{seen_more, adds, no_given, piece_back}
 use Rattle.filing_model.specs.declared.served.Ended.TheVariants.{InputEnded}

@@ -7,7 +7,7 @@ use Rattle.std.proofs.Math.Logic.{∥∥₁_map}
 use Rattle.gateway_server.specs.Ports.{IsGiven, Traffic}
 use Rattle.ready_connections.specs.declared.hall.Out.{Out}
 use Rattle.ready_connections.specs.Running.{IsRunning, is_shut, out_count}
-use Rattle.many_connections.specs.declared.event.Event.TheVariants.{PutBack}
+use Rattle.many_connections.specs.declared.event.PieceEvent.TheVariants.{PutBack}
 use Rattle.many_connections.specs.Events.{RunsAhead, Seen, pieces_in, seen_after}
 use Rattle.many_connections.proofs.Seeing.{no_given, put_in, seen_more}
 use Rattle.many_connections.proofs.many.ManyPort.put_back.Goals as goal

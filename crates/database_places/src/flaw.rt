@@ -11,17 +11,17 @@ use std::io::Write;
 
 /// What is wrong with a database that a command takes for a register or an outbox.
 #[derive(Clone, Copy)]
-pub enum Verdict {
+pub enum DatabaseFlaw {
     /// It is not one.
     NotOurs,
     /// It is damaged at this row.
     Damaged(u64),
 }
 
-impl Verdict {
+impl DatabaseFlaw {
     /// The verdict on a file that was not opened for this cause, if the cause gives one: a database whose pages are
     /// wrong is damaged at row 0.
-    pub fn of(fault: DatabaseFault) -> Option<Verdict>
+    pub fn of(fault: DatabaseFault) -> Option<DatabaseFlaw>
         ensures { result ≡ verdict_of fault }
     {
         match fault {
@@ -29,8 +29,8 @@ impl Verdict {
             | DatabaseFault::Empty
             | DatabaseFault::NotADatabase
             | DatabaseFault::Foreign
-            | DatabaseFault::AutoVacuum(_) => Some(Verdict::NotOurs),
-            DatabaseFault::Damaged | DatabaseFault::Unsummed(_) => Some(Verdict::Damaged(0)),
+            | DatabaseFault::AutoVacuum(_) => Some(DatabaseFlaw::NotOurs),
+            DatabaseFault::Damaged | DatabaseFault::Unsummed(_) => Some(DatabaseFlaw::Damaged(0)),
             DatabaseFault::Busy
             | DatabaseFault::Memory
             | DatabaseFault::Denied
@@ -52,7 +52,7 @@ impl Verdict {
 /// Prints the verdict on a database that is expected to be this thing, such as `an outbox`.
 pub fn show_verdict<'a, O: Write>(
     alloc: Global,
-    verdict: Verdict,
+    verdict: DatabaseFlaw,
     thing: &str,
     output: &mut O,
 ) -> Result<(), CommandFault<'a>>
@@ -66,11 +66,11 @@ pub fn show_verdict<'a, O: Write>(
 }
 
 /// The line of a verdict on a database that is expected to be this thing.
-fn verdict_text(alloc: Global, verdict: Verdict, thing: &str) -> Result<String, AllocError>
+fn verdict_text(alloc: Global, verdict: DatabaseFlaw, thing: &str) -> Result<String, AllocError>
     ensures { IfOk result (λ text. string_bytes text ≡ verdict_text verdict thing.now) }
 {
     match verdict {
-        Verdict::NotOurs => Ok(format!(in alloc; "not {thing}\n")?),
-        Verdict::Damaged(row) => Ok(format!(in alloc; "damaged at row {row}\n")?),
+        DatabaseFlaw::NotOurs => Ok(format!(in alloc; "not {thing}\n")?),
+        DatabaseFlaw::Damaged(row) => Ok(format!(in alloc; "damaged at row {row}\n")?),
     }
 }

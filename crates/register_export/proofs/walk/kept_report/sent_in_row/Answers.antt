@@ -5,7 +5,7 @@ use Rattle.register_rows.specs.Register.{kept_row}
 use Rattle.register_store.proofs.ListLemmas.{knows}
 use Rattle.register_store.proofs.ReplaceLemmas.{kept_shown}
 use Rattle.register_export.specs.Sent.{sent_columns}
-use Rattle.register_export.proofs.walk.sent.sent_in_row.Goals as goal
+use Rattle.register_export.proofs.walk.kept_report.sent_in_row.Goals as goal
 
 pub returns-clause-found : goal.returns-clause-found
 returns-clause-found g c clean e F was n k seq placed =

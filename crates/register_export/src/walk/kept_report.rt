@@ -18,13 +18,13 @@ use table_rows::StoreFault;
 
 /// Who sent a kept request, under which key, and the bytes of its report.
 #[derive(Drop)]
-pub struct Sent {
+pub struct KeptReport {
     pub filer: String,
     pub key: String,
     pub body: Vec<u8>,
 }
 
-impl Model for Sent {
+impl Model for KeptReport {
     ghost use Rattle.std.specs.Prelude.{string_bytes};
     ghost use Rattle.register_export.specs.Sent.{SentParts};
 
@@ -34,17 +34,17 @@ impl Model for Sent {
 }
 
 /// What a row with the columns `filer`, `idem` and `body` says.
-fn read_row(row: &Row) -> Result<Sent, StoreFault>
+fn read_row(row: &Row) -> Result<KeptReport, StoreFault>
     ensures { IfOk result (λ sent. sent ≡ sent_in row.now) }
 {
     let filer = row.get(0)?;
     let key = row.get(1)?;
     let body = row.get(2)?;
-    Ok(Sent { filer, key, body })
+    Ok(KeptReport { filer, key, body })
 }
 
 /// What the one row says.
-fn read_first(rows: &[Row]) -> Result<Sent, StoreFault>
+fn read_first(rows: &[Row]) -> Result<KeptReport, StoreFault>
     ensures { IfOk result (λ sent. (row : Row) → rows.now ≡ row ∷ [] → sent ≡ sent_in row) }
 {
     match rows.first() {
@@ -61,7 +61,7 @@ fn in_column(place: u64) -> Result<i64, StoreFault>
 }
 
 /// What was sent by the request whose row has this place.
-fn sent_in_row<S: Alter>(conn: &mut Connection<S>, seq: i64) -> Result<Sent, StoreFault>
+fn sent_in_row<S: Alter>(conn: &mut Connection<S>, seq: i64) -> Result<KeptReport, StoreFault>
     ensures found { ForRegister S.Store conn.old conn.new (λ _ F.
         (n : ℕ) (k : Kept) → seq ≡ pos n → IsPlaced 1 n (kept F) k
         → IfOk result (λ sent. sent ≡ sent_of k.request)) }
@@ -74,7 +74,7 @@ fn sent_in_row<S: Alter>(conn: &mut Connection<S>, seq: i64) -> Result<Sent, Sto
 /// What a kept request sent, and when it was received, if that is known.
 #[derive(Drop)]
 pub(crate) struct Dated {
-    pub(crate) sent: Sent,
+    pub(crate) sent: KeptReport,
     pub(crate) received: Option<Moment>,
 }
 
@@ -92,7 +92,7 @@ pub(crate) fn dated_at<S: Alter>(conn: &mut Connection<S>, place: u64) -> Result
 }
 
 /// What was sent by the kept request at this place, counted from 1. Nothing is written.
-pub fn sent_at<S: Alter>(conn: &mut Connection<S>, place: u64) -> Result<Sent, StoreFault>
+pub fn sent_at<S: Alter>(conn: &mut Connection<S>, place: u64) -> Result<KeptReport, StoreFault>
     ensures found { ForRegister S.Store conn.old conn.new (λ _ F.
         (k : Kept) → IsPlaced 1 place (kept F) k → IfOk result (λ sent. sent ≡ sent_of k.request)) }
     ensures leaves { OnlyReads S.Store conn.old conn.new result }

@@ -3,7 +3,7 @@ use Rattle.sqlite.specs.State.{HasCleanDisk}
 use Rattle.register_tables.proofs.Calls.{refuses}
 use Rattle.table_rows.proofs.LeavingLemmas.{asked_then, clean_before, stands}
 use Rattle.table_rows.specs.Leaving.Ending.{Asked}
-use Rattle.register_export.proofs.walk.sent.dated_at.Goals as goal
+use Rattle.register_export.proofs.walk.kept_report.dated_at.Goals as goal
 
 pub returns-clause-found : goal.returns-clause-found
 returns-clause-found g c clean e F was moments one_each dated k placed =

@@ -4,7 +4,7 @@ use Rattle.sqlite.specs.Held.{state}
 use Rattle.register_tables.proofs.Calls.{refuses}
 use Rattle.table_rows.proofs.LeavingLemmas.{ended, none_yet}
 use Rattle.table_rows.specs.Leaving.Ending.{Asked}
-use Rattle.register_export.proofs.walk.sent.sent_at.Goals as goal
+use Rattle.register_export.proofs.walk.kept_report.sent_at.Goals as goal
 
 pub returns-clause-found : goal.returns-clause-found
 returns-clause-found g c clean e F was k placed =
