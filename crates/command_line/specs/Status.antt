@@ -1,5 +1,7 @@
 -- The status of a program whose command is not done.
-use Rattle.std.specs.Prelude.{ℕ}
+use Rattle.std.specs.Prelude.{◌≡◌, ◌≢◌, ◌⊎◌, ℕ}
+use Rattle.clap.specs.declared.error.kind.ErrorKind.{ErrorKind}
+use Rattle.clap.specs.declared.error.kind.ErrorKind.TheVariants as kind
 use Rattle.command_line.specs.declared.fault.DatabaseFault.{DatabaseFault}
 use Rattle.command_line.specs.declared.fault.DatabaseFault.TheVariants as database
 use Rattle.command_line.specs.declared.fault.CommandFault.{CommandFault}
@@ -37,3 +39,10 @@ status_of command.Filer = 2
 status_of (command.Database _ fault) = database_status fault
 status_of command.Output = 3
 status_of command.Memory = 3
+
+-- The status if `clap` does not take the words: 3 if memory ran out; 0 if they ask for help or the version, or 3 if the
+-- output failed; and otherwise 2.
+pub record IsRefusalStatus (why : ErrorKind) (status : ℕ) : Type 0 where
+  pub memory : why ≡ kind.OutOfMemory → status ≡ 3
+  pub asked : (why ≡ kind.DisplayHelp) ⊎ (why ≡ kind.DisplayVersion) → (status ≡ 0) ⊎ (status ≡ 3)
+  pub wrong : why ≢ kind.OutOfMemory → why ≢ kind.DisplayHelp → why ≢ kind.DisplayVersion → status ≡ 2

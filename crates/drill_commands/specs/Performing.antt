@@ -7,13 +7,14 @@ use Rattle.clap.specs.Words.{HasKind, Kinds, kind_of}
 use Rattle.clap.specs.declared.error.Error.{Error}
 use Rattle.command_line.specs.declared.fault.CommandFault.TheVariants as command
 use Rattle.command_line.specs.Reading.{IsWhole}
+use Rattle.command_line.specs.Status.{IsRefusalStatus}
 use Rattle.http_wire.specs.Devices.{device_inner, device_failures}
 use Rattle.http_wire.specs.declared.device.Device.{Device}
 use Rattle.drill_commands.specs.declared.fault.NotDone.{NotDone}
 use Rattle.drill_commands.specs.declared.fault.NotDone.TheVariants as fault
 use Rattle.drill_commands.specs.Refusals.{IsNotDrilled, IsNotRead}
 use Rattle.drill_commands.specs.Shown.{IsShownOf}
-use Rattle.drill_commands.specs.Status.{IsRefusalStatus, status_of, status_by}
+use Rattle.drill_commands.specs.Status.{status_of, status_by}
 
 -- ---- a script
 

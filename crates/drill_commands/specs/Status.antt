@@ -1,7 +1,5 @@
 -- The status of a program that shows nothing.
-use Rattle.std.specs.Prelude.{◌≡◌, ◌≢◌, ◌⊎◌, ℕ, Result, Ok, Err}
-use Rattle.clap.specs.declared.error.kind.ErrorKind.{ErrorKind}
-use Rattle.clap.specs.declared.error.kind.ErrorKind.TheVariants as kind
+use Rattle.std.specs.Prelude.{ℕ, Result, Ok, Err}
 use Rattle.command_line.specs.Status.{status_of as command_status}
 use Rattle.event_script.specs.declared.fault.ScriptFault.{ScriptFault}
 use Rattle.event_script.specs.declared.fault.ScriptFault.TheVariants as script
@@ -38,10 +36,3 @@ status_of (drill.Key fault) = 3
 abbrev pub status_by : Result ℕ NotDone → ℕ
 status_by (Ok status) = status
 status_by (Err why) = status_of why
-
--- The status if `clap` does not take the words: 3 if memory ran out; 0 if they ask for help or the version, or 3 if the
--- output failed; and otherwise 2.
-pub record IsRefusalStatus (why : ErrorKind) (status : ℕ) : Type 0 where
-  pub memory : why ≡ kind.OutOfMemory → status ≡ 3
-  pub asked : (why ≡ kind.DisplayHelp) ⊎ (why ≡ kind.DisplayVersion) → (status ≡ 0) ⊎ (status ≡ 3)
-  pub wrong : why ≢ kind.OutOfMemory → why ≢ kind.DisplayHelp → why ≢ kind.DisplayVersion → status ≡ 2

@@ -3,10 +3,11 @@
 ghost use Rattle.std.specs.Prelude.{◌≡◌, IfOk, IfErr, OnOk, map, string_bytes};
 ghost use Rattle.clap.specs.Words.{kind_of};
 ghost use Rattle.command_line.specs.Reading.{IsWhole};
+ghost use Rattle.command_line.specs.Status.{IsRefusalStatus};
 ghost use Rattle.drill_commands.specs.Performing.{IsWritten, PlaysScript, PerformsScript, PerformsInput, Performs};
 ghost use Rattle.drill_commands.specs.Refusals.{IsNotDrilled, IsNotRead};
 ghost use Rattle.drill_commands.specs.Shown.{IsShownOf};
-ghost use Rattle.drill_commands.specs.Status.{IsRefusalStatus, status_of};
+ghost use Rattle.drill_commands.specs.Status.{status_of};
 ghost use Rattle.drill_commands.specs.Words.{refusals};
 
 use crate::complaint::complaint;

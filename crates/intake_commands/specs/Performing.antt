@@ -5,6 +5,7 @@ use Rattle.sqlite_disk.specs.declared.Disk.{Ghosts}
 use Rattle.sqlite_disk.specs.declared.Files.{Files}
 use Rattle.clap.specs.Words.{Text, kind_of}
 use Rattle.clap.specs.declared.error.Error.{Error}
+use Rattle.command_line.specs.Status.{IsRefusalStatus}
 use Rattle.http_wire.specs.Wire.{Wire}
 use Rattle.gateway_server.specs.Ports.{Traffic}
 use Rattle.intake_process.specs.Process.{Parts}
@@ -14,7 +15,7 @@ use Rattle.intake_commands.specs.declared.options.Asked.{Asked}
 use Rattle.intake_commands.specs.declared.options.Task.{Task}
 use Rattle.intake_commands.specs.declared.options.Task.TheVariants.{Serve}
 use Rattle.intake_commands.specs.Reading.{only_reads}
-use Rattle.intake_commands.specs.Status.{IsRefusalStatus, status_of}
+use Rattle.intake_commands.specs.Status.{status_of}
 use Rattle.intake_commands.specs.Tasks.{Performs, means}
 use Rattle.intake_commands.specs.Words.{IsRead, IsUnread, asks_for_init}
 

@@ -1,7 +1,5 @@
 -- The exit status of `intake`, and what a fault says of the register.
-use Rattle.std.specs.Prelude.{◌≡◌, ◌≢◌, ◌⊎◌, ℕ, Option, Some, None, Result, Ok, Err}
-use Rattle.clap.specs.declared.error.kind.ErrorKind.{ErrorKind}
-use Rattle.clap.specs.declared.error.kind.ErrorKind.TheVariants as kind
+use Rattle.std.specs.Prelude.{ℕ, Option, Some, None, Result, Ok, Err}
 use Rattle.database_places.specs.Verdicts.{verdict_of}
 use Rattle.database_places.specs.declared.flaw.DatabaseFlaw.{DatabaseFlaw}
 use Rattle.database_places.specs.declared.flaw.DatabaseFlaw.TheVariants as verdict
@@ -57,13 +55,6 @@ fault_status (fault.Page why) = 3
 abbrev pub status_of : Result ℕ NotDone → ℕ
 status_of (Ok status) = status
 status_of (Err why) = fault_status why
-
--- The status if `clap` does not take the words: 3 if memory ran out; 0 if they ask for help or the version, or 3 if the
--- output failed; and otherwise 2.
-pub record IsRefusalStatus (why : ErrorKind) (status : ℕ) : Type 0 where
-  pub memory : why ≡ kind.OutOfMemory → status ≡ 3
-  pub asked : (why ≡ kind.DisplayHelp) ⊎ (why ≡ kind.DisplayVersion) → (status ≡ 0) ⊎ (status ≡ 3)
-  pub wrong : why ≢ kind.OutOfMemory → why ≢ kind.DisplayHelp → why ≢ kind.DisplayVersion → status ≡ 2
 
 -- ---- verdicts
 

@@ -2,11 +2,12 @@
 
 ghost use Rattle.std.specs.Prelude.{◌≡◌, true, map, string_bytes, Some, None, IfOk};
 ghost use Rattle.clap.specs.Words.{kind_of};
+ghost use Rattle.command_line.specs.Status.{IsRefusalStatus};
 ghost use Rattle.intake_commands.specs.Bounds.{bounds_of};
 ghost use Rattle.intake_commands.specs.Performing.{PerformsOver, PerformsOnce, PerformsServing, PerformsTask, no_port};
 ghost use Rattle.intake_commands.specs.Performing.{PerformsAsked, PerformsWords, PerformsAll};
 ghost use Rattle.intake_commands.specs.Reading.{only_reads, copies_log};
-ghost use Rattle.intake_commands.specs.Status.{IsRefusalStatus, status_of};
+ghost use Rattle.intake_commands.specs.Status.{status_of};
 ghost use Rattle.intake_commands.specs.Words.{database_of, folder_of, asks_for_init};
 ghost use Rattle.intake_commands.specs.declared.options.Task.TheVariants.{Serve};
 

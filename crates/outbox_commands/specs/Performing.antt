@@ -9,6 +9,7 @@ use Rattle.clap.specs.Words.{Text, kind_of}
 use Rattle.clap.specs.declared.error.Error.{Error}
 use Rattle.command_line.specs.declared.fault.CommandFault.{CommandFault}
 use Rattle.command_line.specs.declared.fault.CommandFault.TheVariants as command
+use Rattle.command_line.specs.Status.{IsRefusalStatus}
 use Rattle.finding_lines.specs.Linting.{LintsReports}
 use Rattle.finding_lines.specs.declared.form.Form.{Form}
 use Rattle.outbox_process.specs.Process.{Parts}
@@ -21,7 +22,7 @@ use Rattle.outbox_commands.specs.declared.options.Peer.{Peer}
 use Rattle.outbox_commands.specs.declared.options.Task.{Task}
 use Rattle.outbox_commands.specs.Networks.{unknown}
 use Rattle.outbox_commands.specs.Reading.{only_reads}
-use Rattle.outbox_commands.specs.Status.{IsRefusalStatus, ended_status}
+use Rattle.outbox_commands.specs.Status.{ended_status}
 use Rattle.outbox_commands.specs.Tasks.{Does}
 use Rattle.outbox_commands.specs.Words.{Calls, IsRead, IsUnread}
 

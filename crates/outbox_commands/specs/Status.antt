@@ -1,7 +1,5 @@
 -- The exit status of `outbox`.
-use Rattle.std.specs.Prelude.{◌≡◌, ◌≢◌, ◌⊎◌, ℕ, zero, suc, Bool, true, false, Result, Ok, Err}
-use Rattle.clap.specs.declared.error.kind.ErrorKind.{ErrorKind}
-use Rattle.clap.specs.declared.error.kind.ErrorKind.TheVariants as kind
+use Rattle.std.specs.Prelude.{ℕ, zero, suc, Bool, true, false, Result, Ok, Err}
 use Rattle.key_string.specs.declared.fault.KeyFault.{KeyFault}
 use Rattle.key_string.specs.declared.fault.KeyFault.TheVariants as key
 use Rattle.outbox_tables.specs.declared.fault.OutboxFault.{OutboxFault}
@@ -154,10 +152,3 @@ status_by (Err why) = status_of why
 abbrev pub ended_status : Result ℕ NotDone → ℕ
 ended_status (Ok status) = status
 ended_status (Err why) = status_of why
-
--- The status if `clap` does not take the words: 3 if memory ran out; 0 if they ask for help or the version, or 3 if the
--- output failed; and otherwise 2.
-pub record IsRefusalStatus (why : ErrorKind) (status : ℕ) : Type 0 where
-  pub memory : why ≡ kind.OutOfMemory → status ≡ 3
-  pub asked : (why ≡ kind.DisplayHelp) ⊎ (why ≡ kind.DisplayVersion) → (status ≡ 0) ⊎ (status ≡ 3)
-  pub wrong : why ≢ kind.OutOfMemory → why ≢ kind.DisplayHelp → why ≢ kind.DisplayVersion → status ≡ 2

@@ -2,11 +2,12 @@
 
 ghost use Rattle.std.specs.Prelude.{◌≡◌, true, map, string_bytes, Some, None, Ok, IfOk, IfErr, option_map};
 ghost use Rattle.clap.specs.Words.{kind_of};
+ghost use Rattle.command_line.specs.Status.{IsRefusalStatus};
 ghost use Rattle.outbox_process.specs.Process.{parts};
 ghost use Rattle.outbox_commands.specs.Performing.{IsNetworkOf, PerformsWith, PerformsOver, PerformsOnce, IsNoFolder};
 ghost use Rattle.outbox_commands.specs.Performing.{ended_without, PrintsLint, PerformsAsked, PerformsWords, Performs};
 ghost use Rattle.outbox_commands.specs.Reading.{only_reads, copies_log};
-ghost use Rattle.outbox_commands.specs.Status.{opening_status, status_of, status_by, ended_status, IsRefusalStatus};
+ghost use Rattle.outbox_commands.specs.Status.{opening_status, status_of, status_by, ended_status};
 ghost use Rattle.outbox_commands.specs.Tasks.{MakesOutbox, IsJudged, IsPrinted, MigratesOutbox, Does, is_current};
 ghost use Rattle.outbox_commands.specs.Visits.{opening_verdict};
 ghost use Rattle.outbox_commands.specs.Words.{database_of};
