@@ -1,5 +1,5 @@
 -- What `clap`'s getters answer, as numbers, flags and texts of the options that were found.
-use Rattle.std.proofs.Common.{◌≡◌, ◌∙◌, ◌^◌, ◌&&◌, ℕ, Bool, true, false, refl, sym, ap, lt-ltb, ltb-true, option_map}
+use Rattle.std.proofs.Common.{◌≡◌, ◌∙◌, ◌^◌, ◌&&◌, ℕ, Bool, true, false, refl, ap, lt-ltb, ltb-true, option_map}
 use Rattle.std.proofs.Common.{List, [], ◌∷◌, length, nat_lt, codes, Option, Some, None, Result, Ok, Err}
 use Rattle.std.proofs.lemmas.Slice.Eq.{bytes_eq-Decides}
 use Rattle.std.specs.Bool.{Decides}

@@ -3,7 +3,7 @@
 ghost use Rattle.std.specs.Prelude.{◌≡◌, IfOk, IfErr, IfSome, string_bytes, unwrap_or, map, codes, Some, None, false};
 ghost use Rattle.clap.specs.Words.{subcommand_rows_of};
 ghost use Rattle.command_line.specs.Values.{options_of};
-ghost use Rattle.intake_commands.specs.Words.{limit_of, form_of, format_of, has_serving, has_errand, IsServingOf};
+ghost use Rattle.intake_commands.specs.Words.{limit_of, form_of, format_of, has_serving, IsServingOf};
 ghost use Rattle.intake_commands.specs.Words.{unasked};
 ghost use Rattle.intake_commands.specs.Words.{IsErrandBy, IsTaskBy, IsAsked, IsRead, IsReadBy, IsUnread, IsUnreadBy};
 

@@ -1,8 +1,8 @@
 -- What a check prints follows from what the reading of the register told, and from what came of holding its requests
 -- against a digest.
-use Rattle.std.proofs.Common.{◌≡◌, ◌≢◌, ◌≤◌, ◌<◌, ◌&&◌, ◌∙◌, ◌⊎◌, Option, Some, None, List, ℕ, Bool, true, false}
+use Rattle.std.proofs.Common.{◌≡◌, ◌≢◌, ◌≤◌, ◌<◌, ◌∙◌, Option, Some, None, List, ℕ, Bool, true, false}
 use Rattle.std.proofs.Common.{true≢false}
-use Rattle.std.proofs.Common.{Ok, Err, OnOk, IfErr, inr, refl, sym, ap, subst, length, arith}
+use Rattle.std.proofs.Common.{Ok, Err, inr, refl, sym, ap, subst, length, arith}
 use Rattle.std.specs.Bool.{Decides}
 use Rattle.std.specs.Prelude.{nat_le, not}
 use Rattle.std.specs.Io.KnownBytes.{Appends}
@@ -39,7 +39,7 @@ use Rattle.intake_process.specs.declared.tasks.text.TextFault.{TextFault}
 use Rattle.intake_process.specs.declared.tasks.text.TextFault.TheVariants.{Output}
 use Rattle.intake_process.specs.Lines.{sound_line}
 use Rattle.intake_process.specs.Tasks.{ChecksRegister, HoldsAgainst, IfOpen, IsMissed, IsOfDigest, MayEnd, MayMiss}
-use Rattle.intake_process.specs.Tasks.{PrintsNothing, ReadsAgainst, UnlessRefused, is_held, is_published}
+use Rattle.intake_process.specs.Tasks.{PrintsNothing, ReadsAgainst, UnlessRefused, is_published}
 
 -- ---- the first requests are held against a digest
 

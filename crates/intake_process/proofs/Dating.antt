@@ -1,17 +1,16 @@
 -- When filings were received: what is read of a store, one call after another, and what is printed of it.
-use Rattle.std.proofs.Common.{◌≡◌, ◌≢◌, ◌∙◌, ◌⊎◌, ◌+◌, ◌<◌, ℕ, Bool, List, [], ◌∷◌, ◌++◌, map, take, length, get_or}
-use Rattle.std.proofs.Common.{Option, Some, None, Result, Ok, Err, OnOk, refl, sym, ap, subst, inl, inr, arith}
+use Rattle.std.proofs.Common.{◌≡◌, ◌∙◌, ◌+◌, ◌<◌, ℕ, Bool, List, [], ◌∷◌, ◌++◌, map, take, length, get_or}
+use Rattle.std.proofs.Common.{Option, Some, None, Result, Ok, Err, refl, sym, ap, subst, inl, inr, arith}
 use Rattle.std.specs.Prelude.{option_map}
 use Rattle.std.specs.Io.KnownBytes.{Appends}
 use Rattle.std.specs.List.{flat_map}
 use Rattle.std.proofs.lemmas.Grind.{flat_map-append}
-use Rattle.std.proofs.lemmas.List.{append-nil, map-append, take-map, take_more}
+use Rattle.std.proofs.lemmas.List.{append-nil, map-append, take_more}
 use Rattle.sqlite.specs.Store.{Ghosts}
 use Rattle.sqlite.specs.State.{HasCleanDisk}
-use Rattle.table_rows.specs.declared.fault.StoreFault.{StoreFault}
 use Rattle.table_rows.proofs.StepLemmas.{nothing_left, nothing_yet}
 use Rattle.xbrl_report.specs.FactRecord.{FactRecord}
-use Rattle.filing_model.specs.Listing.{Listing, listings}
+use Rattle.filing_model.specs.Listing.{Listing}
 use Rattle.filing_model.specs.Register.{Outcome, Kept, kept, register}
 use Rattle.filing_model.specs.Register.Outcome.{Registered, Refused}
 use Rattle.filing_model.specs.Request.{Request}
@@ -22,9 +21,9 @@ use Rattle.register_rows.specs.Register.{number_of}
 use Rattle.register_rows.proofs.Filings.{other_number}
 use Rattle.register_store.specs.Calls.{KeepsStore}
 use Rattle.register_store.specs.Found.{IsPlaced}
-use Rattle.register_store.specs.Moments.{ForMoments, HasMoments, moment_in}
+use Rattle.register_store.specs.Moments.{ForMoments, moment_in}
 use Rattle.register_store.specs.Numbered.{facts_numbered}
-use Rattle.register_store.specs.Store.{ForRequests, HasRequests, StoreParts, shows}
+use Rattle.register_store.specs.Store.{ForRequests, StoreParts, shows}
 use Rattle.register_store.proofs.CatalogueLemmas.{line_told}
 use Rattle.register_moments.specs.Moments.{moment_of}
 use Rattle.register_moments.proofs.Numbers.{its_moment}

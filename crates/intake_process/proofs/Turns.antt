@@ -13,10 +13,9 @@ use Rattle.http_wire.specs.Wire.{Wire}
 use Rattle.filing_model.specs.Request.{Request}
 use Rattle.filing_model.specs.Serving.{Keeping, keeping, Serves}
 use Rattle.intake_core.specs.declared.intake.Intake.{Intake}
-use Rattle.intake_core.specs.Held.{limit_of, has_stopped, old_style_in}
 use Rattle.gateway_server.specs.Progress.{IsReadToEnd}
 use Rattle.gateway_server.specs.InTurn.{ServeInTurn, Came, AreCounted, AreTold}
-use Rattle.gateway_server.specs.Ahead.{AreDecidedAhead, DecidesAhead}
+use Rattle.gateway_server.specs.Ahead.{AreDecidedAhead}
 use Rattle.gateway_server.specs.Ports.{Connection, Traffic, Follows, Takes, IsNew, connection_with}
 use Rattle.gateway_server.proofs.Turns.{IsEndTold, came_none, told_none, came_one, counted_told, told_one, told_untold}
 use Rattle.gateway_server.proofs.Turns.{turns_join, came_join, counted_join, counted_none, told_join}

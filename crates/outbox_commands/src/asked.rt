@@ -1,6 +1,6 @@
 //! Reads what the command line asks for, by the word that `clap` found and the values of its options.
 
-ghost use Rattle.std.specs.Prelude.{◌≡◌, IfOk, IfErr, IfSome, string_bytes, unwrap_or, map, codes, Some, None};
+ghost use Rattle.std.specs.Prelude.{◌≡◌, IfOk, IfErr, IfSome, string_bytes, map, codes, Some, None};
 ghost use Rattle.clap.specs.Words.{subcommand_rows_of};
 ghost use Rattle.command_line.specs.Values.{options_of, number};
 ghost use Rattle.outbox_commands.specs.Words.{form_of, which_of, amended, IsPeerOf, IsTaskOn, IsAskedBy, IsAsked};

@@ -3,7 +3,7 @@
 ghost use Rattle.std.specs.Prelude.{◌≡◌, None, map, IfOk, IfErr, IsSome};
 ghost use Rattle.outbox_process.specs.Process.{parts};
 ghost use Rattle.outbox_commands.specs.Puts.{IsKeyFor, IsNoKeyFor, IsNotRead, IsReadFor, AreReadFor, put_of};
-ghost use Rattle.outbox_commands.specs.Puts.{PutsOne, PutsInTurn, EndsTurns, PutsReports, is_for_one};
+ghost use Rattle.outbox_commands.specs.Puts.{PutsOne, EndsTurns, PutsReports, is_for_one};
 ghost use Rattle.outbox_commands.specs.Status.{status_of, status_by, task_status};
 
 use crate::errand::{close, open, tell_same};

@@ -1,5 +1,5 @@
 -- How entries ended that were sent; own rules.
-use Rattle.std.specs.Prelude.{ℕ, ◌+◌, Bool, true, false, List, length, count_by, Result, Ok, Err}
+use Rattle.std.specs.Prelude.{◌+◌, Bool, true, false, List, length, count_by, Result, Ok, Err}
 use Rattle.filing_model.specs.declared.state.State.{State}
 use Rattle.filing_model.specs.declared.state.State.TheVariants.{Open, Confirmed, Refused, Clashed}
 use Rattle.outbox_process.specs.declared.tasks.rounds.Ending.{Ending}

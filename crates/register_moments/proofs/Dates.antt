@@ -1,5 +1,5 @@
 -- The date of a day by its number is the calendar's.
-use Rattle.std.proofs.Common.{◌≡◌, ℕ, zero, suc, ◌+◌, ◌-◌, ◌*◌, ◌<◌, ◌≤◌, true, false, pos, negsuc, ℤ, ◌≤ℤ◌, ◌+ℤ◌}
+use Rattle.std.proofs.Common.{◌≡◌, ℕ, zero, suc, ◌+◌, ◌-◌, ◌<◌, ◌≤◌, true, false, pos, negsuc, ℤ, ◌≤ℤ◌}
 use Rattle.std.proofs.Common.{nat_lt, refl}
 use Rattle.std.proofs.Common.{⊎_elim, ap, ap₂, sym, subst, ◌∙◌, arith}
 use Rattle.std.proofs.lemmas.Bool.{cases_Bool}

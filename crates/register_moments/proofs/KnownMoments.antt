@@ -1,6 +1,5 @@
 -- Moments of which the text is known from elsewhere (Python's datetime).
-use Rattle.std.proofs.Common.{◌≡◌, List, [], ◌∷◌, map, codes, refl}
-use Rattle.jiff_core.specs.Calendar.{days_in_year, days_in_month}
+use Rattle.std.proofs.Common.{◌≡◌, [], ◌∷◌, map, codes, refl}
 use Rattle.register_moments.specs.Text.{date_text, moment_text, month_of, time_text, year_of}
 
 known : map moment_text (0 ∷ 951_782_399_999 ∷ 951_782_400_000 ∷ 4_107_542_400_000 ∷ 253_402_300_799_999 ∷ [])

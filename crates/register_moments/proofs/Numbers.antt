@@ -1,7 +1,7 @@
 -- The moment of a filing is that of the kept request which was registered under its number.
-use Rattle.std.proofs.Common.{◌≡◌, ℕ, ◌+◌, ◌-◌, ◌<◌, ◌≤◌, zero, suc, inl, inr, List, [], ◌∷◌, Option, Some, None, refl}
+use Rattle.std.proofs.Common.{◌≡◌, ℕ, ◌+◌, ◌-◌, ◌≤◌, zero, suc, inl, inr, List, [], ◌∷◌, Option, Some, None, refl}
 use Rattle.std.proofs.Common.{get_or, sym, ap, ◌∙◌, arith}
-use Rattle.filing_model.specs.Register.{Filing, Outcome, Kept, filings, kept}
+use Rattle.filing_model.specs.Register.{Outcome, Kept, filings, kept}
 use Rattle.filing_model.specs.Register.Outcome.{Registered, Refused}
 use Rattle.filing_model.specs.Request.{Request}
 use Rattle.filing_model.proofs.Keeping.{register_numbered}

@@ -1,6 +1,6 @@
 -- The moment at a place, as the rows of `received` have it.
 use Rattle.std.proofs.Common.{◌≡◌, ◌<◌, ◌≤◌, ℕ, ◌+◌, ◌-◌, zero, suc, pos, true, false, List, [], ◌∷◌, ◌++◌, map, filter}
-use Rattle.std.proofs.Common.{length, Option, Some, None, refl, sym, ap, subst, ◌∙◌, IsPermutation, nat_eq, nat_le}
+use Rattle.std.proofs.Common.{Option, Some, None, refl, sym, ap, subst, ◌∙◌, IsPermutation, nat_eq, nat_le}
 use Rattle.std.proofs.Common.{arith, get_or}
 use Rattle.std.proofs.Common.{replicate, ⊎_elim}
 use Rattle.std.specs.List.{AllByRecursion}

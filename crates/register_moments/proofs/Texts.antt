@@ -1,7 +1,6 @@
 -- What is written of a moment is what is shown then.
-use Rattle.std.proofs.Common.{◌≡◌, ℕ, zero, suc, ◌+◌, ◌-◌, ◌*◌, ◌/◌, ◌%◌, ◌<◌, ◌≤◌, pos, List, [], ◌∷◌, ◌++◌, Some}
-use Rattle.std.proofs.Common.{refl}
-use Rattle.std.proofs.Common.{append_assoc, ap, ap₂, sym, subst, codes, false, ◌∙◌, arith, ℤ, ◌*ℤ◌, ◌+ℤ◌}
+use Rattle.std.proofs.Common.{◌≡◌, ℕ, ◌+◌, ◌-◌, ◌*◌, ◌/◌, ◌%◌, ◌<◌, pos, [], ◌∷◌, ◌++◌, Some}
+use Rattle.std.proofs.Common.{append_assoc, ap, ap₂, codes, false, ◌∙◌, arith}
 use Rattle.jiff_core.specs.declared.civil.date.Date.{Date}
 use Rattle.jiff_core.specs.declared.civil.time.Time.{Time}
 use Rattle.jiff_core.specs.declared.civil.datetime.DateTime.{DateTime}
@@ -17,7 +16,7 @@ use Rattle.jiff_fmt.specs.declared.temporal.printer.DateTimePrinter.{DateTimePri
 use Rattle.jiff_fmt.specs.Printer.{options, datetime_text as printer_text}
 use Rattle.register_moments.specs.Text as own
 use Rattle.register_moments.specs.Text.{digits, moment_text}
-use Rattle.register_moments.proofs.Dates.{IsOfYear, year_is, its_year, its_month}
+use Rattle.register_moments.proofs.Dates.{year_is, its_year, its_month}
 
 -- ---- digits
 

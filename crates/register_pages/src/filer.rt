@@ -1,6 +1,6 @@
 //! The pages of a filer.
 
-ghost use Rattle.std.specs.Prelude.{◌≡◌, ◌≤◌, ◌++◌, length, OnOk};
+ghost use Rattle.std.specs.Prelude.{◌≤◌, length, OnOk};
 ghost use Rattle.filing_model.specs.Register.{kept};
 ghost use Rattle.table_rows.specs.Leaving.{MayRead};
 ghost use Rattle.register_store.specs.Store.{ForRegister};

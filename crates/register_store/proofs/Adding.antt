@@ -1,5 +1,5 @@
 -- A kept request is added by its statements in turn.
-use Rattle.std.proofs.Common.{◌≡◌, ℕ, suc, List, [], ◌∷◌, ◌++◌, append-nil, length, Option, None, Some, pos, refl, sym}
+use Rattle.std.proofs.Common.{◌≡◌, ℕ, List, [], ◌∷◌, ◌++◌, append-nil, None, Some, pos, refl, sym}
 use Rattle.std.proofs.Common.{ap, subst, ◌∙◌, arith}
 use Rattle.sqlite.specs.declared.types.Value.TheVariants.{Int}
 use Rattle.sqlite.specs.Order.{Row}
@@ -14,7 +14,7 @@ use Rattle.table_rows.specs.Rows.{counted_from}
 use Rattle.table_rows.proofs.GainLemmas.{still_declared}
 use Rattle.register_rows.specs.Schema.{register_tables, kept_table, finding_table, filing_table, fact_table}
 use Rattle.register_rows.specs.Schema.{amends_table, received_table, IsDeclared}
-use Rattle.register_rows.specs.Received.{IsMoment, Received, received_row}
+use Rattle.register_rows.specs.Received.{IsMoment, received_row}
 use Rattle.register_rows.specs.Register.{HasRows, kept_row, finding_row, finding_rows, filing_rows, fact_row, fact_rows}
 use Rattle.register_rows.specs.Register.{amends_rows, amends_rows_by}
 use Rattle.register_tables.specs.Gains.{GainsRows}

@@ -6,7 +6,7 @@ use Rattle.std.proofs.lemmas.List.{map-append}
 use Rattle.sqlite.specs.Table.{Table}
 use Rattle.sqlite.specs.Order.{Row}
 use Rattle.sqlite.specs.Effect.{Database}
-use Rattle.table_rows.specs.Rows.{Gains, TableHas, counted_from}
+use Rattle.table_rows.specs.Rows.{Gains, TableHas}
 use Rattle.table_rows.proofs.GainLemmas.{holds_more, same_rows, still_declared}
 use Rattle.table_rows.proofs.StepLemmas.{counted_push}
 use Rattle.register_rows.specs.Received.{IsMoment, Received, received_row, received_rows}

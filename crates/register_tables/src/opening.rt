@@ -1,7 +1,7 @@
 //! What an opening finds in a database. The rows are audited by a walk over the requests, and if that does not find
 //! them sound, by an audit of the tables read whole (`docs/DECISIONS.md`, "A register is audited in three ways").
 
-ghost use Rattle.std.specs.Prelude.{◌≡◌, ◌≤◌, ◌<◌, ◌⊎◌, ◌↔◌, ◌∷◌, [], ℕ, length, false, Err, IsTrue, IfOk, IfErr};
+ghost use Rattle.std.specs.Prelude.{◌≡◌, ◌≤◌, ◌<◌, ◌↔◌, ◌∷◌, [], ℕ, false, Err, IsTrue, IfOk, IfErr};
 ghost use Rattle.std.specs.Prelude.{IfSome, OnOk, None, Option, List};
 ghost use Rattle.filing_model.specs.Register.{register};
 ghost use Rattle.sqlite.specs.Held.{state};

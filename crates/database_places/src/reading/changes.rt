@@ -1,6 +1,6 @@
 //! What was written to a file since it was opened. It is kept in memory.
 
-ghost use Rattle.std.specs.Prelude.{◌≡◌, ◌∷◌, [], ◌++◌, List, ℕ, OnOk, OnErr};
+ghost use Rattle.std.specs.Prelude.{◌≡◌, [], OnOk, OnErr};
 ghost use Rattle.database_places.specs.Changes.{laid, laid_over, written_over, zeroed_from, IsAfter};
 
 use std::alloc::{AllocError, Global};

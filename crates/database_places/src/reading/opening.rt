@@ -1,6 +1,6 @@
 //! The files of one name are opened for reading alone.
 
-ghost use Rattle.std.specs.Prelude.{◌≡◌, true, false, IsTrue, IfOk};
+ghost use Rattle.std.specs.Prelude.{true, false, IsTrue, IfOk};
 ghost use Rattle.database_places.specs.ReadOnly.{IsSettled};
 ghost use Rattle.database_places.specs.Files.{file_is_usable, IsFresh};
 

@@ -6,7 +6,7 @@
 //! over this one: if what is noted is what a file would answer that held some bytes. A sync succeeds and does nothing:
 //! it makes none of the changes durable, and a crash leaves the file as it is.
 
-ghost use Rattle.std.specs.Prelude.{◌≡◌, ◌<◌, ◌≤◌, ◌^◌, ◌-◌, List, ℕ, true, false, [], ◌∷◌, length, take, is_ok};
+ghost use Rattle.std.specs.Prelude.{◌≡◌, ◌<◌, ◌≤◌, ◌^◌, ◌-◌, true, false, [], ◌∷◌, length, take, is_ok};
 ghost use Rattle.std.specs.Prelude.{IfOk, OnOk, OnErr, MatchResult};
 ghost use Rattle.sqlite_disk.specs.Events.{measured, read, read_under, written, cut, flushed};
 ghost use Rattle.sqlite_disk.specs.Refusal.{is_no_room, finds_no_room, as_number};

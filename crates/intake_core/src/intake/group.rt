@@ -1,6 +1,6 @@
 //! Several requests decided in their order, new ones with one commit.
 
-ghost use Rattle.std.specs.Prelude.{◌≡◌, ◌<◌, ◌≤◌, ◌+◌, ℕ, List, All, length, take, true, false, vec_len, vec_capacity};
+ghost use Rattle.std.specs.Prelude.{◌≡◌, ◌<◌, ◌≤◌, ◌+◌, ℕ, All, length, take, true, false, vec_len, vec_capacity};
 ghost use Rattle.std.specs.Prelude.{IsTrue, IfOk, OnOk, None, MatchResult};
 ghost use Rattle.std.specs.List.{AllZip, zip};
 ghost use Rattle.filing_model.specs.Request.{Request, has_key};
@@ -9,7 +9,7 @@ ghost use Rattle.intake_core.specs.Group.{DecidesEach};
 ghost use Rattle.intake_core.specs.Moments.{DatesEach};
 ghost use Rattle.intake_core.specs.Together.{AddsGroup, AddsResults, AnswersGroup, AreNewBehind, AreRowsOf};
 ghost use Rattle.intake_core.specs.Together.{IsJudgedAlone, KeepsFirst, LooksUp, RefusesGroup, in_milliseconds};
-ghost use Rattle.intake_core.specs.Held.{store_of, limit_of, shows, has_stopped, ForRequests, HoldsRequests, IsClean};
+ghost use Rattle.intake_core.specs.Held.{store_of, limit_of, shows, has_stopped, ForRequests};
 
 use super::{Intake, Unavailable};
 use filing_model::{Answer, Outcome, Style};

@@ -1,4 +1,4 @@
-use Rattle.std.proofs.Common.{◌≤◌, ◌^◌, [], sym, subst, arith}
+use Rattle.std.proofs.Common.{◌≤◌, ◌^◌, sym, subst, arith}
 use Rattle.sqlite.specs.Held.{state}
 use Rattle.register_tables.specs.LaterRows.{later_rows}
 use Rattle.register_tables.proofs.TotalLemmas.{counted_with}

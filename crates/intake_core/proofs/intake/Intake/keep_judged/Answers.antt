@@ -1,4 +1,4 @@
-use Rattle.std.proofs.Common.{◌≡◌, Bool, List, take, ◌++◌, ◌∷◌, [], false, Option, Some, ℕ, IsTrue, rules, sym, ap, ◌∙◌}
+use Rattle.std.proofs.Common.{◌≡◌, Bool, List, take, ◌++◌, ◌∷◌, [], false, Some, IsTrue, rules, sym, ap, ◌∙◌}
 use Rattle.std.proofs.Common.{subst}
 use Rattle.std.proofs.lemmas.List.{take-append-le}
 use Rattle.sqlite.specs.State.{HasCleanDisk}

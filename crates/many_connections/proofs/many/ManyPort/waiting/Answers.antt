@@ -1,4 +1,4 @@
-use Rattle.std.proofs.Common.{◌≡◌, ◌≢◌, ◌<◌, [], List, ℕ, length, map, nat_eq, vec_len, true, None, Some, refl, sym, ap}
+use Rattle.std.proofs.Common.{◌≡◌, ◌≢◌, ◌<◌, [], List, ℕ, length, map, nat_eq, vec_len, true, None, Some, sym, ap}
 use Rattle.std.proofs.Common.{◌∙◌, arith, true≢false, Option, subst}
 use Rattle.std.specs.Prelude.{Bool, Vec}
 use Rattle.std.specs.declared.alloc.Global.{Global}
