@@ -426,7 +426,7 @@ impl NotDone<'_> {
             NotDone::Outbox { fault, .. } => fault.status(),
             NotDone::NotPut { fault, .. } => fault.status(),
             NotDone::LastPut { fault, .. } => fault.status(),
-            NotDone::Key(KeyNotDone::Memory) => 3,
+            NotDone::Key(KeyFault::Memory) => 3,
             NotDone::Key(_) | NotDone::ForOne => 2,
             NotDone::Connect { .. } => 3,
             NotDone::Exchange { .. } => 3,
