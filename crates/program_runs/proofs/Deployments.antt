@@ -15,7 +15,7 @@ use Rattle.program_runs.specs.Deeds.{Deed, Added, Wrote, Heard, Asked, AreDone, 
 use Rattle.program_runs.specs.Registers.{LieRequests}
 use Rattle.program_runs.specs.Runs.{LieOutbox, AreNotGone}
 use Rattle.program_runs.specs.Deployment.{OutboxTurn, Whole, Killed, AreOutboxTurns, IsOutboxTurn}
-use Rattle.program_runs.specs.Deployment.{IntakeTurn, Done, Stopped, IsIntakeTurn}
+use Rattle.program_runs.specs.Deployment.{IntakeTurn, Done, Stopped, IsIntakeTurn, AreOfIntakeTurn}
 use Rattle.program_runs.specs.Deployment.{AreIntakeTurns, Deployment, bare, AnyRuns, AnyDeployment}
 use Rattle.program_runs.specs.Deployment.{AreOfTurn, AreOfAll}
 use Rattle.program_runs.proofs.Joining.{done_join}
@@ -81,7 +81,7 @@ module _ {D : Type 0} (g : Ghosts D) (honest : IsHonest g) where
 
   turns_done : (turns : List (OutboxTurn g)) (lying lying' : Option (Option (Files D))) (it : Contents)
       → LieOutbox g lying it → AreOutboxTurns g it.filer turns lying lying'
-      → AreDeeds (AreOfAll g turns) it lying lying'
+      → AreDeeds (AreOfAll (AreOfTurn g) turns) it lying lying'
   turns_done [] lying lying' it lies is =
       record {
         deeds = [];
@@ -108,8 +108,10 @@ module _ {D : Type 0} (g : Ghosts D) (honest : IsHonest g) where
 
   -- ---- the register
 
-  record Serving (limit : ℕ) (requests : List Request) (lying lying' : Option (Option (Files D))) : Type 0 where
+  record Serving (limit : ℕ) (Are : List Service → Type 0) (requests : List Request)
+      (lying lying' : Option (Option (Files D))) : Type 0 where
     pub services : List Service
+    pub are : Are services
     pub after : List Request
     pub in_turn : InTurn limit requests services after
     pub there : LieRequests g lying' after
@@ -117,7 +119,7 @@ module _ {D : Type 0} (g : Ghosts D) (honest : IsHonest g) where
 
   one_service : (limit : ℕ) (turn : IntakeTurn g) (lying lying' : Option (Option (Files D)))
       (requests : List Request) → LieRequests g lying requests → IsIntakeTurn g limit turn lying lying'
-      → Serving limit requests lying lying'
+      → Serving limit (AreOfIntakeTurn g turn) requests lying lying'
   one_service limit (Done r) lying lying' requests lies is =
       let by = performs limit r.task r.old r.new r.status requests honest is.limited (record {
         closed = is.closed;
@@ -126,6 +128,7 @@ module _ {D : Type 0} (g : Ghosts D) (honest : IsHonest g) where
       }) is.performs is.certain in
       record {
         services = by.services;
+        are = by.are;
         after = by.after;
         in_turn = by.in_turn;
         there = subst (λ l. LieRequests g l by.after) is.left by.lies.there;
@@ -133,14 +136,15 @@ module _ {D : Type 0} (g : Ghosts D) (honest : IsHonest g) where
       }
   one_service limit (Stopped services) lying lying' requests lies is =
       let left = is requests lies in
-      record { services = services; after = left.0; in_turn = left.1; there = left.2; stays = left.3 }
+      record { services = services; are = refl; after = left.0; in_turn = left.1; there = left.2; stays = left.3 }
 
   services_done : (limit : ℕ) (turns : List (IntakeTurn g)) (lying lying' : Option (Option (Files D)))
       (requests : List Request) → LieRequests g lying requests → AreIntakeTurns g limit turns lying lying'
-      → Serving limit requests lying lying'
+      → Serving limit (AreOfAll (AreOfIntakeTurn g) turns) requests lying lying'
   services_done limit [] lying lying' requests lies is =
       record {
         services = [];
+        are = refl;
         after = requests;
         in_turn = refl;
         there = subst (λ l. LieRequests g l requests) (sym is) lies;
@@ -151,6 +155,7 @@ module _ {D : Type 0} (g : Ghosts D) (honest : IsHonest g) where
       let rest = services_done limit turns is.0 lying' one.after one.there is.2 in
       record {
         services = one.services ++ rest.services;
+        are = (one.services, rest.services, refl, one.are, rest.are);
         after = rest.after;
         in_turn = in_turn_join limit requests one.after rest.after one.services rest.services one.in_turn
             rest.in_turn;
@@ -173,7 +178,7 @@ module _ {D : Type 0} (g : Ghosts D) (honest : IsHonest g) where
   of_one : (old : Situation) (turns : List (OutboxTurn g)) (lying lying' : Option (Option (Files D))) (n : ℕ)
       → ((it : Contents) → numbered old.outboxes n ≡ Some it → LieOutbox g lying it)
       → ((it : Contents) → numbered old.outboxes n ≡ Some it → AreOutboxTurns g it.filer turns lying lying')
-      → (o : Option Contents) → numbered old.outboxes n ≡ o → OfOne (AreOfAll g turns) old lying lying' n
+      → (o : Option Contents) → numbered old.outboxes n ≡ o → OfOne (AreOfAll (AreOfTurn g) turns) old lying lying' n
   of_one old turns lying lying' n holds are None is = record {
     deeds = [];
     are = λ it here. absurd (cc);
@@ -213,13 +218,14 @@ module _ {D : Type 0} (g : Ghosts D) (honest : IsHonest g) where
   pub any : Reaches → AnyRuns g
   any reaches limit filers before situation old new intake outboxes are bound happened holds serves runs =
       let service = services_done limit intake old.register new.register situation.requests holds.register serves in
-      let of : (n : ℕ) → OfOne (AreOfAll g (outboxes n)) situation (old.boxes n) (new.boxes n) n =
+      let of : (n : ℕ) → OfOne (AreOfAll (AreOfTurn g) (outboxes n)) situation (old.boxes n) (new.boxes n) n =
       λ n. of_one situation (outboxes n) (old.boxes n) (new.boxes n) n (holds.boxes n) (runs n)
       (numbered situation.outboxes n) refl in
       record {
         deeds = λ n. (of n).deeds;
         are = λ n it here. (of n).are it here;
         services = service.services;
+        serve = service.are;
         register_stays = service.stays;
         boxes_stay = λ n it here. (of n).stays it here;
         happen = λ acts each all carried.

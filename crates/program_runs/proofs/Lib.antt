@@ -1,5 +1,6 @@
 mod Results
 mod Statuses
+mod Carried
 mod Lies
 mod Puts
 mod Sends

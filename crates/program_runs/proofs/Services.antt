@@ -2,7 +2,7 @@
 use Rattle.std.proofs.Common.{◌≡◌, ◌≢◌, ◌∙◌, ℕ, ◌≤◌, true, false, List, [], ◌∷◌, ◌++◌, Option, Some, None, Result, Ok}
 use Rattle.std.proofs.Common.{Err}
 use Rattle.std.proofs.Common.{refl, sym, ap, subst, inl, inr, true≢false}
-use Rattle.std.specs.Prelude.{◌⊎◌, not, IfErr, IsSome}
+use Rattle.std.specs.Prelude.{◌⊎◌, ◌==◌, not, IfErr, IsSome}
 use Rattle.sqlite_disk.specs.declared.Disk.{Ghosts}
 use Rattle.filing_model.specs.Request.{Request, firsts}
 use Rattle.filing_model.specs.Serving.{keeping}
@@ -14,8 +14,10 @@ use Rattle.database_places.specs.declared.opening.Unopened.{Unopened}
 use Rattle.database_places.specs.Opening.{StaysIn, untouched}
 use Rattle.intake_process.specs.Process.{Parts, HoldRegisterWithLog, Keeps, KeepsBy, LeavesDatabase, OpensProcess}
 use Rattle.intake_process.specs.declared.fault.OpeningFault.{OpeningFault}
-use Rattle.intake_process.specs.Turns.{Turn, Served, TurnedAway, Ahead, served_in, AreTurnedAway, IsServed}
+use Rattle.intake_process.specs.Turns as turned
+use Rattle.intake_process.specs.Turns.{Turn, Served, TurnedAway, connections_of, served_in, AreTurnedAway, IsServed}
 use Rattle.intake_process.specs.Turns.{IsServedOrRefused}
+use Rattle.gateway_server.specs.declared.port_fault.PortFault.{PortFault}
 use Rattle.gateway_server.specs.declared.port_fault.PortFault.TheVariants.{Network, Memory}
 use Rattle.intake_process.specs.declared.errand.ErrandFault.{ErrandFault}
 use Rattle.intake_process.specs.declared.serving.ServingFault.{ServingFault}
@@ -24,7 +26,8 @@ use Rattle.intake_process.specs.declared.visiting.Visited.{Visited}
 use Rattle.intake_commands.specs.Tasks.{IsServingTold, Serves, most_asked}
 use Rattle.intake_commands.specs.declared.fault.NotDone.{NotDone}
 use Rattle.intake_commands.specs.declared.options.Serving.{Serving}
-use Rattle.program_runs.specs.Beside.{Service, Answered, Away, Killed, InTurn}
+use Rattle.intake_commands.specs.Status.{status_of}
+use Rattle.program_runs.specs.Beside.{Service, Answered, Ahead, Away, Killed, InTurn}
 use Rattle.std.specs.Prelude.{MatchBool, Bool}
 use Rattle.std.specs.Borrow.{Bor}
 use Rattle.intake_process.specs.declared.tasks.errand.Errand.{Errand}
@@ -43,45 +46,54 @@ use Rattle.sqlite_disk.specs.declared.Files.{Files}
 use Rattle.sqlite_store.specs.declared.store.FileStore.{FileStore}
 use Rattle.register_rows.specs.Schema.{register_tables}
 use Rattle.table_rows.specs.Tables.{no_schema}
-use Rattle.program_runs.specs.Registers.{LiesRegister, IsServiceBy, IsLimited}
+use Rattle.program_runs.specs.Registers.{LiesRegister, IsServiceBy, AreOfPort, IsLimited, came_in, ahead_in}
 use Rattle.program_runs.specs.Runs.{AreNotGone}
+use Rattle.program_runs.proofs.Carried.{no_services, of_turns}
 use Rattle.program_runs.proofs.Lies.{some_lie}
 use Rattle.program_runs.proofs.Results.{not_err}
 
-service_of : Turn → Service
-service_of (Served connection) = Answered connection
-service_of (TurnedAway connection) = Away connection
-service_of (Ahead connection) = Answered connection
-
-pub record AreServices (limit : ℕ) (before after : List Request) : Type 0 where
+pub record AreServices (limit : ℕ) (before after : List Request) (turns : List Turn) : Type 0 where
   pub services : List Service
   pub in_turn : InTurn limit before services after
+  pub came : came_in services ≡ connections_of turns
+  pub ahead : ahead_in services ≡ turned.ahead_in turns
 
 module _ (limit keys : ℕ) (few : keys ≤ limit) where
   pub services : (turns : List Turn) (before after : List Request)
       → ServeInTurn (keeping keys [] before after) (served_in turns) → AreTurnedAway turns
-      → AreServices limit before after
-  services [] before after in_turn away = record { services = []; in_turn = in_turn }
+      → AreServices limit before after turns
+  services [] before after in_turn away = record { services = []; in_turn = in_turn; came = refl; ahead = refl }
   services (Served c ∷ turns) before after in_turn away =
       let rest = services turns in_turn.0 after in_turn.2 away in
       record {
         services = Answered c ∷ rest.services;
         in_turn = (keys, in_turn.0, few, in_turn.1, rest.in_turn);
+        came = ap (λ cs. c ∷ cs) rest.came;
+        ahead = rest.ahead;
       }
-  services (Ahead c ∷ turns) before after in_turn away =
+  services (turned.Ahead c ∷ turns) before after in_turn away =
       let rest = services turns in_turn.0 after in_turn.2 away in
       record {
-        services = Answered c ∷ rest.services;
+        services = Ahead c ∷ rest.services;
         in_turn = (keys, in_turn.0, few, in_turn.1, rest.in_turn);
+        came = rest.came;
+        ahead = ap (λ cs. c ∷ cs) rest.ahead;
       }
   services (TurnedAway c ∷ turns) before after in_turn away =
       let rest = services turns before after in_turn away.1 in
-      record { services = Away c ∷ rest.services; in_turn = (away.0, rest.in_turn) }
+      record {
+        services = Away c ∷ rest.services;
+        in_turn = (away.0, rest.in_turn);
+        came = ap (λ cs. c ∷ cs) rest.came;
+        ahead = rest.ahead;
+      }
 
 pub in_turn_join : (limit : ℕ) (a b c : List Request) (first second : List Service) → InTurn limit a first b
     → InTurn limit b second c → InTurn limit a (first ++ second) c
 in_turn_join limit a b c [] second one two = subst (λ (x : List Request). InTurn limit x second c) one two
 in_turn_join limit a b c (Answered k ∷ first) second one two =
+    (one.0, one.1, one.2, one.3, in_turn_join limit one.1 b c first second one.4 two)
+in_turn_join limit a b c (Ahead k ∷ first) second one two =
     (one.0, one.1, one.2, one.3, in_turn_join limit one.1 b c first second one.4 two)
 in_turn_join limit a b c (Away k ∷ first) second one two = (one.0, in_turn_join limit a b c first second one.1 two)
 in_turn_join limit a b c (Killed read crash marks written ∷ first) second one two =
@@ -114,6 +126,14 @@ not_bare requests db is none =
 same_err : {A E : Type 0} (r : Result A E) (a b : E) → r ≡ Err a → r ≡ Err b → a ≡ b
 same_err r a b one other = cc
 
+-- a run whose port failed ends with another status than 0
+port_fails : (task : Serving) (why : PortFault) (result : Result ℕ NotDone) → IsServingTold task (Err (Port why)) result
+    → status_of result ≡ 0 → ⊥
+port_fails task (Network error) result told done =
+    true≢false (ap (λ (status : ℕ). status == 3) (sym (ap (λ (r : Result ℕ NotDone). status_of r) told) ∙ done))
+port_fails task Memory result told done =
+    true≢false (ap (λ (status : ℕ). status == 3) (sym (ap (λ (r : Result ℕ NotDone). status_of r) told) ∙ done))
+
 module _ {D : Type 0} {g : Ghosts D} where
   -- what lay there is kept by a process that is closed
   keeps_of : (process : Parts g) (keys : ℕ) (requests : List Request) → process.intake ≡ None
@@ -130,11 +150,12 @@ module _ {D : Type 0} {g : Ghosts D} where
       subst (λ o. KeepsBy {g = g} o process.lying keys 0 requests) closed (keeps certain)
 
   -- nothing was done with the register
-  stayed : (limit : ℕ) (old new : Parts g) (requests : List Request) → LiesRegister old requests → new ≡ old
-      → IsServiceBy limit requests old new
-  stayed limit old new requests lies same =
+  stayed : (limit : ℕ) (old new : Parts g) (requests : List Request) (Are : List Service → Type 0) → Are []
+      → LiesRegister old requests → new ≡ old → IsServiceBy limit requests old new Are
+  stayed limit old new requests Are none lies same =
       record {
         services = [];
+        are = none;
         after = requests;
         in_turn = refl;
         lies = subst (λ p. LiesRegister p requests) (sym same) lies;
@@ -143,11 +164,12 @@ module _ {D : Type 0} {g : Ghosts D} where
 
   -- an opening that was refused leaves what lay there
   refused : (limit keys : ℕ) (has : Bool) (why : OpeningFault) (old new : Parts g) (requests : List Request)
-      → IsHonest g → LiesRegister old requests → OpensProcess g has keys old new (Err why) → new.is_certain ≡ true
-      → IsServiceBy limit requests old new
-  refused limit keys has why old new requests honest lies opens certain =
+      (Are : List Service → Type 0) → Are [] → IsHonest g → LiesRegister old requests
+      → OpensProcess g has keys old new (Err why) → new.is_certain ≡ true → IsServiceBy limit requests old new Are
+  refused limit keys has why old new requests Are none honest lies opens certain =
       record {
         services = [];
+        are = none;
         after = requests;
         in_turn = refl;
         lies = record { closed = opens.refused; certain = certain; there = (lies.there.0, there) };
@@ -178,19 +200,23 @@ module _ {D : Type 0} {g : Ghosts D} where
   -- ---- it was served
 
   answered : (limit keys most : ℕ) (has : Bool) (port port' : Traffic) (noted noted' : Option (List Bool))
-      (old new : Parts g) (taken : Option ℕ) (requests : List Request) → IsHonest g → keys ≤ limit
-      → (served : IsServed has keys most port port' noted noted' old new taken) → Keeps served.opened keys 0 requests
-      → new.is_certain ≡ true → IsServiceBy limit requests old new × (new.lying ≢ Some None)
-  answered limit keys most has port port' noted noted' old new taken requests honest few served keeps certain =
+      (old new : Parts g) (taken : Option ℕ) (status : ℕ) (requests : List Request) → IsHonest g → keys ≤ limit
+      → (status ≡ 0 → IsSome taken) → (served : IsServed has keys most port port' noted noted' old new taken)
+      → Keeps served.opened keys 0 requests → new.is_certain ≡ true
+      → IsServiceBy limit requests old new (AreOfPort port port' status) × (new.lying ≢ Some None)
+  answered limit keys most has port port' noted noted' old new taken status requests honest few some served keeps
+      certain =
       let leaves = served.closes.leaves honest keys in
       let is = (served.answers honest).answers 0 requests keeps (leaves.certain certain) in
       let by = services limit keys few is.3 requests is.0 is.4.in_turn is.4.away in
       let lies =
       kept_lies new keys is.0 served.closes.is_closed certain (leaves.kept 0 is.0 (λ _. is.1)) in
-      let some : new.lying ≢ Some None =
+      let there : new.lying ≢ Some None =
       λ gone. some_lie new.lying (λ files. HoldRegisterWithLog g files 0 is.0) lies.1 gone in (
         record {
           services = by.services;
+          are = of_turns port port' (keeping keys [] requests is.0) is.3 taken status by.services is.4
+              some by.came by.ahead;
           after = is.0;
           in_turn = by.in_turn;
           lies = record {
@@ -198,9 +224,9 @@ module _ {D : Type 0} {g : Ghosts D} where
             certain = certain;
             there = (lies.0, inl lies.1);
           };
-          stays = λ gone. absurd (some gone);
+          stays = λ gone. absurd (there gone);
         },
-        some,
+        there,
       )
 
   -- the register that lay there was opened, or one was made where no files lay
@@ -221,28 +247,36 @@ module _ {D : Type 0} {g : Ghosts D} where
         (served.opens.made honest refl lies.closed (subst (λ l. IsSome l) (sym none.0) refl))
   ]
 
-  by_steps : (limit keys most : ℕ) (has : Bool) (port port' : Traffic) (noted noted' : Option (List Bool))
-      (old new : Parts g) (served : Result ℕ ServingFault) (requests : List Request) → IsHonest g → keys ≤ limit
-      → LiesRegister old requests → IsServedOrRefused has keys most port port' noted noted' old new served
-      → new.is_certain ≡ true → IsServiceBy limit requests old new
-  by_steps limit keys most has port port' noted noted' old new (Ok taken) requests honest few lies is certain =
-      (answered limit keys most has port port' noted noted' old new (Some taken) requests honest few is
-      (opened keys most has port port' noted noted' old new (Some taken) requests honest lies is) certain).0
-  by_steps limit keys most has port port' noted noted' old new (Err (Port why)) requests honest few lies is certain =
-      (answered limit keys most has port port' noted noted' old new None requests honest few is
-      (opened keys most has port port' noted noted' old new None requests honest lies is) certain).0
-  by_steps limit keys most has port port' noted noted' old new (Err (Register why)) requests honest few lies is certain
-      = refused limit keys has why old new requests honest lies is.0 certain
+  by_steps : (limit : ℕ) (task : Serving) (has : Bool) (port port' : Traffic) (old new : Parts g)
+      (served : Result ℕ ServingFault) (result : Result ℕ NotDone) (requests : List Request) → IsHonest g
+      → task.limit ≤ limit → LiesRegister old requests
+      → IsServedOrRefused has task.limit most_asked port port' None None old new served
+      → IsServingTold task served result → new.is_certain ≡ true
+      → IsServiceBy limit requests old new (AreOfPort port port' (status_of result))
+  by_steps limit task has port port' old new (Ok taken) result requests honest few lies is told certain =
+      (answered limit task.limit most_asked has port port' None None old new (Some taken) (status_of result) requests
+      honest few (λ _. refl) is
+      (opened task.limit most_asked has port port' None None old new (Some taken) requests honest lies is) certain).0
+  by_steps limit task has port port' old new (Err (Port why)) result requests honest few lies is told certain =
+      (answered limit task.limit most_asked has port port' None None old new None (status_of result) requests honest
+      few (λ done. absurd (port_fails task why result told done)) is
+      (opened task.limit most_asked has port port' None None old new None requests honest lies is) certain).0
+  by_steps limit task has port port' old new (Err (Register why)) result requests honest few lies is told certain =
+      refused limit task.limit has why old new requests (AreOfPort port port' (status_of result))
+      (no_services port port' (status_of result) is.1) honest lies is.0 certain
 
   serve_task : (limit : ℕ) (task : Serving) (port port' : Traffic) (old new : Parts g) (result : Result ℕ NotDone)
       (requests : List Request) → IsHonest g → task.limit ≤ limit → LiesRegister old requests
-      → Serves task port port' old new result → new.is_certain ≡ true → IsServiceBy limit requests old new
+      → Serves task port port' old new result → new.is_certain ≡ true
+      → IsServiceBy limit requests old new (AreOfPort port port' (status_of result))
   serve_task limit task port port' old new result requests honest few lies serves certain = elim serves [
-    | inl none ↦ stayed limit old new requests lies none.2
+    | inl none ↦ stayed limit old new requests (AreOfPort port port' (status_of result))
+        (no_services port port' (status_of result) none.1) lies none.2
     | inr more ↦ elim more [
-      | inl without ↦ stayed limit old new requests lies without.kept
-      | inr is ↦ by_steps limit task.limit most_asked (not task.new) port port' None None old new is.1 requests honest
-          few lies is.2.steps certain
+      | inl without ↦ stayed limit old new requests (AreOfPort port port' (status_of result))
+          (no_services port port' (status_of result) without.same) lies without.kept
+      | inr is ↦ by_steps limit task (not task.new) port port' old new is.1 result requests honest few lies is.2.steps
+          is.3 certain
     ]
   ]
 
@@ -252,10 +286,10 @@ module _ {D : Type 0} {g : Ghosts D} where
       (served : Result ℕ ServingFault) → IsHonest g → task.limit ≤ limit → old.intake ≡ None → IsSome old.lying
       → IsServedOrRefused false task.limit most_asked port port' None None old new served
       → IsServingTold task served (Ok status) → new.is_certain ≡ true
-      → IsServiceBy limit [] old new × (new.lying ≢ Some None)
+      → IsServiceBy limit [] old new (AreOfPort port port' status) × (new.lying ≢ Some None)
   by_made limit task port port' old new status (Ok taken) honest few closed there is told certain =
-      answered limit task.limit most_asked false port port' None None old new (Some taken) [] honest few is
-      (is.opens.made honest refl closed there) certain
+      answered limit task.limit most_asked false port port' None None old new (Some taken) status [] honest few
+      (λ _. refl) is (is.opens.made honest refl closed there) certain
   by_made limit task port port' old new status (Err (Register why)) honest few closed there is told certain =
       absurd (not_err status told.0 told.2)
   by_made limit task port port' old new status (Err (Port (Network error))) honest few closed there is told certain =
@@ -266,7 +300,7 @@ module _ {D : Type 0} {g : Ghosts D} where
   pub makes : (limit : ℕ) (task : Serving) (port port' : Traffic) (old new : Parts g) (status : ℕ) → IsHonest g
       → task.limit ≤ limit → task.new ≡ true → old.intake ≡ None → IsSome old.lying
       → Serves task port port' old new (Ok status) → new.is_certain ≡ true
-      → IsServiceBy limit [] old new × (new.lying ≢ Some None)
+      → IsServiceBy limit [] old new (AreOfPort port port' status) × (new.lying ≢ Some None)
   makes limit task port port' old new status honest few new_one closed there serves certain = elim serves [
     | inl none ↦ absurd (not_err status _ none.3)
     | inr more ↦ elim more [
@@ -377,21 +411,24 @@ module _ {D : Type 0} {g : Ghosts D} where
       same_lies old mid new requests fault.2 lies certain)
 
   visit : {name : Bor (List ℕ)} (limit : ℕ) (errand : Errand) (out out' : Outputs) (old new : Parts g)
-      (result : Result ℕ NotDone) (requests : List Request) → IsHonest g → LiesRegister old requests
-      → Visits name errand out out' old new result → new.is_certain ≡ true
-      → IsServiceBy limit requests old new
-  visit {name} limit errand out out' old new result requests honest lies is certain =
+      (result : Result ℕ NotDone) (requests : List Request) (Are : List Service → Type 0) → Are [] → IsHonest g
+      → LiesRegister old requests → Visits name errand out out' old new result → new.is_certain ≡ true
+      → IsServiceBy limit requests old new Are
+  visit {name} limit errand out out' old new result requests Are none honest lies is certain =
       let visits = is.3 in
       let left =
       by_told name errand is.2.done is.0 out' old is.1 new result requests honest
       (visited errand out is.0 old is.1 is.2 requests honest lies visits) is.4 certain in
-      record { services = []; after = requests; in_turn = refl; lies = left.0; stays = left.1 }
+      record { services = []; are = none; after = requests; in_turn = refl; lies = left.0; stays = left.1 }
 
   does : (limit : ℕ) (what : Task) (old new : Means g) (result : Result ℕ NotDone) (requests : List Request)
       → IsHonest g → IsLimited limit what → LiesRegister old.process requests → Does what old new result
-      → new.process.is_certain ≡ true → IsServiceBy limit requests old.process new.process
+      → new.process.is_certain ≡ true
+      → IsServiceBy limit requests old.process new.process (AreOfPort old.port new.port (status_of result))
   does limit (task.Run most) old new result requests honest covered lies is certain =
-      stayed limit old.process new.process requests lies (ap (λ (m : Means g). m.process) is.0)
+      stayed limit old.process new.process requests (AreOfPort old.port new.port (status_of result))
+      (no_services old.port new.port (status_of result) (ap (λ (m : Means g). m.port) is.0)) lies
+      (ap (λ (m : Means g). m.process) is.0)
   does limit (task.Serve serving) old new result requests honest covered lies is certain =
       serve_task limit serving old.port new.port old.process new.process result requests honest covered lies is.1
       certain
@@ -400,14 +437,21 @@ module _ {D : Type 0} {g : Ghosts D} where
       (λ (v : (new ≡ record old { out = new.out; pages = new.pages; process = new.process })
       × Visits name errand (outputs old.out old.pages) (outputs new.out new.pages) old.process new.process result).
       visit limit errand (outputs old.out old.pages) (outputs new.out new.pages) old.process new.process result
-      requests honest lies v.1 certain)
+      requests (AreOfPort old.port new.port (status_of result))
+      (no_services old.port new.port (status_of result) (ap (λ (m : Means g). m.port) v.0)) honest lies v.1 certain)
       (λ (none : IsNoFiler old new result).
-      stayed limit old.process new.process requests lies (ap (λ (m : Means g). m.process) none.0))
+      stayed limit old.process new.process requests (AreOfPort old.port new.port (status_of result))
+      (no_services old.port new.port (status_of result) (ap (λ (m : Means g). m.port) none.0)) lies
+      (ap (λ (m : Means g). m.process) none.0))
   does limit (task.Lint filer form files) old new result requests honest covered lies is certain =
-      stayed limit old.process new.process requests lies (ap (λ (m : Means g). m.process) is.0)
+      stayed limit old.process new.process requests (AreOfPort old.port new.port (status_of result))
+      (no_services old.port new.port (status_of result) (ap (λ (m : Means g). m.port) is.0)) lies
+      (ap (λ (m : Means g). m.process) is.0)
 
   pub performs : (limit : ℕ) (what : Task) (old new : Means g) (status : ℕ) (requests : List Request)
       → IsHonest g → IsLimited limit what → LiesRegister old.process requests → Performs what old new status
-      → new.process.is_certain ≡ true → IsServiceBy limit requests old.process new.process
+      → new.process.is_certain ≡ true
+      → IsServiceBy limit requests old.process new.process (AreOfPort old.port new.port status)
   performs limit what old new status requests honest covered lies is certain =
-      does limit what old new is.0 requests honest covered lies is.1 certain
+      subst (λ (s : ℕ). IsServiceBy limit requests old.process new.process (AreOfPort old.port new.port s)) (sym is.2)
+      (does limit what old new is.0 requests honest covered lies is.1 certain)

@@ -41,7 +41,9 @@ use Rattle.outbox_commands.specs.declared.options.Task.{Task}
 use Rattle.outbox_commands.specs.declared.options.Task.TheVariants.{Init, Put, Migrate, Send, Ask, Status, Show}
 use Rattle.outbox_commands.specs.declared.putting.ReportFile.{ReportFile}
 use Rattle.program_runs.specs.Deeds.{Deed, Added}
-use Rattle.program_runs.specs.Runs.{LiesClosed, IsRunBy, putting, AreOfPutting, AreOfSend, AreOfAsk, AreOfTask, IsFor}
+use Rattle.program_runs.specs.Runs.{LiesClosed, IsRunBy, putting, AreOfPutting, AreOfSend, AreOfAsk, AreOfNetwork}
+use Rattle.program_runs.specs.Runs.{AreOfRun, IsFor}
+use Rattle.program_runs.proofs.Carried.{no_deeds, put_deeds}
 use Rattle.program_runs.proofs.Joining.{done_join}
 use Rattle.program_runs.proofs.Lies.{Brings, Goes, performed, visited, keeps_of, kept_lies, refused, run_by, some_lie}
 use Rattle.program_runs.proofs.Looks.{looks, ask_brings}
@@ -98,6 +100,18 @@ not_bare it db is none =
     let tables : [] ≡ outbox_tables ++ begins.tables = ap (λ (s : Schema). s.tables) (sym none ∙ begins.is) in
     absurd (cc)
 
+-- of a task that makes no connection
+no_connection : (net net' : Traffic) → net' ≡ net → (deeds : List Deed) → deeds ≡ [] → AreOfNetwork net net' deeds
+no_connection net net' same deeds none = subst (AreOfNetwork net net') (sym none) (no_deeds net net' same)
+
+puts_quietly : (files : List (Bor (List ℕ))) (text : Option (Bor (List ℕ))) (target : Target) (net net' : Traffic)
+    (status : ℕ) → net' ≡ net → (deeds : List Deed) → AreOfPutting files text target status deeds
+    → AreOfNetwork net net' deeds
+puts_quietly files text target net net' status same deeds are = elim are [
+  | inl none ↦ no_connection net net' same deeds none.1
+  | inr some ↦ put_deeds net net' target some.0 deeds same some.2
+]
+
 module _ {D : Type 0} {g : Ghosts D} where
   was_put : (target : Target) (report : ReportFile) (net : Traffic) (out out' : Option (List ℕ)) (old new : Parts g)
       → (puts : PutsOne (put_of target report) net out out' old new (Ok tt)) → (deeds : List Deed)
@@ -126,21 +140,23 @@ module _ {D : Type 0} {g : Ghosts D} where
       → VisitsOutbox g strict what net net' out out' old new status → new.is_certain ≡ true
       → ((before after : OutboxParts (FileStore D g)) (came : Result Done TaskFault)
       → HasEntries over_files before it.entries → before.filer ≡ it.filer
-      → DoesErrand over_files what net net' before after out out' came → Brings before after it Are) → Are []
-      → IsRunBy it old new Are
+      → DoesErrand over_files what net net' before after out out' came → Brings before after it Are)
+      → (net' ≡ net → Are []) → IsRunBy it old new Are
   visits what strict net net' out out' old new status it Are honest lies visit certain brings none = elim visit [
     | inl does ↦ visited old does.opened does.done new does.closed it Are honest lies does.opens does.closes certain
         (λ keeps sure. performed what net net' out out' does.opened does.done does.came it Are does.performs keeps sure
         (λ has filer.
         brings does.performs.before does.performs.after does.came has filer does.performs.does))
-    | inr refusal ↦ refused Found refusal.0.why it old new Are none honest lies refusal.0.opens certain
+    | inr refusal ↦
+        refused Found refusal.0.why it old new Are (none refusal.1) honest lies refusal.0.opens certain
   ]
 
   -- by what is sent
   sends : (w : Which) (net net' : Traffic) (out out' : Option (List ℕ)) (it : Contents) → IsHonest g
       → (before after : OutboxParts (FileStore D g)) (came : Result Done TaskFault)
       → HasEntries over_files before it.entries → before.filer ≡ it.filer
-      → Sends over_files w net net' before after out out' came → Brings before after it (AreOfSend w)
+      → Sends over_files w net net' before after out out' came
+      → Brings before after it (λ deeds. AreOfSend w deeds × AreOfNetwork net net' deeds)
   sends Next net net' out out' it honest before after came has filer is =
       send_next_brings net net' before after it out out' is.0 honest has filer is.1
   sends (Entry id) net net' out out' it honest before after came has filer is =
@@ -330,33 +346,76 @@ module _ {D : Type 0} {g : Ghosts D} where
     | inr refusal ↦ refused Migrated refusal.0 it old new (λ deeds. deeds ≡ []) refl honest lies refusal.2 certain
   ]
 
+  -- more is known of the deeds
+  with_also : (it : Contents) (old new : Parts g) (Are Also : List Deed → Type 0)
+      → ((deeds : List Deed) → Are deeds → Also deeds) → IsRunBy it old new Are
+      → IsRunBy it old new (λ deeds. Are deeds × Also deeds)
+  with_also it old new Are Also also by = record {
+    deeds = by.deeds;
+    are = (by.are, also by.deeds by.are);
+    after = by.after;
+    done = by.done;
+    lies = by.lies;
+    stays = by.stays;
+  }
+
+  put_net : {X : Type 0} (files : List (Bor (List ℕ))) (text : Option (Bor (List ℕ))) (target : Target)
+      (net net' : Traffic) (out out' : Option (List ℕ)) (old new : Parts g) (result : Result X NotDone)
+      → PutsReports g files text target net net' out out' old new result → net' ≡ net
+  put_net files text target net net' out out' old new result puts = elim puts [
+    | inl two ↦ two.2.1
+    | inr read ↦ elim read.1 [ inl all ↦ all.2 | inr none ↦ none.3.1 ]
+  ]
+
+  -- a task that shows something
+  shows : (what : Errand) (net net' : Traffic) (out out' : Option (List ℕ)) (old new : Parts g) (status : ℕ)
+      (it : Contents) → IsHonest g → LiesClosed old it
+      → VisitsOutbox g false what net net' out out' old new status → new.is_certain ≡ true
+      → ((before after : OutboxParts (FileStore D g)) (came : Result Done TaskFault)
+      → HasEntries over_files before it.entries → before.filer ≡ it.filer
+      → DoesErrand over_files what net net' before after out out' came
+      → Brings before after it (λ deeds. (deeds ≡ []) × AreOfNetwork net net' deeds))
+      → IsRunBy it old new (λ deeds. (deeds ≡ []) × AreOfNetwork net net' deeds)
+  shows what net net' out out' old new status it honest lies does certain brings =
+      visits what false net net' out out' old new status it (λ deeds. (deeds ≡ []) × AreOfNetwork net net' deeds)
+      honest lies does certain brings (λ same. (refl, no_deeds net net' same))
+
   pub run : {X : Type 0} (task : Task) (net net' : Traffic) (out out' : Option (List ℕ)) (old new : Parts g)
       (result : Result X NotDone) (it : Contents) → IsHonest g → LiesClosed old it → IsFor it.filer task
       → Does g task net net' out out' old new result → new.is_certain ≡ true
-      → IsRunBy it old new (AreOfTask task (status_by result))
+      → IsRunBy it old new (AreOfRun task net net' (status_by result))
   run (Init database filer) net net' out out' old new result it honest lies made does certain =
-      inits filer old new (status_by result) it honest lies made does.0 certain
+      with_also it old new (λ deeds. deeds ≡ []) (AreOfNetwork net net') (no_connection net net' does.1)
+      (inits filer old new (status_by result) it honest lies made does.0 certain)
   run (Put database files key target) net net' out out' old new result it honest lies made does certain =
-      put files.items key target net net' out out' old new result it honest lies does certain
+      let status = status_by result in
+      let same = put_net files.items key target net net' out out' old new result does in
+      with_also it old new (AreOfPutting files.items key target status) (AreOfNetwork net net')
+      (puts_quietly files.items key target net net' status same)
+      (put files.items key target net net' out out' old new result it honest lies does certain)
   run (Migrate database) net net' out out' old new result it honest lies made does certain =
-      migrates out out' old new (status_by result) it honest lies does.0 certain
+      with_also it old new (λ deeds. deeds ≡ []) (AreOfNetwork net net') (no_connection net net' does.1)
+      (migrates out out' old new (status_by result) it honest lies does.0 certain)
   run (Send database peer w strict) net net' out out' old new result it honest lies made does certain =
-      visits (errand.Send w) strict net net' out out' old new (status_by result) it (AreOfSend w) honest lies does
-      certain (λ before after came has filer is. sends w net net' out out' it honest before after came has filer is)
-      (none_sent w)
+      visits (errand.Send w) strict net net' out out' old new (status_by result) it
+      (λ deeds. AreOfSend w deeds × AreOfNetwork net net' deeds) honest lies does certain
+      (λ before after came has filer is. sends w net net' out out' it honest before after came has filer is)
+      (λ same. (none_sent w, no_deeds net net' same))
   run (Ask database peer id form) net net' out out' old new result it honest lies made does certain =
-      visits (errand.Ask id form) false net net' out out' old new (status_by result) it AreOfAsk honest lies does
-      certain (λ before after came has filer is.
-      ask_brings form id net net' before after it out out' is.0 honest has is.1) (inl refl)
+      visits (errand.Ask id form) false net net' out out' old new (status_by result) it
+      (λ deeds. AreOfAsk deeds × AreOfNetwork net net' deeds) honest lies does certain
+      (λ before after came has filer is.
+      ask_brings form id net net' before after it out out' is.0 honest has is.1)
+      (λ same. (inl refl, no_deeds net net' same))
   run (Status database) net net' out out' old new result it honest lies made does certain =
-      visits errand.ShowStates false net net' out out' old new (status_by result) it (λ deeds. deeds ≡ []) honest lies
-      does certain (λ before after came has filer is.
-      looks before after it honest has is.0.1.kept is.0.1.filer) refl
+      shows errand.ShowStates net net' out out' old new (status_by result) it honest lies does certain
+      (λ before after came has filer is.
+      looks net net' before after it honest has is.0.1.kept is.0.1.filer is.1)
   run (Show database None) net net' out out' old new result it honest lies made does certain =
-      visits errand.ShowEach false net net' out out' old new (status_by result) it (λ deeds. deeds ≡ []) honest lies
-      does certain (λ before after came has filer is.
-      looks before after it honest has is.0.1.kept is.0.1.filer) refl
+      shows errand.ShowEach net net' out out' old new (status_by result) it honest lies does certain
+      (λ before after came has filer is.
+      looks net net' before after it honest has is.0.1.kept is.0.1.filer is.1)
   run (Show database (Some id)) net net' out out' old new result it honest lies made does certain =
-      visits (errand.ShowEntry id) false net net' out out' old new (status_by result) it (λ deeds. deeds ≡ []) honest
-      lies does certain (λ before after came has filer is.
-      looks before after it honest has is.0.1.kept is.0.1.filer) refl
+      shows (errand.ShowEntry id) net net' out out' old new (status_by result) it honest lies does certain
+      (λ before after came has filer is.
+      looks net net' before after it honest has is.0.1.kept is.0.1.filer is.1)

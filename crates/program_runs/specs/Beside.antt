@@ -17,21 +17,31 @@ use Rattle.program_runs.specs.Deeds.{Deed, Added, Wrote, Heard, Asked, AreDone}
 
 -- what a run of `intake serve` did with a connection
 pub data Service : Type 0 where
-  -- it was served; or its request was decided ahead, and nothing was written
+  -- it was served
   Answered : Connection → Service
+  -- its request was decided ahead of the connection on which it comes, and nothing was written
+  Ahead : Connection → Service
   -- it was turned away, while the register was closed
   Away : Connection → Service
   -- the run was killed as it served a connection on which this was read, and this was written
   Killed : (read : List ℕ) → Crash → (marks : List Mark) → (written : List ℕ) → Service
 
--- Each was served after the requests that the one before it left, by an intake that keeps at most so many keys.
-abbrev pub InTurn : ℕ → List Request → List Service → List Request → Type 0
-InTurn limit before [] after = after ≡ before
-InTurn limit before (Answered connection ∷ services) after =
+-- It was served after these requests, by an intake that keeps at most so many keys, and this holds of those that it
+-- left.
+abbrev pub ServedFirst : ℕ → List Request → Connection → (List Request → Type 0) → Type 0
+ServedFirst limit before connection Holds =
     (keys : ℕ) × (between : List Request) × (keys ≤ limit)
     × Serves (keeping keys [] before between) connection.read connection.output.marks connection.output.ended
     connection.output.bytes
-    × InTurn limit between services after
+    × Holds between
+
+-- each was served after the requests that the one before it left
+abbrev pub InTurn : ℕ → List Request → List Service → List Request → Type 0
+InTurn limit before [] after = after ≡ before
+InTurn limit before (Answered connection ∷ services) after =
+    ServedFirst limit before connection (λ between. InTurn limit between services after)
+InTurn limit before (Ahead connection ∷ services) after =
+    ServedFirst limit before connection (λ between. InTurn limit between services after)
 InTurn limit before (Away connection ∷ services) after =
     IsTurnedAway connection.read connection.output.marks connection.output.ended connection.output.bytes
     × InTurn limit before services after
@@ -77,16 +87,19 @@ network_of situation =
 abbrev pub with_sent : Network → Option (ℕ × ℕ) → List ℕ → Network
 with_sent old from bytes = record old { sent = old.sent ++ record { from = from; bytes = bytes } ∷ [] }
 
+abbrev pub with_answer : Network → Delivery → List ℕ → Network
+with_answer old delivery written =
+    record old { answers = old.answers ++ record { item = delivery.item; bytes = written } ∷ [] }
+
 -- the network after an act
 abbrev pub carries : Network → Act → Network
 carries old (OfOutbox outbox (Added key target body)) = old
 carries old (OfOutbox outbox (Wrote id written)) = with_sent old (Some (outbox, id)) written
 carries old (OfOutbox outbox (Heard id asks read to)) = old
 carries old (OfOutbox outbox (Asked written)) = with_sent old None written
-carries old (OfIntake delivery (Answered connection)) =
-    record old { answers = old.answers ++ record { item = delivery.item; bytes = connection.output.bytes } ∷ [] }
-carries old (OfIntake delivery (Killed read crash marks written)) =
-    record old { answers = old.answers ++ record { item = delivery.item; bytes = written } ∷ [] }
+carries old (OfIntake delivery (Answered connection)) = with_answer old delivery connection.output.bytes
+carries old (OfIntake delivery (Ahead connection)) = with_answer old delivery connection.output.bytes
+carries old (OfIntake delivery (Killed read crash marks written)) = with_answer old delivery written
 carries old (OfIntake delivery (Away connection)) =
     record old { refusals = old.refusals ++ record { item = delivery.item; bytes = connection.output.bytes } ∷ [] }
 carries old (OfStranger written) = with_sent old None written
@@ -125,6 +138,7 @@ IsCarried network (OfOutbox outbox (Heard id asks read to)) =
     ⊎ (IsGiven network network.refusals outbox id read ⊎ IsGivenBack network asks read)
 IsCarried network (OfOutbox outbox deed) = Unit {0}
 IsCarried network (OfIntake delivery (Answered connection)) = IsOf network.sent connection delivery
+IsCarried network (OfIntake delivery (Ahead connection)) = IsOf network.sent connection delivery
 IsCarried network (OfIntake delivery (Away connection)) = IsOf network.sent connection delivery
 IsCarried network (OfIntake delivery (Killed read crash marks written)) =
     (from : Sent) × (numbered network.sent delivery.item ≡ Some from) × (read ≡ take delivery.given from.bytes)

@@ -19,8 +19,14 @@ use Rattle.programs.specs.Happenings.{Situation, at_first, AreRegistered}
 use Rattle.programs.specs.Fronts.{Passing, HappenBehind, IsReachedBehind}
 use Rattle.program_runs.specs.Beside.{Act, Service, InTurn, deeds_of, services_of, network_of, AreCarried}
 use Rattle.program_runs.specs.Deeds.{Deed, AreDone}
-use Rattle.program_runs.specs.Registers.{LieRequests, IsLimited}
-use Rattle.program_runs.specs.Runs.{LieOutbox, AreNotGone, AreOfTask, IsFor}
+use Rattle.program_runs.specs.Registers.{LieRequests, AreOfPort, IsLimited}
+use Rattle.program_runs.specs.Runs.{LieOutbox, AreNotGone, AreOfRun, IsFor}
+
+-- these are what turns did, one after another
+abbrev pub AreOfAll : {T X : Type 0} → (T → List X → Type 0) → List T → List X → Type 0
+AreOfAll AreOf [] all = all ≡ []
+AreOfAll {T} {X} AreOf (turn ∷ turns) all =
+    (first : List X) × (rest : List X) × (all ≡ first ++ rest) × AreOf turn first × AreOfAll AreOf turns rest
 
 module _ {D : Type 0} (g : Ghosts D) where
   -- ---- one outbox
@@ -68,15 +74,10 @@ module _ {D : Type 0} (g : Ghosts D) where
       (between : Option (Option (Files D))) × IsOutboxTurn filer turn lying between
       × AreOutboxTurns filer turns between lying'
 
-  -- the deeds are those of the tasks of these runs, one after another
+  -- the deeds are those of its task, on the connections of its network
   abbrev pub AreOfTurn : OutboxTurn → List Deed → Type 0
-  AreOfTurn (Whole run) deeds = AreOfTask run.task (status_by run.result) deeds
+  AreOfTurn (Whole run) deeds = AreOfRun run.task run.net run.net' (status_by run.result) deeds
   AreOfTurn (Killed some) deeds = deeds ≡ some
-
-  abbrev pub AreOfAll : List OutboxTurn → List Deed → Type 0
-  AreOfAll [] deeds = deeds ≡ []
-  AreOfAll (turn ∷ turns) deeds =
-      (first : List Deed) × (rest : List Deed) × (deeds ≡ first ++ rest) × AreOfTurn turn first × AreOfAll turns rest
 
   -- ---- the register
 
@@ -100,6 +101,11 @@ module _ {D : Type 0} (g : Ghosts D) where
     pub performs : Performs run.task run.old run.new run.status
     pub certain : run.new.process.is_certain ≡ true
     pub left : run.new.process.lying ≡ lying'
+
+  -- the services are those of its port
+  abbrev pub AreOfIntakeTurn : IntakeTurn → List Service → Type 0
+  AreOfIntakeTurn (Done run) services = AreOfPort run.old.port run.new.port run.status services
+  AreOfIntakeTurn (Stopped some) services = services ≡ some
 
   abbrev pub IsIntakeTurn : ℕ → IntakeTurn → Option (Option (Files D)) → Option (Option (Files D)) → Type 0
   IsIntakeTurn limit (Done run) lying lying' = IsIntakeRun limit run lying lying'
@@ -143,12 +149,13 @@ module _ {D : Type 0} (g : Ghosts D) where
   -- What these runs did is a list of deeds for each outbox, and of services of the register. In whatever order they
   -- came, with what others wrote between them, they happen, if what each read was written to it or given back by a
   -- front.
-  pub record RunsHappen (limit : ℕ) (filers : List (List ℕ)) (outboxes : ℕ → List OutboxTurn) (old : Situation)
-      (before deployment : Deployment) : Type 0 where
+  pub record RunsHappen (limit : ℕ) (filers : List (List ℕ)) (intake : List IntakeTurn)
+      (outboxes : ℕ → List OutboxTurn) (old : Situation) (before deployment : Deployment) : Type 0 where
     pub deeds : ℕ → List Deed
     pub are : (outbox : ℕ) (it : Contents) → numbered old.outboxes outbox ≡ Some it
-        → AreOfAll (outboxes outbox) (deeds outbox)
+        → AreOfAll AreOfTurn (outboxes outbox) (deeds outbox)
     pub services : List Service
+    pub serve : AreOfAll AreOfIntakeTurn intake services
     -- what was made is not gone
     pub register_stays : AreNotGone before.register deployment.register
     pub boxes_stay : (outbox : ℕ) (it : Contents) → numbered old.outboxes outbox ≡ Some it
@@ -167,7 +174,7 @@ module _ {D : Type 0} (g : Ghosts D) where
       → AreIntakeTurns limit intake old.register new.register
       → ((outbox : ℕ) (it : Contents) → numbered situation.outboxes outbox ≡ Some it
       → AreOutboxTurns it.filer (outboxes outbox) (old.boxes outbox) (new.boxes outbox))
-      → RunsHappen limit filers outboxes situation old new
+      → RunsHappen limit filers intake outboxes situation old new
 
   -- Whatever runs there are of both programs from the first on, each outbox for its filer.
   abbrev pub AnyDeployment : Type 0
@@ -177,4 +184,4 @@ module _ {D : Type 0} (g : Ghosts D) where
       → AreIntakeTurns limit intake bare.register new.register
       → ((outbox : ℕ) (filer : List ℕ) → numbered filers outbox ≡ Some filer
       → AreOutboxTurns filer (outboxes outbox) (bare.boxes outbox) (new.boxes outbox))
-      → RunsHappen limit filers outboxes (at_first filers) bare new
+      → RunsHappen limit filers intake outboxes (at_first filers) bare new

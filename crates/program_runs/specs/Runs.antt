@@ -5,6 +5,7 @@ use Rattle.sqlite_disk.specs.declared.Disk.{Ghosts}
 use Rattle.sqlite_disk.specs.declared.Files.{Files}
 use Rattle.filing_model.specs.Prefix.{IsPrefixOf}
 use Rattle.outbox_tables.specs.Entries.{Contents}
+use Rattle.outbox_process.specs.Dials.{Output, Traffic, Grows}
 use Rattle.outbox_process.specs.Process.{Parts, HoldOutboxWithLog}
 use Rattle.outbox_process.specs.declared.errand.Which.{Which}
 use Rattle.outbox_process.specs.declared.errand.Which.TheVariants.{Next, Entry, All}
@@ -88,6 +89,28 @@ AreOfTask (Send database peer which strict) status deeds = AreOfSend which deeds
 AreOfTask (Ask database peer id form) status deeds = AreOfAsk deeds
 AreOfTask (Status database) status deeds = deeds ≡ []
 AreOfTask (Show database entry) status deeds = deeds ≡ []
+
+-- ---- on which connections
+
+-- what these deeds wrote, each on a connection of its own
+abbrev pub written_in : List Deed → List (List ℕ)
+written_in [] = []
+written_in (Added key target body ∷ deeds) = written_in deeds
+written_in (Wrote id written ∷ deeds) = written ∷ written_in deeds
+written_in (Heard id asks read to ∷ deeds) = written_in deeds
+written_in (Asked written ∷ deeds) = written ∷ written_in deeds
+
+-- they wrote what was written on the connections that the network recorded meanwhile
+abbrev pub AreOfNetwork : Traffic → Traffic → List Deed → Type 0
+AreOfNetwork net net' deeds =
+    (outputs : List Output) × Grows net.over net'.over outputs
+    × (map (λ output. output.bytes) outputs ≡ written_in deeds)
+
+-- they are those of a run of this task over this network, which ended with this status
+abbrev pub AreOfRun : Task → Traffic → Traffic → ℕ → List Deed → Type 0
+AreOfRun task net net' status deeds = AreOfTask task status deeds × AreOfNetwork net net' deeds
+
+-- ---- which tasks
 
 -- if the task is to make an outbox, it is to be this filer's
 abbrev pub IsFor : List ℕ → Task → Type 0

@@ -14,7 +14,7 @@ ghost use Rattle.outbox_commands.specs.declared.options.Task.{Task};
 ghost use Rattle.outbox_commands.specs.declared.options.Task.TheVariants.{Init};
 ghost use Rattle.outbox_commands.specs.Tasks.{Does};
 ghost use Rattle.outbox_commands.specs.Status.{status_by};
-ghost use Rattle.program_runs.specs.Runs.{LiesClosed, IsRunBy, AreOfTask, IsFor};
+ghost use Rattle.program_runs.specs.Runs.{LiesClosed, IsRunBy, AreOfRun, IsFor};
 ghost use Rattle.filing_model.specs.Request.{Request};
 ghost use Rattle.programs.specs.Happenings.{Situation};
 ghost use Rattle.program_runs.specs.Beside.{Act, network_of, AreCarried, DoTogether, TogetherHappen};
@@ -22,19 +22,20 @@ ghost use Rattle.intake_commands.specs.Tasks.{Means, Performs, Does as IntakeDoe
 ghost use Rattle.intake_commands.specs.declared.options.Serving.{Serving};
 ghost use Rattle.intake_commands.specs.declared.options.Task.{Task as IntakeTask};
 ghost use Rattle.intake_commands.specs.declared.options.Task.TheVariants.{Serve};
-ghost use Rattle.program_runs.specs.Registers.{LiesRegister, IsServiceBy, IsLimited};
+ghost use Rattle.program_runs.specs.Registers.{LiesRegister, IsServiceBy, AreOfPort, IsLimited};
 ghost use Rattle.program_runs.specs.Deployment.{AnyRuns, AnyDeployment};
 
 use programs::fronts::any_fronts;
 use sqlite_disk::Disk;
 
 /// A run of `outbox` on an outbox that lies there, or is not made yet, does deeds of its task, if its process is
-/// certain at the end. If it makes an outbox, that is this filer's.
+/// certain at the end. They wrote what was written on the connections that its network recorded. If it makes an outbox,
+/// that is this filer's.
 pub fn a_run_of_outbox_is_deeds<D: Disk>()
     ensures { (task : Task) (net net' : Traffic) (out out' : Option (List ℕ)) (old new : Parts D.Disk)
         (result : Result (Unit {0}) NotDone) (it : Contents) → IsHonest D.Disk → LiesClosed old it → IsFor it.filer task
         → Does D.Disk task net net' out out' old new result → new.is_certain ≡ true
-        → IsRunBy it old new (AreOfTask task (status_by result)) }
+        → IsRunBy it old new (AreOfRun task net net' (status_by result)) }
 {}
 
 /// A run of `outbox init` that is done makes an outbox of its filer without entries, if its process is certain at the
@@ -55,11 +56,12 @@ pub fn programs_happen_together()
 {}
 
 /// A run of `intake` on a register that lies there, or is not made yet, answers connections in turn, or does nothing
-/// with it, if its process is certain at the end.
+/// with it, if its process is certain at the end. These are the connections that came on its port.
 pub fn a_run_of_intake_is_services<D: Disk>()
     ensures { (limit : ℕ) (task : IntakeTask) (old new : Means D.Disk) (status : ℕ) (requests : List Request)
         → IsHonest D.Disk → IsLimited limit task → LiesRegister old.process requests → Performs task old new status
-        → new.process.is_certain ≡ true → IsServiceBy limit requests old.process new.process }
+        → new.process.is_certain ≡ true
+        → IsServiceBy limit requests old.process new.process (AreOfPort old.port new.port status) }
 {}
 
 /// A run of `intake serve --new` that is done answers connections in turn, on a register that begins without requests,
@@ -68,7 +70,8 @@ pub fn a_run_that_makes_a_register_is_services<D: Disk>()
     ensures { (limit status : ℕ) (serving : Serving) (old new : Means D.Disk) → IsHonest D.Disk
         → serving.limit ≤ limit → serving.new ≡ true → old.process.intake ≡ None → IsSome old.process.lying
         → IntakeDoes (Serve serving) old new (Ok status) → new.process.is_certain ≡ true
-        → IsServiceBy limit [] old.process new.process × (new.process.lying ≢ Some None) }
+        → IsServiceBy limit [] old.process new.process (AreOfPort old.port new.port status)
+        × (new.process.lying ≢ Some None) }
 {}
 
 /// Whatever runs there are of both programs, one after another on each file and beside each other on different ones,
