@@ -1,6 +1,6 @@
 -- What `intake` does with its words, and with a task on the register of its file. `out` and `out'` are what the output
 -- has before and after.
-use Rattle.std.specs.Prelude.{◌≡◌, ◌⊎◌, ℕ, true, List, Option, None, Result, Ok, Err, MatchBool}
+use Rattle.std.specs.Prelude.{◌≡◌, ◌⊎◌, ℕ, true, List, [], Option, Some, None, Result, Ok, Err, MatchBool}
 use Rattle.sqlite_disk.specs.declared.Disk.{Ghosts}
 use Rattle.sqlite_disk.specs.declared.Files.{Files}
 use Rattle.clap.specs.Words.{Text, kind_of}
@@ -46,10 +46,16 @@ PerformsOnce written read task out out' status =
     PerformsOver written task None no_port no_port out out' status
     ⊎ ((only_reads task ≡ true) × PerformsOver read task None no_port no_port out out' status)
 
+-- a port on which nothing came yet, and which records each connection that is over
+pub record IsFresh (port : Traffic) : Type 0 where
+  pub given : port.given ≡ None
+  pub over : port.over ≡ Some []
+  pub ahead : port.ahead ≡ Some []
+
 -- the task was performed over a port of the system; or memory ran out before there was a port, and nothing was done
 abbrev pub PerformsServing : {D : Type 0} → Ghosts D → Task → Option (List ℕ) → Option (List ℕ) → ℕ → Type 0
 PerformsServing written task out out' status =
-    ((port : Traffic) × (port' : Traffic) × PerformsOver written task None port port' out out' status)
+    ((port : Traffic) × (port' : Traffic) × IsFresh port × PerformsOver written task None port port' out out' status)
     ⊎ ((status ≡ 3) × (out' ≡ out))
 
 abbrev pub PerformsTask : {D R : Type 0} → Ghosts D → Ghosts R → Task → Option (List ℕ) → Option (List ℕ) → ℕ → Type 0

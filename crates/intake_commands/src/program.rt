@@ -1,6 +1,6 @@
 //! The program: it makes what a task works with, and performs the task.
 
-ghost use Rattle.std.specs.Prelude.{◌≡◌, true, map, string_bytes, Some, None, IfOk};
+ghost use Rattle.std.specs.Prelude.{◌≡◌, true, [], map, string_bytes, Some, None, IfOk};
 ghost use Rattle.clap.specs.Words.{kind_of};
 ghost use Rattle.command_line.specs.Status.{IsRefusalStatus};
 ghost use Rattle.intake_commands.specs.Bounds.{bounds_of};
@@ -82,7 +82,8 @@ fn bounds_of(serving: &Serving<'_>) -> Bounds
 
 /// The port that is served, which does not listen yet.
 fn port_of<'r>(rt: &'r HostRuntime, serving: &Serving<'_>) -> Result<SystemPort<'r>, AllocError>
-    ensures { IfOk result (λ port. port.hall.bounds ≡ bounds_of serving.now) }
+    ensures bounds { IfOk result (λ port. port.hall.bounds ≡ bounds_of serving.now) }
+    ensures fresh { IfOk result (λ port. (port.events.items ≡ []) × (port.handed.items ≡ [])) }
 {
     let bounds = bounds_of(serving);
     let log = if serving.log { Some(rt.stdout()) } else { None };
@@ -231,6 +232,7 @@ fn perform_port<O: Write, E: Write>(
 ) -> u8
     requires task { asked.now.task ≡ Serve serving.now }
     requires bounds { port.old.hall.bounds ≡ bounds_of serving.now }
+    requires fresh { (port.old.events.items ≡ []) × (port.old.handed.items ≡ []) }
     ensures { PerformsServing ⟦<File as Disk>⟧ asked.now.task (O.contents output.old) (O.contents output.new)
         result }
 {

@@ -52,6 +52,7 @@ impl<S: Stream + Drop, K: Sockets<Stream = S> + Drop> Many<S, K> {
     pub fn new(alloc: Global, sockets: K, bounds: Bounds) -> Result<Many<S, K>, AllocError>
         requires { IsEmpty (K.traffic sockets) }
         ensures events { IfOk result (λ many. many.events.items ≡ []) }
+        ensures handed { IfOk result (λ many. many.handed.items ≡ []) }
         ensures bounds { IfOk result (λ many. many.hall.bounds ≡ bounds) }
     {
         Ok(Many {
