@@ -1,6 +1,7 @@
 -- What went on the connections of runs, as far as their network or their port recorded it.
 use Rattle.std.proofs.Common.{◌≡◌, ◌∙◌, ℕ, List, [], ◌∷◌, ◌++◌, map, Option, Some, None, refl, sym, ap, subst, inl}
 use Rattle.std.proofs.Common.{append_assoc, true≢false}
+use Rattle.std.proofs.lemmas.List.{map-append}
 use Rattle.std.specs.Prelude.{IsSome}
 use Rattle.filing_model.proofs.Lists.{append_nil}
 use Rattle.filing_model.specs.Prefix.{IsPrefixOf}
@@ -40,12 +41,6 @@ grow_join a b (Some outputs) first second one two =
       two.2 ∙ ap (λ front. front ++ second) was.2 ∙ append_assoc was.0 first second,
     )
 
-bytes_join : (first second : List Output)
-    → map (λ (o : Output). o.bytes) (first ++ second) ≡ map (λ (o : Output). o.bytes) first
-    ++ map (λ (o : Output). o.bytes) second
-bytes_join [] second = refl
-bytes_join (o ∷ first) second = ap (λ rest. o.bytes ∷ rest) (bytes_join first second)
-
 written_join : (first second : List Deed) → written_in (first ++ second) ≡ written_in first ++ written_in second
 written_join [] second = refl
 written_join (Added key target body ∷ first) second = written_join first second
@@ -59,7 +54,7 @@ pub deeds_join : (a b c : Traffic) (first second : List Deed) → AreOfNetwork a
 deeds_join a b c first second one two = (
   one.0 ++ two.0,
   grow_join a.over b.over c.over one.0 two.0 one.1 two.1,
-  bytes_join one.0 two.0 ∙ ap (λ front. front ++ map (λ (o : Output). o.bytes) two.0) one.2
+  map-append (λ (o : Output). o.bytes) one.0 two.0 ∙ ap (λ front. front ++ map (λ (o : Output). o.bytes) two.0) one.2
       ∙ ap (λ back. written_in first ++ back) two.2 ∙ sym (written_join first second),
 )
 
