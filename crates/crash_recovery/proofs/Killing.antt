@@ -28,7 +28,7 @@ module _ {D : Type 0} (g : Ghosts D) where
       → FindsIntake over_files conn limit intake totals
       → HoldsAs over_files limit old_style requests intake × AreTotals requests totals
   begins honest conn limit old_style requests intake totals opens once begun =
-      begun (always_clean honest intake.store.conn) old_style requests once opens.rows
+      begun.holds (always_clean honest intake.store.conn) old_style requests once opens.rows
 
   module _ (limit : ℕ) (old : Situation) (delivery : Delivery) (on : ComesOn limit old delivery)
       (after : List Request) where

@@ -1,5 +1,5 @@
 -- What an opening finds in files that hold a database by their log and their database file together.
-use Rattle.std.proofs.Common.{◌≡◌, Option, Some, None, inl, inr, ap, subst, ◌∙◌}
+use Rattle.std.proofs.Common.{◌≡◌, Option, Some, None, inl, inr, ap, subst, sym, ◌∙◌}
 use Rattle.std.proofs.Math.Logic.{∥∥₁_elim}
 use Rattle.sqlite_disk.specs.declared.Disk.{Ghosts}
 use Rattle.sqlite_disk.specs.declared.Files.{Files}
@@ -7,12 +7,12 @@ use Rattle.sqlite_store.specs.declared.store.FileStore.{FileStore}
 use Rattle.sqlite_trees.specs.Props.{Trees-set}
 use Rattle.sqlite.specs.Effect.{Database}
 use Rattle.sqlite.specs.Held.{Held}
-use Rattle.sqlite.specs.Files.{file_state, Finds, IsOpened, FailsToOpenFiles}
+use Rattle.sqlite.specs.Files.{file_state, AreFound, Finds, IsOpened, FailsToOpenFiles}
 use Rattle.sqlite.specs.declared.error.Error.{Error}
 use Rattle.sqlite.specs.declared.file.Leftover.{Leftover}
 use Rattle.table_rows.proofs.CleanLemmas.{always_clean}
 use Rattle.table_rows.proofs.FileLemmas.{same_database}
-use Rattle.database_places.specs.Left.{HoldWithLog, FailsForCause}
+use Rattle.database_places.specs.Left.{HoldWithLog, IsReadIn, FailsForCause}
 use Rattle.database_places.specs.Opening.{ComesFrom}
 use Rattle.database_places.specs.Places.{IsHonest, Lie}
 
@@ -35,6 +35,21 @@ module _ {D : Type 0} {g : Ghosts D} where
       let came = subst (λ l. ComesFrom l mid conn) lie.1 comes in
       let both = came.1 (always_clean honest conn) in
       (both.1, found_there lie.0 conn both.0 both.1 db lie.2, came.0)
+
+  -- whatever files lie in a place
+  pub read_lying : IsHonest g → (old mid : Option (Option (Files D))) (conn : Held (FileStore D g))
+      → ComesFrom old mid conn → (files : Files D) → old ≡ Some (Some files)
+      → IsReadIn g files (file_state conn).now × (mid ≡ Some None)
+  read_lying honest old mid conn comes files lies =
+      let came = subst (λ l. ComesFrom l mid conn) lies comes in
+      let both = came.1 (always_clean honest conn) in (
+        record {
+          sound = (both.1.1 both.1.0.is_open).0;
+          found = subst (AreFound g files) (sym (ap (λ (d : Database). d.trees) both.1.0.clean)) both.0.reads;
+          only = found_there files conn both.0 both.1;
+        },
+        came.0,
+      )
 
   -- files that hold a database are not refused for what they hold
   pub fails_for_cause : (files : Files D) (db : Database) → HoldWithLog g files db

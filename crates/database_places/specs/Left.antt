@@ -9,7 +9,7 @@ use Rattle.sqlite_store.specs.FileStore.{view}
 use Rattle.sqlite_store.specs.FileStore as store
 use Rattle.sqlite.specs.Effect.{Database, IsDatabase}
 use Rattle.sqlite.specs.Held.{Held}
-use Rattle.sqlite.specs.Files.{faults_of, faults_left, image_of, HoldsDatabase, IsFullLeft, IsClosed}
+use Rattle.sqlite.specs.Files.{faults_of, faults_left, image_of, AreFound, HoldsDatabase, IsFullLeft, IsClosed}
 use Rattle.sqlite.specs.declared.error.Error.{Error}
 use Rattle.sqlite.specs.declared.error.Error.TheVariants.{SqliteFailure}
 use Rattle.sqlite.specs.declared.error.ErrorCode.TheVariants.{OutOfMemory}
@@ -20,6 +20,13 @@ use Rattle.sqlite.specs.declared.file.Leftover.{Leftover}
 pub record HoldWithLog {D : Type 0} (g : Ghosts D) (files : Files D) (db : Database) : Type 0 where
   pub sound : IsDatabase db
   pub held : ∥ HoldsDatabase (image_of g files) db.trees ∥₁
+
+-- An opening reads this database in these files: the one that they hold, if they hold one. In damaged files, which hold
+-- none, it may read one too.
+pub record IsReadIn {D : Type 0} (g : Ghosts D) (files : Files D) (db : Database) : Type 0 where
+  pub sound : IsDatabase db
+  pub found : AreFound g files db.trees
+  pub only : (held : Database) → HoldWithLog g files held → db ≡ held
 
 module _ {D : Type 0} {g : Ghosts D} where
   -- The process was killed: a read of each file returns what it returned before. Nothing was copied, cut or synced

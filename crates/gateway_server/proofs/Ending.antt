@@ -1,9 +1,10 @@
 -- Why a connection ends, and what was read.
-use Rattle.std.proofs.Common.{arith, ℕ, List, ◌++◌, Option, Some, None}
+use Rattle.std.proofs.Common.{◌≡◌, ◌≤◌, arith, ℕ, List, ◌++◌, length, Option, Some, None}
 use Rattle.std.specs.Prelude.{IfSome}
 use Rattle.std.proofs.KnownBytes.{Consumes-trans}
 use Rattle.std.proofs.lemmas.List.{length-append}
 use Rattle.http_wire.specs.declared.inbox.Inbox.{Inbox}
+use Rattle.http_messages.specs.Reads.{max_reads}
 use Rattle.http_messages.specs.declared.refusal.ConnFault.{ConnFault}
 use Rattle.http_messages.specs.declared.refusal.ConnFault.TheVariants.{Write, ReadLimit, Memory}
 use Rattle.http_messages.specs.declared.refusal.ConnFault.TheVariants as fault
@@ -12,7 +13,7 @@ use Rattle.http_wire.specs.Inbox.{held, reads}
 use Rattle.http_wire.specs.Wire.{Wire}
 use Rattle.filing_model.specs.declared.served.Ended.{Ended}
 use Rattle.filing_model.specs.declared.served.Ended.TheVariants.{Closed, InputEnded, Fault}
-use Rattle.gateway_server.specs.Progress.{IsReadToEnd, ReadsSome, TellsEnd}
+use Rattle.gateway_server.specs.Progress.{HasRead, IsReadToEnd, ReadsSome, TellsEnd}
 
 -- which fault it is
 pub TellsEnd-fault : (from to : Wire) (inbox : Inbox) (left : Option (List ℕ)) (f : ConnFault)
@@ -32,6 +33,22 @@ told_at_end inbox left (Some InputEnded) told = λ _. told
 told_at_end inbox left (Some (Fault fault)) told = λ e. absurd (cc)
 
 -- ---- what was read
+
+-- the limit of reads comes once so many bytes were read
+pub has_read : (old new : Wire) (inbox inbox' : Inbox) (ended : Option Ended) → reads inbox ≡ 0
+    → ReadsSome old.left new.left inbox inbox' → IfSome ended (TellsEnd inbox' new.left)
+    → IfSome ended (HasRead old new)
+has_read old new inbox inbox' None none read told = tt
+has_read old new inbox inbox' (Some ended) none read told = (read.0, read.1, go ended told)
+  where
+    go : (ended : Ended) → TellsEnd inbox' new.left ended → ended ≡ Fault fault.ReadLimit
+        → max_reads ≤ length read.0
+    go Closed told e = absurd (cc)
+    go InputEnded told e = absurd (cc)
+    go (Fault fault.Read) told e = absurd (cc)
+    go (Fault (fault.Write sent)) told e = absurd (cc)
+    go (Fault fault.ReadLimit) told e = omega (arith, told.0, read.2, none)
+    go (Fault fault.Memory) told e = absurd (cc)
 
 -- two calls read what each of them did
 pub ReadsSome-join : (left left' left'' : Option (List ℕ)) (old mid new : Inbox) → ReadsSome left left' old mid

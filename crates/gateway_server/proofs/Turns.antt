@@ -32,7 +32,7 @@ counted_none (Some coming) = refl
 pub counted_given_up : AreCounted None [] 1
 counted_given_up = omega arith
 
-grows_none : (old : Option (List Connection)) → Grows old old []
+pub grows_none : (old : Option (List Connection)) → Grows old old []
 grows_none None = tt
 grows_none (Some connections) = ap Some (sym (append_nil connections))
 
@@ -67,7 +67,7 @@ counted_one None c = omega arith
 counted_one (Some coming) c = refl
 
 -- what was read of it and written on it is kept
-grows_one : (old new : Option (List Connection)) (given : Option (List ℕ)) (from to : Wire) (served : Served)
+pub grows_one : (old new : Option (List Connection)) (given : Option (List ℕ)) (from to : Wire) (served : Served)
     (read text : List ℕ) → IsNew old given from → Consumes from.left to.left read
     → Appends from.written to.written text → Adds old new served given to.left to.written
     → Grows old new (connection_with served read text ∷ [])
@@ -148,7 +148,7 @@ counted_join None mid cs ds m n came first second =
 counted_join (Some coming) mid cs ds m n came first second =
     omega (arith, length-append cs ds, first, counted_known coming mid cs ds n came second)
 
-grows_join : (old mid new : Option (List Connection)) (cs ds : List Connection) → Grows old mid cs
+pub grows_join : (old mid new : Option (List Connection)) (cs ds : List Connection) → Grows old mid cs
     → Grows mid new ds → Grows old new (cs ++ ds)
 grows_join None mid new cs ds first second = tt
 grows_join (Some connections) mid new cs ds first second =

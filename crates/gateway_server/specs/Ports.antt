@@ -1,6 +1,6 @@
 -- What comes on a port and what becomes of its connections, as far as that is known; own rules.
-use Rattle.std.specs.Prelude.{◌≡◌, ◌≢◌, ◌≤◌, ℕ, Bool, true, false, List, [], ◌∷◌, ◌++◌, length, Option, Some, None}
-use Rattle.std.specs.Prelude.{Result, Ok, Err}
+use Rattle.std.specs.Prelude.{◌≡◌, ◌≢◌, ◌≤◌, ◌+◌, ℕ, Bool, true, false, List, [], ◌∷◌, ◌++◌, length, Option}
+use Rattle.std.specs.Prelude.{Some, None, Result, Ok, Err}
 use Rattle.std.specs.List.{sum_by}
 use Rattle.std.specs.Io.KnownBytes.{Consumes}
 use Rattle.http_wire.specs.Wire.{Wire}
@@ -21,13 +21,14 @@ pub record Connection : Type 0 where
 
 -- What contracts see of a port, if it is known: the bytes of each connection that comes from here on, the bytes of the
 -- one that came last, and each that is over; whether no connection comes any more; and, if that is known, the bytes
--- that were handed out ahead, before the connections on which they come.
+-- that were handed out ahead, before the connections on which they come, and how often it was asked for a connection.
 pub record Traffic : Type 0 where
   pub coming : Option (List (List ℕ))
   pub given : Option (List ℕ)
   pub over : Option (List Connection)
   pub is_shut : Bool
   pub ahead : Option (List (List ℕ))
+  pub asked : Option ℕ
 
 -- a port whose connections are known is shut exactly if none of them is left
 abbrev pub IsShutBy : Option (List (List ℕ)) → Bool → Type 0
@@ -35,9 +36,15 @@ IsShutBy None is_shut = Unit {0}
 IsShutBy (Some []) is_shut = is_shut ≡ true
 IsShutBy (Some (first ∷ more)) is_shut = is_shut ≡ false
 
--- nothing of a port changed, except that no connection may come any more
+-- the port was asked for a connection so often, if that is known
+abbrev pub IsAsked : Option ℕ → Option ℕ → ℕ → Type 0
+IsAsked None after times = Unit {0}
+IsAsked (Some before) after times = after ≡ Some (before + times)
+
+-- nothing of a port changed, except that it was asked, and that no connection may come any more
 abbrev pub MayShut : Traffic → Traffic → Type 0
-MayShut old new = (new ≡ record old { is_shut = new.is_shut }) × (old.is_shut ≡ true → new.is_shut ≡ true)
+MayShut old new =
+    (new ≡ record old { is_shut = new.is_shut; asked = new.asked }) × (old.is_shut ≡ true → new.is_shut ≡ true)
 
 -- the first of the known connections is taken, and has these bytes
 abbrev pub Takes : Option (List (List ℕ)) → Option (List (List ℕ)) → Option (List ℕ) → Type 0

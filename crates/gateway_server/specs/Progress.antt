@@ -91,11 +91,11 @@ IsEndedBy old new Closed = NoneFailed old new
 IsEndedBy old new InputEnded = NoneFailed old new
 IsEndedBy old new (Fault fault) = IsEndedByFault old new fault
 
--- The limit of reads is stated in bytes, since a reader names its bytes and not its reads: each of so many reads gave
--- at least one byte.
-abbrev pub IsLimited : Wire → Wire → Ended → Type 0
-IsLimited old new ended = ended ≡ Fault fault.ReadLimit
-    → (bytes : List ℕ) × Consumes old.left new.left bytes × (max_reads ≤ length bytes)
+-- Some bytes were read. The limit of reads is stated in them, since a reader names its bytes and not its reads: each of
+-- so many reads gave at least one byte.
+abbrev pub HasRead : Wire → Wire → Ended → Type 0
+HasRead old new ended = (bytes : List ℕ) × Consumes old.left new.left bytes
+    × (ended ≡ Fault fault.ReadLimit → max_reads ≤ length bytes)
 
 -- if the input ended, nothing is left of it
 abbrev pub IsReadToEnd : Option (List ℕ) → Ended → Type 0
@@ -111,7 +111,7 @@ pub record ServesToEnd {S : Type 0} (g : Ghosts S) (from to : Wire) (old new : I
   pub setting : KeepsSetting g old new
   -- why it ended, whatever the disk did
   pub fault : IsEndedBy from to result.ended
-  pub limited : IsLimited from to result.ended
+  pub read : HasRead from to result.ended
   pub at_end : IsReadToEnd to.left result.ended
   -- what went out, whatever the disk did
   pub texts : WritesTexts from.written to.written (Some result.ended)

@@ -21,7 +21,7 @@ use Rattle.gateway_server.specs.declared.stop.Stop.{Stop}
 use Rattle.gateway_server.specs.declared.stop.Stop.TheVariants as stop
 use Rattle.gateway_server.specs.Answered.{WritesPart}
 use Rattle.gateway_server.specs.Written.{WritesTexts}
-use Rattle.gateway_server.specs.Progress.{GoesOn, FailsWithin, ServesConnection, IsEndedBy, IsLimited, IsReadToEnd}
+use Rattle.gateway_server.specs.Progress.{GoesOn, FailsWithin, HasRead, ServesConnection, IsEndedBy, IsReadToEnd}
 use Rattle.gateway_server.specs.Progress.{IsEndedByReply, TellsEnd}
 
 -- the stop as the model has it
@@ -71,7 +71,7 @@ pub record ServesUpTo {S : Type 0} (g : Ghosts S) (from to : Wire) (old new : In
   pub setting : KeepsSetting g old new
   -- why it ended, whatever the disk did
   pub fault : IsEndedOrStoppedBy from to result.ended
-  pub limited : IfSome result.ended (IsLimited from to)
+  pub read : IfSome result.ended (HasRead from to)
   pub at_end : IfSome result.ended (IsReadToEnd to.left)
   -- what went out, whatever the disk did
   pub texts : WritesTexts from.written to.written result.ended

@@ -3,7 +3,7 @@
 ghost use Rattle.std.specs.Prelude.{◌≡◌, None, true, map, IfErr, OnOk};
 ghost use Rattle.http_wire.specs.Wire.{wire};
 ghost use Rattle.gateway_server.specs.Progress.{IsReadToEnd};
-ghost use Rattle.gateway_server.specs.Ports.{Traffic, IsShutBy, IsGiven, IsNew, Comes, PutsBack, Adds};
+ghost use Rattle.gateway_server.specs.Ports.{Traffic, IsShutBy, IsGiven, IsNew, Comes, PutsBack, Adds, IsAsked};
 ghost use Rattle.gateway_server.specs.Ports.{HandsAhead};
 
 use crate::serving::Served;
@@ -38,7 +38,8 @@ pub trait Port {
     /// none.
     fn accept(&mut self) -> io::Result<Option<(Self::Reader, Self::Writer)>>
         ensures comes { Comes (wire Self.Reader.Source Self.Writer.Sink) (traffic self.old) (traffic self.new) result }
-        ensures ahead { (traffic self.new).ahead ≡ (traffic self.old).ahead };
+        ensures ahead { (traffic self.new).ahead ≡ (traffic self.old).ahead }
+        ensures asked { IsAsked (traffic self.old).asked (traffic self.new).asked 1 };
 
     /// The bytes of the connection that came last, if a look at other requests that wait may be worth it; otherwise
     /// none.
@@ -81,6 +82,7 @@ pub trait Port {
         ensures coming { (traffic self.new).coming ≡ (traffic self.old).coming }
         ensures shut { (traffic self.old).is_shut ≡ true → (traffic self.new).is_shut ≡ true }
         ensures ahead { (traffic self.new).ahead ≡ (traffic self.old).ahead }
+        ensures asked { (traffic self.new).asked ≡ (traffic self.old).asked }
         ensures over { OnOk result (Adds (traffic self.old).over (traffic self.new).over served
             (traffic self.old).given (Self.Reader.left reader) (Self.Writer.written writer)) }
         ensures refused { IfErr result (λ _. (traffic self.new).over ≡ (traffic self.old).over) };

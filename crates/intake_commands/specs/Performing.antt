@@ -1,6 +1,6 @@
 -- What `intake` does with its words, and with a task on the register of its file. `out` and `out'` are what the output
 -- has before and after.
-use Rattle.std.specs.Prelude.{◌≡◌, ◌⊎◌, ℕ, true, List, [], Option, Some, None, Result, Ok, Err, MatchBool}
+use Rattle.std.specs.Prelude.{◌≡◌, ◌⊎◌, ℕ, true, nat_eq, List, [], Option, Some, None, Result, Ok, Err, MatchBool}
 use Rattle.sqlite_disk.specs.declared.Disk.{Ghosts}
 use Rattle.sqlite_disk.specs.declared.Files.{Files}
 use Rattle.clap.specs.Words.{Text, kind_of}
@@ -12,6 +12,7 @@ use Rattle.intake_process.specs.Process.{Parts}
 use Rattle.intake_commands.specs.declared.fault.NotDone.{NotDone}
 use Rattle.intake_commands.specs.declared.fault.NotDone.TheVariants as fault
 use Rattle.intake_commands.specs.declared.options.Asked.{Asked}
+use Rattle.intake_commands.specs.declared.options.Serving.{Serving}
 use Rattle.intake_commands.specs.declared.options.Task.{Task}
 use Rattle.intake_commands.specs.declared.options.Task.TheVariants.{Serve}
 use Rattle.intake_commands.specs.Reading.{only_reads}
@@ -38,7 +39,7 @@ pub record PerformsOver {D : Type 0} (g : Ghosts D) (task : Task) (lying : Optio
 
 -- the port of a task that serves none
 abbrev pub no_port : Traffic
-no_port = record { coming = None; given = None; over = None; is_shut = true; ahead = None }
+no_port = record { coming = None; given = None; over = None; is_shut = true; ahead = None; asked = None }
 
 -- the task was performed on the register of a file, which is written; or read alone, if the task only reads
 abbrev pub PerformsOnce : {D R : Type 0} → Ghosts D → Ghosts R → Task → Option (List ℕ) → Option (List ℕ) → ℕ → Type 0
@@ -46,20 +47,24 @@ PerformsOnce written read task out out' status =
     PerformsOver written task None no_port no_port out out' status
     ⊎ ((only_reads task ≡ true) × PerformsOver read task None no_port no_port out out' status)
 
--- a port on which nothing came yet, and which records each connection that is over
-pub record IsFresh (port : Traffic) : Type 0 where
+-- A port on which nothing came yet, and which records each connection that is over and how often it was asked. It is
+-- shut only if no connection is to come.
+pub record IsFresh (serving : Serving) (port : Traffic) : Type 0 where
   pub given : port.given ≡ None
   pub over : port.over ≡ Some []
   pub ahead : port.ahead ≡ Some []
+  pub asked : port.asked ≡ Some 0
+  pub shut : port.is_shut ≡ nat_eq serving.connections 0
 
--- the task was performed over a port of the system; or memory ran out before there was a port, and nothing was done
-abbrev pub PerformsServing : {D : Type 0} → Ghosts D → Task → Option (List ℕ) → Option (List ℕ) → ℕ → Type 0
-PerformsServing written task out out' status =
-    ((port : Traffic) × (port' : Traffic) × IsFresh port × PerformsOver written task None port port' out out' status)
+-- a port of the system was served; or memory ran out before there was one, and nothing was done
+abbrev pub PerformsServing : {D : Type 0} → Ghosts D → Serving → Option (List ℕ) → Option (List ℕ) → ℕ → Type 0
+PerformsServing written serving out out' status =
+    ((port : Traffic) × (port' : Traffic) × IsFresh serving port
+    × PerformsOver written (Serve serving) None port port' out out' status)
     ⊎ ((status ≡ 3) × (out' ≡ out))
 
 abbrev pub PerformsTask : {D R : Type 0} → Ghosts D → Ghosts R → Task → Option (List ℕ) → Option (List ℕ) → ℕ → Type 0
-PerformsTask written read (Serve serving) out out' status = PerformsServing written (Serve serving) out out' status
+PerformsTask written read (Serve serving) out out' status = PerformsServing written serving out out' status
 PerformsTask written read other out out' status = PerformsOnce written read other out out' status
 
 -- ---- what the words ask for

@@ -1,6 +1,6 @@
 //! The port of a task that serves none.
 
-ghost use Rattle.std.specs.Prelude.{None, true};
+ghost use Rattle.intake_commands.specs.Performing.{no_port};
 
 use gateway_server::{Port, Served};
 use http_wire::{Device, MemoryWriter};
@@ -16,7 +16,7 @@ impl Port for NoPort {
 
     type Writer = MemoryWriter;
 
-    ghost traffic = { λ _. record { coming = None; given = None; over = None; is_shut = true; ahead = None } };
+    ghost traffic = { λ _. no_port };
 
     fn listen(&mut self) -> io::Result<()> {
         Ok(())

@@ -1,8 +1,9 @@
 //! The program: it makes what a task works with, and performs the task.
 
-ghost use Rattle.std.specs.Prelude.{◌≡◌, true, [], map, string_bytes, Some, None, IfOk};
+ghost use Rattle.std.specs.Prelude.{◌≡◌, true, [], map, nat_eq, string_bytes, Some, None, IfOk};
 ghost use Rattle.clap.specs.Words.{kind_of};
 ghost use Rattle.command_line.specs.Status.{IsRefusalStatus};
+ghost use Rattle.ready_connections.specs.Running.{is_shut};
 ghost use Rattle.intake_commands.specs.Bounds.{bounds_of};
 ghost use Rattle.intake_commands.specs.Performing.{PerformsOver, PerformsOnce, PerformsServing, PerformsTask, no_port};
 ghost use Rattle.intake_commands.specs.Performing.{PerformsAsked, PerformsWords, PerformsAll};
@@ -83,7 +84,9 @@ fn bounds_of(serving: &Serving<'_>) -> Bounds
 /// The port that is served, which does not listen yet.
 fn port_of<'r>(rt: &'r HostRuntime, serving: &Serving<'_>) -> Result<SystemPort<'r>, AllocError>
     ensures bounds { IfOk result (λ port. port.hall.bounds ≡ bounds_of serving.now) }
-    ensures fresh { IfOk result (λ port. (port.events.items ≡ []) × (port.handed.items ≡ [])) }
+    ensures fresh { IfOk result (λ port. (port.events.items ≡ []) × (port.handed.items ≡ [])
+        × (port.asked.items ≡ [])) }
+    ensures shut { IfOk result (λ port. is_shut port.hall ≡ nat_eq serving.now.connections 0) }
 {
     let bounds = bounds_of(serving);
     let log = if serving.log { Some(rt.stdout()) } else { None };
@@ -232,9 +235,9 @@ fn perform_port<O: Write, E: Write>(
 ) -> u8
     requires task { asked.now.task ≡ Serve serving.now }
     requires bounds { port.old.hall.bounds ≡ bounds_of serving.now }
-    requires fresh { (port.old.events.items ≡ []) × (port.old.handed.items ≡ []) }
-    ensures { PerformsServing ⟦<File as Disk>⟧ asked.now.task (O.contents output.old) (O.contents output.new)
-        result }
+    requires fresh { (port.old.events.items ≡ []) × (port.old.handed.items ≡ []) × (port.old.asked.items ≡ []) }
+    requires shut { is_shut port.old.hall ≡ nat_eq serving.now.connections 0 }
+    ensures { PerformsServing ⟦<File as Disk>⟧ serving.now (O.contents output.old) (O.contents output.new) result }
 {
     perform_writing(rt, asked, port, output, errors)
 }
@@ -248,8 +251,7 @@ fn perform_serving<O: Write, E: Write>(
     errors: &mut E,
 ) -> u8
     requires { asked.now.task ≡ Serve serving.now }
-    ensures { PerformsServing ⟦<File as Disk>⟧ asked.now.task (O.contents output.old) (O.contents output.new)
-        result }
+    ensures { PerformsServing ⟦<File as Disk>⟧ serving.now (O.contents output.old) (O.contents output.new) result }
 {
     match port_of(rt, serving) {
         Ok(mut port) => perform_port(rt, asked, serving, &mut port, output, errors),

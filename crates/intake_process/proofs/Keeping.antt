@@ -8,7 +8,6 @@ use Rattle.sqlite_store.specs.declared.store.FileStore.{FileStore}
 use Rattle.sqlite.specs.Held.{Held}
 use Rattle.sqlite.specs.declared.error.Error.{Error}
 use Rattle.sqlite.specs.Files.{file_state, over_files}
-use Rattle.sqlite.specs.Effect.{Database}
 use Rattle.filing_model.specs.Request.{Request}
 use Rattle.register_tables.specs.Registers.{IsRegisterOf}
 use Rattle.intake_core.specs.declared.intake.Intake.{Intake}
@@ -19,7 +18,7 @@ use Rattle.table_rows.specs.Standing.{HasCommitted}
 use Rattle.sqlite_wal.proofs.LogLemmas.{SeenMayStay}
 use Rattle.command_line.specs.declared.fault.DatabaseFault.TheVariants.{Missing}
 use Rattle.database_places.proofs.Certainty.{sure_after}
-use Rattle.database_places.proofs.Finding.{found_lying}
+use Rattle.database_places.proofs.Finding.{found_lying, read_lying}
 use Rattle.database_places.proofs.Leaving.{closed_leaves}
 use Rattle.database_places.proofs.Lying.{came_empty, gives_back, lie_left, stayed}
 use Rattle.database_places.proofs.Options.{not_some}
@@ -37,7 +36,7 @@ use Rattle.intake_process.specs.declared.process.AnsweredBy.{AnsweredBy}
 use Rattle.intake_process.specs.declared.process.AnsweredBy.TheVariants as outcome
 use Rattle.intake_process.specs.Beginning.{HoldsAs, AreTotals, FindsIntake, MakesIntake, IsNotBegun}
 use Rattle.intake_process.specs.Process.{Parts, IsAwake, IsUp, AnswersBy, KeepsBy, IsNotOpened, leaves_doubt}
-use Rattle.intake_process.specs.Process.{IsLeftBy, Leaves, OpensProcess, ClosesProcess}
+use Rattle.intake_process.specs.Process.{IsLeftBy, Leaves, OpensOver, OpensProcess, ClosesProcess}
 use Rattle.intake_process.proofs.Left.{keeps_left, none_left, unopened_leaves}
 
 pub not_true : (b : Bool) → (b ≡ true → ⊥) → b ≡ false
@@ -127,7 +126,7 @@ module _ {D : Type 0} {g : Ghosts D} where
             unchanged old new (leaves_doubt was_taken fault) certain (sure is).0 none closed calls lay
             (none_left g honest has old.lying new.lying was_taken fault why lay (λ there. (absent there lay).0)
             (sure is).0);
-        fresh = λ honest _ is files lies db held. tt;
+        read = λ honest _ files lies. tt;
         certain = tt;
         is_open = tt;
         limited = λ _. tt;
@@ -150,7 +149,7 @@ module _ {D : Type 0} {g : Ghosts D} where
     left = λ honest is. tt;
     absent = λ none is lies. not_some process.intake none some;
     nothing = λ honest _ lies is. tt;
-    fresh = λ honest none is files lies db held. not_some process.intake none some;
+    read = λ honest none files lies. not_some process.intake none some;
     certain = refl;
     is_open = some;
     limited = λ none. not_some process.intake none some;
@@ -184,10 +183,26 @@ module _ {D : Type 0} {g : Ghosts D} where
       let hold = lies.1.2 in
       let found =
       found_lying honest old.lying new.lying conn comes hold.db (lies.1.0, lies.1.1, hold.held) in (
-        finds_it (always_clean honest intake.store.conn) old_style F lies.0
+        finds_it.holds (always_clean honest intake.store.conn) old_style F lies.0
             (subst (IsRegisterOf old_style F) (sym found.1) hold.register),
         found.2,
       )
+
+  opens_over : (has : Bool) (limit : ℕ) (new : Parts g) (conn : Held (FileStore D g))
+      (intake : Intake (FileStore D g)) (totals : Totals) → new.intake ≡ Some intake → IsHonest g
+      → new.lying ≡ Some None → (has ≡ true → FindsIntake over_files conn limit intake totals)
+      → (has ≡ false → MakesIntake over_files conn limit intake totals)
+      → OpensOver has limit (file_state conn).now new
+  opens_over true limit new conn intake totals up honest taken found made = λ declared.
+      let clean = always_clean honest intake.store.conn in
+      let one = (found refl).is_one clean declared in (
+        one.0,
+        one.1,
+        one.2,
+        λ once. subst (λ i. KeepsBy i new.lying limit one.0 one.1) (sym up)
+            (((found refl).holds clean one.0 one.1 once one.2).0, taken),
+      )
+  opens_over false limit new conn intake totals up honest taken found made = (made refl).0
 
   -- it is open
   pub opens : (has : Bool) (limit : ℕ) (old new : Parts g) (conn : Held (FileStore D g))
@@ -215,9 +230,12 @@ module _ {D : Type 0} {g : Ghosts D} where
     left = λ honest is. tt;
     absent = λ _ is lies. absurd (there is lies);
     nothing = λ honest _ lies is. tt;
-    fresh = λ honest _ is files lies db held.
-        let found = found_lying honest old.lying new.lying conn comes db (files, lies, held) in
-        sym (ap (λ (d : Database). d.schema) found.1) ∙ (made is).0;
+    read = λ honest _ files lies.
+        let read = read_lying honest old.lying new.lying conn comes files lies in (
+          (file_state conn).now,
+          read.0,
+          opens_over has limit new conn intake totals up honest read.1 found made,
+        );
     certain = same;
     is_open = subst (λ i. IsSome i) (sym up) refl;
     limited = λ _. subst (λ i. IfSome i (λ intake. limit_of intake ≡ limit)) (sym up) limited;

@@ -8,7 +8,6 @@ use Rattle.sqlite_disk.specs.declared.Disk.{Ghosts}
 use Rattle.sqlite_disk.specs.declared.Files.{Files}
 use Rattle.sqlite_store.specs.declared.store.FileStore.{FileStore}
 use Rattle.sqlite.specs.Files.{over_files}
-use Rattle.sqlite.specs.Store as database
 use Rattle.http_wire.specs.Wire.{Wire}
 use Rattle.filing_model.specs.Request.{Request}
 use Rattle.filing_model.specs.Serving.{Keeping, keeping, Serves}
@@ -16,7 +15,7 @@ use Rattle.intake_core.specs.declared.intake.Intake.{Intake}
 use Rattle.gateway_server.specs.Progress.{IsReadToEnd}
 use Rattle.gateway_server.specs.InTurn.{ServeInTurn, Came, AreCounted, AreTold}
 use Rattle.gateway_server.specs.Ahead.{AreDecidedAhead}
-use Rattle.gateway_server.specs.Ports.{Connection, Traffic, Follows, Takes, IsNew, connection_with}
+use Rattle.gateway_server.specs.Ports.{Connection, Traffic, Follows, IsAsked, Takes, IsNew, connection_with}
 use Rattle.gateway_server.proofs.Turns.{IsEndTold, came_none, told_none, came_one, counted_told, told_one, told_untold}
 use Rattle.gateway_server.proofs.Turns.{turns_join, came_join, counted_join, counted_none, told_join}
 use Rattle.gateway_server.proofs.Unanswered.{decided_join, decides_more}
@@ -84,6 +83,24 @@ are_ahead_join a b c ts us one two = (
 none_ahead : (old new : Option (List (List ℕ))) (ts : List Turn) → new ≡ old → ahead_in ts ≡ [] → AreAhead old new ts
 none_ahead old new ts same none =
     ([], subst (λ n. Follows old n []) (sym same) (follows_none old), subst (AreDecidedAhead []) (sym none) tt)
+
+-- ---- how often the port was asked
+
+pub asked_none : (asked : Option ℕ) → IsAsked asked asked 0
+asked_none None = tt
+asked_none (Some n) = let same : n ≡ n + 0 = omega arith in ap Some same
+
+-- behind the question, the port handed some bytes out ahead, and took a connection back
+pub asked_on : (port came ahead port' : Traffic) → ahead ≡ record came { ahead = ahead.ahead }
+    → port'.asked ≡ ahead.asked → IsAsked port.asked came.asked 1 → IsAsked port.asked port'.asked 1
+asked_on port came ahead port' is same asked =
+    subst (λ n. IsAsked port.asked n 1) (sym (same ∙ ap (λ (p : Traffic). p.asked) is)) asked
+
+pub asked_join : (a b c : Option ℕ) (m n : ℕ) → IsAsked a b m → IsAsked b c n → IsAsked a c (m + n)
+asked_join None b c m n one two = tt
+asked_join (Some before) b c m n one two =
+    let same : before + m + n ≡ before + (m + n) = omega arith in
+    subst (λ x. IsAsked x c n) one two ∙ ap Some same
 
 away_join : (ts us : List Turn) → AreTurnedAway ts → AreTurnedAway us → AreTurnedAway (ts ++ us)
 away_join [] us first second = second

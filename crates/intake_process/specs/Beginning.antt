@@ -4,6 +4,7 @@ use Rattle.sqlite.specs.Store.{Ghosts}
 use Rattle.sqlite.specs.Held.{Held, state}
 use Rattle.filing_model.specs.Request.{Request, firsts}
 use Rattle.filing_model.specs.Register.{register}
+use Rattle.register_rows.specs.Schema.{IsDeclared}
 use Rattle.register_tables.specs.Registers.{IsRegisterOf}
 use Rattle.register_store.specs.Calls.{CreatesOrGivesBack, OpensOrGivesBack}
 use Rattle.intake_core.specs.declared.intake.Intake.{Intake}
@@ -24,12 +25,16 @@ pub record HoldsAs {S : Type 0} (g : Ghosts S) (limit old_style : ℕ) (requests
 abbrev pub AreTotals : List Request → Totals → Type 0
 AreTotals requests totals = (totals.kept ≡ length requests) × (totals.filings ≡ length (register requests))
 
--- If the disk is clean, the intake holds the requests that the database's rows stand for, which the totals count.
-abbrev pub FindsIntake : {S : Type 0} → Ghosts S → Held S → ℕ → Intake S → Totals → Type 0
-FindsIntake g conn limit intake totals =
-    IsClean g intake → (old_style : ℕ) (requests : List Request) → firsts requests ≡ requests
-    → IsRegisterOf old_style requests (state g conn).now
-    → HoldsAs g limit old_style requests intake × AreTotals requests totals
+-- What an intake holds that was found in a database, if the disk is clean.
+pub record FindsIntake {S : Type 0} (g : Ghosts S) (conn : Held S) (limit : ℕ) (intake : Intake S)
+    (totals : Totals) : Type 0 where
+  -- the rows of a database that is declared as a register stand for some requests
+  pub is_one : IsClean g intake → IsDeclared (state g conn).now.schema
+      → (old_style : ℕ) × (requests : List Request) × IsRegisterOf old_style requests (state g conn).now
+  -- it holds the requests that the rows stand for, which the totals count
+  pub holds : IsClean g intake → (old_style : ℕ) (requests : List Request) → firsts requests ≡ requests
+      → IsRegisterOf old_style requests (state g conn).now
+      → HoldsAs g limit old_style requests intake × AreTotals requests totals
 
 -- nothing was declared in the database, and if the disk is clean, the intake holds no request yet
 abbrev pub MakesIntake : {S : Type 0} → Ghosts S → Held S → ℕ → Intake S → Totals → Type 0

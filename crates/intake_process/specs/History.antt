@@ -1,9 +1,11 @@
 -- What becomes of a process while the connections of a port are answered, one after another; own rules.
 use Rattle.std.specs.Prelude.{◌≡◌, ◌⊎◌, ◌≤◌, ◌++◌, ℕ, Bool, true, false, List, [], ◌∷◌, length, Option, Some}
-use Rattle.std.specs.Prelude.{None, IsSome, Result, Ok, Err}
+use Rattle.std.specs.Prelude.{None, IsSome, Result, Ok, Err, map}
 use Rattle.sqlite_disk.specs.declared.Disk.{Ghosts}
 use Rattle.http_wire.specs.Wire.{Wire}
-use Rattle.gateway_server.specs.Ports.{Traffic, Takes, IsNew, NoneIsLeft, HandsAhead, most_ahead}
+use Rattle.filing_model.specs.declared.served.Ended.{Ended}
+use Rattle.filing_model.specs.declared.served.Mark.{Mark}
+use Rattle.gateway_server.specs.Ports.{Connection, Traffic, Takes, IsNew, NoneIsLeft, HandsAhead, Grows, most_ahead}
 use Rattle.intake_process.specs.declared.beginning.Totals.{Totals}
 use Rattle.intake_process.specs.declared.fault.OpeningFault.{OpeningFault}
 use Rattle.intake_process.specs.declared.process.Answered.{Answered}
@@ -101,12 +103,24 @@ abbrev pub EndsIn : {D : Type 0} {g : Ghosts D} → ℕ → Option ℕ → Parts
 EndsIn limit (Some taken) old said new = (said ≡ []) × (new ≡ old)
 EndsIn limit None old said new = IsCutOff limit old said new
 
--- What becomes of a process while connections are answered. So whether it is certain changes only by an opening or a
--- close that failed, each opening has this limit, and a register that is closed is opened for the next connection for
--- which the observer lets it.
-pub record Passes {D : Type 0} {g : Ghosts D} (limit : ℕ) (old new : Parts g) (noted noted' : Option (List Bool))
-    (taken : Option ℕ) : Type 0 where
+-- what was marked on these connections, and how each ended
+abbrev pub ends_of : List Connection → List (List Mark × Ended)
+ends_of connections = map (λ connection. (connection.output.marks, connection.output.ended)) connections
+
+-- what was marked on those that were answered, and how each ended
+abbrev pub ends_in : {D : Type 0} {g : Ghosts D} → List (Step g) → List (List Mark × Ended)
+ends_in steps = map (λ step. (step.answered.served.marks.items, step.answered.served.ended)) steps
+
+-- What becomes of a process while connections of a port are answered. So whether it is certain changes only by an
+-- opening or a close that failed, each opening has this limit, and a register that is closed is opened for the next
+-- connection for which the observer lets it.
+pub record Passes {D : Type 0} {g : Ghosts D} (limit : ℕ) (port port' : Traffic) (old new : Parts g)
+    (noted noted' : Option (List Bool)) (taken : Option ℕ) : Type 0 where
   pub steps : List (Step g)
+  -- the connections of the port that are over since then are those that were answered, in their order
+  pub connections : List Connection
+  pub over : Grows port.over port'.over connections
+  pub answered : ends_of connections ≡ ends_in steps
   pub before : Parts g
   pub said : List Bool
   pub are : AreSteps limit old steps before

@@ -14,13 +14,14 @@ use Rattle.command_line.specs.declared.fault.DatabaseFault.TheVariants.{Missing}
 use Rattle.table_rows.specs.Tables.{no_schema}
 use Rattle.http_wire.specs.Wire.{Wire}
 use Rattle.filing_model.specs.Request.{Request, firsts}
+use Rattle.register_rows.specs.Schema.{IsDeclared}
 use Rattle.register_tables.specs.Registers.{IsRegisterOf}
 use Rattle.intake_core.specs.declared.intake.Intake.{Intake}
 use Rattle.intake_core.specs.Held.{store_of, limit_of, has_stopped}
 use Rattle.gateway_server.specs.Ahead.{DecidesAhead}
 use Rattle.gateway_server.specs.Progress.{ServesToEnd}
 use Rattle.database_places.specs.Closing.{IsClosedIn, IsNotClosed, LieGivenUp}
-use Rattle.database_places.specs.Left.{HoldWithLog}
+use Rattle.database_places.specs.Left.{HoldWithLog, IsReadIn}
 use Rattle.database_places.specs.Opening.{ComesFrom, OpensPlace}
 use Rattle.database_places.specs.Places.{Lie, IsHonest}
 use Rattle.database_places.specs.Places as place
@@ -133,6 +134,14 @@ leaves_doubt was_taken (fault.Taken holding) = false
 leaves_doubt was_taken (fault.Create why) = true
 leaves_doubt was_taken (fault.Open why holding) = false
 
+-- What an opening finds in this database, if that is declared as a register: the register of some requests, which are
+-- kept. A register is made only in a database in which nothing is declared.
+abbrev pub OpensOver : {D : Type 0} {g : Ghosts D} → Bool → ℕ → Database → Parts g → Type 0
+OpensOver true limit db new =
+    IsDeclared db.schema → (old_style : ℕ) × (requests : List Request) × IsRegisterOf old_style requests db
+    × (firsts requests ≡ requests → KeepsBy new.intake new.lying limit old_style requests)
+OpensOver false limit db new = db.schema ≡ no_schema
+
 -- What opening the process does, whether its register has to be there or is made.
 pub record OpensProcess {D : Type 0} (g : Ghosts D) (has_to_be_there : Bool) (limit : ℕ) (old new : Parts g)
     (result : Result (Option Totals) OpeningFault) : Type 0 where
@@ -154,9 +163,9 @@ pub record OpensProcess {D : Type 0} (g : Ghosts D) (has_to_be_there : Bool) (li
   -- where no files lay, a refusal that leaves no doubt leaves all as it was
   pub nothing : IsHonest g → old.intake ≡ None → old.lying ≡ Some None → new.is_certain ≡ true
       → OnErr result (new ≡ old)
-  -- it is made only if no files lie there, or the database in them has no tables
-  pub fresh : IsHonest g → old.intake ≡ None → has_to_be_there ≡ false → (files : Files D)
-      → old.lying ≡ Some (Some files) → (db : Database) → HoldWithLog g files db → OnOk result (db.schema ≡ no_schema)
+  -- whatever files lie there, it is opened over the database that is read in them
+  pub read : IsHonest g → old.intake ≡ None → (files : Files D) → old.lying ≡ Some (Some files)
+      → OnOk result ((db : Database) × IsReadIn g files db × OpensOver has_to_be_there limit db new)
   pub certain : OnOk result (new.is_certain ≡ old.is_certain)
   pub is_open : OnOk result (IsSome new.intake)
   -- whatever lay there, it keeps at most `limit` keys from now on

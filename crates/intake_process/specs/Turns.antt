@@ -7,7 +7,7 @@ use Rattle.filing_model.specs.Request.{Request}
 use Rattle.filing_model.specs.Serving.{Keeping, keeping}
 use Rattle.gateway_server.specs.Ahead.{AreDecidedAhead}
 use Rattle.gateway_server.specs.InTurn.{ServeInTurn, Came, AreCounted, AreTold}
-use Rattle.gateway_server.specs.Ports.{Connection, Traffic, Follows}
+use Rattle.gateway_server.specs.Ports.{Connection, Traffic, Follows, IsAsked}
 use Rattle.database_places.specs.Places.{IsHonest}
 use Rattle.intake_process.specs.declared.beginning.Totals.{Totals}
 use Rattle.intake_process.specs.declared.process.Closed.{Closed}
@@ -117,11 +117,13 @@ pub record IsServed {D : Type 0} {g : Ghosts D} (has_to_be_there : Bool) (limit 
   pub opens : OpensProcess g has_to_be_there limit old opened (Ok totals)
   pub answers : IsHonest g → AnswersSome limit port port' opened last taken
   pub ends : IfSome taken (EndsBy most port')
+  -- the answer says how often it was asked
+  pub asked : IfSome taken (IsAsked port.asked port'.asked)
   -- a port that was shut was not asked
   pub shut : port.is_shut ≡ true → IfSome taken (λ taken. taken ≡ 0)
   pub stays : StaysUp opened last
   -- what became of it, connection by connection, and what the observer answered meanwhile
-  pub passes : Passes limit opened last noted noted' taken
+  pub passes : Passes limit port port' opened last noted noted' taken
   pub closes : ClosesProcess g last new closed
 
 -- the process served the port, as long as the port did not fail; or it was not opened, and no connection was accepted

@@ -4,6 +4,7 @@ ghost use Rattle.std.specs.Prelude.{◌≡◌, ◌≢◌, ◌≤◌, ◌^◌, �
 ghost use Rattle.std.specs.Prelude.{option_map};
 ghost use Rattle.std.specs.Result.{result_ok};
 ghost use Rattle.http_wire.specs.Wire.{wire};
+ghost use Rattle.gateway_server.specs.Ports.{IsAsked};
 ghost use Rattle.database_places.specs.Places.{IsHonest};
 ghost use Rattle.intake_process.specs.Process.{parts, IsAwake, Leaves, StaysUp};
 ghost use Rattle.intake_process.specs.History.{ComesNext, IsReady, IsOver, LooksAhead, LooksOnly, Passes};
@@ -76,8 +77,9 @@ fn listen_and_serve<D: Disk + Drop, P: Place<D> + Drop, L: Port, O: Observer>(
     ensures ends { IfOk result (EndsBy most (L.traffic port.new)) }
     ensures shut { (L.traffic port.old).is_shut ≡ true → IfOk result (λ taken. taken ≡ 0) }
     ensures stays { StaysUp (parts P.lying process.old) (parts P.lying process.new) }
-    ensures passes { Passes limit (parts P.lying process.old) (parts P.lying process.new) (O.answers observer.old)
-        (O.answers observer.new) (result_ok result) }
+    ensures passes { Passes limit (L.traffic port.old) (L.traffic port.new) (parts P.lying process.old)
+        (parts P.lying process.new) (O.answers observer.old) (O.answers observer.new) (result_ok result) }
+    ensures asked { IfOk result (IsAsked (L.traffic port.old).asked (L.traffic port.new).asked) }
 {
     // The register was read whole by now, so no connection waits for that.
     if let Err(error) = port.listen() {
@@ -108,8 +110,9 @@ pub fn serve_port<D: Disk + Drop, P: Place<D> + Drop, L: Port, O: Observer>(
     ensures shut { (L.traffic port.old).is_shut ≡ true → result ≡ Ok 0 }
     ensures closed { IsAwake process.old.intake → OnOk result (IsAwake process.new.intake) }
     ensures stays { StaysUp (parts P.lying process.old) (parts P.lying process.new) }
-    ensures passes { Passes limit (parts P.lying process.old) (parts P.lying process.new) (O.answers observer.old)
-        (O.answers observer.new) (result_ok result) }
+    ensures passes { Passes limit (L.traffic port.old) (L.traffic port.new) (parts P.lying process.old)
+        (parts P.lying process.new) (O.answers observer.old) (O.answers observer.new) (result_ok result) }
+    ensures asked { IfOk result (IsAsked (L.traffic port.old).asked (L.traffic port.new).asked) }
 {
     // One after another: a register has one writer, so more threads would decide nothing sooner.
     for taken in 0..most {
@@ -134,8 +137,10 @@ fn serve_next<D: Disk + Drop, P: Place<D> + Drop, L: Port, O: Observer>(
         (parts P.lying process.old) (parts P.lying process.new) (option_map (λ _. 1) (result_ok result)) }
     ensures closed { IsAwake process.old.intake → OnOk result (IsAwake process.new.intake) }
     ensures stays { StaysUp (parts P.lying process.old) (parts P.lying process.new) }
-    ensures passes { Passes limit (parts P.lying process.old) (parts P.lying process.new) (O.answers observer.old)
-        (O.answers observer.new) (option_map (λ _. 1) (result_ok result)) }
+    ensures passes { Passes limit (L.traffic port.old) (L.traffic port.new) (parts P.lying process.old)
+        (parts P.lying process.new) (O.answers observer.old) (O.answers observer.new)
+        (option_map (λ _. 1) (result_ok result)) }
+    ensures asked { IsAsked (L.traffic port.old).asked (L.traffic port.new).asked 1 }
 {
     if let Some((mut reader, mut writer)) = next_in_turn(alloc, port, process)? {
         let refusal = open_again(alloc, process, observer, limit);
@@ -158,6 +163,7 @@ fn next_in_turn<D: Disk + Drop, P: Place<D> + Drop, L: Port>(
 ) -> io::Result<Option<(L::Reader, L::Writer)>>
     ensures comes { ComesNext (wire L.Reader.Source L.Writer.Sink) (L.traffic port.old) (L.traffic port.new) result }
     ensures ahead { (L.traffic port.new).ahead ≡ (L.traffic port.old).ahead }
+    ensures asked { IsAsked (L.traffic port.old).asked (L.traffic port.new).asked 1 }
     ensures looks { LooksOnly (parts P.lying process.old) (parts P.lying process.new) }
 {
     let Some((reader, writer)) = port.accept()? else {

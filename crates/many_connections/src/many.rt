@@ -1,6 +1,6 @@
 //! A port on which the pieces of many connections come, one after another.
 
-ghost use Rattle.std.specs.Prelude.{◌≡◌, ◌⊎◌, ◌<◌, ◌≤◌, ◌+◌, [], Some, None, IfOk, length, map};
+ghost use Rattle.std.specs.Prelude.{◌≡◌, ◌⊎◌, ◌<◌, ◌≤◌, ◌+◌, [], Some, None, IfOk, length, map, nat_eq};
 ghost use Rattle.std.specs.List.{sum_by};
 ghost use Rattle.ready_connections.specs.Running.{IsEmpty, is_shut};
 ghost use Rattle.gateway_server.specs.Ports.{IsGiven, most_ahead, most_ahead_len};
@@ -42,6 +42,8 @@ pub struct Many<S: Stream + Drop, K: Sockets<Stream = S> + Drop> {
     given: Vec<u8>,
     /// What was handed out ahead, which only clauses read.
     handed: Log<Vec<Vec<u8>>, bool>,
+    /// One for each time that the port was asked for a connection, which only clauses read.
+    asked: Log<bool, bool>,
     ghost runs: { ∥ RunsAhead S.Stream (seen_after events.items) (pieces_in handed.items) hall
         (K.traffic sockets) ∥₁ },
     ghost given_is: { IsGiven (seen_after events.items).given given.items },
@@ -53,6 +55,8 @@ impl<S: Stream + Drop, K: Sockets<Stream = S> + Drop> Many<S, K> {
         requires { IsEmpty (K.traffic sockets) }
         ensures events { IfOk result (λ many. many.events.items ≡ []) }
         ensures handed { IfOk result (λ many. many.handed.items ≡ []) }
+        ensures asked { IfOk result (λ many. many.asked.items ≡ []) }
+        ensures shut { IfOk result (λ many. is_shut many.hall ≡ nat_eq bounds.connections 0) }
         ensures bounds { IfOk result (λ many. many.hall.bounds ≡ bounds) }
     {
         Ok(Many {
@@ -62,6 +66,7 @@ impl<S: Stream + Drop, K: Sockets<Stream = S> + Drop> Many<S, K> {
             events: Log::new(),
             given: Vec::new(alloc),
             handed: Log::new(),
+            asked: Log::new(),
         })
     }
 }
@@ -106,6 +111,7 @@ impl<S: Stream<Note = Note> + Drop, K: Sockets<Stream = S> + Drop> Port for Many
           over = Some seen.over;
           is_shut = is_shut many.hall;
           ahead = Some (pieces_in many.handed.items);
+          asked = Some (length many.asked.items);
         } };
 
     fn listen(&mut self) -> io::Result<()> {
@@ -117,6 +123,8 @@ impl<S: Stream<Note = Note> + Drop, K: Sockets<Stream = S> + Drop> Port for Many
     }
 
     fn accept(&mut self) -> io::Result<Option<(PieceReader, MemoryWriter)>> {
+        let asked = self.asked.and(&true, &true);
+        self.asked = asked;
         if self.hall.is_out() {
             return Err(io::ErrorKind::Other.into());
         }

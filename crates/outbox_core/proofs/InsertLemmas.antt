@@ -9,7 +9,7 @@ use Rattle.sqlite.specs.State.{State, ExecutesInside}
 use Rattle.filing_model.specs.Outbox.{Entry}
 use Rattle.table_rows.specs.Tables.{schema_with}
 use Rattle.table_rows.specs.Rows.{TableHas, Gains}
-use Rattle.table_rows.specs.Standing.{HasCommitted}
+use Rattle.table_rows.specs.Standing.{HasCommitted, AddsNothing}
 use Rattle.table_rows.proofs.InsertLemmas.{inserts}
 use Rattle.table_rows.proofs.GainLemmas.{cast_int, cast_null, inside, gained, holds_more, same_rows}
 use Rattle.outbox_tables.specs.Schema.{outbox_tables, meta_table, entry_table, target_table, IsDeclared}
@@ -17,7 +17,7 @@ use Rattle.outbox_tables.specs.Entries.{Contents, IsOutbox, numbered}
 use Rattle.outbox_core.specs.Entries.{opened, with_entry}
 use Rattle.outbox_tables.specs.Rows.{HasRows, IsOutboxOf, LeavesOutbox, entry_row, entry_rows, target_row, target_rows}
 use Rattle.outbox_tables.specs.Rows.{meta_row}
-use Rattle.outbox_core.specs.Changes.{GainsRows, AddsRows, AddsInside, Adds, AddsTo, AddsNothing}
+use Rattle.outbox_core.specs.Changes.{GainsRows, AddsRows, AddsInside, Adds, AddsTo}
 use Rattle.outbox_core.proofs.Texts.{insert_text, insert_terms, does_insert, plain_insert, insert_target_text}
 use Rattle.outbox_core.proofs.Texts.{does_insert_target, plain_insert_target}
 use Rattle.outbox_core.proofs.EntryLemmas.{numbered_push}

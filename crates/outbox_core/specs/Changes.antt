@@ -39,9 +39,3 @@ pub record AddsTo (id : ℕ) (e : Entry) (old : Database) (trees : Trees) : Type
   pub db : Database
   pub adds : AddsRows id e old db
   pub is : trees ≡ db.trees
-
--- nothing was written: while the store is open, it is as the last commit left it
-pub record AddsNothing (old new : State) : Type 0 where
-  pub was_open : IsTrue new.is_open → IsTrue old.is_open
-  pub now : IsTrue new.is_open → new.now ≡ old.committed
-  pub committed : IsTrue new.is_open → new.committed ≡ old.committed

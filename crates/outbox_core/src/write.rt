@@ -5,8 +5,9 @@ ghost use Rattle.sqlite.specs.Held.{state};
 ghost use Rattle.sqlite.specs.State.{HasCleanDisk, Survives};
 ghost use Rattle.http_messages.specs.Posting.{IsTarget};
 ghost use Rattle.outbox_core.specs.Entries.{opened};
-ghost use Rattle.outbox_core.specs.Changes.{Adds, AddsInside, AddsTo, AddsNothing};
+ghost use Rattle.outbox_core.specs.Changes.{Adds, AddsInside, AddsTo};
 ghost use Rattle.table_rows.specs.Leaving.{OnlyWrites};
+ghost use Rattle.table_rows.specs.Standing.{AddsNothing};
 
 use crate::rows::{insert_entry, insert_target};
 use sqlite::{Alter, Connection, Error, Transaction};

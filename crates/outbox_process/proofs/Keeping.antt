@@ -11,7 +11,6 @@ use Rattle.sqlite.specs.Files.{file_state, over_files}
 use Rattle.sqlite.specs.declared.error.Error.{Error}
 use Rattle.sqlite.specs.Effect.{Database}
 use Rattle.table_rows.specs.Standing.{HasCommitted}
-use Rattle.table_rows.specs.Tables.{no_schema}
 use Rattle.table_rows.proofs.CleanLemmas.{always_clean}
 use Rattle.outbox_tables.specs.Earlier.{IsAlone, IsEarlierOf}
 use Rattle.outbox_tables.specs.Entries.{Contents, contents_of}
@@ -20,12 +19,11 @@ use Rattle.outbox_core.specs.OutboxParts.{OutboxParts}
 use Rattle.command_line.specs.declared.fault.DatabaseFault.{DatabaseFault}
 use Rattle.command_line.specs.declared.fault.DatabaseFault.TheVariants.{Missing}
 use Rattle.database_places.specs.Closing.{IsClosedIn, IsGivenUp, IsNotClosed}
-use Rattle.database_places.specs.Left.{HoldWithLog}
 use Rattle.database_places.specs.Opening.{ComesFrom}
 use Rattle.database_places.specs.Places.{IsHonest}
 use Rattle.database_places.specs.Places as place
 use Rattle.database_places.proofs.Certainty.{sure_after}
-use Rattle.database_places.proofs.Finding.{found_lying}
+use Rattle.database_places.proofs.Finding.{found_lying, read_lying}
 use Rattle.database_places.proofs.Leaving.{closed_leaves}
 use Rattle.database_places.proofs.Lying.{came_empty, gives_back, lie_left, stayed}
 use Rattle.database_places.proofs.Options.{not_some}
@@ -36,7 +34,8 @@ use Rattle.outbox_process.specs.declared.fault.OpeningFault.TheVariants.{Files a
 use Rattle.outbox_process.specs.declared.fault.OpeningFault.TheVariants.{IsCurrent, Migrate}
 use Rattle.outbox_process.specs.Beginning.{HasContents, BeginsOutbox}
 use Rattle.outbox_process.specs.Process.{Parts, KeepsBy, Keeps, Leaves, BeginsWith, IsNotOpened, IsUp}
-use Rattle.outbox_process.specs.Process.{has_to_be_there, leaves_doubt, OpensProcess, IsLeftOpen, ClosesProcess}
+use Rattle.outbox_process.specs.Process.{has_to_be_there, leaves_doubt, OpensOver, OpensProcess, IsLeftOpen}
+use Rattle.outbox_process.specs.Process.{ClosesProcess}
 use Rattle.outbox_process.specs.Refusals.{RefusesOutbox}
 use Rattle.outbox_process.proofs.Refusing.{lies_still, of_current, still_vacant}
 
@@ -77,7 +76,7 @@ module _ {D : Type 0} {g : Ghosts D} where
   refuses stays beginning old new was_taken fault by none closed why absent = record {
     keeps = λ honest it begins. tt;
     absent = λ _ has lies. ap (λ (f : OpeningFault). Err f) (absent has lies);
-    fresh = λ honest _ has files lies db held. tt;
+    read = λ honest _ files lies. tt;
     current = λ honest is none certain it keeps. (
       tt,
       of_current honest old.lying new.lying was_taken fault it
@@ -109,7 +108,7 @@ module _ {D : Type 0} {g : Ghosts D} where
   is_open beginning process some = record {
     keeps = λ honest it begins. keeps_open beginning process it some begins;
     absent = λ none has lies. not_some process.outbox none some;
-    fresh = λ honest none has files lies db held. not_some process.outbox none some;
+    read = λ honest none files lies. not_some process.outbox none some;
     current = λ honest is none certain it keeps. not_some process.outbox none some;
     certain = refl;
     is_open = some;
@@ -153,7 +152,7 @@ module _ {D : Type 0} {g : Ghosts D} where
   keeps_begun Found old new conn outbox none same comes begun honest it begins certain =
       let lie = subst (λ o. KeepsBy {g = g} o old.lying it) none (begins (sym same ∙ certain)) in
       let shown = found_lying honest old.lying new.lying conn comes lie.2.db (lie.0, lie.1, lie.2.held) in
-      (begun (always_clean honest outbox.conn) it (subst (IsOutboxOf it) (sym shown.1) lie.2.outbox), shown.2)
+      (begun.only (always_clean honest outbox.conn) it (subst (IsOutboxOf it) (sym shown.1) lie.2.outbox), shown.2)
   keeps_begun (Made filer) old new conn outbox none same comes begun honest it begins certain = (
     subst (HasContents over_files outbox) (sym begins.2) (begun.1 (always_clean honest outbox.conn)),
     came_empty old.lying new.lying conn begins.1 comes,
@@ -161,23 +160,22 @@ module _ {D : Type 0} {g : Ghosts D} where
   keeps_begun Migrated old new conn outbox none same comes begun honest it begins certain =
       let lie = begins.1 in
       let shown = found_lying honest old.lying new.lying conn comes lie.2.db (lie.0, lie.1, lie.2.held) in (
-        (begun (always_clean honest outbox.conn)).0 it
+        (begun (always_clean honest outbox.conn)).0.1 it
             (subst (λ (db : Database). IsAlone db.schema) (sym shown.1) lie.2.alone)
             (subst (IsEarlierOf it) (sym shown.1) lie.2.earlier),
         shown.2,
       )
 
-  -- an outbox is made where the database has no tables
-  fresh : (beginning : Beginning) (old new : Parts g) (conn : Held (FileStore D g))
-      (outbox : OutboxParts (FileStore D g)) → ComesFrom old.lying new.lying conn
-      → BeginsOutbox over_files beginning conn outbox → IsHonest g → has_to_be_there beginning ≡ false
-      → (files : Files D) → old.lying ≡ Some (Some files) → (db : Database) → HoldWithLog g files db
-      → db.schema ≡ no_schema
-  fresh Found old new conn outbox comes begun honest has files lies db held = absurd (true≢false has)
-  fresh (Made filer) old new conn outbox comes begun honest has files lies db held =
-      let shown = found_lying honest old.lying new.lying conn comes db (files, lies, held) in
-      sym (ap (λ (d : Database). d.schema) shown.1) ∙ begun.0
-  fresh Migrated old new conn outbox comes begun honest has files lies db held = absurd (true≢false has)
+  opens_over : (beginning : Beginning) (new : Parts g) (conn : Held (FileStore D g))
+      (outbox : OutboxParts (FileStore D g)) → new.outbox ≡ Some outbox → IsHonest g → new.lying ≡ Some None
+      → BeginsOutbox over_files beginning conn outbox → OpensOver beginning (file_state conn).now new
+  opens_over Found new conn outbox up honest taken begun = λ declared.
+      let one = begun.is_one (always_clean honest outbox.conn) declared in
+      (one.0, one.1, subst (λ o. KeepsBy o new.lying one.0) (sym up) (one.2, taken))
+  opens_over (Made filer) new conn outbox up honest taken begun = begun.0
+  opens_over Migrated new conn outbox up honest taken begun = λ alone.
+      let one = (begun (always_clean honest outbox.conn)).0.0 alone in
+      (one.0, one.1, subst (λ o. KeepsBy o new.lying one.0) (sym up) (one.2, taken))
 
   not_current : (old new : Parts g) (conn : Held (FileStore D g)) (outbox : OutboxParts (FileStore D g))
       → old.outbox ≡ None → ComesFrom old.lying new.lying conn → BeginsOutbox over_files Migrated conn outbox
@@ -198,8 +196,9 @@ module _ {D : Type 0} {g : Ghosts D} where
     keeps = λ honest it begins certain. subst (λ o. KeepsBy o new.lying it) (sym up)
         (keeps_begun beginning old new conn outbox none same comes begun honest it begins certain);
     absent = λ _ has lies. absurd (there has lies);
-    fresh = λ honest _ has files lies db held. fresh beginning old new conn outbox comes begun honest has files lies db
-        held;
+    read = λ honest _ files lies.
+        let read = read_lying honest old.lying new.lying conn comes files lies in
+        ((file_state conn).now, read.0, opens_over beginning new conn outbox up honest read.1 begun);
     current = λ honest is none certain it keeps. (
       not_current old new conn outbox none comes (subst (λ b. BeginsOutbox over_files b conn outbox) is begun) honest
           it (keeps certain),

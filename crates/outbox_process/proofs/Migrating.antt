@@ -54,8 +54,13 @@ module _ {S : Type 0} (g : Ghosts S) (conn back : Held S) (given : GivesBackOpen
   migrated outbox earlier clean =
       let was = earlier clean in
       let same = (no_outbox_kept 2 (state g conn) (state g back) (given.why was.0)).0.now_is in (
-        λ it alone is. was.1 it (subst (λ (db : Database). IsAlone db.schema) (sym same) alone)
-            (subst (IsEarlierOf it) (sym same) is),
+        (
+          λ alone.
+              let one = was.1.0 (subst (λ (db : Database). IsAlone db.schema) (sym same) alone) in
+              (one.0, subst (IsEarlierOf one.0) same one.1, one.2),
+          λ it alone is. was.1.1 it (subst (λ (db : Database). IsAlone db.schema) (sym same) alone)
+              (subst (IsEarlierOf it) (sym same) is),
+        ),
         λ it is. not_failed (given.sound was.0 it is),
       )
 

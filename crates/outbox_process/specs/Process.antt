@@ -14,9 +14,10 @@ use Rattle.outbox_tables.specs.Earlier.{IsAlone, IsEarlierOf}
 use Rattle.outbox_tables.specs.Entries.{Contents, empty}
 use Rattle.outbox_tables.specs.Faults.{IsFailure}
 use Rattle.outbox_tables.specs.Rows.{IsOutboxOf}
+use Rattle.outbox_tables.specs.Schema.{IsDeclared}
 use Rattle.outbox_core.specs.OutboxParts.{OutboxParts}
 use Rattle.database_places.specs.Closing.{IsNotClosed, LieGivenUp}
-use Rattle.database_places.specs.Left.{HoldWithLog}
+use Rattle.database_places.specs.Left.{HoldWithLog, IsReadIn}
 use Rattle.database_places.specs.Opening.{ComesFrom, OpensPlace}
 use Rattle.database_places.specs.Places.{Lie, IsHonest}
 use Rattle.database_places.specs.Places as place
@@ -123,6 +124,15 @@ abbrev pub IsUp : {S : Type 0} → Option (OutboxParts S) → Type 0
 IsUp (Some outbox) = outbox.has_failed ≡ false
 IsUp None = ⊥
 
+-- What an opening finds in this database, if that is declared as an outbox, or has the tables of the version before
+-- alone: an outbox of some contents, which are kept. An outbox is made only in a database in which nothing is declared.
+abbrev pub OpensOver : {D : Type 0} {g : Ghosts D} → Beginning → Database → Parts g → Type 0
+OpensOver Found db new =
+    IsDeclared db.schema → (it : Contents) × IsOutboxOf it db × KeepsBy new.outbox new.lying it
+OpensOver (Made filer) db new = db.schema ≡ no_schema
+OpensOver Migrated db new =
+    IsAlone db.schema → (it : Contents) × IsEarlierOf it db × KeepsBy new.outbox new.lying it
+
 -- What opening the process does.
 pub record OpensProcess {D : Type 0} (g : Ghosts D) (beginning : Beginning) (old new : Parts g)
     (result : Result (Unit {0}) OpeningFault) : Type 0 where
@@ -130,9 +140,9 @@ pub record OpensProcess {D : Type 0} (g : Ghosts D) (beginning : Beginning) (old
   -- if it has to be there, and no files lie there, the fault is Missing
   pub absent : old.outbox ≡ None → has_to_be_there beginning ≡ true → old.lying ≡ Some None
       → result ≡ Err (fault.Files Missing)
-  -- it is made only if no files lie there, or the database in them has no tables
-  pub fresh : IsHonest g → old.outbox ≡ None → has_to_be_there beginning ≡ false → (files : Files D)
-      → old.lying ≡ Some (Some files) → (db : Database) → HoldWithLog g files db → OnOk result (db.schema ≡ no_schema)
+  -- whatever files lie there, it is opened over the database that is read in them
+  pub read : IsHonest g → old.outbox ≡ None → (files : Files D) → old.lying ≡ Some (Some files)
+      → OnOk result ((db : Database) × IsReadIn g files db × OpensOver beginning db new)
   -- an outbox of this version is not migrated, and the fault says so, or that the opening failed
   pub current : IsHonest g → beginning ≡ Migrated → old.outbox ≡ None → old.is_certain ≡ true → (it : Contents)
       → Keeps old it → OnOk result ⊥ × IfErr result IsOfCurrent

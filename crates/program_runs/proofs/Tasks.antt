@@ -316,8 +316,9 @@ module _ {D : Type 0} {g : Ghosts D} where
       | inl done ↦ elim lies.there [
         | inl there ↦
             let hold = there.2 in
+            let read = done.2.read honest lies.closed there.0 there.1 in
             not_bare it hold.db hold.outbox
-            (done.2.fresh honest lies.closed refl there.0 there.1 hold.db hold.held)
+            (subst (λ (db : Database). db.schema ≡ no_schema) (read.1.only hold.db hold.held) read.2)
         | inr none ↦
             let same : empty filer.now ≡ it = λ i. record { filer = is_for i; entries = sym none.1 i } in
             let keeps =

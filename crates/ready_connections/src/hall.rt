@@ -68,6 +68,7 @@ impl<S: Stream + Drop> Hall<S> {
         ensures running { IfOk result (λ hall. (traffic : Option (Traffic S)) → IsEmpty traffic
             → IsRunning S.Stream [] None hall traffic) }
         ensures bounds { IfOk result (λ hall. hall.bounds ≡ bounds) }
+        ensures shut { IfOk result (λ hall. is_shut hall ≡ nat_eq bounds.connections 0) }
     {
         let places = Vec::with_capacity(alloc, bounds.places)?;
         let has_turn = Vec::with_capacity(alloc, bounds.places)?;

@@ -5,7 +5,7 @@ use Rattle.filing_model.specs.Serving.{keeping}
 use Rattle.filing_model.specs.Stopping.{No}
 use Rattle.intake_core.specs.Held.{limit_of, old_style_in}
 use Rattle.http_wire.specs.Wire.{wire}
-use Rattle.gateway_server.specs.Progress.{IsReadToEnd}
+use Rattle.gateway_server.specs.Progress.{HasRead, IsReadToEnd}
 use Rattle.gateway_server.specs.Stopping.{ServesConnectionUntil}
 use Rattle.gateway_server.specs.Written.{WritesTexts}
 use Rattle.gateway_server.proofs.Stopping.{ServesConnection-ended}
@@ -25,7 +25,10 @@ returns g c = record {
       (served.0, served.1, served.2, ServesConnection-ended requests old new No marks c.unwrap.result ended);
   setting = search rules;
   fault = search rules;
-  limited = search rules;
+  read = subst (λ (how : Option Ended). IfSome how (HasRead
+      (wire g.R.Source g.W.Sink c.args.reader.now c.args.writer.now)
+      (wire g.R.Source g.W.Sink c.serve_until-partly.new.reader c.serve_until-partly.new.writer))) c.unwrap.ensures
+      c.serve_until-partly.ensures.read;
   at_end = subst (λ (how : Option Ended). IfSome how (IsReadToEnd (g.R.Source.left c.serve_until-partly.new.reader)))
       c.unwrap.ensures c.serve_until-partly.ensures.at_end;
   texts = subst (λ (how : Option Ended). WritesTexts (g.W.Sink.written c.args.writer.now)

@@ -1,13 +1,14 @@
 use Rattle.filing_model.specs.declared.served.Ended.TheVariants.{Fault}
 use Rattle.http_messages.specs.declared.refusal.ConnFault.TheVariants.{Memory}
-use Rattle.std.proofs.Common.{Some, length, refl, sym, subst, rules}
+use Rattle.std.proofs.Common.{Some, [], length, refl, sym, subst, rules}
+use Rattle.std.proofs.KnownBytes.{Consumes-nil}
 use Rattle.filing_model.specs.Serving.{keeping}
 use Rattle.filing_model.specs.Stopping.{ComeBefore}
 use Rattle.intake_core.specs.Held.{limit_of, old_style_in}
 use Rattle.http_wire.specs.Wire.{wire}
 use Rattle.gateway_server.specs.Stopping.{IsCountUntil, view_stop}
 use Rattle.gateway_server.proofs.Continuing.{GoesOn-new, Serves-none}
-use Rattle.gateway_server.proofs.Ending.{told_at_end}
+use Rattle.gateway_server.proofs.Ending.{has_read, told_at_end}
 use Rattle.gateway_server.proofs.Stopping.{ComeBefore-none, ServesConnectionUntil-either}
 use Rattle.gateway_server.proofs.Written.{WritesTexts-same}
 use Rattle.gateway_server.proofs.serving.serve_until.Goals as goal
@@ -32,7 +33,10 @@ returns-in-Ok g c = record {
       );
   setting = search rules;
   fault = search rules;
-  limited = search rules;
+  read = has_read (wire g.R.Source g.W.Sink c.args.reader.now c.args.writer.now)
+      (wire g.R.Source g.W.Sink c.serve_arrivals-ended.new.reader c.serve_arrivals-ended.new.writer) c.in-Ok.inbox
+      c.serve_arrivals-ended.new.inbox c.serve_arrivals-ended.result c.in-Ok.ensures.count
+      c.serve_arrivals-ended.ensures.read c.serve_arrivals-ended.ensures.told;
   at_end =
       told_at_end c.serve_arrivals-ended.new.inbox (g.R.Source.left c.serve_arrivals-ended.new.reader)
       c.serve_arrivals-ended.result c.serve_arrivals-ended.ensures.told;
@@ -57,7 +61,7 @@ returns-in-Err g c = record {
       );
   setting = search rules;
   fault = search rules;
-  limited = search rules;
+  read = ([], Consumes-nil (g.R.Source.left c.args.reader.now), λ e. absurd (cc));
   at_end = λ e. absurd (cc);
   texts = WritesTexts-same (g.W.Sink.written c.args.writer.now) (Some (Fault Memory)) refl;
   counted = search rules;

@@ -1,4 +1,4 @@
-use Rattle.std.proofs.Common.{Some, ap, inl}
+use Rattle.std.proofs.Common.{Some, ap, inl, length}
 use Rattle.many_connections.specs.Events.{pieces_in, seen_after}
 use Rattle.intake_commands.proofs.program.perform_port.Goals as goal
 
@@ -10,6 +10,8 @@ returns g c = inl (
     given = ap (λ events. (seen_after events).given) c.requires.fresh.0;
     over = ap (λ events. Some (seen_after events).over) c.requires.fresh.0;
     ahead = ap (λ handed. Some (pieces_in handed)) c.requires.fresh.1;
+    asked = ap (λ asked. Some (length asked)) c.requires.fresh.2;
+    shut = c.requires.shut;
   },
-  c.perform_writing.ensures,
+  rw c.requires.task at c.perform_writing.ensures,
 )

@@ -1,7 +1,9 @@
-use Rattle.std.proofs.Common.{None, refl, subst, sym}
+use Rattle.std.proofs.Common.{None, ap, refl, rules, subst, sym}
+use Rattle.std.specs.Prelude.{IfOk}
 use Rattle.std.specs.Result.{result_ok}
+use Rattle.gateway_server.specs.Ports.{Traffic, IsAsked}
 use Rattle.intake_process.specs.Process.{parts}
-use Rattle.intake_process.specs.History.{NoneCame}
+use Rattle.intake_process.specs.History.{NoneCame, Passes}
 use Rattle.intake_process.specs.Turns.{AnswersSome}
 use Rattle.intake_process.proofs.Looking.{looks_same}
 use Rattle.intake_process.proofs.Turns.{none, none_came}
@@ -24,4 +26,17 @@ returns-clause-answers g c = λ honest.
 
 pub returns-in-Err-clause-passes : goal.returns-in-Err-clause-passes
 returns-in-Err-clause-passes g c =
-    history.none c.args.limit _ _ _ _ _ refl (looks_same (parts g.P.Place.lying c.args.process.now))
+    history.none c.args.limit _ _ _ _ _ _ _ refl (ap (λ (port : Traffic). port.over) c.listen.ensures.same)
+    (looks_same (parts g.P.Place.lying c.args.process.now))
+
+pub returns-clause-passes : goal.returns-clause-passes
+returns-clause-passes g c =
+    subst (λ port. Passes c.args.limit port (g.L.Port.traffic c.serve_port.new.port)
+    (parts g.P.Place.lying c.args.process.now) (parts g.P.Place.lying c.serve_port.new.process)
+    (g.O.Observer.answers c.args.observer.now) (g.O.Observer.answers c.serve_port.new.observer)
+    (result_ok c.serve_port.result)) c.listen.ensures.same (search rules)
+
+pub returns-clause-asked : goal.returns-clause-asked
+returns-clause-asked g c =
+    subst (λ port. IfOk c.serve_port.result (IsAsked port.asked (g.L.Port.traffic c.serve_port.new.port).asked))
+    c.listen.ensures.same c.serve_port.ensures.asked

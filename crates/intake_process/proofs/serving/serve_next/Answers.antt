@@ -9,7 +9,7 @@ use Rattle.intake_process.specs.History.{Passes, said_of}
 use Rattle.intake_process.specs.Observing.{Notes}
 use Rattle.intake_process.proofs.Keeping.{awake}
 use Rattle.intake_process.proofs.Looking.{leaves_join, looks_leave, looks_stay, none_answered}
-use Rattle.intake_process.proofs.Turns.{one, between, same, read_to_end}
+use Rattle.intake_process.proofs.Turns.{one, between, same, read_to_end, asked_on}
 use Rattle.intake_process.proofs.Up as up
 use Rattle.intake_process.proofs.History as history
 use Rattle.intake_process.proofs.serving.serve_next.Goals as goal
@@ -141,10 +141,13 @@ pub returns-in_default-clause-stays : goal.returns-in_default-clause-stays
 returns-in_default-clause-stays g c = looks_stay _ _ c.next_in_turn.ensures.looks
 
 pub returns-in_err-reader-clause-passes : goal.returns-in_err-reader-clause-passes
-returns-in_err-reader-clause-passes g c = history.none c.args.limit _ _ _ _ _ refl c.next_in_turn.ensures.looks
+returns-in_err-reader-clause-passes g c =
+    history.none c.args.limit _ _ _ _ _ _ _ refl c.in_err-reader.ensures.comes.0.over c.next_in_turn.ensures.looks
 
 pub returns-in_default-clause-passes : goal.returns-in_default-clause-passes
-returns-in_default-clause-passes g c = history.none c.args.limit _ _ _ _ _ refl c.next_in_turn.ensures.looks
+returns-in_default-clause-passes g c =
+    let came = rw c.in_default.is at c.in_ok-reader.ensures.comes in
+    history.none c.args.limit _ _ _ _ _ _ _ refl came.0.over c.next_in_turn.ensures.looks
 
 pub returns-in_default-clause-closed : goal.returns-in_default-clause-closed
 returns-in_default-clause-closed g c = c.next_in_turn.ensures.looks.awake
@@ -157,14 +160,17 @@ returns-in_err-end-clause-passes g c =
     let decided = parts g.P.Place.lying c.look_ahead.new.process in
     let last = parts g.P.Place.lying c.answer-answered.new.self in
     let is = c.open_again-refusal.ensures.ready in
-    subst (λ taken. Passes c.args.limit old last (g.O.Observer.answers c.args.observer.now)
-    (g.O.Observer.answers c.served.new.self) taken)
+    let came = rw c.in-Some.is at c.in_ok-reader.ensures.comes in
+    subst (λ taken. Passes c.args.limit (g.L.Port.traffic c.args.port.now) (g.L.Port.traffic c.end.new.self) old last
+    (g.O.Observer.answers c.args.observer.now) (g.O.Observer.answers c.served.new.self) taken)
     (sym (ap (option_map (λ _. 1)) (none_told c.from_residual-in_err-end.result
     c.from_residual-in_err-end.ensures.0)))
-    (history.cut c.args.limit old looked ready decided last _ _ is.0 (g.L.Port.traffic c.next_in_turn.new.port)
-    (g.L.Port.traffic c.look_ahead.new.port) (wire g.L.Reader.Source g.L.Writer.Sink c.in-Some.reader c.in-Some.writer)
+    (history.cut c.args.limit old looked ready decided last _ _ is.0 (g.L.Port.traffic c.args.port.now)
+    (g.L.Port.traffic c.next_in_turn.new.port) (g.L.Port.traffic c.look_ahead.new.port)
+    (g.L.Port.traffic c.end.new.self) (wire g.L.Reader.Source g.L.Writer.Sink c.in-Some.reader c.in-Some.writer)
     (wire g.L.Reader.Source g.L.Writer.Sink c.answer-answered.new.reader c.answer-answered.new.writer)
-    c.answer-answered.result c.in_ok-reader.ensures.looks is.1 c.look_ahead.ensures c.answer-answered.ensures
+    c.answer-answered.result c.in_ok-reader.ensures.looks is.1 c.look_ahead.ensures c.answer-answered.ensures came.1
+    c.in_err-end.ensures.refused
     (subst (λ after. Notes (g.O.Observer.answers c.args.observer.now) after (said_of is.0)) (sym c.served.ensures)
     is.2))
 
@@ -177,10 +183,24 @@ returns-in_ok-end-clause-passes g c =
     let last = parts g.P.Place.lying c.answer-answered.new.self in
     let new = parts g.P.Place.lying c.went.new.process in
     let is = c.open_again-refusal.ensures.ready in
-    history.one c.args.limit old looked ready decided last new _ _ is.0 (g.L.Port.traffic c.next_in_turn.new.port)
-    (g.L.Port.traffic c.look_ahead.new.port) (wire g.L.Reader.Source g.L.Writer.Sink c.in-Some.reader c.in-Some.writer)
+    let came = rw c.in-Some.is at c.in_ok-reader.ensures.comes in
+    history.one c.args.limit old looked ready decided last new _ _ is.0 (g.L.Port.traffic c.args.port.now)
+    (g.L.Port.traffic c.next_in_turn.new.port) (g.L.Port.traffic c.look_ahead.new.port)
+    (g.L.Port.traffic c.end.new.self) (wire g.L.Reader.Source g.L.Writer.Sink c.in-Some.reader c.in-Some.writer)
     (wire g.L.Reader.Source g.L.Writer.Sink c.answer-answered.new.reader c.answer-answered.new.writer)
-    c.answer-answered.result c.in_ok-reader.ensures.looks is.1 c.look_ahead.ensures c.answer-answered.ensures
-    c.went.ensures.over
+    c.answer-answered.result c.in_ok-reader.ensures.looks is.1 c.look_ahead.ensures c.answer-answered.ensures came.1
+    came.3 c.in_ok-end.ensures.over c.went.ensures.over
     (subst (λ after. Notes (g.O.Observer.answers c.args.observer.now) after (said_of is.0))
     (sym (c.ended.ensures ∙ c.served.ensures)) is.2)
+
+pub returns-in_err-end-clause-asked : goal.returns-in_err-end-clause-asked
+returns-in_err-end-clause-asked g c =
+    asked_on (g.L.Port.traffic c.args.port.now) (g.L.Port.traffic c.next_in_turn.new.port)
+    (g.L.Port.traffic c.look_ahead.new.port) (g.L.Port.traffic c.end.new.self) c.look_ahead.ensures.hands.same
+    c.end.ensures.asked c.next_in_turn.ensures.asked
+
+pub returns-in_ok-end-clause-asked : goal.returns-in_ok-end-clause-asked
+returns-in_ok-end-clause-asked g c =
+    asked_on (g.L.Port.traffic c.args.port.now) (g.L.Port.traffic c.next_in_turn.new.port)
+    (g.L.Port.traffic c.look_ahead.new.port) (g.L.Port.traffic c.end.new.self) c.look_ahead.ensures.hands.same
+    c.end.ensures.asked c.next_in_turn.ensures.asked

@@ -3,7 +3,7 @@ use Rattle.gateway_server.proofs.Turns.{none_told, counted_none}
 use Rattle.intake_process.specs.Process.{parts}
 use Rattle.intake_process.specs.History.{Passes}
 use Rattle.intake_process.specs.Turns.{AnswersSome}
-use Rattle.intake_process.proofs.Turns.{none, none_came, join, untold}
+use Rattle.intake_process.proofs.Turns.{none, none_came, join, untold, asked_none, asked_join}
 use Rattle.intake_process.proofs.Looking.{looks_same}
 use Rattle.intake_process.proofs.Up as up
 use Rattle.intake_process.proofs.History as history
@@ -17,7 +17,9 @@ loop-taken-init g c = record {
   shut = λ shut. (refl, shut);
   closed = λ awake. awake;
   stays = up.same (parts g.P.Place.lying c.args.process.now);
-  passes = history.none c.args.limit _ _ _ _ (Some 0) refl (looks_same (parts g.P.Place.lying c.args.process.now));
+  passes = history.none c.args.limit _ _ _ _ _ _ (Some 0) refl refl
+      (looks_same (parts g.P.Place.lying c.args.process.now));
+  asked = asked_none (g.L.Port.traffic c.args.port.now).asked;
 }
 
 pub returns-in_err-serve_next-clause-answers : goal.returns-in_err-serve_next-clause-answers
@@ -51,7 +53,10 @@ loop-taken-preserved g c = record {
   closed = λ awake. c.in_ok-serve_next.ensures.closed (c.loop-taken.invariant.closed awake);
   stays = up.join (parts g.P.Place.lying c.args.process.now) (parts g.P.Place.lying c.loop-taken.process)
       (parts g.P.Place.lying c.serve_next.new.process) c.loop-taken.invariant.stays c.serve_next.ensures.stays;
-  passes = history.join c.args.limit (parts g.P.Place.lying c.args.process.now)
+  asked = asked_join (g.L.Port.traffic c.args.port.now).asked (g.L.Port.traffic c.loop-taken.port).asked
+      (g.L.Port.traffic c.serve_next.new.port).asked c.loop-taken.taken 1 c.loop-taken.invariant.asked
+      c.serve_next.ensures.asked;
+  passes = history.join c.args.limit _ _ _ (parts g.P.Place.lying c.args.process.now)
       (parts g.P.Place.lying c.loop-taken.process) (parts g.P.Place.lying c.serve_next.new.process) _ _ _
       c.loop-taken.taken (Some 1) c.loop-taken.invariant.passes
       (rw c.in_ok-serve_next.was at c.serve_next.ensures.passes);
@@ -66,9 +71,9 @@ pub returns-in_err-serve_next-clause-passes : goal.returns-in_err-serve_next-cla
 returns-in_err-serve_next-clause-passes g c =
     let old = parts g.P.Place.lying c.args.process.now in
     let new = parts g.P.Place.lying c.serve_next.new.process in
-    subst (λ taken. Passes c.args.limit old new (g.O.Observer.answers c.args.observer.now)
-    (g.O.Observer.answers c.serve_next.new.observer) taken)
+    subst (λ taken. Passes c.args.limit (g.L.Port.traffic c.args.port.now) (g.L.Port.traffic c.serve_next.new.port)
+    old new (g.O.Observer.answers c.args.observer.now) (g.O.Observer.answers c.serve_next.new.observer) taken)
     (sym (none_told c.from_residual.result c.from_residual.ensures.0))
-    (history.untold c.args.limit old new _ _ _
-    (history.join c.args.limit old (parts g.P.Place.lying c.loop-taken.process) new _ _ _ c.loop-taken.taken _
+    (history.untold c.args.limit _ _ old new _ _ _
+    (history.join c.args.limit _ _ _ old (parts g.P.Place.lying c.loop-taken.process) new _ _ _ c.loop-taken.taken _
     c.loop-taken.invariant.passes c.serve_next.ensures.passes))

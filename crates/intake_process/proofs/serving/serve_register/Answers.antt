@@ -49,8 +49,9 @@ returns-in-Ok-served g c =
         answers = c.in-Ok-served.ensures.answers;
         ends = c.in-Ok-served.ensures.ends;
         shut = c.in-Ok-served.ensures.shut;
-        passes = subst (λ noted. Passes c.args.limit opened served (g.O.Observer.answers c.args.observer.now) noted
-            (Some c.in-Ok-served.taken)) (sym c.closed.ensures) c.in-Ok-served.ensures.passes;
+        asked = c.in-Ok-served.ensures.asked;
+        passes = subst (λ noted. Passes c.args.limit port port' opened served (g.O.Observer.answers c.args.observer.now)
+            noted (Some c.in-Ok-served.taken)) (sym c.closed.ensures) c.in-Ok-served.ensures.passes;
         stays = c.listen_and_serve-served.ensures.stays;
         closes = c.close.ensures;
       };
@@ -81,8 +82,9 @@ returns-in-Err-served g c =
         answers = c.in-Err-served.ensures.answers;
         ends = tt;
         shut = λ shut. tt;
-        passes = subst (λ noted. Passes c.args.limit opened served (g.O.Observer.answers c.args.observer.now) noted
-            None) (sym c.closed.ensures) c.in-Err-served.ensures.passes;
+        asked = tt;
+        passes = subst (λ noted. Passes c.args.limit port port' opened served (g.O.Observer.answers c.args.observer.now)
+            noted None) (sym c.closed.ensures) c.in-Err-served.ensures.passes;
         stays = c.listen_and_serve-served.ensures.stays;
         closes = c.close.ensures;
       };

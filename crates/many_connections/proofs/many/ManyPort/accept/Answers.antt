@@ -9,8 +9,8 @@ use Rattle.many_connections.specs.Events.{RunsAhead, Seen, pieces_in, seen_after
 use Rattle.many_connections.proofs.Seeing.{seen_more, given_came, none_came, one_came}
 use Rattle.many_connections.proofs.many.ManyPort.accept.Goals as goal
 
-pub invariant_of-self : goal.invariant_of-self
-invariant_of-self g c =
+pub invariant_of-self-in-Break-1 : goal.invariant_of-self-in-Break-1
+invariant_of-self-in-Break-1 g c =
     let old = c.args.self.now in
     record {
       runs = ∥∥₁_map old.runs (none_came g.S.Stream (seen_after old.events.items) old.hall c.next_piece.new.self

@@ -1,4 +1,5 @@
-use Rattle.std.proofs.Common.{◌≡◌, ℕ, ◌+◌, true, Option, Some, None, IsSome, nat_eq, refl, sym, ap, subst, ◌∙◌, arith}
+use Rattle.std.proofs.Common.{◌≡◌, ℕ, ◌+◌, true, Option, Some, None, IsSome, nat_eq, length, refl, sym, ap, subst, ◌∙◌}
+use Rattle.std.proofs.Common.{arith}
 use Rattle.std.proofs.lemmas.Bool.{false≢true}
 use Rattle.std.proofs.lemmas.Bool.Decides.{nat_tests}
 use Rattle.std.specs.Prelude.{Vec}
@@ -52,6 +53,7 @@ returns-in-None g c =
         over = Some seen.over;
         is_shut = is_shut c.put_back.new.self;
         ahead = Some (pieces_in old.handed.items);
+        asked = Some (length old.asked.items);
       } in it) is,
       λ shut. absurd (open_out old.hall.left _ old.hall.out c.in-None.ensures.was shut),
     )

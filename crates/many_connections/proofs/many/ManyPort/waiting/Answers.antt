@@ -56,6 +56,7 @@ returns g c =
         over = Some seen.over;
         is_shut = is;
         ahead = Some (pieces_in c.and-self.result.items);
+        asked = Some (length old.asked.items);
       } in it) (shut_same old.hall c.waiting-others.new.self c.waiting-others.ensures.same);
       few = omega (arith, length-map c.with_given-pieces.result.items bytes, c.with_given-pieces.ensures.few);
       short = c.with_given-pieces.ensures.short;
