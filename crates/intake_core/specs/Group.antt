@@ -1,5 +1,5 @@
 -- What an intake does with several requests, which it decides in their order.
-use Rattle.std.specs.Prelude.{◌≡◌, ◌<◌, ◌≤◌, ◌+◌, ◌↔◌, ◌⊎◌, ◌∷◌, ◌++◌, [], ℕ, List, length, map, true, false, Result}
+use Rattle.std.specs.Prelude.{◌≡◌, ◌<◌, ◌≤◌, ◌↔◌, ◌⊎◌, ◌∷◌, ◌++◌, [], ℕ, List, length, map, true, false, Result}
 use Rattle.std.specs.Prelude.{Ok}
 use Rattle.std.specs.Prelude.{Err, IfOk, OnOk}
 use Rattle.std.specs.List.{AllByRecursion}

@@ -21,10 +21,9 @@ use Rattle.table_rows.specs.declared.fault.StoreFault.{StoreFault}
 use Rattle.table_rows.proofs.LeavingLemmas.{asked_before, clean_before, ended, none_yet, stands}
 use Rattle.table_rows.proofs.StepLemmas.{nothing_left}
 use Rattle.register_rows.specs.Received.{Received}
-use Rattle.register_rows.specs.Schema.{IsDeclared}
 use Rattle.register_tables.specs.declared.fault.OpenFault.{OpenFault}
 use Rattle.register_tables.specs.declared.opening.Counts.{Counts}
-use Rattle.register_tables.specs.Opening.{ReadsRegister}
+use Rattle.register_tables.specs.Opening.{ReadsRegister, IsReadAsRegister}
 use Rattle.register_tables.specs.Registers.{IsRegisterOf}
 use Rattle.register_moments.specs.Dated.{ForDated}
 use Rattle.register_moments.proofs.Dating.{still}
@@ -162,7 +161,7 @@ module _ {S : Type 0} (g : Ghosts S) (old : Held S) where
     held = λ _. tt;
     missed = λ clean old_style requests rows moments one_each received. tt;
     asked = tt;
-    found = λ _ _. tt;
+    found = λ _. tt;
     kept = λ _. tt;
     refused = read.refused;
     failed = read.sound;
@@ -173,9 +172,9 @@ module _ {S : Type 0} (g : Ghosts S) (old : Held S) where
 
   module _ (mid : Held S) (counts : Counts) (read : ReadsRegister g old mid (Ok counts)) where
     -- what is counted is a register, and is committed still
-    found_then : HasCleanDisk (state g mid) → IsDeclared (state g old).now.schema
-        → (old_style : ℕ) × (requests : List Request) × IsRegisterOf old_style requests (state g old).now
-    found_then clean declared = let f = read.found clean declared in (counts.old_style, f.0, f.1)
+    found_then : HasCleanDisk (state g mid) → IsReadAsRegister g old
+    found_then clean =
+        (read.says clean, λ declared. let f = read.found clean declared in (counts.old_style, f.0, f.1))
 
     opened : Leaves Asked (state g old) (state g mid)
     opened = record { left = read.same; mode = λ _. read.mode; survives = read.survives }
@@ -236,8 +235,7 @@ module _ {S : Type 0} (g : Ghosts S) (old : Held S) where
             (holds.missed clean old_style requests f.1 moments one_each (still g old mid counts read was f.1 received)
             rows.rows.distinct f.2);
         asked = may_end p why holds.asked;
-        found = λ clean declared.
-            not_refused Counts p why _ holds.asked (found_then (clean_before holds.leaves clean) declared);
+        found = λ clean. not_refused Counts p why _ holds.asked (found_then (clean_before holds.leaves clean));
         kept = λ clean. not_refused Counts p why _ holds.asked (λ old_style requests rows.
             stands holds.leaves clean (read.only (clean_before holds.leaves clean) old_style requests rows).1);
         refused = λ _. not_open p why _ holds.asked;
@@ -264,7 +262,7 @@ module _ {S X : Type 0} (g : Ghosts S) (against : Option Published) (out out' : 
   refusal why none read = record {
     sound = λ _ _. tt;
     only = λ _. tt;
-    found = λ clean declared. unless why _ (read.found clean declared);
+    found = λ clean. unless why _ (read.found clean);
     kept = λ clean. unless why _ (read.kept clean);
     refused = read.refused;
     failed = read.failed;
@@ -291,7 +289,7 @@ module _ {S X : Type 0} (g : Ghosts S) (against : Option Published) (out out' : 
         → ChecksRegister g against out out' old new (Ok x)
     soundness x printed = record {
       sound = λ clean declared.
-          let f = read.found clean declared in
+          let f = (read.found clean).1 declared in
           let are = read.counted clean f.0 f.1 f.2 in (
             f.0,
             f.1,

@@ -19,13 +19,13 @@ use Rattle.filing_model.specs.Request.{Request, firsts}
 use Rattle.filing_model.specs.Listing.{listings}
 use Rattle.filing_model.specs.Register.{kept, register}
 use Rattle.register_rows.specs.Received.{Received}
-use Rattle.register_rows.specs.Schema.{IsDeclared}
 use Rattle.register_tables.specs.declared.migrate.earlier.Earlier.{Earlier}
 use Rattle.register_tables.specs.declared.migrate.earlier.Earlier.TheVariants.{Second, Third, Fourth}
 use Rattle.register_tables.specs.declared.fault.OpenFault.{OpenFault}
 use Rattle.register_tables.specs.Earlier.{IsAlone, is_blocked}
 use Rattle.register_tables.specs.Refusals.{GivesBackOpening}
 use Rattle.register_tables.specs.Registers.{IsRegisterOf}
+use Rattle.register_tables.specs.Opening.{IsReadAsRegister}
 use Rattle.register_store.specs.Calls.{KeepsStore, OpensOrGivesBack}
 use Rattle.register_store.specs.Moments.{HasMoments}
 use Rattle.register_store.specs.Numbered.{facts_numbered}
@@ -126,7 +126,7 @@ module _ {S X : Type 0} (g : Ghosts S) (errand : Errand) (out : Option (List ℕ
       no_begin errand requests moments out out why (refused_whole why is),
     );
     kept = λ clean not old_style requests firsts_are rows. absurd (true≢false (sym is ∙ not));
-    found = λ clean not tables. absurd (true≢false (sym is ∙ not));
+    found = λ clean not. absurd (true≢false (sym is ∙ not));
     current = λ clean _ old_style requests rows. is;
     refused = says;
     quiet = no_print errand out out why refl;
@@ -187,6 +187,14 @@ list_says g filer old new (Ok done) = tt
 list_says g filer old new (Err (listing.Intake why)) = tt
 list_says g filer old new (Err (listing.Text why)) = tt
 
+-- an opened store was read as a register
+pub as_register : {S : Type 0} (g : Ghosts S) (conn : Held S) (store : StoreParts S)
+    → OpensOrGivesBack g conn (Ok store) → HasCleanDisk (shows g store) → IsReadAsRegister g conn
+as_register g conn store opened clean = (
+  opened.outcome.says clean,
+  λ declared. let found = opened.outcome.opened clean declared in (store.old_style, found.0, found.1),
+)
+
 module _ {S : Type 0} (g : Ghosts S) (filer : Bor (List ℕ)) (out out' : Option (List ℕ)) (conn : Held S)
     (store : StoreParts S) (old new : Intake S) (r : Result (Unit {0}) ListFault) where
   pub lists : OpensOrGivesBack g conn (Ok store) → store_of old ≡ store
@@ -209,8 +217,7 @@ module _ {S : Type 0} (g : Ghosts S) (filer : Bor (List ℕ)) (out out' : Option
             let stays = does.kept clean requests (holds requests firsts_are only.1) in
             subst (λ n. HasCommitted (IsRegisterOf n requests) (shows g (store_of new))) (does.setting.old_style
             ∙ ap (λ s. s.old_style) is ∙ only.0) stays.rows.stands;
-        found = λ clean not tables. let found = opened.outcome.opened (was_clean clean) tables in
-            (store.old_style, found.0, found.1);
+        found = λ clean not. as_register g conn store opened (was_clean clean);
         current = λ clean is. cc;
         refused = list_says g filer conn (store_of new).conn r;
         quiet = quiet;
@@ -247,10 +254,8 @@ module _ {S : Type 0} (g : Ghosts S) (conn : Held S) (old new : StoreParts S)
       let stays = keeps.same clean requests only.1 in
       subst (λ n. HasCommitted (IsRegisterOf n requests) (shows g new)) (keeps.old_style ∙ only.0) stays.stands
 
-  found_still : HasCleanDisk (shows g new) → IsDeclared (state g conn).now.schema
-      → (old_style : ℕ) × (requests : List Request) × IsRegisterOf old_style requests (state g conn).now
-  found_still clean tables = let found = opened.outcome.opened (opened_clean clean) tables in
-      (old.old_style, found.0, found.1)
+  found_still : HasCleanDisk (shows g new) → IsReadAsRegister g conn
+  found_still clean = as_register g conn old opened (opened_clean clean)
 
 module _ (filer : Bor (List ℕ)) where
   moments_quiet : (out out' : Option (List ℕ)) (why : RecordsFault) → PrintsNothing records.Output out out' why
@@ -284,7 +289,7 @@ module _ (filer : Bor (List ℕ)) where
           );
       kept = λ clean not old_style requests firsts_are rows. kept_still g conn old new opened does.keeps clean
           old_style requests rows;
-      found = λ clean not tables. found_still g conn old new opened does.keeps clean tables;
+      found = λ clean not. found_still g conn old new opened does.keeps clean;
       current = λ clean is. cc;
       refused = tt;
       quiet = tt;
@@ -298,7 +303,7 @@ module _ (filer : Bor (List ℕ)) where
               (moments_may requests moments why, quiet, tt);
           kept = λ clean not old_style requests firsts_are rows. kept_still g conn old new opened does.keeps clean
               old_style requests rows;
-          found = λ clean not tables. found_still g conn old new opened does.keeps clean tables;
+          found = λ clean not. found_still g conn old new opened does.keeps clean;
           current = λ clean is. cc;
           refused = moments_says g conn new.conn why;
           quiet = quiet;
@@ -391,8 +396,7 @@ module _ {S : Type 0} (g : Ghosts S) (number : ℕ) (dated : Bool) (out out' : O
             let stays = shows_it.keeps.same clean requests only.1 in
             subst (λ n. HasCommitted (IsRegisterOf n requests) (shows g new)) (shows_it.keeps.old_style
             ∙ only.0) stays.stands;
-        found = λ clean not tables. let found = opened.outcome.opened (was_clean clean) tables in
-            (old.old_style, found.0, found.1);
+        found = λ clean not. as_register g conn old opened (was_clean clean);
         current = λ clean is. cc;
         refused = show_says g number dated conn new.conn r;
         quiet = quiet;
@@ -433,7 +437,7 @@ module _ (against : Option Published) where
         checks.only clean old_style requests rows,
       );
       kept = λ clean not old_style requests firsts_are rows. checks.kept clean old_style requests rows;
-      found = λ clean not tables. checks.found clean tables;
+      found = λ clean not. checks.found clean;
       current = λ clean is. cc;
       refused = tt;
       quiet = tt;
@@ -457,7 +461,7 @@ module _ (against : Option Published) where
             tt,
           );
           kept = λ clean not old_style requests firsts_are rows. checks.kept clean old_style requests rows;
-          found = λ clean not tables. checks.found clean tables;
+          found = λ clean not. checks.found clean;
           current = λ clean is. cc;
           refused = tt;
           quiet = quiet;
@@ -476,7 +480,7 @@ module _ (against : Option Published) where
           told = λ clean old_style requests firsts_are rows moments are.
               (checks.failed clean old_style requests rows, quiet, tt);
           kept = λ clean not old_style requests firsts_are rows. absurd (true≢false not);
-          found = λ clean not tables. absurd (true≢false not);
+          found = λ clean not. absurd (true≢false not);
           current = λ clean is. cc;
           refused = (checks.refused, checks.survives);
           quiet = quiet;
@@ -520,7 +524,7 @@ module _ (against : Option Published) where
         let some = given (λ p. IsOfDigest p (checking.Store why)) checks.asked in record {
           told = λ clean old_style requests firsts_are rows moments are. (some, quiet, tt);
           kept = λ clean not old_style requests firsts_are rows. checks.kept clean old_style requests rows;
-          found = λ clean not tables. checks.found clean tables;
+          found = λ clean not. checks.found clean;
           current = λ clean is. cc;
           refused = some;
           quiet = quiet;
@@ -548,7 +552,7 @@ module _ (against : Option Published) where
                 tt,
               );
           kept = λ clean not old_style requests firsts_are rows. checks.kept clean old_style requests rows;
-          found = λ clean not tables. checks.found clean tables;
+          found = λ clean not. checks.found clean;
           current = λ clean is. cc;
           refused = checks.asked;
           quiet = quiet;
@@ -577,7 +581,7 @@ module _ (against : Option Published) where
                 tt,
               );
           kept = λ clean not old_style requests firsts_are rows. checks.kept clean old_style requests rows;
-          found = λ clean not tables. checks.found clean tables;
+          found = λ clean not. checks.found clean;
           current = λ clean is. cc;
           refused = checks.asked;
           quiet = quiet;
@@ -615,9 +619,8 @@ module _ {S : Type 0} (g : Ghosts S) (out out' : Option (List ℕ)) (conn : Held
     kept = λ clean not old_style requests firsts_are rows.
         let only = does.migrates.outcome.only clean rows.0 old_style requests rows.1 rows.2 in
         subst (λ n. HasCommitted (IsRegisterOf n requests) (state g migrated.register.conn)) only.0 only.1.stands;
-    found = λ clean not tables.
-        let its = does.migrates.outcome.migrated clean tables.0 tables.1 in
-        (migrated.register.old_style, its.0, (tables.0, tables.1, its.1));
+    found = λ clean not form alone.
+        let its = does.migrates.outcome.migrated clean form alone in (migrated.register.old_style, its.0, its.1);
     current = λ clean _ old_style requests rows. absurd (does.migrates.outcome.current clean old_style requests rows);
     refused = migrate_says migrated.register.conn migrated.printed;
     quiet = migrate_quiet migrated.printed does.failed;
@@ -679,7 +682,7 @@ module _ (form : FactForm) (filer : Option (Bor (List ℕ))) where
         exports.exported clean old_style requests rows moments are.0 are.1,
       );
       kept = λ clean not old_style requests firsts_are rows. exports.kept clean old_style requests rows;
-      found = λ clean not tables. exports.found clean tables;
+      found = λ clean not. exports.found clean;
       current = λ clean is. cc;
       refused = tt;
       quiet = tt;
@@ -695,7 +698,7 @@ module _ (form : FactForm) (filer : Option (Bor (List ℕ))) where
         records_begun g out out' old why (exports.begun clean) old_style requests rows moments are.0 are.1,
       );
       kept = λ clean not old_style requests firsts_are rows. exports.kept clean old_style requests rows;
-      found = λ clean not tables. exports.found clean tables;
+      found = λ clean not. exports.found clean;
       current = λ clean is. cc;
       refused = records_says g old new why;
       quiet = records_quiet out out' why;
@@ -711,7 +714,7 @@ module _ (form : FactForm) (filer : Option (Bor (List ℕ))) where
         λ is. absurd (true≢false (sym is)),
       );
       kept = λ clean not old_style requests firsts_are rows. absurd (true≢false not);
-      found = λ clean not tables. absurd (true≢false not);
+      found = λ clean not. absurd (true≢false not);
       current = λ clean is. cc;
       refused = (exports.refused, exports.survives);
       quiet = λ _. exports.quiet;
@@ -747,7 +750,7 @@ module _ (until : Option ℕ) where
           line_told requests moments out out' (view_digest d) r
           (digests.computed clean old_style requests rows moments are.0 are.1) printed quiet;
       kept = λ clean not old_style requests firsts_are rows. digests.kept clean old_style requests rows;
-      found = λ clean not tables. digests.found clean tables;
+      found = λ clean not. digests.found clean;
       current = λ clean is. cc;
       refused = digest_says r;
       quiet = digest_quiet r quiet;
@@ -759,7 +762,7 @@ module _ (until : Option ℕ) where
     digest_unread why digests = record {
       told = λ clean old_style requests firsts_are rows moments are. (tt, inr refl, tt);
       kept = λ clean not old_style requests firsts_are rows. digests.kept clean old_style requests rows;
-      found = λ clean not tables. digests.found clean tables;
+      found = λ clean not. digests.found clean;
       current = λ clean is. cc;
       refused = tt;
       quiet = inr refl;
@@ -772,7 +775,7 @@ module _ (until : Option ℕ) where
           let few = digests.few clean old_style requests rows moments are.0 are.1 in
           ((few.0, ap (option_map digest_line) few.1), inr refl, tt);
       kept = λ clean not old_style requests firsts_are rows. digests.kept clean old_style requests rows;
-      found = λ clean not tables. digests.found clean tables;
+      found = λ clean not. digests.found clean;
       current = λ clean is. cc;
       refused = tt;
       quiet = inr refl;
@@ -785,7 +788,7 @@ module _ (until : Option ℕ) where
       told = λ clean old_style requests firsts_are rows moments are.
           (digests.failed clean old_style requests rows, inr refl, tt);
       kept = λ clean not old_style requests firsts_are rows. absurd (true≢false not);
-      found = λ clean not tables. absurd (true≢false not);
+      found = λ clean not. absurd (true≢false not);
       current = λ clean is. cc;
       refused = (digests.refused, digests.survives);
       quiet = inr refl;
@@ -833,7 +836,7 @@ module _ (path : Bor (List ℕ)) where
     site_done x writes out = record {
       told = λ clean old_style requests firsts_are rows moments are. ([], refl, appends_none out);
       kept = λ clean not old_style requests firsts_are rows. writes.kept clean old_style requests rows;
-      found = λ clean not tables. writes.found clean tables;
+      found = λ clean not. writes.found clean;
       current = λ clean is. cc;
       refused = tt;
       quiet = tt;
@@ -845,7 +848,7 @@ module _ (path : Bor (List ℕ)) where
     site_failed why writes out = record {
       told = λ clean old_style requests firsts_are rows moments are. (writing_may requests moments why, inr refl, tt);
       kept = λ clean not old_style requests firsts_are rows. writes.kept clean old_style requests rows;
-      found = λ clean not tables. writes.found clean tables;
+      found = λ clean not. writes.found clean;
       current = λ clean is. cc;
       refused = writing_says g old new why;
       quiet = inr refl;
@@ -858,7 +861,7 @@ module _ (path : Bor (List ℕ)) where
       told = λ clean old_style requests firsts_are rows moments are.
           (writes.failed clean old_style requests rows, inr refl, tt);
       kept = λ clean not old_style requests firsts_are rows. absurd (true≢false not);
-      found = λ clean not tables. absurd (true≢false not);
+      found = λ clean not. absurd (true≢false not);
       current = λ clean is. cc;
       refused = (writes.refused, writes.survives);
       quiet = inr refl;

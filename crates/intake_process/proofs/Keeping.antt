@@ -192,15 +192,12 @@ module _ {D : Type 0} {g : Ghosts D} where
       (intake : Intake (FileStore D g)) (totals : Totals) → new.intake ≡ Some intake → IsHonest g
       → new.lying ≡ Some None → (has ≡ true → FindsIntake over_files conn limit intake totals)
       → (has ≡ false → MakesIntake over_files conn limit intake totals)
-      → OpensOver has limit (file_state conn).now new
-  opens_over true limit new conn intake totals up honest taken found made = λ declared.
-      let clean = always_clean honest intake.store.conn in
-      let one = (found refl).is_one clean declared in (
-        one.0,
-        one.1,
-        one.2,
-        λ once. subst (λ i. KeepsBy i new.lying limit one.0 one.1) (sym up)
-            (((found refl).holds clean one.0 one.1 once one.2).0, taken),
+      → OpensOver has limit conn new
+  opens_over true limit new conn intake totals up honest taken found made =
+      let clean = always_clean honest intake.store.conn in (
+        (found refl).is_one clean,
+        λ old_style requests once is. subst (λ i. KeepsBy i new.lying limit old_style requests) (sym up)
+            (((found refl).holds clean old_style requests once is).0, taken),
       )
   opens_over false limit new conn intake totals up honest taken found made = (made refl).0
 
@@ -232,7 +229,8 @@ module _ {D : Type 0} {g : Ghosts D} where
     nothing = λ honest _ lies is. tt;
     read = λ honest _ files lies.
         let read = read_lying honest old.lying new.lying conn comes files lies in (
-          (file_state conn).now,
+          conn,
+          subst (λ l. ComesFrom old.lying l conn) read.1 comes,
           read.0,
           opens_over has limit new conn intake totals up honest read.1 found made,
         );

@@ -4,8 +4,8 @@ use Rattle.sqlite.specs.Store.{Ghosts}
 use Rattle.sqlite.specs.Held.{Held, state}
 use Rattle.filing_model.specs.Request.{Request, firsts}
 use Rattle.filing_model.specs.Register.{register}
-use Rattle.register_rows.specs.Schema.{IsDeclared}
 use Rattle.register_tables.specs.Registers.{IsRegisterOf}
+use Rattle.register_tables.specs.Opening.{IsReadAsRegister}
 use Rattle.register_store.specs.Calls.{CreatesOrGivesBack, OpensOrGivesBack}
 use Rattle.intake_core.specs.declared.intake.Intake.{Intake}
 use Rattle.intake_core.specs.Held.{HoldsRequests, IsClean, limit_of, old_style_of}
@@ -28,9 +28,7 @@ AreTotals requests totals = (totals.kept ≡ length requests) × (totals.filings
 -- What an intake holds that was found in a database, if the disk is clean.
 pub record FindsIntake {S : Type 0} (g : Ghosts S) (conn : Held S) (limit : ℕ) (intake : Intake S)
     (totals : Totals) : Type 0 where
-  -- the rows of a database that is declared as a register stand for some requests
-  pub is_one : IsClean g intake → IsDeclared (state g conn).now.schema
-      → (old_style : ℕ) × (requests : List Request) × IsRegisterOf old_style requests (state g conn).now
+  pub is_one : IsClean g intake → IsReadAsRegister g conn
   -- it holds the requests that the rows stand for, which the totals count
   pub holds : IsClean g intake → (old_style : ℕ) (requests : List Request) → firsts requests ≡ requests
       → IsRegisterOf old_style requests (state g conn).now

@@ -7,19 +7,17 @@ use Rattle.std.specs.Option.{IsSomeAnd}
 use Rattle.sqlite.specs.Store.{Ghosts}
 use Rattle.sqlite.specs.Held.{Held, state}
 use Rattle.sqlite.specs.Effect.{Database}
-use Rattle.sqlite.specs.Schema.{Schema}
 use Rattle.sqlite.specs.State.{HasCleanDisk, Survives}
 use Rattle.table_rows.specs.Standing.{HasCommitted, CommitsNothing}
 use Rattle.filing_model.specs.Request.{Request, firsts}
 use Rattle.filing_model.specs.Listing.{listings}
 use Rattle.filing_model.specs.Register.{kept, register}
 use Rattle.register_rows.specs.Received.{Received}
-use Rattle.register_rows.specs.Schema.{IsDeclared}
 use Rattle.register_tables.specs.declared.migrate.earlier.Earlier.{Earlier}
 use Rattle.register_tables.specs.Earlier.{IsAlone, IsEarlierOf}
 use Rattle.register_tables.specs.Faults.{IsFailure}
 use Rattle.register_tables.specs.Migrating.{IsNotMigrated, MigratesTo}
-use Rattle.register_tables.specs.Opening.{IsRefused}
+use Rattle.register_tables.specs.Opening.{IsRefused, IsReadAsRegister}
 use Rattle.register_tables.specs.Registers.{ForRows, IsRegisterOf}
 use Rattle.register_store.specs.Numbered.{facts_numbered}
 use Rattle.register_moments.specs.Moments.{moment_of}
@@ -72,15 +70,11 @@ abbrev pub AreMomentsFor : Errand → List Request → List (Option ℕ) → Dat
 AreMomentsFor asked.Migrate requests moments db = moments ≡ replicate (length requests) None
 AreMomentsFor errand requests moments db = (length moments ≡ length requests) × Received db moments
 
--- it has the tables of such a register
-abbrev pub HasTablesFor : Errand → Schema → Type 0
-HasTablesFor (asked.List filer dated) schema = IsDeclared schema
-HasTablesFor (asked.Show number dated) schema = IsDeclared schema
-HasTablesFor (asked.Check against) schema = IsDeclared schema
-HasTablesFor (asked.Export form filer) schema = IsDeclared schema
-HasTablesFor (asked.Digest until) schema = IsDeclared schema
-HasTablesFor (asked.Pages folder) schema = IsDeclared schema
-HasTablesFor asked.Migrate schema = (form : Earlier) × IsAlone form schema
+-- the database was read as such a register
+abbrev pub IsReadFor : {S : Type 0} → Ghosts S → Errand → Held S → Type 0
+IsReadFor g asked.Migrate conn = (form : Earlier) → IsAlone form (state g conn).now.schema
+    → (old_style : ℕ) × (requests : List Request) × IsEarlierOf form old_style requests (state g conn).now
+IsReadFor g errand conn = IsReadAsRegister g conn
 
 -- Why an errand to such a register is not done: no filing has the number, there are fewer requests than were asked for,
 -- the first of them have another digest than the published one, or memory, the disk, the output or the folder failed.
@@ -188,9 +182,8 @@ pub record RunsErrand {S X : Type 0} (g : Ghosts S) (errand : Errand) (out out' 
       → (old_style : ℕ) (requests : List Request) → firsts requests ≡ requests
       → IsRegisterFor errand old_style requests (state g old).now
       → HasCommitted (IsRegisterOf old_style requests) (state g new)
-  -- Unless it is refused, a database with the tables of a register is one.
-  pub found : HasCleanDisk (state g new) → is_refused result ≡ false → HasTablesFor errand (state g old).now.schema
-      → (old_style : ℕ) × (requests : List Request) × IsRegisterFor errand old_style requests (state g old).now
+  -- Unless it is refused, the database is read as a register.
+  pub found : HasCleanDisk (state g new) → is_refused result ≡ false → IsReadFor g errand old
   -- A register of this version is not migrated.
   pub current : HasCleanDisk (state g new) → errand ≡ asked.Migrate → ForRows g old (λ _ _. is_refused result ≡ true)
   pub refused : IfErr result (Says g errand old new)

@@ -7,15 +7,15 @@ use Rattle.sqlite_disk.specs.declared.Files.{Files}
 use Rattle.sqlite_store.specs.declared.store.FileStore.{FileStore}
 use Rattle.sqlite.specs.Store as database
 use Rattle.sqlite.specs.Held.{Held}
-use Rattle.sqlite.specs.Files.{over_files}
+use Rattle.sqlite.specs.Files.{file_state, over_files}
 use Rattle.sqlite.specs.declared.error.Error.{Error}
 use Rattle.sqlite.specs.Effect.{Database}
 use Rattle.command_line.specs.declared.fault.DatabaseFault.TheVariants.{Missing}
 use Rattle.table_rows.specs.Tables.{no_schema}
 use Rattle.http_wire.specs.Wire.{Wire}
 use Rattle.filing_model.specs.Request.{Request, firsts}
-use Rattle.register_rows.specs.Schema.{IsDeclared}
 use Rattle.register_tables.specs.Registers.{IsRegisterOf}
+use Rattle.register_tables.specs.Opening.{IsReadAsRegister}
 use Rattle.intake_core.specs.declared.intake.Intake.{Intake}
 use Rattle.intake_core.specs.Held.{store_of, limit_of, has_stopped}
 use Rattle.gateway_server.specs.Ahead.{DecidesAhead}
@@ -134,13 +134,14 @@ leaves_doubt was_taken (fault.Taken holding) = false
 leaves_doubt was_taken (fault.Create why) = true
 leaves_doubt was_taken (fault.Open why holding) = false
 
--- What an opening finds in this database, if that is declared as a register: the register of some requests, which are
--- kept. A register is made only in a database in which nothing is declared.
-abbrev pub OpensOver : {D : Type 0} {g : Ghosts D} → Bool → ℕ → Database → Parts g → Type 0
-OpensOver true limit db new =
-    IsDeclared db.schema → (old_style : ℕ) × (requests : List Request) × IsRegisterOf old_style requests db
-    × (firsts requests ≡ requests → KeepsBy new.intake new.lying limit old_style requests)
-OpensOver false limit db new = db.schema ≡ no_schema
+-- What an opening finds over this connection: a database that is read as a register, and the requests that its rows
+-- stand for are kept. A register is made only in a database in which nothing is declared.
+abbrev pub OpensOver : {D : Type 0} {g : Ghosts D} → Bool → ℕ → Held (FileStore D g) → Parts g → Type 0
+OpensOver true limit conn new = IsReadAsRegister over_files conn
+    × ((old_style : ℕ) (requests : List Request) → firsts requests ≡ requests
+    → IsRegisterOf old_style requests (file_state conn).now
+    → KeepsBy new.intake new.lying limit old_style requests)
+OpensOver false limit conn new = (file_state conn).now.schema ≡ no_schema
 
 -- What opening the process does, whether its register has to be there or is made.
 pub record OpensProcess {D : Type 0} (g : Ghosts D) (has_to_be_there : Bool) (limit : ℕ) (old new : Parts g)
@@ -163,9 +164,10 @@ pub record OpensProcess {D : Type 0} (g : Ghosts D) (has_to_be_there : Bool) (li
   -- where no files lay, a refusal that leaves no doubt leaves all as it was
   pub nothing : IsHonest g → old.intake ≡ None → old.lying ≡ Some None → new.is_certain ≡ true
       → OnErr result (new ≡ old)
-  -- whatever files lie there, it is opened over the database that is read in them
+  -- whatever files lie there, it is opened over a connection to them, and the database that is read in them
   pub read : IsHonest g → old.intake ≡ None → (files : Files D) → old.lying ≡ Some (Some files)
-      → OnOk result ((db : Database) × IsReadIn g files db × OpensOver has_to_be_there limit db new)
+      → OnOk result ((conn : Held (FileStore D g)) × ComesFrom old.lying (Some None) conn
+      × IsReadIn g files (file_state conn).now × OpensOver has_to_be_there limit conn new)
   pub certain : OnOk result (new.is_certain ≡ old.is_certain)
   pub is_open : OnOk result (IsSome new.intake)
   -- whatever lay there, it keeps at most `limit` keys from now on

@@ -23,7 +23,7 @@ use Rattle.filing_model.specs.Serving.{keeping}
 use Rattle.register_tables.specs.declared.fault.OpenFault.{OpenFault}
 use Rattle.register_tables.specs.declared.opening.Counts.{Counts}
 use Rattle.register_tables.specs.Faults.{IsFailure}
-use Rattle.register_tables.specs.Opening.{IsRefused}
+use Rattle.register_tables.specs.Opening.{IsRefused, IsReadAsRegister}
 use Rattle.register_tables.specs.Registers.{ForRows, IsRegisterOf}
 use Rattle.register_rows.specs.Schema.{IsDeclared}
 use Rattle.register_store.specs.Calls.{KeepsStore, MigratesOrGivesBack}
@@ -169,9 +169,7 @@ pub record ReadsAgainst {S : Type 0} (g : Ghosts S) (against : Option Published)
   pub missed : HasCleanDisk (state g new)
       → IfErr result (λ why. ForDatedRows g old (λ requests moments. MayMiss against requests moments why))
   pub asked : IfErr result (MayEnd against)
-  pub found : HasCleanDisk (state g new) → IsDeclared (state g old).now.schema
-      → UnlessRefused result ((old_style : ℕ) × (requests : List Request)
-      × IsRegisterOf old_style requests (state g old).now)
+  pub found : HasCleanDisk (state g new) → UnlessRefused result (IsReadAsRegister g old)
   pub kept : HasCleanDisk (state g new)
       → UnlessRefused result (ForRows g old (λ old_style requests. HasCommitted (IsRegisterOf old_style requests)
       (state g new)))
@@ -198,11 +196,8 @@ pub record ChecksRegister {S X : Type 0} (g : Ghosts S) (against : Option Publis
   pub missed : HasCleanDisk (state g new)
       → IfErr result (λ why. ForDatedRows g old (λ requests moments. MayMiss against requests moments why))
   pub asked : IfErr result (MayEnd against)
-  -- Unless it is refused, a database with the tables of a register is one, and what its rows stand for is still
-  -- committed.
-  pub found : HasCleanDisk (state g new) → IsDeclared (state g old).now.schema
-      → UnlessRefused result ((old_style : ℕ) × (requests : List Request)
-      × IsRegisterOf old_style requests (state g old).now)
+  -- Unless it is refused, it is read as a register, and what its rows stand for is still committed.
+  pub found : HasCleanDisk (state g new) → UnlessRefused result (IsReadAsRegister g old)
   pub kept : HasCleanDisk (state g new)
       → UnlessRefused result (ForRows g old (λ old_style requests. HasCommitted (IsRegisterOf old_style requests)
       (state g new)))

@@ -25,6 +25,7 @@ module _ {S : Type 0} (g : Ghosts S) (conn last : Held S) (unlimited : conn.step
     outcome = record {
       opened = λ clean declared. let found = h.found clean declared in
           (found.0, found.1, record { stands = found.2; count = found.3 });
+      says = h.says;
       able = refl;
       same = λ clean outbox is.
           let found = h.found clean is.rows.declared in
@@ -57,6 +58,7 @@ module _ {S : Type 0} (g : Ghosts S) (conn last : Held S) (unlimited : conn.step
       record {
         outcome = record {
           opened = tt;
+          says = tt;
           able = tt;
           same = tt;
           durable = tt;

@@ -20,6 +20,7 @@ use Rattle.outbox_core.specs.OutboxParts.{OutboxParts, shows, contents, HandsOut
 use Rattle.outbox_tables.specs.Promises.{ForOutbox}
 use Rattle.outbox_tables.specs.Making.{making, LeavesMade}
 use Rattle.outbox_tables.specs.Earlier.{ForEarlier, IsAlone, IsEarlierOf, IsMigrated, LeavesMigrated}
+use Rattle.outbox_tables.specs.Audit.{SaysOutbox}
 use Rattle.outbox_core.specs.Refusals.{GivesBackMaking, GivesBackOpening, GivesBackMigrating, GivesUpMaking}
 use Rattle.outbox_core.specs.Refusals.{GivesUpOpening, GivesUpMigrating}
 
@@ -51,6 +52,8 @@ pub record HandsOutFound {S : Type 0} (g : Ghosts S) (conn : Held S)
       HandsOut g result (λ outbox.
       IsDeclared (state g conn).now.schema → (entries : List Entry)
       × IsOutboxOf (contents outbox entries) (state g conn).now × HasEntries g outbox entries)
+  -- However the tables are declared, only a database that says so is opened as an outbox.
+  pub says : HandsOut g result (λ outbox. SaysOutbox g outbox.filer conn)
   pub able : IfOk result (λ outbox. outbox.has_failed ≡ false)
   -- If the database is an outbox, that outbox is opened, and a crash after the call leaves it.
   pub same : IfOk result (λ outbox. ForOutbox g conn outbox.conn (λ it. (outbox.filer ≡ it.filer)

@@ -167,7 +167,11 @@ impl<S: Alter + Drop> Outbox<S> {
         requires { IsAtRest conn }
         ensures { HandsOutFound S.Store conn result }
     {
-        Outbox::open_or_back(alloc, conn).map_err(|(fault, _conn)| fault)
+        // The proof by hand of a `map_err` would be longer than this.
+        match Outbox::open_or_back(alloc, conn) {
+            Ok(outbox) => Ok(outbox),
+            Err((fault, _conn)) => Err(fault),
+        }
     }
 
     /// As `migrate_or_back`, but a refusal gives the connection up.

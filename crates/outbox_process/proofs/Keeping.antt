@@ -168,10 +168,14 @@ module _ {D : Type 0} {g : Ghosts D} where
 
   opens_over : (beginning : Beginning) (new : Parts g) (conn : Held (FileStore D g))
       (outbox : OutboxParts (FileStore D g)) → new.outbox ≡ Some outbox → IsHonest g → new.lying ≡ Some None
-      → BeginsOutbox over_files beginning conn outbox → OpensOver beginning (file_state conn).now new
-  opens_over Found new conn outbox up honest taken begun = λ declared.
-      let one = begun.is_one (always_clean honest outbox.conn) declared in
-      (one.0, one.1, subst (λ o. KeepsBy o new.lying one.0) (sym up) (one.2, taken))
+      → BeginsOutbox over_files beginning conn outbox → OpensOver beginning conn new
+  opens_over Found new conn outbox up honest taken begun =
+      let is_one = begun.is_one (always_clean honest outbox.conn) in (
+        (outbox.filer, is_one.0),
+        λ declared.
+            let one = is_one.1 declared in
+            (one.0, one.1, subst (λ o. KeepsBy o new.lying one.0) (sym up) (one.2, taken)),
+      )
   opens_over (Made filer) new conn outbox up honest taken begun = begun.0
   opens_over Migrated new conn outbox up honest taken begun = λ alone.
       let one = (begun (always_clean honest outbox.conn)).0.0 alone in
@@ -197,8 +201,12 @@ module _ {D : Type 0} {g : Ghosts D} where
         (keeps_begun beginning old new conn outbox none same comes begun honest it begins certain);
     absent = λ _ has lies. absurd (there has lies);
     read = λ honest _ files lies.
-        let read = read_lying honest old.lying new.lying conn comes files lies in
-        ((file_state conn).now, read.0, opens_over beginning new conn outbox up honest read.1 begun);
+        let read = read_lying honest old.lying new.lying conn comes files lies in (
+          conn,
+          subst (λ l. ComesFrom old.lying l conn) read.1 comes,
+          read.0,
+          opens_over beginning new conn outbox up honest read.1 begun,
+        );
     current = λ honest is none certain it keeps. (
       not_current old new conn outbox none comes (subst (λ b. BeginsOutbox over_files b conn outbox) is begun) honest
           it (keeps certain),

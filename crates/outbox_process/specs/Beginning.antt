@@ -8,6 +8,7 @@ use Rattle.outbox_tables.specs.Earlier.{ForEarlier, IsAlone, IsEarlierOf}
 use Rattle.outbox_tables.specs.Entries.{Contents, empty}
 use Rattle.outbox_tables.specs.Rows.{IsOutboxOf}
 use Rattle.outbox_tables.specs.Schema.{IsDeclared}
+use Rattle.outbox_tables.specs.Audit.{SaysOutbox}
 use Rattle.outbox_core.specs.OutboxParts.{OutboxParts, shows, HasEntries}
 use Rattle.outbox_process.specs.declared.beginning.Beginning.{Beginning}
 use Rattle.outbox_process.specs.declared.beginning.Beginning.TheVariants.{Found, Made, Migrated}
@@ -18,9 +19,11 @@ HasContents g outbox it = HasEntries g outbox it.entries × (outbox.filer ≡ it
 
 -- What an outbox has that was found in a database, if the disk is clean.
 pub record FindsOutbox {S : Type 0} (g : Ghosts S) (conn : Held S) (outbox : OutboxParts S) : Type 0 where
-  -- the rows of a database that is declared as an outbox are those of one
-  pub is_one : HasCleanDisk (shows g outbox) → IsDeclared (state g conn).now.schema
-      → (it : Contents) × IsOutboxOf it (state g conn).now × HasContents g outbox it
+  -- the database says that it is an outbox of this filer, and if its tables are declared as those of one, its rows are
+  -- those of one
+  pub is_one : HasCleanDisk (shows g outbox) → SaysOutbox g outbox.filer conn
+      × (IsDeclared (state g conn).now.schema
+      → (it : Contents) × IsOutboxOf it (state g conn).now × HasContents g outbox it)
   -- it has the filer and the entries of the database's rows
   pub only : HasCleanDisk (shows g outbox) → (it : Contents) → IsOutboxOf it (state g conn).now
       → HasContents g outbox it

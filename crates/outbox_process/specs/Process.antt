@@ -4,7 +4,7 @@ use Rattle.std.specs.Prelude.{OnErr, if◌then◌else◌}
 use Rattle.sqlite_disk.specs.declared.Disk.{Ghosts}
 use Rattle.sqlite_disk.specs.declared.Files.{Files}
 use Rattle.sqlite_store.specs.declared.store.FileStore.{FileStore}
-use Rattle.sqlite.specs.Files.{over_files}
+use Rattle.sqlite.specs.Files.{file_state, over_files}
 use Rattle.sqlite.specs.Held.{Held}
 use Rattle.sqlite.specs.declared.error.Error.{Error}
 use Rattle.command_line.specs.declared.fault.DatabaseFault.TheVariants.{Missing}
@@ -15,6 +15,7 @@ use Rattle.outbox_tables.specs.Entries.{Contents, empty}
 use Rattle.outbox_tables.specs.Faults.{IsFailure}
 use Rattle.outbox_tables.specs.Rows.{IsOutboxOf}
 use Rattle.outbox_tables.specs.Schema.{IsDeclared}
+use Rattle.outbox_tables.specs.Audit.{SaysOutbox}
 use Rattle.outbox_core.specs.OutboxParts.{OutboxParts}
 use Rattle.database_places.specs.Closing.{IsNotClosed, LieGivenUp}
 use Rattle.database_places.specs.Left.{HoldWithLog, IsReadIn}
@@ -124,14 +125,16 @@ abbrev pub IsUp : {S : Type 0} → Option (OutboxParts S) → Type 0
 IsUp (Some outbox) = outbox.has_failed ≡ false
 IsUp None = ⊥
 
--- What an opening finds in this database, if that is declared as an outbox, or has the tables of the version before
--- alone: an outbox of some contents, which are kept. An outbox is made only in a database in which nothing is declared.
-abbrev pub OpensOver : {D : Type 0} {g : Ghosts D} → Beginning → Database → Parts g → Type 0
-OpensOver Found db new =
-    IsDeclared db.schema → (it : Contents) × IsOutboxOf it db × KeepsBy new.outbox new.lying it
-OpensOver (Made filer) db new = db.schema ≡ no_schema
-OpensOver Migrated db new =
-    IsAlone db.schema → (it : Contents) × IsEarlierOf it db × KeepsBy new.outbox new.lying it
+-- What an opening finds in this database: it says that it is an outbox, and if its tables are declared as those of one,
+-- or are those of the version before and alone, it is one of some contents, which are kept. An outbox is made only in a
+-- database in which nothing is declared.
+abbrev pub OpensOver : {D : Type 0} {g : Ghosts D} → Beginning → Held (FileStore D g) → Parts g → Type 0
+OpensOver Found conn new = ((filer : List ℕ) × SaysOutbox over_files filer conn)
+    × (IsDeclared (file_state conn).now.schema
+    → (it : Contents) × IsOutboxOf it (file_state conn).now × KeepsBy new.outbox new.lying it)
+OpensOver (Made filer) conn new = (file_state conn).now.schema ≡ no_schema
+OpensOver Migrated conn new = IsAlone (file_state conn).now.schema
+    → (it : Contents) × IsEarlierOf it (file_state conn).now × KeepsBy new.outbox new.lying it
 
 -- What opening the process does.
 pub record OpensProcess {D : Type 0} (g : Ghosts D) (beginning : Beginning) (old new : Parts g)
@@ -140,9 +143,10 @@ pub record OpensProcess {D : Type 0} (g : Ghosts D) (beginning : Beginning) (old
   -- if it has to be there, and no files lie there, the fault is Missing
   pub absent : old.outbox ≡ None → has_to_be_there beginning ≡ true → old.lying ≡ Some None
       → result ≡ Err (fault.Files Missing)
-  -- whatever files lie there, it is opened over the database that is read in them
+  -- whatever files lie there, it is opened over a connection to them, and the database that is read in them
   pub read : IsHonest g → old.outbox ≡ None → (files : Files D) → old.lying ≡ Some (Some files)
-      → OnOk result ((db : Database) × IsReadIn g files db × OpensOver beginning db new)
+      → OnOk result ((conn : Held (FileStore D g)) × ComesFrom old.lying (Some None) conn
+      × IsReadIn g files (file_state conn).now × OpensOver beginning conn new)
   -- an outbox of this version is not migrated, and the fault says so, or that the opening failed
   pub current : IsHonest g → beginning ≡ Migrated → old.outbox ≡ None → old.is_certain ≡ true → (it : Contents)
       → Keeps old it → OnOk result ⊥ × IfErr result IsOfCurrent

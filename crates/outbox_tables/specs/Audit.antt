@@ -152,6 +152,11 @@ FindsFiler form filer old new = (rows : List Row) × Shown meta_text [] old new 
 abbrev pub ReadsFiler : ℕ → State → State → Type 0
 ReadsFiler form old new = (filer : List ℕ) × FindsFiler form filer old new
 
+-- whatever else the database has, and however its tables are declared, the row of `outbox_meta` is that of an outbox of
+-- this filer
+abbrev pub SaysOutbox : {S : Type 0} → Ghosts S → List ℕ → Held S → Type 0
+SaysOutbox {S} g filer conn = (mid : Held S) × FindsFiler 2 filer (state g conn) (state g mid)
+
 -- The row is the first, in the order of the ids and counted from 1, that is not sound or has no sound target. Or it is
 -- 0, and a row of `target` belongs to no entry, or `entry` cannot be read, for another cause than memory or disk.
 abbrev pub IsDamagedAt : List Row → ℕ → State → State → Type 0

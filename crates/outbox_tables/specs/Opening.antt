@@ -12,7 +12,7 @@ use Rattle.outbox_tables.specs.Schema.{IsDeclared}
 use Rattle.outbox_tables.specs.Entries.{contents_of}
 use Rattle.outbox_tables.specs.Rows.{IsOutboxOf}
 use Rattle.outbox_tables.specs.Faults.{IsFailure, IsOfOpening}
-use Rattle.outbox_tables.specs.Audit.{IsRefused}
+use Rattle.outbox_tables.specs.Audit.{IsRefused, SaysOutbox}
 use Rattle.outbox_tables.specs.Promises.{ForOutbox}
 
 -- The outbox of a database was read over a connection: its filer, and how many entries it has. Or it was refused.
@@ -28,6 +28,8 @@ pub record ReadsOutbox {S : Type 0} (g : Ghosts S) (old new : Held S) (result : 
       × IsOutboxOf (contents_of (string_bytes found.filer) entries) (state g old).now
       × HasCommitted (IsOutboxOf (contents_of (string_bytes found.filer) entries)) (state g new)
       × (found.count ≡ length entries))
+  -- However the tables are declared, only a database that says so is read as an outbox.
+  pub says : HasCleanDisk (state g new) → IfOk result (λ found. SaysOutbox g (string_bytes found.filer) old)
   pub «open» : HasCleanDisk (state g new) → IsDeclared (state g old).now.schema
       → OnOk result (IsTrue (state g new).is_open)
   pub code : IfOk result (λ found. is_filer (string_bytes found.filer) ≡ true)

@@ -243,7 +243,7 @@ module _ {D : Type 0} {g : Ghosts D} where
         let hold = there.2 in
         let read = served.opens.read honest lies.closed there.0 there.1 in
         not_bare requests hold.db hold.register
-        (subst (λ (db : Database). db.schema ≡ no_schema) (read.1.only hold.db hold.held) read.2)
+        (subst (λ (db : Database). db.schema ≡ no_schema) (read.2.only hold.db hold.held) read.3)
     | inr none ↦ subst (λ (rs : List Request). Keeps served.opened keys 0 rs) (sym none.1)
         (served.opens.made honest refl lies.closed (subst (λ l. IsSome l) (sym none.0) refl))
   ]

@@ -318,7 +318,7 @@ module _ {D : Type 0} {g : Ghosts D} where
             let hold = there.2 in
             let read = done.2.read honest lies.closed there.0 there.1 in
             not_bare it hold.db hold.outbox
-            (subst (λ (db : Database). db.schema ≡ no_schema) (read.1.only hold.db hold.held) read.2)
+            (subst (λ (db : Database). db.schema ≡ no_schema) (read.2.only hold.db hold.held) read.3)
         | inr none ↦
             let same : empty filer.now ≡ it = λ i. record { filer = is_for i; entries = sym none.1 i } in
             let keeps =

@@ -14,11 +14,9 @@ use Rattle.table_rows.proofs.LeavingLemmas.{asked_before, clean_before, stands}
 use Rattle.table_rows.proofs.StepLemmas.{nothing_left}
 use Rattle.filing_model.specs.Request.{Request}
 use Rattle.filing_model.specs.Register.{kept}
-use Rattle.register_rows.specs.Schema.{IsDeclared}
 use Rattle.register_tables.specs.declared.fault.OpenFault.{OpenFault}
 use Rattle.register_tables.specs.declared.opening.Counts.{Counts}
-use Rattle.register_tables.specs.Opening.{ReadsRegister}
-use Rattle.register_tables.specs.Registers.{IsRegisterOf}
+use Rattle.register_tables.specs.Opening.{ReadsRegister, IsReadAsRegister}
 use Rattle.register_moments.specs.Dated.{ForDated}
 use Rattle.register_moments.proofs.Dating.{still}
 use Rattle.register_digest.specs.declared.digest.Digest.{Digest}
@@ -50,7 +48,7 @@ module _ {S : Type 0} (g : Ghosts S) (until : Option ℕ) (old mid : Held S) whe
   refused why read = record {
     computed = λ _. tt;
     few = λ _. tt;
-    found = λ _ _. tt;
+    found = λ _. tt;
     kept = λ _. tt;
     refused = read.refused;
     failed = read.sound;
@@ -65,9 +63,9 @@ module _ {S : Type 0} (g : Ghosts S) (until : Option ℕ) (old mid : Held S) whe
     opened = record { left = read.same; mode = λ _. read.mode; survives = read.survives }
 
     -- what was counted is a register, and is committed
-    found_then : HasCleanDisk (state g mid) → IsDeclared (state g old).now.schema
-        → (old_style : ℕ) × (requests : List Request) × IsRegisterOf old_style requests (state g old).now
-    found_then clean declared = let it = read.found clean declared in (counts.old_style, it.0, it.1)
+    found_then : HasCleanDisk (state g mid) → IsReadAsRegister g old
+    found_then clean =
+        (read.says clean, λ declared. let it = read.found clean declared in (counts.old_style, it.0, it.1))
 
     -- there are fewer requests
     pub too_few : counts.kept < unwrap_or until counts.kept

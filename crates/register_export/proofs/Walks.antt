@@ -1,5 +1,5 @@
 -- What is known of a register after it was read, whatever was then read of it.
-use Rattle.std.proofs.Common.{ℕ, List, Ok}
+use Rattle.std.proofs.Common.{Ok}
 use Rattle.sqlite.specs.Store.{Ghosts}
 use Rattle.sqlite.specs.Held.{Held, state}
 use Rattle.sqlite.specs.State.{HasCleanDisk}
@@ -8,10 +8,8 @@ use Rattle.table_rows.specs.Leaving.Ending.{Asked}
 use Rattle.table_rows.specs.Standing.{HasCommitted, CommitsNothing}
 use Rattle.table_rows.proofs.LeavingLemmas.{clean_before, stands}
 use Rattle.table_rows.proofs.StepLemmas.{nothing_left}
-use Rattle.filing_model.specs.Request.{Request}
-use Rattle.register_rows.specs.Schema.{IsDeclared}
 use Rattle.register_tables.specs.declared.opening.Counts.{Counts}
-use Rattle.register_tables.specs.Opening.{ReadsRegister}
+use Rattle.register_tables.specs.Opening.{ReadsRegister, IsReadAsRegister}
 use Rattle.register_tables.specs.Registers.{ForRows, IsRegisterOf}
 
 module _ {S : Type 0} (g : Ghosts S) (old mid : Held S) (counts : Counts)
@@ -22,10 +20,11 @@ module _ {S : Type 0} (g : Ghosts S) (old mid : Held S) (counts : Counts)
 
   module _ {ending : Ending} (new : Held S) (leaves : Leaves ending (state g mid) (state g new)) where
     -- what was counted is a register, and is committed still
-    pub found_then : HasCleanDisk (state g new) → IsDeclared (state g old).now.schema
-        → (old_style : ℕ) × (requests : List Request) × IsRegisterOf old_style requests (state g old).now
-    found_then clean declared = let it = read.found (clean_before leaves clean) declared in
-        (counts.old_style, it.0, it.1)
+    pub found_then : HasCleanDisk (state g new) → IsReadAsRegister g old
+    found_then clean = let was : HasCleanDisk (state g mid) = clean_before leaves clean in (
+      read.says was,
+      λ declared. let it = read.found was declared in (counts.old_style, it.0, it.1),
+    )
 
     pub kept_then : HasCleanDisk (state g new)
         → ForRows g old (λ old_style requests. HasCommitted (IsRegisterOf old_style requests) (state g new))

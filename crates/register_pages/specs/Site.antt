@@ -6,11 +6,9 @@ use Rattle.sqlite.specs.Store.{Ghosts}
 use Rattle.sqlite.specs.Held.{Held, state}
 use Rattle.sqlite.specs.State.{HasCleanDisk}
 use Rattle.table_rows.specs.Standing.{HasCommitted, CommitsNothing, StaysOnOk}
-use Rattle.filing_model.specs.Request.{Request}
-use Rattle.register_rows.specs.Schema.{IsDeclared}
 use Rattle.register_tables.specs.declared.fault.OpenFault.{OpenFault}
 use Rattle.register_tables.specs.Faults.{IsFailure}
-use Rattle.register_tables.specs.Opening.{IsRefused}
+use Rattle.register_tables.specs.Opening.{IsRefused, IsReadAsRegister}
 use Rattle.register_tables.specs.Registers.{ForRows, IsRegisterOf}
 use Rattle.register_pages.specs.declared.fault.PagesFault.{PagesFault}
 use Rattle.register_pages.specs.declared.fault.PagesFault.TheVariants as fault
@@ -33,11 +31,8 @@ pub record WritesPages {S X : Type 0} (g : Ghosts S) (pages pages' : Option (Lis
   -- The rows stand for requests, and there is one such list at most.
   pub written : HasCleanDisk (state g new)
       → OnOk result (ForRows g old (λ _ requests. WritesSite requests pages pages'))
-  -- Unless it is refused, a database with the tables of a register is one, and what its rows stand for is still
-  -- committed.
-  pub found : HasCleanDisk (state g new) → IsDeclared (state g old).now.schema
-      → UnlessRefused result ((old_style : ℕ) × (requests : List Request)
-      × IsRegisterOf old_style requests (state g old).now)
+  -- Unless it is refused, it is read as a register, and what its rows stand for is still committed.
+  pub found : HasCleanDisk (state g new) → UnlessRefused result (IsReadAsRegister g old)
   pub kept : HasCleanDisk (state g new)
       → UnlessRefused result (ForRows g old (λ old_style requests. HasCommitted (IsRegisterOf old_style requests)
       (state g new)))

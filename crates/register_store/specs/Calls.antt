@@ -26,6 +26,7 @@ use Rattle.register_tables.specs.Earlier.{IsAlone, IsEarlierOf, ForEarlier}
 use Rattle.register_store.specs.Moments.{ForMoments, HasMoments, IsDurableWith, SurvivesWith, moments_of}
 use Rattle.register_store.specs.NewRows.{AreNew, request_of}
 use Rattle.register_store.specs.Outcomes.{kept_as, outcomes_behind}
+use Rattle.register_tables.specs.Opening.{SaysRegister}
 use Rattle.register_tables.specs.Refusals.{GivesBackMaking, GivesBackMigrating, GivesBackOpening, GivesUpMaking}
 use Rattle.register_tables.specs.Refusals.{GivesUpMigrating, GivesUpOpening}
 use Rattle.register_rows.specs.Schema.{is_taken, IsDeclared}
@@ -58,6 +59,8 @@ pub record OpensStore {S : Type 0} (g : Ghosts S) (conn : Held S) (result : Resu
       → (F : List Request) × IsRegisterOf store.old_style F (state g conn).now × HasRequests g store F)
   pub only : HandsOut g result (λ store. ForRows g conn (λ old_style F. (store.old_style ≡ old_style)
       × HasRequests g store F))
+  -- However the tables are declared, only a database that says so is opened as a register.
+  pub says : HandsOut g result (λ _. SaysRegister g conn)
   pub same : HandsOut g result (λ store. IsUnchanged (state g conn) (shows g store))
   -- Of some last state of the connection, which is given up: `open_or_back` says it of the one that comes back.
   pub refused : IfErr result (GivesUpOpening g conn)

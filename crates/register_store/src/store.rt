@@ -184,7 +184,11 @@ impl<S: Alter + Drop> Store<S> {
         requires { IsAtRest conn }
         ensures { OpensStore S.Store conn result }
     {
-        Store::open_or_back(alloc, conn).map_err(|(fault, _conn)| fault)
+        // The proof by hand of a `map_err` would be longer than this.
+        match Store::open_or_back(alloc, conn) {
+            Ok(store) => Ok(store),
+            Err((fault, _conn)) => Err(fault),
+        }
     }
 
     /// As `migrate_or_back`, but a refusal gives the connection up.

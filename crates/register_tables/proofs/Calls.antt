@@ -1,5 +1,5 @@
 -- What a call leaves, and one call after another.
-use Rattle.std.proofs.Common.{◌≡◌, inl, inr, Result, Ok, Err, IfOk, IsErr, sym, ap, ◌∙◌}
+use Rattle.std.proofs.Common.{◌≡◌, inl, inr, Result, Ok, Err, IfOk, OnOk, IsErr, sym, ap, ◌∙◌}
 use Rattle.sqlite.specs.State.{State, HasCleanDisk, HasCause, IsUnchanged, store_error}
 use Rattle.sqlite.specs.declared.error.Error.{Error}
 use Rattle.sqlite_trees.specs.declared.error.StoreError.{StoreError}
@@ -51,3 +51,8 @@ pub kept_on_err : {X E : Type 0} {a b : State} (result : Result X E) → Leaves 
     → KeepsOnErr a b result
 kept_on_err (Ok x) p clean = tt
 kept_on_err (Err e) p clean = keeps_commit p clean
+
+-- it holds, so it holds of an answer
+pub then_ok : {X E P : Type 0} (result : Result X E) → P → OnOk result P
+then_ok (Ok x) holds = holds
+then_ok (Err e) holds = tt

@@ -1,6 +1,6 @@
 -- What an opening reads, and why a database is not opened.
 use Rattle.std.specs.Prelude.{◌≡◌, ◌≢◌, ◌⊎◌, ◌≤◌, ◌^◌, ℕ, false, List, [], ◌∷◌, ◌++◌, length, Result, IfOk}
-use Rattle.std.specs.Prelude.{IfErr}
+use Rattle.std.specs.Prelude.{IfErr, OnOk}
 use Rattle.sqlite.specs.Order.{Row}
 use Rattle.sqlite.specs.Store.{Ghosts}
 use Rattle.sqlite.specs.Held.{Held, state}
@@ -159,6 +159,16 @@ IsNoRegister g old new =
     StopsFor g cause.Other (all_meta ∷ []) old new
     ⊎ ((rows : List Row) × IsRead g all_meta old new rows × (rows ≢ meta_row ∷ []))
 
+-- whatever else the database has, and however its tables are declared, the rows of `intake_meta` are the one row of a
+-- register
+abbrev pub SaysRegister : {S : Type 0} → Ghosts S → Held S → Type 0
+SaysRegister {S} g conn = (mid : Held S) × IsRead g all_meta conn mid (meta_row ∷ [])
+
+-- the database says so, and if its tables are declared as those of a register, its rows are those of one
+abbrev pub IsReadAsRegister : {S : Type 0} → Ghosts S → Held S → Type 0
+IsReadAsRegister g conn = SaysRegister g conn × (IsDeclared (state g conn).now.schema
+    → (old_style : ℕ) × (requests : List Request) × IsRegisterOf old_style requests (state g conn).now)
+
 -- another table cannot be read, and the row is 0; or the rows stand for no register, and this is the row to report
 abbrev pub IsDamagedAt : {S : Type 0} → Ghosts S → ℕ → Held S → Held S → Type 0
 IsDamagedAt g row old new =
@@ -212,6 +222,8 @@ pub record ReadsRegister {S : Type 0} (g : Ghosts S) (old new : Held S) (result 
       × (counts.filings ≡ length (register F))
       × (view_lines counts.catalogue ≡ catalogue_of F))
   pub only : HasCleanDisk (state g new) → IfOk result (λ counts. ForRows g old (IsCounted g new counts))
+  -- However the tables are declared, only a database that says so is read as a register.
+  pub says : HasCleanDisk (state g new) → OnOk result (SaysRegister g old)
   pub few : IfOk result AreWithin
   -- A refusal says why. If the rows stand for requests, the cause is memory or the disk.
   pub refused : HasCleanDisk (state g new) → IfErr result (λ fault. IsRefused g fault old new)

@@ -1,15 +1,14 @@
 use Rattle.std.proofs.Common.{subst, ap, ◌∙◌}
 use Rattle.sqlite.specs.State.{HasCleanDisk}
 use Rattle.register_store.specs.Store.{shows}
+use Rattle.intake_process.proofs.Errands.{as_register}
 use Rattle.intake_process.proofs.beginning.find_intake.Goals as goal
 
 pub returns-in-Ok-clause-found : goal.returns-in-Ok-clause-found
 returns-in-Ok-clause-found g c =
     let opened = subst (λ s. HasCleanDisk (shows g.S.Store s)) c.new.ensures.store in
     record {
-      is_one = λ clean declared.
-          let one = c.in-Ok.ensures.outcome.opened (opened clean) declared in
-          (c.in-Ok.register.old_style, one.0, one.1);
+      is_one = λ clean. as_register g.S.Store c.args.conn c.in-Ok.register c.in-Ok.ensures (opened clean);
       holds = λ clean old_style F firsts_are is.
           let only = c.in-Ok.ensures.outcome.only (opened clean) old_style F is in (
             record {

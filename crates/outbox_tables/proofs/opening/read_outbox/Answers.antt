@@ -48,6 +48,7 @@ returns g c =
                 λ alive. sym (c.is_settled.ensures.settled settled alive);
           } in
           (two.0, here, stands both clean stood, two.4);
+      says = λ clean. (c.filer_of.new.conn, c.in_ok-filer.ensures.read (clean_before c.count_all.ensures.leaves clean));
       «open» = search rules;
       code = search rules;
       few = search rules;
@@ -65,6 +66,7 @@ returns-in_err-count g c =
     let both = asked_then c.in_ok-filer.ensures.leaves c.in_err-count.ensures.leaves in
     rw (told.1, told.2) (record {
       found = search rules;
+      says = search rules;
       «open» = search rules;
       code = search rules;
       few = search rules;
@@ -91,6 +93,7 @@ returns-in_err-filer g c =
     let left = c.in_err-filer.ensures.leaves in
     rw (told.1, told.2) (record {
       found = search rules;
+      says = search rules;
       «open» = search rules;
       code = search rules;
       few = search rules;

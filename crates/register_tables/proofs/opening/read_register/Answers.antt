@@ -3,7 +3,7 @@ use Rattle.std.proofs.lemmas.Result.{IfErr-weaker}
 use Rattle.sqlite.specs.Held.{state}
 use Rattle.sqlite.specs.State.{HasCleanDisk}
 use Rattle.table_rows.proofs.LeavingLemmas.{asked_then, clean_before, keeps_commit}
-use Rattle.register_tables.proofs.Calls.{kept_on_err, on_answer, same_on_ok}
+use Rattle.register_tables.proofs.Calls.{kept_on_err, on_answer, same_on_ok, then_ok}
 use Rattle.register_tables.specs.LaterRows.{later_rows}
 use Rattle.register_tables.specs.Opening.{IsRefused}
 use Rattle.register_tables.proofs.Opened.{finds, counts_them, refused_after, by_memory_or_disk, unread}
@@ -48,6 +48,11 @@ returns-in-Ok g c =
           (c.in_ok-read_meta.ensures.read first) read.2 same is.rows.rows.declared c.is_settled.ensures.live
           c.requires.autocommit (c.is_settled.ensures.settled settled) counts (λ common. h common read.0 read.1)
           old_style F is) (c.count_all.ensures.counted clean);
+      says = λ clean.
+          let mid : HasCleanDisk (state g.S.Store c.read_later.new.conn) =
+          clean_before c.count_all.ensures.leaves clean in
+          then_ok c.count_all.result
+          (c.read_meta.new.conn, c.in_ok-read_meta.ensures.read (clean_before c.read_later.ensures.leaves mid));
       few = c.count_all.ensures.few;
       refused = refused;
       sound = λ clean. IfErr-weaker c.count_all.result _ _
@@ -71,6 +76,7 @@ returns-in-Err g c =
     record {
       found = λ clean d. tt;
       only = λ clean. tt;
+      says = λ clean. tt;
       few = tt;
       refused = refused;
       sound = λ clean. by_memory_or_disk g.S.Store c.table_fault.result c.args.conn.now c.read_later.new.conn
@@ -88,6 +94,7 @@ returns-in_err-read_meta g c =
     rw told (record {
       found = λ clean d. tt;
       only = λ clean. tt;
+      says = λ clean. tt;
       few = tt;
       refused = c.in_err-read_meta.ensures.refused;
       sound = λ clean. by_memory_or_disk g.S.Store c.in_err-read_meta.field-0.0 c.args.conn.now c.read_meta.new.conn

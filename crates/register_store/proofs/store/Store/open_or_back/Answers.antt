@@ -36,6 +36,7 @@ returns-in-Ok g c = record {
             catalogue_is = found.4;
           },
         );
+    says = c.in-Ok.ensures.says;
     same = search rules;
     refused = search rules;
     crash = search rules;
@@ -72,6 +73,7 @@ returns-in-Err g c =
       outcome = record {
         opened = search rules;
         only = search rules;
+        says = tt;
         same = search rules;
         refused = (c.read_register.new.conn, back);
         crash = search rules;
