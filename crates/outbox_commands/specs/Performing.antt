@@ -1,6 +1,6 @@
 -- What `outbox` does with its words, and with a task on the outbox of its file. `out` and `out'` are what the output
 -- has before and after.
-use Rattle.std.specs.Prelude.{◌≡◌, ◌⊎◌, ℕ, zero, suc, true, false, List, map, Option, Some, None, option_map}
+use Rattle.std.specs.Prelude.{◌≡◌, ◌⊎◌, ℕ, zero, suc, true, false, List, [], map, Option, Some, None, option_map}
 use Rattle.std.specs.Prelude.{Result, Ok, Err}
 use Rattle.std.specs.Borrow.{Bor}
 use Rattle.sqlite_disk.specs.declared.Disk.{Ghosts}
@@ -12,6 +12,7 @@ use Rattle.command_line.specs.declared.fault.CommandFault.TheVariants as command
 use Rattle.command_line.specs.Status.{IsRefusalStatus}
 use Rattle.finding_lines.specs.Linting.{LintsReports}
 use Rattle.finding_lines.specs.declared.form.Form.{Form}
+use Rattle.outbox_process.specs.Dials.{Traffic}
 use Rattle.outbox_process.specs.Process.{Parts}
 use Rattle.outbox_commands.specs.declared.fault.NotDone.{NotDone}
 use Rattle.outbox_commands.specs.declared.fault.NotDone.TheVariants as fault
@@ -20,7 +21,7 @@ use Rattle.outbox_commands.specs.declared.options.Asked.{Asked}
 use Rattle.outbox_commands.specs.declared.options.Asked.TheVariants.{Outbox, Lint}
 use Rattle.outbox_commands.specs.declared.options.Peer.{Peer}
 use Rattle.outbox_commands.specs.declared.options.Task.{Task}
-use Rattle.outbox_commands.specs.Networks.{unknown}
+use Rattle.outbox_commands.specs.Networks.{recorded}
 use Rattle.outbox_commands.specs.Reading.{only_reads}
 use Rattle.outbox_commands.specs.Status.{ended_status}
 use Rattle.outbox_commands.specs.Tasks.{Does}
@@ -38,6 +39,11 @@ pub record IsNetworkOf (task : Task) (network : PeerDial) : Type 0 where
   pub receipts : option_map (λ folder. folder.path.now) network.receipts ≡ option_map (λ name. name.now) peer.receipts
   pub in_time : network.is_late ≡ false
   pub none_lost : network.lost_receipts ≡ 0
+  pub unused : network.over.items ≡ []
+
+-- what contracts see of it
+abbrev pub traffic_of : PeerDial → Traffic
+traffic_of network = recorded network.over.items network.is_late
 
 -- ---- a task on the outbox of a place
 
@@ -52,12 +58,12 @@ ended_without zero (Ok done) = Ok 0
 ended_without (suc lost) (Ok done) = Err (fault.Receipts (suc lost))
 
 -- the task was done to the outbox that lies there, over this network
-abbrev pub PerformsWith : {D : Type 0} (g : Ghosts D) → Task → Option (Option (Files D)) → PeerDial → Option (List ℕ)
-    → Option (List ℕ) → Result ℕ NotDone → Type 0
-PerformsWith g task lying network out out' result =
+abbrev pub PerformsWith : {D : Type 0} (g : Ghosts D) → Task → Option (Option (Files D)) → PeerDial → PeerDial
+    → Option (List ℕ) → Option (List ℕ) → Result ℕ NotDone → Type 0
+PerformsWith g task lying before after out out' result =
     (new : Parts g) × (done : Result (Unit {0}) NotDone)
-    × Does g task (unknown false) (unknown network.is_late) out out' (closed lying) new done
-    × (result ≡ ended_without network.lost_receipts done)
+    × Does g task (traffic_of before) (traffic_of after) out out' (closed lying) new done
+    × (result ≡ ended_without after.lost_receipts done)
 
 -- no receipt can be kept in the folder that is named
 abbrev pub IsNoFolder : Option (Bor Text) → NotDone → Type 0
@@ -75,7 +81,7 @@ abbrev pub PerformsOver : {D : Type 0} (g : Ghosts D) → Task → Option (Optio
 PerformsOver g task lying out out' result =
     LacksFolder task out out' result
     ⊎ ((before : PeerDial) × (after : PeerDial) × IsNetworkOf task before
-    × PerformsWith g task lying after out out' result)
+    × PerformsWith g task lying before after out out' result)
 
 -- ---- a task on the outbox of a file
 

@@ -1,5 +1,8 @@
 //! What a peer answered, by the first bytes of its reply.
 
+ghost use Rattle.std.specs.Prelude.{◌≡◌, Some, []};
+
+use crate::written::Written;
 use http_messages::{
     Block, Kind, ResponseHead, find_block, read_response, skipped_len, split_at_first,
 };
@@ -25,15 +28,20 @@ pub(crate) struct Noted<T> {
     /// How many are noted.
     most: usize,
     bytes: Vec<u8>,
+    /// All that was written.
+    pub(crate) written: Written,
 }
 
 impl<T: Drop> Noted<T> {
     /// The reader or writer, of which nothing was read or written. So many bytes are noted.
-    pub(crate) fn new(alloc: Global, inner: T, most: usize) -> Noted<T> {
+    pub(crate) fn new(alloc: Global, inner: T, most: usize) -> Noted<T>
+        ensures { result.written.bytes ≡ [] }
+    {
         Noted {
             inner,
             most,
             bytes: Vec::new(alloc),
+            written: Written::new(),
         }
     }
 
@@ -43,6 +51,7 @@ impl<T: Drop> Noted<T> {
             inner: _,
             most: _,
             bytes,
+            written: _,
         } = self;
         bytes
     }
@@ -69,13 +78,14 @@ impl<R: Source> Source for Noted<R> {
 }
 
 impl<W: Sink> Sink for Noted<W> {
-    ghost written = { λ n. W.written n.inner };
+    ghost written = { λ n. Some n.written.bytes };
 
     ghost write_failures = { λ n. W.write_failures n.inner };
 
     fn write(&mut self, text: &[u8]) -> Result<usize, DeviceFailed> {
         let count = self.inner.write(text)?;
         note(&mut self.bytes, self.most, &text[..count]);
+        self.written.note(&text[..count]);
         Ok(count)
     }
 }

@@ -12,6 +12,7 @@ mod network;
 mod options;
 mod putting;
 mod tasks;
+mod written;
 
 pub use fault::{ExchangeInWords, NotDone, VisitFault};
 pub use options::{Peer, Task};

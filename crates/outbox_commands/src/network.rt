@@ -1,13 +1,15 @@
 //! The network of `outbox send` and `outbox ask`: a port of this machine, what its peer answered, and the receipts of
 //! that.
 
-ghost use Rattle.std.specs.Prelude.{◌≡◌, false};
+ghost use Rattle.std.specs.Prelude.{◌≡◌, false, []};
 
 use crate::answer::{MOST_NOTED, Noted, tell_open, tell_refused};
 use crate::fault::{ExchangeInWords, NoReceipt};
 use crate::options::Peer;
+use crate::written::Written;
 use command_line::{Deadline, Patient};
 use filer_client::ExchangeFault;
+use http_server::Log;
 use http_wire::{Device, ReplyFault};
 use jiff::Timestamp;
 use outbox_core::State;
@@ -51,6 +53,8 @@ pub(crate) struct PeerDial<'r> {
     is_late: bool,
     /// What has to be reported of the last exchange, once the line of its entry is printed.
     untold: Option<Exchanged>,
+    /// What came of each exchange, and what was written for it, which only clauses read.
+    over: Log<(u64, Result<State, ExchangeFault>), Written>,
     /// Where receipts are kept, if they are.
     receipts: Option<ReceiptFolder<'r, HostRuntime>>,
     /// How many receipts could not be written.
@@ -91,6 +95,7 @@ impl<'r> PeerDial<'r> {
         ensures receipts { result.receipts ≡ receipts.entry }
         ensures in_time { result.is_late ≡ false }
         ensures none_lost { result.lost_receipts ≡ 0 }
+        ensures unused { result.over.items ≡ [] }
     {
         PeerDial {
             rt,
@@ -99,6 +104,7 @@ impl<'r> PeerDial<'r> {
             deadline: None,
             is_late: false,
             untold: None,
+            over: Log::new(),
             receipts,
             lost_receipts: 0,
             errors: rt.stderr(),
@@ -112,17 +118,34 @@ impl<'r> PeerDial<'r> {
         self.lost_receipts
     }
 
-    /// Keeps the receipt of an exchange for a settled entry, if receipts are kept. The task itself reports a reply that
-    /// contradicts the entry.
-    fn keep_receipt(&mut self, exchange: &Exchange<'_>) {
+    /// Keeps the receipt of an exchange that settled its entry or found it settled, if receipts are kept. The task
+    /// itself reports a reply that contradicts the entry.
+    fn keep_receipt(
+        &mut self,
+        id: u64,
+        came: Result<State, ExchangeFault>,
+        request: &[u8],
+        reply: &[u8],
+    )
+        ensures { self.new.over ≡ self.old.over }
+    {
         let Some(folder) = &self.receipts else {
             return;
         };
-        match keep_receipt(self.rt, folder, exchange, self.port) {
+        let state = match came {
+            Ok(State::Open) | Err(_) => return,
+            Ok(state) => state,
+        };
+        let exchange = Exchange {
+            id,
+            state,
+            sent: request,
+            came: reply,
+        };
+        match keep_receipt(self.rt, folder, &exchange, self.port) {
             Ok(()) | Err(NoReceipt::Unmade(ReceiptFault::Contradicts)) => {}
             Err(error) => {
                 self.lost_receipts = self.lost_receipts.saturating_add(1);
-                let id = exchange.id;
                 // Nothing is left to be done if this text can't be written either.
                 let _ = writeln!(self.errors, "outbox: entry {id}: no receipt: {error}");
             }
@@ -170,9 +193,9 @@ impl<'r> Dial for PeerDial<'r> {
 
     type Writer = Noted<Device<Patient<'r, TcpStream, HostRuntime>>>;
 
-    ghost use Rattle.outbox_commands.specs.Networks.{unknown};
+    ghost use Rattle.outbox_commands.specs.Networks.{recorded};
 
-    ghost traffic = { λ network. unknown network.is_late };
+    ghost traffic = { λ network. recorded network.over.items network.is_late };
 
     fn connect(&mut self) -> io::Result<(Self::Reader, Self::Writer)> {
         self.tell();
@@ -197,17 +220,12 @@ impl<'r> Dial for PeerDial<'r> {
         came: Result<State, ExchangeFault>,
     ) {
         self.is_late = self.has_lost_patience(came);
+        let exchange = (id, came);
+        let over = self.over.and(&exchange, &writer.written);
+        self.over = over;
         let noted = reader.into_bytes();
         let sent = writer.into_bytes();
-        match came {
-            Ok(State::Open) | Err(_) => {}
-            Ok(state) => self.keep_receipt(&Exchange {
-                id,
-                state,
-                sent: sent.as_slice(),
-                came: noted.as_slice(),
-            }),
-        }
+        self.keep_receipt(id, came, sent.as_slice(), noted.as_slice());
         self.untold = Some(Exchanged { id, came, noted });
     }
 

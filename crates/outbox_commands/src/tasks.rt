@@ -242,7 +242,7 @@ fn perform_with<'a, D: Disk + Drop, P: Place<D> + Drop, O: Write, E: Write>(
 ) -> Result<u8, NotDone<'a>>
     requires file { P.file place ≡ Some (database_of task).now }
     requires peer { IsNetworkOf task network.old }
-    ensures { PerformsWith D.Disk task.entry (P.lying place) network.new (O.contents output.old)
+    ensures { PerformsWith D.Disk task.entry (P.lying place) network.old network.new (O.contents output.old)
         (O.contents output.new) result }
 {
     let mut process = OutboxProcess::new(place);
