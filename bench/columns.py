@@ -8,6 +8,7 @@ from programs import (
     CountedServer,
     Server,
     amendments,
+    begin,
     built,
     connect,
     counts_instructions,
@@ -75,8 +76,12 @@ def on_connections(given):
             with (CountedServer if counts_instructions() else Server)(place, 3 + len(given)) as server:
 
                 def ask(request):
-                    peer = connect(server.port)
-                    exchange(peer, request, 1)
+                    # It meets a connection with its request there. How often it would ask in vain for one that is
+                    # still to come, is chance.
+                    with server.stopped():
+                        peer = connect(server.port)
+                        rest = begin(peer, request)
+                    exchange(peer, rest, 1)
                     peer.close()
 
                 # The second reply says that the first connection is over.

@@ -6,11 +6,13 @@ import os
 import re
 import resource
 import shutil
+import signal
 import socket
 import subprocess
 import sys
 import tempfile
 import threading
+import time
 
 TOP = os.path.dirname(os.path.dirname(os.path.abspath(__file__)))
 sys.path.insert(0, os.path.join(TOP, "tools"))
@@ -121,6 +123,14 @@ def exchange(peer, given, count, expected=201):
     sender.join()
 
 
+def begin(peer, given):
+    """Sends what the system takes of it at once, and gives the rest."""
+    peer.setblocking(False)
+    sent = peer.send(given)
+    peer.setblocking(True)
+    return given[sent:]
+
+
 def folder():
     """A folder in memory, where there is one, so that no disk is waited for."""
     return tempfile.TemporaryDirectory(dir="/dev/shm" if os.path.isdir("/dev/shm") else None)
@@ -149,6 +159,23 @@ class Server(Serving):
         before = self.processor_time()
         yield
         self.cost = self.processor_time() - before
+
+    @contextlib.contextmanager
+    def stopped(self):
+        """Stops the server, once it waits, while the block is done. It then meets at once what was done there."""
+        self._await("S")
+        self.process.send_signal(signal.SIGSTOP)
+        self._await("T")
+        yield
+        self.process.send_signal(signal.SIGCONT)
+
+    def _await(self, state):
+        """Waits until the system tells this state of the server."""
+        while True:
+            with open(f"/proc/{self.process.pid}/stat", encoding="ascii") as it:
+                if it.read().rpartition(") ")[2].startswith(state):
+                    return
+            time.sleep(0.001)
 
     def memory(self, name):
         """The memory of the server that the system tells under a name, in bytes."""

@@ -51,7 +51,7 @@ COSTS = {
     "393 bytes, repeated and not remembered, on file": 48_000,
     "100 kB, repeated, on file": 233_000,
     "393 bytes, repeated, one after another on one connection": 15_600,
-    "393 bytes, repeated, each on a connection of its own": 17_800,
+    "393 bytes, repeated, each on a connection of its own": 19_900,
     "100 kB, repeated, each on a connection of its own": 225_000,
     "list of 10 filings": 66_300,
     "list of 1,000 filings": 3_870_000,
