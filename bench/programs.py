@@ -165,17 +165,21 @@ class Server(Serving):
         """Stops the server, once it waits, while the block is done. It then meets at once what was done there."""
         self._await("S")
         self.process.send_signal(signal.SIGSTOP)
-        self._await("T")
-        yield
-        self.process.send_signal(signal.SIGCONT)
+        try:
+            self._await("T")
+            yield
+        finally:
+            self.process.send_signal(signal.SIGCONT)
 
     def _await(self, state):
-        """Waits until the system tells this state of the server."""
-        while True:
+        """Waits until the system tells this state of the server, at most a minute."""
+        end = time.monotonic() + 60
+        while time.monotonic() < end:
             with open(f"/proc/{self.process.pid}/stat", encoding="ascii") as it:
                 if it.read().rpartition(") ")[2].startswith(state):
                     return
             time.sleep(0.001)
+        sys.exit(f"the server is not in the state {state} within a minute")
 
     def memory(self, name):
         """The memory of the server that the system tells under a name, in bytes."""
