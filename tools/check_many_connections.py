@@ -14,9 +14,9 @@ With --planted the trials are made with tools/intake_stand_in.py in place of the
 too, and has one fault after the other: each has to make a check of its trial fail, and without a fault each trial has
 to pass.
 
-It listens on 127.0.0.1 alone. The trial `front` needs nginx and openssl, `repeats` strace, and `full_disk` may have to
-do with a limit on the size of files. The last line says how many checks passed and failed, and what a stand-in
-replaced. Status 1 if one failed.
+It listens on 127.0.0.1 alone. The trial `front` needs nginx and openssl, `repeats` and `accepts` strace, and
+`full_disk` may have to do with a limit on the size of files. The last line says how many checks passed and failed, and
+what a stand-in replaced. Status 1 if one failed.
 """
 import argparse
 import collections
@@ -147,12 +147,12 @@ class Server:
         return int(found[1]) * 1024
 
 
-class SlowServer(Server):
-    """An intake each of whose syncs takes a second, under strace, which ends as it does."""
+class TracedServer(Server):
+    """An intake some of whose calls of the system strace changes. strace ends as it does."""
 
-    def __init__(self, folder):
-        super().__init__(folder, limits=f'set -- strace -f -qq -o /dev/null -e trace=fdatasync '
-                         f'-e inject=fdatasync:delay_enter={SYNC} "$@";')  # fmt: skip
+    def __init__(self, folder, call, change):
+        super().__init__(folder, limits=f"set -- strace -f -qq -o /dev/null -e trace={call} "
+                         f'-e inject={call}:{change} "$@";')  # fmt: skip
 
     def send_signal(self, number):
         tracer = self.process.pid
@@ -576,7 +576,7 @@ def repeats(folder):
     """Reports, repeats and lists that come together, while a sync takes a second: what has not to be kept waits for no
     commit of what has, wherever it stands."""
     filed, answered = Filed(), {}
-    with SlowServer(folder) as server:
+    with TracedServer(folder, "fdatasync", f"delay_enter={SYNC}") as server:
         clients = [Client(server.port) for _ in range(CLIENTS)]
         with Client(server.port) as first:
             filed.guard(filed.send, first, "ACME", "k-0")
@@ -672,6 +672,24 @@ def full_disk(folder):
                     time.sleep(0.5)
             filed.hold_clients("all are filed once there is room")
             hold("each once", len(filed.numbers), 200)
+            filed.hold_register(server)
+
+
+# ---- what runs out
+
+
+def accepts(folder):
+    """Accepts that fail: the intake goes on and serves the next connection. It reports the first of those that fail for
+    a cause of which accept(2) does not say that one tries again."""
+    for error, reports in (("EPROTO", 0), ("EINVAL", 1)):
+        filed, place = Filed(), folder / error
+        place.mkdir()
+        with TracedServer(place, "accept4", f"error={error}:when=1..3") as server:
+            for _ in range(2):
+                with Client(server.port) as client:
+                    filed.guard(filed.send, client, "ACME", "k-1")
+            filed.hold_clients(f"two clients, where the first three accepts fail by {error}")
+            hold("reports of it", server.told().count("no connection could be accepted"), reports)
             filed.hold_register(server)
 
 
@@ -976,8 +994,8 @@ def connections_of(server):
 
 
 TRIALS = {it.__name__: it for it in [
-    idle, slow, one, half_closed, resets, pipelined, interim, repeats, full_disk, descriptors, memory, much_memory,
-    patience, log, kills, front,
+    idle, slow, one, half_closed, resets, pipelined, interim, repeats, full_disk, accepts, descriptors, memory,
+    much_memory, patience, log, kills, front,
 ]}  # fmt: skip
 
 # ---- planted faults
@@ -997,6 +1015,7 @@ PLANTED = [
     ("repeats", "keeps a report before the repeats behind it"),
     ("full_disk", "drops the others if the disk is full"),
     ("full_disk", "skips a number if the disk is full"),
+    ("accepts", "ends if an accept fails"),
     ("descriptors", "ends without a descriptor"),
     ("descriptors", "drops a connection without a descriptor"),
     ("descriptors", "spins without a descriptor"),

@@ -7,6 +7,11 @@ that name nothing.
 What is to come of each is written out by hand. It takes the program that `rt run` builds, crates/drill/out/drill.
 Status 1 if another thing comes of a schedule.
 """
+import contextlib
+import os
+import pty
+import subprocess
+
 from trials import DRILL, SMALLEST, hold, run, try_all
 
 REPORT = SMALLEST.decode()
@@ -260,13 +265,28 @@ REFUSED = [
 ]
 
 
+def on_terminal(script):
+    """The status of `drill` with this script, and what a terminal shows that its standard error is."""
+    shows, terminal = pty.openpty()
+    done = subprocess.run([DRILL], input=script.encode(), stdout=subprocess.PIPE, stderr=terminal, timeout=60)
+    os.close(terminal)
+    shown = b""
+    # A terminal whose last writer is gone answers with an error, and not with an end.
+    with contextlib.suppress(OSError), open(shows, "rb", buffering=0) as reader:
+        while part := reader.read(4096):
+            shown += part
+    return done.returncode, done.stdout, shown.decode().replace("\r\n", "\n")
+
+
 def check_lines_that_say_nothing(_):
-    """The refusal of a script names the line, the word and what is wrong with it, on one line of printable text."""
+    """The refusal of a script names the line, in the words of the protocol. On a terminal it is followed by the word
+    and what is wrong with it, on one line of printable text."""
     scripts = [(f"outbox ACME\nrestart server\n{line}\n", 3, why) for line, why in UNREADABLE]
     for script, line, why in scripts + REFUSED:
+        named = f"drill: line {line}: unreadable\n"
         done = run(DRILL, given=script.encode())
-        hold(f"{script[-40:]!r}", (done.returncode, done.stdout, done.stderr.decode()),
-             (2, b"", f"drill: line {line}: {why}\n"))
+        hold(f"{script[-40:]!r}", (done.returncode, done.stdout, done.stderr.decode()), (2, b"", named))
+        hold(f"{script[-40:]!r} on a terminal", on_terminal(script), (2, b"", f"{named}drill: {why}\n"))
 
 
 def check_long_script(_):

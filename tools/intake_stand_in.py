@@ -32,6 +32,7 @@ FAULTS = {
     "keeps a report before the repeats behind it",
     "drops the others if the disk is full",
     "skips a number if the disk is full",
+    "ends if an accept fails",
     "ends without a descriptor",
     "drops a connection without a descriptor",
     "spins without a descriptor",
@@ -162,7 +163,7 @@ class Serving:
         self.at_once = {"serves one connection after another": 1, "serves all at once": 65_535}.get(
             FAULT, words.at_once)
         self.most_loans = max(1, words.memory * 500_000 // LOAN)
-        self.stalled_until = 0
+        self.stalled_until, self.refused = 0, False
         self.lost = None
         kept = f"{len(self.register.kept)} kept, {self.register.next - 1} filings"
         print(f"intake: serving 127.0.0.1:{words.port}: {kept}, opened in 1 ms", file=sys.stderr, flush=True)
@@ -238,7 +239,7 @@ class Serving:
             return False
         except OSError as fault:
             if fault.errno != errno.EMFILE:
-                raise
+                return self.refuse(fault)
             if FAULT == "ends without a descriptor":
                 sys.exit(3)
             if FAULT == "drops a connection without a descriptor":
@@ -249,6 +250,15 @@ class Serving:
         self.taken += 1
         self.lines[peer] = Line(peer, self.taken)
         return True
+
+    def refuse(self, fault):
+        """An accept failed; it is tried again, and the first one for no cause of the connection is reported."""
+        if FAULT == "ends if an accept fails":
+            sys.exit(3)
+        if fault.errno != errno.EPROTO and not self.refused:
+            self.refused = True
+            print(f"intake: no connection could be accepted: {fault}", file=sys.stderr, flush=True)
+        return False
 
     def go_on(self, line, events):
         try:

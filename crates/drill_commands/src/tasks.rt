@@ -20,7 +20,7 @@ use event_script::ScriptFault;
 use http_wire::{Device, Source};
 use schedule::{Durable, Honest, World};
 use std::alloc::Global;
-use std::io::{Read, Write};
+use std::io::{IsTerminal, Read, Write};
 
 /// The longest script that is read (own rule).
 const MAX_SCRIPT_LEN: usize = 8_388_608;
@@ -48,19 +48,26 @@ fn drill<D: Honest>(alloc: Global, bytes: &[u8]) -> Result<Vec<u8>, NotDone>
     shown(alloc, &mut world)
 }
 
-/// Says on the standard error why a script is not played to its end, and answers the status. Of a line that may not
-/// stand there it says what is wrong.
-fn tell<E: Write>(fault: NotDone, script: &[u8], errors: &mut E) -> u8
-    ensures { result ≡ status_of fault }
-{
+/// Says on a line of its own what is wrong with the line of a script that may not stand there.
+fn explain<E: Write>(fault: NotDone, script: &[u8], errors: &mut E) {
     if let NotDone::Script(ScriptFault::Unreadable { line }) = fault {
         if let Some(complaint) = complaint(script, line) {
             // Nothing is left to be done if this text can't be written either.
-            let _ = writeln!(errors, "drill: line {line}: {complaint}");
-            return fault.status();
+            let _ = writeln!(errors, "drill: {complaint}");
         }
     }
-    fault.tell(errors)
+}
+
+/// Says on the standard error why a script is not played to its end, and answers the status. If it `explains`, it also
+/// says what is wrong with a line that may not stand there.
+fn tell<E: Write>(fault: NotDone, script: &[u8], errors: &mut E, explains: bool) -> u8
+    ensures { result ≡ status_of fault }
+{
+    let status = fault.tell(errors);
+    if explains {
+        explain(fault, script, errors);
+    }
+    status
 }
 
 /// Writes what is shown, and answers the status.
@@ -80,13 +87,14 @@ fn play_script<O: Write, E: Write>(
     script: &[u8],
     output: &mut O,
     errors: &mut E,
+    explains: bool,
 ) -> Result<u8, NotDone>
     ensures { PlaysScript script.now (O.contents output.old) (O.contents output.new) result }
 {
     // The kit's `Memory` would copy each file whole at every sync.
     match drill::<Durable>(alloc, script) {
         Ok(text) => write_shown(output, text.as_slice()),
-        Err(fault) => Ok(tell(fault, script, errors)),
+        Err(fault) => Ok(tell(fault, script, errors, explains)),
     }
 }
 
@@ -96,12 +104,13 @@ fn perform_script<R: Source, O: Write, E: Write>(
     reader: &mut R,
     output: &mut O,
     errors: &mut E,
+    explains: bool,
 ) -> Result<u8, NotDone>
     ensures { PerformsScript R.left R.read_failures reader.old reader.new (O.contents output.old)
         (O.contents output.new) result }
 {
     match read_bytes(alloc, reader) {
-        Ok(script) => play_script(alloc, script.as_slice(), output, errors),
+        Ok(script) => play_script(alloc, script.as_slice(), output, errors, explains),
         Err(fault) => Err(fault),
     }
 }
@@ -112,10 +121,11 @@ fn perform_input<R: Read, O: Write, E: Write>(
     input: &mut R,
     output: &mut O,
     errors: &mut E,
+    explains: bool,
 ) -> u8
     ensures { PerformsInput R.remaining input.old (O.contents output.old) (O.contents output.new) result }
 {
-    match perform_script(alloc, &mut Device::new(input), output, errors) {
+    match perform_script(alloc, &mut Device::new(input), output, errors, explains) {
         Ok(status) => status,
         Err(fault) => fault.tell(errors),
     }
@@ -137,26 +147,29 @@ fn refuse<O: Write, E: Write>(
 }
 
 /// Performs what these words ask for, the program's name first, and answers the status. A fault's text
-/// goes to `errors`, and then nothing is written to `output`.
+/// goes to `errors`, and then nothing is written to `output`. If it `explains`, what is wrong with a line of the script
+/// follows the text that names it.
 pub fn perform<R: Read, O: Write, E: Write>(
     alloc: Global,
     words: &[String],
     input: &mut R,
     output: &mut O,
     errors: &mut E,
+    explains: bool,
 ) -> u8
     ensures { Performs R.remaining input.old (refusals (map string_bytes words.now)) (O.contents output.old)
         (O.contents output.new) result }
 {
     match options::read(alloc, words) {
-        Ok(()) => perform_input(alloc, input, output, errors),
+        Ok(()) => perform_input(alloc, input, output, errors, explains),
         Err(error) => refuse(alloc, &error, output, errors),
     }
 }
 
 /// The program: performs the words that it was started with, over the standard streams, and answers
-/// the status.
+/// the status. It explains what is wrong with a script to somebody who reads the standard error on a terminal.
 pub fn main(rt: &HostRuntime) -> u8 {
+    let explains = rt.stderr().is_terminal();
     match words(rt) {
         Ok(words) => perform(
             rt.alloc(),
@@ -164,6 +177,7 @@ pub fn main(rt: &HostRuntime) -> u8 {
             &mut rt.reader(),
             &mut rt.stdout(),
             &mut rt.stderr(),
+            explains,
         ),
         Err(fault) => NotDone::Command(fault).tell(&mut rt.stderr()),
     }

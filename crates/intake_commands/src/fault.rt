@@ -288,6 +288,9 @@ pub(crate) enum ConnectionFault {
     Served { connection: u32, fault: ConnFault },
     #[error("connection {connection}: cut off after {seconds} seconds")]
     Late { connection: u32, seconds: u32 },
+    /// None was accepted, and that will be tried again.
+    #[error("no connection could be accepted: {0}; it is tried for a minute")]
+    NotAccepted(io::Error),
     /// No memory was left for its line.
     #[error("{text}", text = CommandFault::Memory)]
     Memory,

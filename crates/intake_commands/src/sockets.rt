@@ -11,8 +11,12 @@ use std::alloc::Global;
 use std::io::{self, Write};
 use std::time::Duration;
 
+/// For how many milliseconds no connection may be accepted before that is a fault of the port (own rule).
+const MOST_REFUSING: u64 = 60_000;
+
 /// Sockets whose connections are numbered. If a connection ends in a fault, that is reported on the errors. If there is
-/// a log, each connection has a line there once it is over.
+/// a log, each connection has a line there once it is over. An accept that fails is reported once and tried again, for
+/// up to a minute.
 #[derive(Drop)]
 pub(crate) struct ReportedSockets<K, O, E> {
     alloc: Global,
@@ -23,6 +27,8 @@ pub(crate) struct ReportedSockets<K, O, E> {
     patience: Option<u32>,
     /// How many connections came.
     taken: u32,
+    /// Since when each accept failed; `None` if the last one did not.
+    refusing: Option<u64>,
 }
 
 impl<K: Sockets, O: Write, E: Write> ReportedSockets<K, O, E> {
@@ -41,6 +47,22 @@ impl<K: Sockets, O: Write, E: Write> ReportedSockets<K, O, E> {
             errors,
             patience,
             taken: 0,
+            refusing: None,
+        }
+    }
+
+    /// Reports the first of some accepts that failed one after another, and answers the error once they did for too
+    /// long.
+    fn refuse(&mut self, error: io::Error) -> io::Result<()> {
+        let now = self.sockets.now();
+        match self.refusing {
+            Some(since) if now.saturating_sub(since) < MOST_REFUSING => Ok(()),
+            Some(_) => Err(error),
+            None => {
+                self.refusing = Some(now);
+                ConnectionFault::NotAccepted(error).tell(&mut self.errors);
+                Ok(())
+            }
         }
     }
 
@@ -83,13 +105,21 @@ impl<K: Sockets, O: Write, E: Write> Sockets for ReportedSockets<K, O, E> {
     }
 
     fn accept(&mut self, place: usize) -> io::Result<Option<Recorded<K::Stream>>> {
-        match self.sockets.accept(place)? {
-            Some(stream) => {
+        match self.sockets.accept(place) {
+            Ok(Some(stream)) => {
+                self.refusing = None;
                 self.taken = self.taken.saturating_add(1);
                 let is_logged = self.log.is_some();
                 Ok(Some(Recorded::new(self.alloc, stream, self.taken, is_logged)))
             }
-            None => Ok(None),
+            Ok(None) => {
+                self.refusing = None;
+                Ok(None)
+            }
+            Err(error) => {
+                self.refuse(error)?;
+                Ok(None)
+            }
         }
     }
 

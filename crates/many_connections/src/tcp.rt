@@ -200,7 +200,7 @@ impl Listening {
                 self.is_coming = false;
                 Ok(None)
             }
-            Err(error) if is_of_one(&error) => Ok(None),
+            Err(error) if is_of_one(&error) || is_for_now(&error) => Ok(None),
             Err(error) => Err(error),
         }
     }
@@ -227,11 +227,20 @@ impl Listening {
     }
 }
 
-/// Whether an accept failed because of the connection that waited, or because the system gives no more open files or
-/// memory just now (EMFILE, ENFILE, ENOBUFS, ENOMEM): then the port is well, and others go on.
+/// Whether an accept failed because of the connection that waited: the errors that accept(2) names as those of a new
+/// socket, on which one tries again (EPERM, ENONET, EPROTO, ENOPROTOOPT, EOPNOTSUPP, ENETDOWN, ENETUNREACH, EHOSTDOWN,
+/// EHOSTUNREACH), and ECONNABORTED.
 fn is_of_one(error: &io::Error) -> bool {
+    let number = error.raw_os_error();
+    error.kind() == ErrorKind::ConnectionAborted
+        || matches!(number, Some(1 | 64 | 71 | 92 | 95 | 100 | 101 | 112 | 113))
+}
+
+/// Whether an accept was interrupted, or the system gives no more open files or memory just now (EMFILE, ENFILE,
+/// ENOBUFS, ENOMEM): then the port is well, and others go on.
+fn is_for_now(error: &io::Error) -> bool {
     match error.kind() {
-        ErrorKind::ConnectionAborted | ErrorKind::Interrupted | ErrorKind::OutOfMemory => true,
+        ErrorKind::Interrupted | ErrorKind::OutOfMemory => true,
         _ => matches!(error.raw_os_error(), Some(12 | 23 | 24 | 105)),
     }
 }
