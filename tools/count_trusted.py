@@ -11,8 +11,8 @@ definition that it means, and so on, down to the kit's own definitions, which it
 a definition counts that is neither blank nor a comment. A file comes after those that cite it.
 
 Of a Rust type that a contract or a definition names, what contracts see of it counts: its model if it has one, and its
-declaration if it has none or has public fields. The invariant of a type does not count: it is proved,
-and promises nothing to a caller.
+declaration if it has none or has public fields. Of a disk its words count (`is_clean`). The invariant of a type does
+not count: it is proved, and promises nothing to a caller.
 """
 import pathlib
 import re
@@ -42,7 +42,7 @@ WORDS = [("crates/intake_commands/src/program.rt", "perform")] + [
 IMPORT = re.compile(r"\s*(?:ghost |pub )*use (Rattle\.[\w.]+?)(?:\.\{(.*)\}|(?: as (\w+))?);?\s*$")
 RUST_IMPORT = re.compile(r"^use (\w+(?:::\w+)*?)::(?:\{([^}]*)\}|(\w+));", re.MULTILINE)
 PASSED_ON = re.compile(r"^pub use (\w+)(?:::\w+)*?::(?:\{([^}]*)\}|(\w+));", re.MULTILINE)
-HEAD = re.compile(r"(?:abbrev |unfoldable )?pub (?:record |data )?(\S+)")
+HEAD = re.compile(r"(?:  )?(?:abbrev |unfoldable )pub (\S+)|(?:  )?pub (?:record |data )(\S+)|pub (\S+)")
 VARIANTS = "TheVariants"
 
 
@@ -91,7 +91,7 @@ class SpecsFile:
             head = HEAD.match(line)
             if head:
                 self.add(name, lines)
-                name, lines = head.group(1), []
+                name, lines = head.group(head.lastindex), []
             lines.append(line)
         self.add(name, lines)
 
@@ -146,6 +146,9 @@ class RustFile:
 
     def type_named(self, name):
         """What contracts see of a type of this file."""
+        other_names = self.find(rf"(?:pub(?:\(\w+\))? )?type {name}\b")
+        if other_names:
+            return Definition(self.path, name, [self.lines[other_names[0]]], self.imports)
         starts = self.find(rf"\s*(?:pub(?:\(\w+\))? )?(?:enum|struct|trait) {name}\b")
         if not starts:
             return None
@@ -153,9 +156,16 @@ class RustFile:
         model = [line for i in self.find(rf"impl\b.* Model for {name}\b") for line in block(self.lines, i)]
         imports = dict(self.imports)
         kept = [line for line in without_invariant(model) if not read_import(line, imports)]
+        kept += [line for line in self.words_of_disk(name) if not read_import(line, imports)]
         if kept and not any(re.match(r"\s+pub \w+:", line) for line in declared):
             declared = []
         return Definition(self.path, name, declared + kept, imports)
+
+    def words_of_disk(self, name):
+        """What a type says of itself as a disk, or of its calls, but for what it proves there."""
+        impls = (block(self.lines, i) for i in self.find(rf"impl\b.* (?:Disk|Calls) for {name}\b"))
+        return [line for lines in impls for line in lines
+                if re.match(r"    ghost (?!fair_if_clean|seen_may_stay)", line)]  # fmt: skip
 
     def contract(self, name):
         """What a function promises: its head and its clauses, without its body."""

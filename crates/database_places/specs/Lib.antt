@@ -1,9 +1,7 @@
 pub mod Changes
 pub mod Closing
 pub mod Faults
-pub mod Files
 pub mod Left
-pub mod Note
 pub mod Opening
 pub mod Places
 pub mod ReadOnly

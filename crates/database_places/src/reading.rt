@@ -6,12 +6,9 @@ pub(crate) mod fault;
 pub(crate) mod opening;
 pub(crate) mod place;
 pub(crate) mod read_only;
-pub(crate) mod record;
 
 use crate::reading::read_only::ReadOnlyFile;
-use sqlite_disk::Unknown;
+use found_files::FoundFile;
 
-/// A file that held what `S` says.
-pub type ReadingFileFrom<S> = sqlite_disk::Modelled<ReadOnlyFile, S>;
-
-pub type ReadingFile = ReadingFileFrom<Unknown>;
+/// A file of the system that is only read, over what was found in it.
+pub type ReadingFile<'f> = FoundFile<'f, ReadOnlyFile>;

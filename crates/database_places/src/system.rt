@@ -1,6 +1,7 @@
 //! A place in the file system.
 
-ghost use Rattle.std.specs.Prelude.{◌≡◌, Some, None, false};
+ghost use Rattle.std.specs.Prelude.{◌≡◌, Some, None, false, IsTrue, IfOk, IfErr, OnErr};
+ghost use Rattle.found_files.specs.Openings.{IsNext};
 ghost use Rattle.database_places.specs.Faults.{is_absence};
 ghost use Rattle.database_places.specs.Places.{Leaves};
 
@@ -8,8 +9,10 @@ use crate::fault::{fault_of_files, fault_of_io};
 use crate::opening::PAGE_LEN;
 use crate::place::Place;
 use command_line::{DatabaseFault, read_up_to};
+use found_files::{Found, FoundFile, NotedFile, Openings};
 use http_wire::Device;
 use sqlite::{File, Files, Unknown};
+use sqlite_disk::Disk;
 use sqlite_std_file::OpenError;
 use std::alloc::{AllocError, Global};
 use std::fs;
@@ -20,24 +23,34 @@ use std::io::{self, ErrorKind};
 /// (SQLite's file format, section 4.1).
 const LEAST_LOG: u64 = 568;
 
+/// A file of the system, over what was found in it.
+pub type SystemFile<'f> = FoundFile<'f, NotedFile<File>>;
+
 /// The file of this name, and the log beside it. The name is a path, also `:memory:` and one that begins with `file:`.
 /// What lies there is known to the system alone.
-#[derive(Clone, Copy)]
+#[derive(Drop)]
 pub struct SystemPlace<'a, 'r> {
-    rt: &'r HostRuntime,
-    name: &'a str,
+    pub(crate) rt: &'r HostRuntime,
+    pub(crate) name: &'a str,
+    pub(crate) openings: Openings<'r>,
 }
 
 impl<'a, 'r> SystemPlace<'a, 'r> {
-    /// The place of the file of this name.
-    pub fn new(rt: &'r HostRuntime, name: &'a str) -> SystemPlace<'a, 'r>
+    /// The place of the file of this name, whose openings find this.
+    pub fn new(rt: &'r HostRuntime, name: &'a str, found: &'r Found) -> SystemPlace<'a, 'r>
         ensures file { result.name ≡ name.entry }
+        ensures found { result.openings.found ≡ found.entry }
+        ensures first { result.openings.opened ≡ 0 }
     {
-        SystemPlace { rt, name }
+        SystemPlace {
+            rt,
+            name,
+            openings: Openings::new(found),
+        }
     }
 }
 
-impl Place<File> for SystemPlace<'_, '_> {
+impl<'r> Place<SystemFile<'r>> for SystemPlace<'_, 'r> {
     ghost lying = { λ _. None };
 
     ghost file = { λ place. Some place.name.now };
@@ -89,9 +102,22 @@ impl Place<File> for SystemPlace<'_, '_> {
         let _ = remove_if_empty(self.rt, self.name);
     }
 
-    fn take(&mut self) -> Result<Files<File>, DatabaseFault> {
+    fn take(&mut self) -> Result<Files<SystemFile<'r>>, DatabaseFault>
+        ensures log { IfOk result (λ files. IsTrue (⟦<SystemFile<'r> as Disk>⟧.is_usable files.log)) }
+        ensures database { IfOk result (λ files. IsTrue (⟦<SystemFile<'r> as Disk>⟧.is_usable files.db)) }
+        ensures next { IfOk result (IsNext self.old.openings self.new.openings) }
+        ensures refused { OnErr result (self.new.openings ≡ self.old.openings) }
+        ensures made { IfErr result (λ fault. is_absence fault ≡ false) }
+        ensures named { self.new.name ≡ self.old.name }
+    {
+        // The type says of the files that they held nothing. What they hold is said of those that are given instead.
         match sqlite_std_file::open(self.rt, self.name, Unknown) {
-            Ok(files) => Ok(files),
+            Ok(files) => {
+                let key = files.db.key();
+                let log = NotedFile::new(files.log, key);
+                let db = NotedFile::new(files.db, key);
+                Ok(self.openings.next(log, db, key))
+            }
             Err(OpenError::Io(error)) if error.kind() == ErrorKind::Unsupported => {
                 Err(fault_of_name(self.rt, self.name))
             }
@@ -100,8 +126,8 @@ impl Place<File> for SystemPlace<'_, '_> {
     }
 
     // Files that are let go are closed.
-    fn leave(&mut self, files: Files<File>)
-        ensures left { Leaves None None files }
+    fn leave(&mut self, files: Files<SystemFile<'r>>)
+        ensures left { Leaves None None files.entry }
         ensures named { self.new.name.now ≡ self.old.name.now }
     {
         drop(files);

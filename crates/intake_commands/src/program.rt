@@ -24,14 +24,14 @@ use crate::tasks::perform_task;
 use clap::Error;
 use command_line::{CommandFault, show_refusal, words};
 use database_places::{
-    Place, ReadingFile, ReadingPlace, SystemPlace, WaitingPlace, has_writable_log,
+    Place, ReadingPlace, SystemFile, SystemPlace, WaitingPlace, has_writable_log,
 };
+use found_files::Found;
 use gateway_server::Port;
 use http_wire::Device;
 use intake_process::{Errand, IntakeProcess};
 use many_connections::{Many, TcpLine, TcpSockets};
 use ready_connections::Bounds;
-use sqlite::File;
 use sqlite_disk::Disk;
 use std::alloc::{AllocError, Global};
 use std::io::{IsTerminal, Stderr, Stdout, Write};
@@ -133,6 +133,11 @@ fn copies_log(task: &Task<'_>) -> bool
     }
 }
 
+/// The disks of the files of the system. A clause reads each lifetime as this one.
+type File = SystemFile<'static>;
+
+type ReadingFile = database_places::ReadingFile<'static>;
+
 /// Performs a task over the register of this place, this port, this folder and the standard streams, and answers the
 /// status. The place is that of the task's file, and the folder the one that it names.
 fn perform_over<D: Disk + Drop, P: Place<D> + Drop, L: Port, O: Write, E: Write>(
@@ -166,6 +171,7 @@ fn perform_over<D: Disk + Drop, P: Place<D> + Drop, L: Port, O: Write, E: Write>
 /// where it may not be written.
 fn perform_reading<O: Write, E: Write>(
     rt: &HostRuntime,
+    found: &Found,
     asked: &Asked<'_>,
     output: &mut O,
     errors: &mut E,
@@ -174,7 +180,7 @@ fn perform_reading<O: Write, E: Write>(
     ensures { PerformsOver ⟦<ReadingFile as Disk>⟧ asked.now.task None no_port no_port (O.contents output.old)
         (O.contents output.new) result }
 {
-    let place = ReadingPlace::new(rt, database_of(&asked.task));
+    let place = ReadingPlace::new(rt, database_of(&asked.task), found);
     let waiting = WaitingPlace::new(rt, place, asked.wait);
     let mut folder = SystemFolder::new(rt, folder_of(&asked.task));
     perform_over(
@@ -191,6 +197,7 @@ fn perform_reading<O: Write, E: Write>(
 /// Performs a task over this port, and opens the file of its register for writing.
 fn perform_writing<L: Port, O: Write, E: Write>(
     rt: &HostRuntime,
+    found: &Found,
     asked: &Asked<'_>,
     port: &mut L,
     output: &mut O,
@@ -199,7 +206,7 @@ fn perform_writing<L: Port, O: Write, E: Write>(
     ensures { PerformsOver ⟦<File as Disk>⟧ asked.now.task None (L.traffic port.old) (L.traffic port.new)
         (O.contents output.old) (O.contents output.new) result }
 {
-    let place = SystemPlace::new(rt, database_of(&asked.task));
+    let place = SystemPlace::new(rt, database_of(&asked.task), found);
     let waiting = WaitingPlace::new(rt, place, asked.wait);
     let mut folder = SystemFolder::new(rt, folder_of(&asked.task));
     perform_over(rt, &asked.task, waiting, port, &mut folder, output, errors)
@@ -209,6 +216,7 @@ fn perform_writing<L: Port, O: Write, E: Write>(
 /// changes the register, or is to copy the log into it and may.
 fn perform_once<O: Write, E: Write>(
     rt: &HostRuntime,
+    found: &Found,
     asked: &Asked<'_>,
     output: &mut O,
     errors: &mut E,
@@ -218,15 +226,16 @@ fn perform_once<O: Write, E: Write>(
 {
     if only_reads(&asked.task) {
         if !copies_log(&asked.task) || !has_writable_log(rt, database_of(&asked.task)) {
-            return perform_reading(rt, asked, output, errors);
+            return perform_reading(rt, found, asked, output, errors);
         }
     }
-    perform_writing(rt, asked, &mut NoPort, output, errors)
+    perform_writing(rt, found, asked, &mut NoPort, output, errors)
 }
 
 /// Performs a task that serves this port, which has the bounds of the command line, and answers the status.
 fn perform_port<O: Write, E: Write>(
     rt: &HostRuntime,
+    found: &Found,
     asked: &Asked<'_>,
     serving: &Serving<'_>,
     port: &mut SystemPort<'_>,
@@ -239,12 +248,13 @@ fn perform_port<O: Write, E: Write>(
     requires shut { is_shut port.old.hall ≡ nat_eq serving.now.connections 0 }
     ensures { PerformsServing ⟦<File as Disk>⟧ serving.now (O.contents output.old) (O.contents output.new) result }
 {
-    perform_writing(rt, asked, port, output, errors)
+    perform_writing(rt, found, asked, port, output, errors)
 }
 
 /// Performs a task that serves a port, and answers the status.
 fn perform_serving<O: Write, E: Write>(
     rt: &HostRuntime,
+    found: &Found,
     asked: &Asked<'_>,
     serving: &Serving<'_>,
     output: &mut O,
@@ -254,7 +264,7 @@ fn perform_serving<O: Write, E: Write>(
     ensures { PerformsServing ⟦<File as Disk>⟧ serving.now (O.contents output.old) (O.contents output.new) result }
 {
     match port_of(rt, serving) {
-        Ok(mut port) => perform_port(rt, asked, serving, &mut port, output, errors),
+        Ok(mut port) => perform_port(rt, found, asked, serving, &mut port, output, errors),
         Err(_) => NotDone::Command(CommandFault::Memory).tell(errors),
     }
 }
@@ -262,6 +272,7 @@ fn perform_serving<O: Write, E: Write>(
 /// Performs a task, and answers the status.
 fn perform_asked<O: Write, E: Write>(
     rt: &HostRuntime,
+    found: &Found,
     asked: &Asked<'_>,
     output: &mut O,
     errors: &mut E,
@@ -270,9 +281,9 @@ fn perform_asked<O: Write, E: Write>(
         (O.contents output.new) result }
 {
     match &asked.task {
-        Task::Serve(serving) => perform_serving(rt, asked, serving, output, errors),
+        Task::Serve(serving) => perform_serving(rt, found, asked, serving, output, errors),
         Task::Run { .. } | Task::Visit { .. } | Task::Lint { .. } => {
-            perform_once(rt, asked, output, errors)
+            perform_once(rt, found, asked, output, errors)
         }
     }
 }
@@ -280,6 +291,7 @@ fn perform_asked<O: Write, E: Write>(
 /// Performs what is asked for, and answers the status; or why nothing is.
 fn perform_read<'a, O: Write, E: Write>(
     rt: &HostRuntime,
+    found: &Found,
     asked: Result<Asked<'a>, NotDone<'a>>,
     output: &mut O,
     errors: &mut E,
@@ -288,7 +300,7 @@ fn perform_read<'a, O: Write, E: Write>(
         (O.contents output.new) result }
 {
     match asked {
-        Ok(asked) => Ok(perform_asked(rt, &asked, output, errors)),
+        Ok(asked) => Ok(perform_asked(rt, found, &asked, output, errors)),
         Err(fault) => Err(fault),
     }
 }
@@ -321,6 +333,7 @@ fn refuse<'a, O: Write, E: Write>(
 /// Performs what these words ask for, and answers the status.
 fn perform_words<'a, O: Write, E: Write>(
     rt: &HostRuntime,
+    found: &Found,
     words: &'a [String],
     output: &mut O,
     errors: &mut E,
@@ -332,7 +345,7 @@ fn perform_words<'a, O: Write, E: Write>(
         return Err(NotDone::NoInit);
     }
     match read(rt.alloc(), words) {
-        Ok(asked) => perform_read(rt, asked, output, errors),
+        Ok(asked) => perform_read(rt, found, asked, output, errors),
         Err(error) => refuse(rt.alloc(), &error, output, errors),
     }
 }
@@ -341,6 +354,7 @@ fn perform_words<'a, O: Write, E: Write>(
 /// `errors`.
 fn perform<O: Write, E: Write>(
     rt: &HostRuntime,
+    found: &Found,
     words: &[String],
     output: &mut O,
     errors: &mut E,
@@ -348,7 +362,7 @@ fn perform<O: Write, E: Write>(
     ensures { PerformsAll ⟦<File as Disk>⟧ ⟦<ReadingFile as Disk>⟧ (map string_bytes words.now)
         (O.contents output.old) (O.contents output.new) result }
 {
-    match perform_words(rt, words, output, errors) {
+    match perform_words(rt, found, words, output, errors) {
         Ok(status) => status,
         Err(fault) => fault.tell(errors),
     }
@@ -369,5 +383,11 @@ pub fn main(rt: &HostRuntime) -> u8 {
         Err(fault) => return NotDone::Command(fault).tell(&mut rt.stderr()),
     };
     tell_terminal(rt, words.as_slice());
-    perform(rt, words.as_slice(), &mut rt.stdout(), &mut rt.stderr())
+    perform(
+        rt,
+        &Found::new(),
+        words.as_slice(),
+        &mut rt.stdout(),
+        &mut rt.stderr(),
+    )
 }

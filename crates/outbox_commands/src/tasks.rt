@@ -21,13 +21,13 @@ use crate::putting::put;
 use clap::Error;
 use command_line::{CommandFault, DONE, show, show_refusal, words};
 use database_places::{
-    Place, ReadingFile, ReadingPlace, SystemPlace, WaitingPlace, has_writable_log, show_verdict,
+    Place, ReadingPlace, SystemFile, SystemPlace, WaitingPlace, has_writable_log, show_verdict,
 };
 use finding_lines::{Form, lint_reports};
+use found_files::Found;
 use key_string::is_filer;
 use outbox_process::{Beginning, Errand, OpeningFault, OutboxProcess};
 use receipts::ReceiptFolder;
-use sqlite::File;
 use sqlite_disk::Disk;
 use std::alloc::Global;
 use std::io::Write;
@@ -250,6 +250,11 @@ fn perform_with<'a, D: Disk + Drop, P: Place<D> + Drop, O: Write, E: Write>(
     done_but_for(network.lost_receipts())
 }
 
+/// The disks of the files of the system. A clause reads each lifetime as this one.
+type File = SystemFile<'static>;
+
+type ReadingFile = database_places::ReadingFile<'static>;
+
 /// Performs a task on the outbox that lies in the place of its file, and answers the status. Receipts are kept in the
 /// folder that the task names.
 fn perform_over<'a, D: Disk + Drop, P: Place<D> + Drop, O: Write, E: Write>(
@@ -273,6 +278,7 @@ fn perform_over<'a, D: Disk + Drop, P: Place<D> + Drop, O: Write, E: Write>(
 /// it may not be written.
 fn perform_reading<'a, O: Write, E: Write>(
     rt: &HostRuntime,
+    found: &Found,
     task: Task<'a>,
     wait: u32,
     output: &mut O,
@@ -282,7 +288,7 @@ fn perform_reading<'a, O: Write, E: Write>(
     ensures { PerformsOver ⟦<ReadingFile as Disk>⟧ task.entry None (O.contents output.old) (O.contents output.new)
         result }
 {
-    let place = ReadingPlace::new(rt, task.database());
+    let place = ReadingPlace::new(rt, task.database(), found);
     let waiting = WaitingPlace::new(rt, place, wait);
     perform_over(rt, task, waiting, output, errors)
 }
@@ -290,6 +296,7 @@ fn perform_reading<'a, O: Write, E: Write>(
 /// Performs a task, and opens the file of its outbox for writing.
 fn perform_writing<'a, O: Write, E: Write>(
     rt: &HostRuntime,
+    found: &Found,
     task: Task<'a>,
     wait: u32,
     output: &mut O,
@@ -297,7 +304,7 @@ fn perform_writing<'a, O: Write, E: Write>(
 ) -> Result<u8, NotDone<'a>>
     ensures { PerformsOver ⟦<File as Disk>⟧ task.entry None (O.contents output.old) (O.contents output.new) result }
 {
-    let place = SystemPlace::new(rt, task.database());
+    let place = SystemPlace::new(rt, task.database(), found);
     let waiting = WaitingPlace::new(rt, place, wait);
     perform_over(rt, task, waiting, output, errors)
 }
@@ -306,6 +313,7 @@ fn perform_writing<'a, O: Write, E: Write>(
 /// changes the outbox, or is to copy the log into it and may.
 fn perform_once<'a, O: Write, E: Write>(
     rt: &HostRuntime,
+    found: &Found,
     task: Task<'a>,
     wait: u32,
     output: &mut O,
@@ -316,10 +324,10 @@ fn perform_once<'a, O: Write, E: Write>(
 {
     if only_reads(&task) {
         if !copies_log(&task) || !has_writable_log(rt, task.database()) {
-            return perform_reading(rt, task, wait, output, errors);
+            return perform_reading(rt, found, task, wait, output, errors);
         }
     }
-    perform_writing(rt, task, wait, output, errors)
+    perform_writing(rt, found, task, wait, output, errors)
 }
 
 /// Prints what is wrong with the reports in these files, and answers the status.
@@ -342,6 +350,7 @@ fn lint<'a, O: Write, E: Write>(
 /// Performs what is asked for, and answers the status.
 fn perform_asked<'a, O: Write, E: Write>(
     rt: &HostRuntime,
+    found: &Found,
     asked: Option<Asked<'a>>,
     output: &mut O,
     errors: &mut E,
@@ -353,7 +362,7 @@ fn perform_asked<'a, O: Write, E: Write>(
         Some(Asked::Lint { filer, form, files }) => {
             lint(rt, form, filer, files.as_slice(), output, errors)
         }
-        Some(Asked::Outbox { task, wait }) => perform_once(rt, task, wait, output, errors),
+        Some(Asked::Outbox { task, wait }) => perform_once(rt, found, task, wait, output, errors),
         None => Err(NotDone::Command(CommandFault::NoTask)),
     }
 }
@@ -376,6 +385,7 @@ fn refuse<'a, O: Write, E: Write>(
 /// Performs what these words ask for, and answers the status.
 fn perform_words<'a, O: Write, E: Write>(
     rt: &HostRuntime,
+    found: &Found,
     words: &'a [String],
     output: &mut O,
     errors: &mut E,
@@ -384,7 +394,7 @@ fn perform_words<'a, O: Write, E: Write>(
         (O.contents output.old) (O.contents output.new) result }
 {
     match read(rt.alloc(), words) {
-        Ok(asked) => perform_asked(rt, asked, output, errors),
+        Ok(asked) => perform_asked(rt, found, asked, output, errors),
         Err(error) => refuse(rt.alloc(), &error, output, errors),
     }
 }
@@ -393,6 +403,7 @@ fn perform_words<'a, O: Write, E: Write>(
 /// `errors`.
 pub fn perform<O: Write, E: Write>(
     rt: &HostRuntime,
+    found: &Found,
     words: &[String],
     output: &mut O,
     errors: &mut E,
@@ -400,7 +411,7 @@ pub fn perform<O: Write, E: Write>(
     ensures { Performs ⟦<File as Disk>⟧ ⟦<ReadingFile as Disk>⟧ (map string_bytes words.now)
         (O.contents output.old) (O.contents output.new) result }
 {
-    match perform_words(rt, words, output, errors) {
+    match perform_words(rt, found, words, output, errors) {
         Ok(status) => status,
         Err(fault) => fault.tell(errors),
     }
@@ -409,7 +420,13 @@ pub fn perform<O: Write, E: Write>(
 /// The program: performs the words that it was started with, over the standard streams, and answers the status.
 pub fn main(rt: &HostRuntime) -> u8 {
     match words(rt) {
-        Ok(words) => perform(rt, words.as_slice(), &mut rt.stdout(), &mut rt.stderr()),
+        Ok(words) => perform(
+            rt,
+            &Found::new(),
+            words.as_slice(),
+            &mut rt.stdout(),
+            &mut rt.stderr(),
+        ),
         Err(fault) => NotDone::Command(fault).tell(&mut rt.stderr()),
     }
 }

@@ -1,13 +1,14 @@
 //! The files of one name are opened for reading alone.
 
-ghost use Rattle.std.specs.Prelude.{true, false, IsTrue, IfOk};
+ghost use Rattle.std.specs.Prelude.{◌≡◌, IfOk, OnErr};
+ghost use Rattle.found_files.specs.Openings.{IsNext};
 ghost use Rattle.database_places.specs.ReadOnly.{IsSettled};
-ghost use Rattle.database_places.specs.Files.{file_is_usable, IsFresh};
 
-use crate::reading::ReadingFileFrom;
+use crate::reading::ReadingFile;
 use crate::reading::read_only::ReadOnlyFile;
+use found_files::Openings;
 use os::RangeLock;
-use sqlite_disk::{Files, Modelled, Start};
+use sqlite_disk::Files;
 use sqlite_std_file::OpenError;
 use std::fs;
 use std::hash::{BuildHasher, RandomState};
@@ -23,15 +24,14 @@ const LOCKED_BYTES: u64 = 512;
 /// Opens the database file at `path` for reading, and takes over the log beside it, all of it in memory. Nothing is
 /// made and nothing is written: what is written to the files that are given stays in memory, and ends with them.
 /// Programs that read it so may have a database at once, and none that writes: it is busy for each of the others until
-/// the database file is dropped. `S` stands for what the files hold. The key of their digests is drawn at random.
-pub fn open_for_reading<S: Start>(
+/// the database file is dropped. The key of their digests is drawn at random.
+pub(crate) fn open_for_reading<'f>(
     rt: &HostRuntime,
     path: &str,
-    _start: S,
-) -> Result<Files<ReadingFileFrom<S>>, OpenError>
-    ensures log { IfOk result (λ files. IsTrue (file_is_usable S.Start files.log)) }
-    ensures db { IfOk result (λ files. IsTrue (file_is_usable S.Start files.db)) }
-    ensures fresh { IfOk result (λ files. IsFresh true files.log × IsFresh false files.db) }
+    openings: &mut Openings<'f>,
+) -> Result<Files<ReadingFile<'f>>, OpenError>
+    ensures next { IfOk result (IsNext openings.old openings.new) }
+    ensures refused { OnErr result (openings.new ≡ openings.old) }
 {
     // As in SQLite, the files lie where a link leads, and no link is followed after that.
     let real = fs::canonicalize(rt, path)?;
@@ -52,10 +52,7 @@ pub fn open_for_reading<S: Start>(
         key,
     )?;
     let db = ReadOnlyFile::new(rt.alloc(), db, key)?;
-    Ok(Files {
-        log: Modelled::new(log, true, key),
-        db: Modelled::new(db, false, key),
-    })
+    Ok(openings.next(log, db, key))
 }
 
 /// Opens a regular file with one name that is no link, for reading.

@@ -13,25 +13,11 @@ ghost use Rattle.sqlite_disk.specs.Refusal.{is_no_room, finds_no_room, as_number
 ghost use Rattle.database_places.specs.ReadOnly.{IsNew, IsEmptyButFor, Shows, IsSame, IsWritten, IsCut, EndsInZeros};
 
 use crate::reading::changes::Changes;
-use crate::reading::record::Record;
+use found_files::{CUT, FLUSHED, MEASURED, READ, Record, SETTLED, TESTED, WRITTEN};
 use sqlite_disk::{Calls, is_no_room};
 use std::alloc::{AllocError, Global};
 use std::os::unix::fs::FileExt;
 use std::{fs, io};
-
-const SETTLED: u64 = 0;
-
-const MEASURED: u64 = 1;
-
-const READ: u64 = 2;
-
-const WRITTEN: u64 = 3;
-
-const CUT: u64 = 4;
-
-const FLUSHED: u64 = 5;
-
-const TESTED: u64 = 6;
 
 const MAX_OFFSET: usize = (1 << 63) - 1;
 

@@ -1,0 +1,5 @@
+pub mod Calls
+pub mod Found
+pub mod Held
+pub mod Note
+pub mod Openings
