@@ -238,6 +238,22 @@ def try_outbox(counts, folder):
         status,
         stands_as(b"entry 1 open\n"),
     )
+    try_command(
+        counts,
+        folder,
+        "outbox show --body",
+        words_of(OUTBOX, "show", "--db", database, "--entry", 1, "--body"),
+        status,
+        stands_as(b"entry 1 open\n"),
+    )
+    try_command(
+        counts,
+        folder,
+        "outbox put --strict",
+        words_of(OUTBOX, "put", "--db", database, "--body", report, "--key", "k-2", "--strict"),
+        status,
+        stands_as(b"entry 1 open\n", b"entry 1 open\nentry 2 open\n"),
+    )
     amend = words_of(OUTBOX, "put", "--db", database, "--body", report, "--key", "k-2", "--amend", 1)
     try_command(
         counts,
