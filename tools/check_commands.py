@@ -44,6 +44,9 @@ DIGEST = hashlib.sha256(hashlib.sha256(b"").digest() + ROW).hexdigest()
 DIGEST_OF_NONE = "e3b0c44298fc1c149afbf4c8996fb92427ae41e4649b934ca495991b7852b855"
 FILER_CODE = "not a filer code, which is 1 to 64 ASCII letters, digits, '.', '_' and '-'"
 
+NO_KEY = "--key: it is 1 to 1024 printable ASCII characters"
+NO_REQUEST = "this filer has no request under this key"
+
 AGAINST = "--against: it is N:HEX, a number and 64 hexadecimal digits, as intake digest prints both"
 # What is no number and 64 hexadecimal digits with a colon between.
 NO_DIGESTS = ["", ":", "1", "1:", f"1-{DIGEST}", f":{DIGEST}", f"-1:{DIGEST}", f"x:{DIGEST}", f"1:{DIGEST[1:]}",
@@ -56,6 +59,11 @@ BEFORE = [
     ("check --db @r.db", 1, "not a register\n", "r.db: there is no such file"),
     ("migrate --db @r.db", 1, "not a register\n", "r.db: there is no such file"),
     ("show --db @r.db --number 1", 1, "", "r.db: there is no such file"),
+    ("show --db @r.db --filer ACME --key k-1 --body", 1, "", "r.db: there is no such file"),
+    ("show --db @r.db --filer a/b --key k-1 --body", 2, "", f"--filer: {FILER_CODE}"),
+    ("show --db @r.db --filer ACME --key  --body", 2, "", NO_KEY),
+    ("show --db @r.db --filer ACME --key k-\u00e9 --body", 2, "", NO_KEY),
+    (f"show --db @r.db --filer ACME --key {'k' * 1025} --body", 2, "", NO_KEY),
     ("export --db @r.db --format csv", 1, "", "r.db: there is no such file"),
     ("pages --db @r.db --into @none", 1, "", "r.db: there is no such file"),
     ("digest --db @r.db", 1, "", "r.db: there is no such file"),
@@ -120,6 +128,13 @@ AFTER = [
     ("show --db @r.db --number 1 --moments", 0, f'{{"number":1,"received":"{RECEIVED}"}}\n' + FACT, ""),
     ("show --db @r.db --number 2 --moments", 4, "", "r.db: there is no filing 2"),
     ("show --db @r.db --number 2", 4, "", "r.db: there is no filing 2"),
+    ("show --db @r.db --number 1 --body", 0, REPORT.decode(), ""),
+    ("show --db @r.db --number 0 --body", 4, "", "r.db: there is no filing 0"),
+    ("show --db @r.db --number 2 --body", 4, "", "r.db: there is no filing 2"),
+    ("show --db @r.db --filer ACME --key k-1 --body", 0, REPORT.decode(), ""),
+    ("show --db @r.db --filer ACME --key K-1 --body", 4, "", f"r.db: {NO_REQUEST}"),
+    (f"show --db @r.db --filer ACME --key {'k' * 1024} --body", 4, "", f"r.db: {NO_REQUEST}"),
+    ("show --db @r.db --filer BETA --key k-1 --body", 4, "", f"r.db: {NO_REQUEST}"),
     ("export --db @r.db --format csv", 0, NAMES + CSV, ""),
     ("export --db @r.db --format csv --filer BETA", 0, NAMES, ""),
     ("export --db @r.db --format jsonl --filer ACME", 0, LINE, ""),
@@ -141,6 +156,8 @@ DAMAGED = [
     (f"check --db @r.db --against 1:{DIGEST}", 1, "damaged at row 1\n", "r.db: damaged at row 1"),
     ("list --db @r.db --filer ACME", 1, "", "r.db: damaged at row 1"),
     ("list --db @r.db --filer ACME --moments", 1, "", "r.db: damaged at row 1"),
+    ("show --db @r.db --number 1 --body", 1, "", "r.db: damaged at row 1"),
+    ("show --db @r.db --filer ACME --key k-1 --body", 1, "", "r.db: damaged at row 1"),
     ("export --db @r.db --format csv", 1, "", "r.db: damaged at row 1"),
     ("digest --db @r.db", 1, "", "r.db: damaged at row 1"),
 ]
@@ -307,6 +324,16 @@ OUT_OF_RANGE = [
     (INTAKE, "serve --db @r.db --port 1 --connections 1 --patience 0"),
     (INTAKE, "serve --db @r.db --port 1 --connections 1 --patience 86401"),
     (INTAKE, "show --db @r.db --number -1"),
+    (INTAKE, "show --db @r.db"),
+    (INTAKE, "show --db @r.db --body"),
+    (INTAKE, "show --db @r.db --number 1 --body --moments"),
+    (INTAKE, "show --db @r.db --number 1 --filer ACME --key k-1 --body"),
+    (INTAKE, "show --db @r.db --number 1 --filer ACME"),
+    (INTAKE, "show --db @r.db --number 1 --key k-1 --body"),
+    (INTAKE, "show --db @r.db --filer ACME --body"),
+    (INTAKE, "show --db @r.db --key k-1 --body"),
+    (INTAKE, "show --db @r.db --filer ACME --key k-1"),
+    (INTAKE, "show --db @r.db --filer ACME --key k-1 --moments"),
     (INTAKE, "digest --db @r.db --until -1"),
     (INTAKE, "check --db @r.db --wait -1"),
     (INTAKE, "check --db @r.db --wait 86401"),

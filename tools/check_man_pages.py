@@ -167,6 +167,8 @@ SCENES = [
     Scene("intake serve --db register.db --port 8080 --connections 4294967295 --patience 60", serves=True),
     Scene("intake list", before=Scratch.stop, prints=r'^\{"filings":\[\{"facts":1,"number":1\}\]\}$'),
     Scene("intake show", prints=rf'"concept":"{FACT}"'),
+    Scene("intake show --db register.db --number 1 --body", writes="filed.json"),
+    Scene("intake show --db register.db --filer", writes="sent.json"),
     Scene("intake check", prints=r"^sound: 1 kept, 1 filings"),
     Scene("intake export", before=Scratch.copied, writes="facts.csv"),
     Scene("intake digest", prints=r"^1 [0-9a-f]{64}$"),

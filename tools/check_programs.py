@@ -1176,7 +1176,7 @@ def check_same_report(folder):
     hold("16 entries are compared", said(put, folder), (0, "entry 23\n", ""))
 
 
-def check_bodies(folder):
+def check_bodies_of_entries(folder):
     """`show --body` gives the bytes of a report back, and nothing else."""
     outbox = folder / "outbox.db"
     run(OUTBOX, "init", "--db", outbox, "--filer", "ACME")
@@ -1192,6 +1192,59 @@ def check_bodies(folder):
                               stderr=subprocess.PIPE, check=False)
     hold("a report for which there is no room", (done.returncode, done.stderr),
          (3, b"outbox: the output cannot be written\n"))
+
+
+def valid_report(value):
+    """The example with this value, and members that are ignored around it: it is no text of another writer's."""
+    return b'\r\n\t{"\\u0000": "\\n",' + REPORT.replace(b'"value":"100"', b'"value":"%d"' % value)[1:] + b" \n\n"
+
+
+def body_of(register, *words):
+    """What show prints of a report: the status, the bytes and the errors."""
+    done = run(INTAKE, "show", "--db", register, *words, "--body")
+    return done.returncode, done.stdout, done.stderr.decode().replace(f"{register.parent}/", "")
+
+
+def check_bodies(folder):
+    """Each report that was sent comes back byte for byte, by its number or by its filer and key, a refused one too."""
+    register = folder / "register.db"
+    # By filer and key, with the status. The same key of another filer, a key with quotes and blanks, NUL bytes, bytes
+    # that are no UTF-8, a long report, and none at all.
+    sent = {
+        ("ACME", "k-1"): (valid_report(1), 201),
+        ("BETA", "k-1"): (valid_report(2).replace(b"lei:ACME", b"lei:BETA"), 201),
+        ("ACME", 'a "key" \\'): (valid_report(3), 201),
+        ("ACME", "nul"): (b"\0{}\0\0", 400),
+        ("ACME", "bytes"): (bytes(range(256)) * 2, 400),
+        ("ACME", "large"): (b"\n" * 65_536, 400),
+        ("ACME", "none"): (b"", 400),
+        ("ACME", "last"): (valid_report(4), 201),
+    }
+    serving = Serving(register, len(sent) + 1, "--new")
+    for (filer, key), (body, status) in sent.items():
+        spelled = key.replace("\\", "\\\\").replace('"', '\\"')
+        hold(f"POST of {key}", statuses(exchange(serving.port, request(spelled, body, filer))), [status])
+    hold("another report under a key", statuses(exchange(serving.port, request("k-1", b"{}"))), [422])
+    serving.end()
+    before = register.read_bytes()
+    number = 0
+    for (filer, key), (body, status) in sent.items():
+        hold(f"report of {filer}, {key}", body_of(register, "--filer", filer, "--key", key) == (0, body, ""), True)
+        if status == 201:
+            number += 1
+            hold(f"report of filing {number}", body_of(register, "--number", number) == (0, body, ""), True)
+    hold("report of no filing", body_of(register, "--number", number + 1),
+         (4, b"", f"intake: register.db: there is no filing {number + 1}\n"))
+    for filer, key in (("BETA", "nul"), ("GAMMA", "k-1"), ("ACME", '"k-1"')):
+        hold(f"report of {filer}, {key}", body_of(register, "--filer", filer, "--key", key),
+             (4, b"", "intake: register.db: this filer has no request under this key\n"))
+    for words in (("--number", 1), ("--filer", "ACME", "--key", "large")):
+        with open("/dev/full", "wb") as full:
+            done = subprocess.run([INTAKE, "show", "--db", register, *map(str, words), "--body"], stdout=full,
+                                  stderr=subprocess.PIPE, check=False)
+        hold("an output that takes no report", (done.returncode, done.stderr),
+             (3, b"intake: the output cannot be written\n"))
+    hold("the register stays", register.read_bytes() == before, True)
 
 
 def check_closed_output(folder):
@@ -1222,5 +1275,6 @@ if __name__ == "__main__":
          check_damage, check_copies, check_copy_of_an_outbox, check_lint, check_names_of_files, check_texts_of_reports,
          check_texts_of_peers, check_line_of_a_long_connection, check_entries, check_round, check_answers, check_strict,
          check_questions, check_looks, check_what_a_restore_lost, check_receipts, check_patience_of_a_round,
-         check_same_report, check_bodies, check_closed_output, check_reading, check_reading_alone, check_readers),
+         check_same_report, check_bodies_of_entries, check_bodies, check_closed_output, check_reading,
+         check_reading_alone, check_readers),
     )

@@ -306,6 +306,9 @@ def try_register(counts, folder):
     try_command(counts, folder, "intake check --against", against, check, sound)
     moments = words_of(INTAKE, "list", "--db", database, "--filer", "ACME", "--moments")
     try_command(counts, folder, "intake list --moments", moments, check, sound)
+    for words in (("--number", 1), ("--filer", "ACME", "--key", "k-1")):
+        body = words_of(INTAKE, "show", "--db", database, *words, "--body")
+        try_command(counts, folder, f"intake show {words[0]} --body", body, check, sound)
     moments = words_of(INTAKE, "show", "--db", database, "--number", 1, "--moments")
     try_command(counts, folder, "intake show --moments", moments, check, sound)
 
