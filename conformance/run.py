@@ -9,12 +9,14 @@
     run.py list
 
 Besides, with each of these: --only WORD (cases with this word in their name), --case NAME (both may be given again),
---cases FOLDER, --patience SECONDS, --jobs N. README.md beside this file says what the cases are made of. Status 0 if
-each case that was tried passed, 1 if one failed, 2 if the command line, a command, the port or a file of cases can't be
-used, 3 if a file can't be written.
+--cases FOLDER, --patience SECONDS, --jobs N, --no-syncs. README.md beside this file says more, and what the cases are
+made of is said above CASES. Status 0 if each case that was tried passed, 1 if one marked `must` did not, 4 if only
+cases marked `strict` did not, 2 if the command line, a command, the port or a file of cases can't be used, 3 if a file
+can't be written.
 """
 import argparse
 import base64
+import collections
 import concurrent.futures
 import http.client
 import json
@@ -32,12 +34,22 @@ import tempfile
 import threading
 import time
 
+from syncs import Disk, Unseen
+
 HERE = pathlib.Path(__file__).resolve().parent
 DEFAULT_LIMIT = 1_000_000
-# How long nothing has to come if a case says that nothing comes.
+# How long nothing has to come if a case says that nothing comes, in seconds.
 QUIET = 0.25
+# How long connections are watched that wait for the disk.
+HELD = 1
 # How long a race waits for its connections before it begins without those that still wait to be taken.
 GATHERED = 1
+# How long it is looked whether something follows a request.
+BEHIND = 0.05
+# With the patience of this many seconds, or less, a pause is as long as a case says.
+PATIENCE = 10
+# How many cases that timed out are tried again.
+MOST_AGAIN = 40
 
 
 class Fault(Exception):
@@ -47,8 +59,17 @@ class Fault(Exception):
         super().__init__(f"{what}\n    wanted: {shown(wanted)}\n    came:   {shown(came)}")
 
 
+class Late(Fault):
+    """What was wanted did not come in time, which may be the machine's fault."""
+
+
 class Unusable(Exception):
     """A file of cases, or a command, that can't be used."""
+
+
+def paced(seconds, patience):
+    """How long a pause of so many seconds is with this patience."""
+    return seconds * max(1, patience / PATIENCE)
 
 
 def shown(value):
@@ -165,16 +186,18 @@ def connected(port, wait, process=None):
         except ConnectionRefusedError as refused:
             status = process.poll() if process else None
             if time.monotonic() > until or status is not None:
-                end = "" if status is None else f", and the program ended with status {status}"
-                raise Fault("a connection", f"somebody listens on port {port}", f"nobody does{end}") from refused
+                if status is not None:
+                    raise Fault("a connection", f"somebody listens on port {port}",
+                                f"nobody does, and the program ended with status {status}") from refused
+                raise Late("a connection", f"somebody listens on port {port}", "nobody does") from refused
             time.sleep(0.01)
 
 
 class Connection:
     """The steps of a case on a connection, and what came on it so far."""
 
-    def __init__(self, transport, numbers, patience):
-        self.transport, self.numbers, self.patience = transport, numbers, patience
+    def __init__(self, transport, numbers, patience, disk=None):
+        self.transport, self.numbers, self.patience, self.disk = transport, numbers, patience, disk
         self.came, self.is_ended = b"", False
 
     def play(self, steps):
@@ -206,7 +229,24 @@ class Connection:
             pass  # The other end may close before it has read everything; what it replied is looked at all the same.
 
     def pause(self, value):
-        time.sleep(value / 1000)
+        time.sleep(paced(value / 1000, self.patience))
+
+    def syncs(self, value):
+        self.disk.go(value)
+
+    def held(self, _):
+        """A sync waits, and nothing has come or comes meanwhile."""
+        wait_for_sync(self.disk, self.patience, lambda: self.more(0))
+        self.quiet(HELD * 1000)
+
+    def unkept(self, _):
+        """No reply, or one that says that the server failed: none that says what became of a report."""
+        until = time.monotonic() + self.patience
+        while not self.is_ended and b"\r\n\r\n" not in self.came:
+            if not self.more(until - time.monotonic()):
+                raise Late("the disk refuses", "a reply, or the end of the connection", f"none in {self.patience} s")
+        hold_unkept(self.came)
+        self.came, self.is_ended = b"", True
 
     def shut(self, _):
         try:
@@ -223,9 +263,9 @@ class Connection:
         self.is_ended = True
 
     def quiet(self, value):
-        until = time.monotonic() + value / 1000
+        until = time.monotonic() + paced(value / 1000, self.patience)
         while (left := until - time.monotonic()) > 0:
-            if self.more(left):
+            if self.came or self.more(left):
                 raise Fault(
                     f"in {value} ms", "nothing comes", "the connection is closed" if self.is_ended else self.came
                 )
@@ -234,7 +274,7 @@ class Connection:
         """The connection is open: nothing comes before this side is shut, and nothing but the end behind that."""
         if self.came:
             raise Fault("behind the last reply", b"", self.came)
-        self.quiet(QUIET * 1000)
+        self.quiet(round(QUIET * 1000))
         self.shut(True)
         self.closed(True)
 
@@ -242,7 +282,7 @@ class Connection:
         until = time.monotonic() + self.patience
         while not self.is_ended and not self.came:
             if not self.more(until - time.monotonic()):
-                raise Fault(
+                raise Late(
                     "the end of the connection", "the other end closes it", f"it is open after {self.patience} s"
                 )
         if self.came:
@@ -254,8 +294,9 @@ class Connection:
         while (size := is_there(self.came)) is None:
             left = until - time.monotonic()
             if left <= 0 or not self.more(left) or self.is_ended:
-                end = "the connection ended" if self.is_ended else f"no more in {self.patience} s"
-                raise Fault(what, "a whole reply", shown(self.came) + f", then {end}")
+                if self.is_ended:
+                    raise Fault(what, "a whole reply", shown(self.came) + ", then the connection ended")
+                raise Late(what, "a whole reply", shown(self.came) + f", then no more in {self.patience} s")
         found, self.came = self.came[:size], self.came[size:]
         return found
 
@@ -284,6 +325,23 @@ class Connection:
             raise Fault("the content", self.numbers.wanted(wanted["content"]), content)
         if "json" in wanted and read_json(content) != wanted["json"]:
             raise Fault("the content", json.dumps(wanted["json"]), content)
+
+
+def wait_for_sync(disk, patience, has_come):
+    """Waits until a sync is held, or something else has come."""
+    until = time.monotonic() + patience
+    while not has_come() and not disk.held:
+        if disk.is_blind:
+            raise Unseen("the program syncs by other calls than fsync and the like")
+        if time.monotonic() > until:
+            raise Late("the disk", "the program waits for it before it answers", f"no sync in {patience} s")
+        time.sleep(0.005)
+
+
+def hold_unkept(came):
+    """What came for a report, while the disk refused it, says at most that the server failed."""
+    if came and not re.match(rb"HTTP/1\.1 5[0-9][0-9] ", came):
+        raise Fault("the disk refuses", "no reply, or one of a status from 500 on", came)
 
 
 class Played:
@@ -326,23 +384,33 @@ def connected_in(peers, seconds):
     return found
 
 
+def send_all(peers, requests):
+    for peer, request in zip(peers, requests):
+        try:
+            peer.sendall(request)
+        except (ConnectionResetError, BrokenPipeError):
+            pass  # As for a single connection.
+
+
 def at_once(peers, requests, patience):
     """Sends each request on its connection, and gives what came on each until its end, or nothing for one that is not
     connected in time. The last byte of each is kept back until the others have come."""
-    came, to_send = dict.fromkeys(peers, b""), dict(zip(peers, requests))
-    is_open = connected_in(peers, GATHERED)
-    for part, pause in ((slice(-1), QUIET), (slice(-1, None), 0)):
-        for peer in is_open:
-            try:
-                peer.sendall(to_send[peer][part])
-            except (ConnectionResetError, BrokenPipeError):
-                pass  # As for a single connection.
-        time.sleep(pause)
+    to_send = dict(zip(peers, requests))
+    is_open = connected_in(peers, paced(GATHERED, patience))
+    send_all(is_open, [to_send[peer][:-1] for peer in is_open])
+    time.sleep(paced(QUIET, patience))
+    send_all(is_open, [to_send[peer][-1:] for peer in is_open])
+    return replies_on(peers, is_open, patience)
+
+
+def replies_on(peers, is_open, patience):
+    """What comes on each of these connections until its end, and nothing for one that is not open."""
+    came, is_open = dict.fromkeys(peers, b""), list(is_open)
     while is_open:
         readable = select.select(is_open, [], [], patience)[0]
         if not readable:
-            raise Fault("the replies", "each connection is answered and closed",
-                        f"nothing comes on {len(is_open)} of {len(peers)} for {patience} s")
+            raise Late("the replies", "each connection is answered and closed",
+                       f"nothing comes on {len(is_open)} of {len(peers)} for {patience} s")
         for peer in readable:
             try:
                 found = peer.recv(65536)
@@ -368,10 +436,48 @@ def race(intake, requests, patience):
             for peer in peers:
                 peer.close()
         if not any(found):
-            raise Fault("the replies", f"one on each of {len(requests)} connections", f"none on {len(turns)} of them")
+            raise Late("the replies", f"one on each of {len(requests)} connections", f"none on {len(turns)} of them")
         for turn, data in zip(turns, found):
             came[turn] = data
     return came
+
+
+def has_come(peers):
+    """Those of these connections on which something has come, or that were closed."""
+    return select.select(peers, [], [], 0)[0]
+
+
+def hold_nothing(peers, what, patience):
+    """Nothing comes on these connections for a while."""
+    time.sleep(paced(HELD, patience))
+    for peer in has_come(peers):
+        raise Fault(what, "no answer yet", peer.recv(65536) or "the connection is closed")
+
+
+def race_to_the_disk(intake, requests, how, patience):
+    """What came for each of the requests, of which the first is sent alone, and the others once it waits for the disk.
+    Nothing is answered before the disk goes on. If each of them needs a sync, none of the others is answered before one
+    that began after they were sent."""
+    intake.disk.go("hold")
+    peers = []
+    try:
+        peers.append(intake.connect().peer)
+        send_all(peers, requests)
+        wait_for_sync(intake.disk, patience, lambda: has_come(peers))
+        hold_nothing(peers, "before the first request is on the disk", patience)
+        peers += [connecting(intake.port) for _ in requests[1:]]
+        others = connected_in(peers[1:], paced(GATHERED, patience))
+        send_all(others, [dict(zip(peers, requests))[peer] for peer in others])
+        hold_nothing(peers, "before the first request is on the disk", patience)
+        if how == "each":
+            intake.disk.let_one()
+            wait_for_sync(intake.disk, patience, lambda: has_come(others))
+            hold_nothing(others, "before the later requests are on the disk", patience)
+        intake.disk.go("refuse" if how == "refuse" else "pass")
+        return replies_on(peers, [peers[0], *others], patience)
+    finally:
+        for peer in peers:
+            peer.close()
 
 
 def hold_replies(wanted, came, numbers):
@@ -436,17 +542,29 @@ def content_length(what, head, fields):
 # ---- an intake
 
 
+NO_SYNCS = "--no-syncs was said"
+
+
+def mentions(it, name):
+    """Whether a part of a case has a member of this name."""
+    if isinstance(it, dict):
+        return name in it or any(mentions(part, name) for part in it.values())
+    return isinstance(it, list) and any(mentions(part, name) for part in it)
+
+
 class Command:
     """A program that is started afresh on a port of its own for a case, and again on the same register if
     the case says so."""
 
     reads_lists = True
 
-    def __init__(self, first, again):
-        self.first, self.again = first, again
+    def __init__(self, first, again, no_syncs):
+        self.first, self.again, self.no_syncs = first, again, no_syncs
 
     def lacks(self, case):
         """Why the case can't be tried, or None."""
+        if self.no_syncs and mentions(case, "syncs"):
+            return NO_SYNCS
         if "limit" in case and "{limit}" not in self.first:
             return "the command has no {limit}"
         if self.again is None and any("restart" in item for item in case["connections"]):
@@ -464,14 +582,15 @@ class Started:
         self.command, self.patience, self.folder = command, patience, folder
         self.limit = case.get("limit", DEFAULT_LIMIT)
         self.left = served_counts(case)
-        self.numbers = Numbers(0)
+        self.numbers, self.earlier = Numbers(0), []
+        self.disk = Disk() if mentions(case, "syncs") else None
         self.start(command.first)
 
     def start(self, template):
-        self.port = Ports.next()
+        self.mark, self.port = free_port()
         words = {"db": self.folder / "register.db", "port": self.port, "n": self.left.pop(0), "limit": self.limit}
         with open(self.folder / "said", "ab") as said:
-            self.process = start(filled(template, words), stdin=subprocess.DEVNULL, stdout=said, stderr=said)
+            self.process = start(filled(template, words), self.disk, stdin=subprocess.DEVNULL, stdout=said, stderr=said)
 
     def connect(self):
         return connected(self.port, max(self.patience, 60), self.process)
@@ -481,9 +600,12 @@ class Started:
         self.start(self.command.again)
 
     def stop(self, sign):
+        self.mark.close()
+        if self.disk:
+            self.disk.go("pass")
         try:
             self.process.send_signal(sign)
-            self.process.wait(timeout=10)
+            self.process.wait(timeout=max(self.patience, PATIENCE))
         except subprocess.TimeoutExpired:
             self.process.kill()
             self.process.wait()
@@ -522,6 +644,8 @@ class Running:
             return "it needs a limit of its own"
         if any("restart" in item for item in case["connections"]):
             return "it needs a restart"
+        if mentions(case, "syncs"):
+            return "it needs a program whose syncs can be held"
         if case.get("empty") and not self.is_fresh:
             return "it needs an empty register of its own"
         return None
@@ -532,8 +656,10 @@ class Running:
 
 
 class Attached:
+    disk = None
+
     def __init__(self, port, patience):
-        self.port, self.patience, self.numbers = port, patience, Numbers(None)
+        self.port, self.patience, self.numbers, self.earlier = port, patience, Numbers(None), []
 
     def connect(self):
         return connected(self.port, self.patience)
@@ -560,6 +686,8 @@ class Piped:
             return "it needs more than one connection"
         if any(name in step for step in case["connections"][0]["steps"] for name in ("cut", "reset")):
             return "it needs a socket"
+        if mentions(case, "syncs"):
+            return "it needs a program whose syncs can be held"
         return None
 
     def open(self, case, folder, patience):
@@ -569,11 +697,13 @@ class Piped:
 class PipedCase:
     """The program, whose standard input and output are one end of a pair of sockets."""
 
+    disk = None
+
     def __init__(self, words):
         own, self.peer = socket.socketpair()
         self.numbers = Numbers(0)
         with own:
-            self.process = start(words, stdin=own, stdout=own, stderr=subprocess.DEVNULL)
+            self.process = start(words, None, stdin=own, stdout=own, stderr=subprocess.DEVNULL)
 
     def connect(self):
         return Socket(self.peer)
@@ -600,14 +730,32 @@ def try_race(intake, wanted, patience):
     """Sends the requests of a race, and compares what came."""
     requests = [to_bytes(wanted["send"], intake.numbers.offset, turn) for turn in range(1, wanted["times"] + 1)]
     with RACES:
-        came = race(intake, requests, patience)
+        if "syncs" in wanted:
+            came = race_to_the_disk(intake, requests, wanted["syncs"], patience)
+        else:
+            came = race(intake, requests, patience)
+    if wanted.get("syncs") == "refuse":
+        for one in came:
+            hold_unkept(one)
+        return
     hold_replies(wanted["replies"], came, intake.numbers)
+    for at, (one, before) in enumerate(zip(came, intake.earlier if wanted.get("again") else ()), 1):
+        if content_of(one) != content_of(before):
+            raise Fault(f"reply {at} of {len(came)}", before, one)
+    intake.earlier = came
+
+
+def content_of(reply):
+    return reply.partition(b"\r\n\r\n")[2]
 
 
 def try_intake(end, case, patience):
-    """Plays the case. None if it passed, else what was wanted and what came."""
+    """Plays the case. How it went, and if it did not pass what was wanted and what came."""
     with tempfile.TemporaryDirectory(prefix="conformance-") as folder:
-        intake = end.open(case, pathlib.Path(folder), patience)
+        try:
+            intake = end.open(case, pathlib.Path(folder), patience)
+        except Unseen as cause:
+            return "left", str(cause)
         what = "the program"
         try:
             for at, item in enumerate(case["connections"], 1):
@@ -617,27 +765,34 @@ def try_intake(end, case, patience):
                 elif "race" in item:
                     try_race(intake, item["race"], patience)
                 else:
-                    Connection(intake.connect(), intake.numbers, patience).play(item["steps"])
+                    Connection(intake.connect(), intake.numbers, patience, intake.disk).play(item["steps"])
             for filer, content in case.get("register", {}).items() if end.reads_lists else ():
                 what = f"the list of {filer} afterwards"
                 Connection(intake.connect(), intake.numbers, patience).play(list_steps(filer, content))
+        except Unseen as cause:
+            return "left", str(cause)
         except (Fault, OSError) as fault:
             told = intake.told()
-            return f"{what}: {fault}" + (f"\n    the program said: {shown(told)}" if told else "")
+            return how_it_failed(fault), f"{what}: {fault}" + (f"\n    the program said: {shown(told)}" if told else "")
         finally:
             intake.end()
-    return None
+    return "passed", None
+
+
+def how_it_failed(fault):
+    return "timed out" if isinstance(fault, (Late, TimeoutError)) else "failed"
 
 
 # ---- an outbox
 
 
 class Peer:
-    """A server that takes one request of an outbox, answers it as the case says, and closes the connection."""
+    """A server that takes one request of an outbox, answers it as the case says, and closes the connection. Before the
+    first byte of the answer `before` is called."""
 
-    def __init__(self, answer, patience):
-        self.answer, self.patience = answer, patience
-        self.came = []
+    def __init__(self, answer, patience, before):
+        self.answer, self.patience, self.before = answer, patience, before
+        self.came, self.fault = [], None
         self.listener = socket.create_server(("127.0.0.1", 0))
         self.port = self.listener.getsockname()[1]
         self.is_done = threading.Event()
@@ -669,16 +824,23 @@ class Peer:
             if not found:
                 return
             self.came[-1] += found
-        if select.select([connection], [], [], 0.05)[0]:
+        if select.select([connection], [], [], paced(BEHIND, self.patience))[0]:
             self.came[-1] += connection.recv(65536)
 
     def act(self, connection):
+        self.before()
         for step in self.answer:
             name, value = one_member(step)
             if name == "send":
                 connection.sendall(to_bytes(value))
             elif name == "pause":
-                time.sleep(value / 1000)
+                time.sleep(paced(value / 1000, self.patience))
+            elif name == "quiet":
+                if select.select([connection], [], [], paced(value / 1000, self.patience))[0]:
+                    self.fault = Fault(
+                        f"in {value} ms before the reply", "the outbox sends nothing, and its sending side is open",
+                        connection.recv(65536) or "it shut its sending side",
+                    )
             elif name == "reset":
                 connection.setsockopt(socket.SOL_SOCKET, socket.SO_LINGER, struct.pack("ii", 1, 0))
             elif name == "wait":
@@ -697,33 +859,44 @@ def is_whole_request(data):
     return bool(mark) and len(body) >= (int(length[1]) if length else 0)
 
 
+STATES = re.compile(rb"(?m)^(?:.*\s)?(open|confirmed [0-9]+|refused|clashed)\r?$")
+
+
 class Outbox:
     """The commands of an outbox, and the database of one case."""
 
-    def __init__(self, templates, folder, patience):
-        self.templates, self.folder, self.patience = templates, folder, patience
+    def __init__(self, templates, folder, patience, disk):
+        self.templates, self.folder, self.patience, self.disk = templates, folder, patience, disk
+        self.is_slow = False
 
-    def run(self, name, **words):
+    def begin(self, name, **words):
         words = {"db": self.folder / "outbox.db", "patience": self.patience, **words}
-        process = start(
-            filled(self.templates[name], words),
-            stdin=subprocess.DEVNULL,
-            stdout=subprocess.PIPE,
-            stderr=subprocess.PIPE,
-        )
+        return start(filled(self.templates[name], words), self.disk, stdin=subprocess.DEVNULL, stdout=subprocess.PIPE,
+                     stderr=subprocess.PIPE)
+
+    def ended(self, name, process):
+        """The status, the output and the errors of a command, once it ends."""
+        since = time.monotonic()
         try:
-            output, errors = process.communicate(timeout=self.patience + 20)
+            output, errors = process.communicate(timeout=2 * self.patience + 10)
         except subprocess.TimeoutExpired as late:
             process.kill()
             process.communicate()
-            raise Fault(f"the command {name}", "it ends", f"it runs after {self.patience + 20} s") from late
+            raise Late(f"the command {name}", "it ends", f"it runs after {2 * self.patience + 10} s") from late
+        self.is_slow = time.monotonic() - since >= self.patience
+        if self.disk and self.disk.is_blind:
+            raise Unseen("the program syncs by other calls than fsync and the like")
         return process.returncode, output, errors
 
     def done(self, name, **words):
-        status, output, errors = self.run(name, **words)
-        if status:
+        """What a command prints, or nothing if it fails while the disk refuses."""
+        status, output, errors = self.ended(name, self.begin(name, **words))
+        if status and not (self.disk and self.disk.way == "refuse"):
             raise Fault(f"the command {name}", "status 0", f"status {status}: {shown(output + errors)}")
-        return output
+        return b"" if status else output
+
+    def syncs(self, value):
+        self.disk.go(value)
 
     def put(self, value):
         report = self.folder / "report.json"
@@ -735,23 +908,48 @@ class Outbox:
             self.done("put", **words)
 
     def send(self, value):
-        peer = Peer(value["answer"], self.patience)
+        syncs = value.get("syncs")
+        peer = Peer(value["answer"], self.patience, lambda: self.disk.go(syncs) if syncs else None)
         try:
+            process = self.begin("send", port=peer.port, entry=value["entry"])
+            if syncs == "hold":
+                self.hold_state(process)
             # Its status is its own: an answer that settles nothing may count as a failure or not.
-            self.run("send", port=peer.port, entry=value["entry"])
+            _, output, _ = self.ended("send", process)
         finally:
             peer.end()
+        if peer.fault:
+            raise peer.fault
         wanted = [to_bytes(one) for one in value.get("requests", [])]
         if "requests" in value and peer.came != wanted:
-            raise Fault(f"what is sent for entry {value['entry']}", as_requests(wanted), as_requests(peer.came))
+            kind = Late if self.is_slow else Fault
+            raise kind(f"what is sent for entry {value['entry']}", as_requests(wanted), as_requests(peer.came))
+        if syncs == "refuse" and [state for state in STATES.findall(output) if state != b"open"]:
+            raise Fault("what send prints while the disk refuses the state", "no state that settles the entry", output)
+
+    def hold_state(self, process):
+        """The state that the answer says waits for the disk: meanwhile `send` prints none, and does not end."""
+        try:
+            wait_for_sync(self.disk, 2 * self.patience, lambda: process.poll() is not None)
+            time.sleep(paced(HELD, self.patience))
+            if process.poll() is not None:
+                raise Fault("before the state is on the disk", "send waits for the disk", "it ended")
+            printed = os.read(process.stdout.fileno(), 65536) if Socket(process.stdout).is_readable(0) else b""
+            if STATES.search(printed):
+                raise Fault("before the state is on the disk", "send prints no state", printed)
+        except Fault:
+            process.kill()
+            process.communicate()
+            raise
+        finally:
+            self.disk.go("pass")
 
     def states(self, value):
-        output = self.done("status").decode("utf-8", "replace")
-        found = re.findall(r"(?m)^(?:.*\s)?(open|confirmed [0-9]+|refused|clashed)\r?$", output)
-        if found != value:
-            raise Fault(
-                "the states of the entries", ", ".join(value), f"{', '.join(found)}, from {shown(output.encode())}"
-            )
+        output = self.done("status")
+        found = [state.decode() for state in STATES.findall(output)]
+        if found != value and not (self.disk and self.disk.way == "refuse" and not found):
+            kind = Late if self.is_slow else Fault
+            raise kind("the states of the entries", ", ".join(value), f"{', '.join(found)}, from {shown(output)}")
 
 
 def as_requests(requests):
@@ -759,8 +957,9 @@ def as_requests(requests):
 
 
 def try_outbox(templates, case, patience):
+    """Plays the case, as try_intake does."""
     with tempfile.TemporaryDirectory(prefix="conformance-") as folder:
-        outbox = Outbox(templates, pathlib.Path(folder), patience)
+        outbox = Outbox(templates, pathlib.Path(folder), patience, Disk() if mentions(case, "syncs") else None)
         what = "a new outbox"
         try:
             outbox.done("init", filer=case["filer"])
@@ -768,9 +967,11 @@ def try_outbox(templates, case, patience):
                 name, value = one_member(step)
                 what = f"step {at}"
                 getattr(outbox, name)(value)
+        except Unseen as cause:
+            return "left", str(cause)
         except (Fault, OSError) as fault:
-            return f"{what}: {fault}"
-    return None
+            return how_it_failed(fault), f"{what}: {fault}"
+    return "passed", None
 
 
 # ---- commands
@@ -784,29 +985,29 @@ def filled(template, words):
         raise Unusable(f"{template!r} is no command here: {fault}") from fault
 
 
-def start(words, **options):
+def start(words, disk, **options):
+    """Starts a program, whose syncs go to this disk if there is one."""
     try:
-        return subprocess.Popen(words, **options)
+        return disk.start(words, **options) if disk else subprocess.Popen(words, **options)
     except OSError as fault:
         raise Unusable(f"{words[0]}: {fault.strerror}") from fault
 
 
-class Ports:
-    """Ports that are free, each given once, and below those that the system gives to connections."""
-
-    lock, last = threading.Lock(), os.getpid() % 10_000
-
-    @classmethod
-    def next(cls):
-        with cls.lock:
-            while True:
-                cls.last = (cls.last + 1) % 10_000
-                with socket.socket() as it:
-                    try:
-                        it.bind(("127.0.0.1", 20_000 + cls.last))
-                        return 20_000 + cls.last
-                    except OSError:
-                        continue
+def free_port():
+    """A port that the system gave, and what keeps other runs of this kit away from it until that is closed. The port
+    itself is free: another program may listen on it."""
+    while True:
+        with socket.socket() as it:
+            it.bind(("127.0.0.1", 0))
+            port = it.getsockname()[1]
+        mark = socket.socket(socket.AF_UNIX)
+        if sys.platform != "linux":
+            return mark, port
+        try:
+            mark.bind(f"\0conformance-port-{port}")
+            return mark, port
+        except OSError:
+            mark.close()
 
 
 def is_listened_to(port):
@@ -820,34 +1021,114 @@ def is_listened_to(port):
 # ---- cases
 
 
+# A file of cases is an object: `end` is `intake` or `outbox`, `about` says which part of the protocol it is on, `level`
+# how its cases are marked, `cases` is the list. Each case has a `name`, which no other has, the `rule` in words, and a
+# `level` if it is marked otherwise. Bytes are written as
+#
+#   "a string"                                its UTF-8; JSON's \r\n is CR LF
+#   {"base64": "gOn/"}                        what this decodes to
+#   {"repeat": BYTES, "times": 100}           the same bytes, so many times
+#   {"each": "f%", "from": 1000, "to": 1999, "join": ","}
+#                                             the string for each number in place of %, with the other string between
+#   {"number": 2}                             in decimal the number of the second valid report of the case, which is 2
+#                                             if the register was empty
+#   [BYTES, BYTES, ..]                        one after another
+#
+# A case for an intake has `connections`, a list that is played in order. An element is a connection of its own, which
+# is closed after its `steps`, or a `race`, several connections at once, or a `restart` (`stop` or `kill`). The steps:
+#
+#   {"send": BYTES}       writes these bytes at once
+#   {"pause": 30}         waits so many milliseconds
+#   {"reply": {..}}       reads one reply, interim or final, with this `status`; with `fields`, each of which is there
+#                         once with this value; with this `content`, or with this `json` (compared as JSON). Without
+#                         both the reply has no content and no Content-Length
+#   {"quiet": 250}        for so many milliseconds nothing comes, and the intake does not close the connection
+#   {"shut": true}        closes the sending side
+#   {"closed": true}      the intake closes the connection, and nothing comes before that
+#   {"stays": true}       for 250 ms nothing comes and the connection is open; then the runner closes the sending side,
+#                         and the intake closes with nothing more
+#   {"cut": true}         closes the connection, whatever came
+#   {"reset": true}       resets the connection
+#   {"syncs": "hold"}     from now on what the intake asks of the disk waits; with `refuse` it fails, with `pass` it
+#                         goes on
+#   {"held": true}        waits until something is asked of the disk: up to then, and a second more, nothing comes
+#   {"unkept": true}      no reply comes before the end of the connection, or one of a status from 500 on
+#
+# A race has `times`, the number of its connections, and `send`, the request of each, which asks to close. In its bytes
+# {"turn": 2} is the number of the connection, from 1, in two digits. `replies` is a list of {"times": 7, "reply":
+# {..}}: so many connections get this reply, whichever they are, and are then closed. The runner sends each request but
+# its last byte, and then all last bytes. If replies have several numbers, an earlier reply of the case has one too.
+# With `again` each connection gets the content that it got in the race before. With `syncs` the first request is sent
+# alone, and the others once the intake asks the disk, which waits. Up to then, and a second more, nothing comes on any
+# connection. Then with `one` the disk goes on. With `each` one sync goes on first, and nothing comes on the other
+# connections before the intake asks the disk again, nor a second more. With `refuse` each call fails, and each
+# connection is `unkept`.
+#
+# `register` has the list of each filer afterwards: the runner sends GET /filings/FILER on a connection of its own, and
+# the reply has to be 200 with this content. `limit` is the most keys that may be kept. `empty` says that the register
+# has to be empty even if numbers could be counted otherwise.
+#
+# A case for an outbox has the `filer`, and `steps`:
+#
+#   {"put": {"key": .., "body": BYTES, "amend": N}}
+#                         puts an entry in; with `amend`, one that replaces filing N
+#   {"send": {"entry": 1, "requests": [BYTES], "answer": [..]}}
+#                         sends the entry and answers it. `requests` are the requests that have to come, each on a
+#                         connection of its own; without `requests` that is left open. With `syncs` what `send` asks of
+#                         the disk from the answer on waits (`hold`): meanwhile it neither ends nor prints a state. Or
+#                         it fails (`refuse`), and `send` prints no state but `open`
+#   {"states": [..]}      compares the state of each entry, as `open` or `confirmed 7`
+#   {"syncs": "refuse"}   from now on what the outbox asks of the disk fails, and so may `put` and `status`; with `pass`
+#                         it goes on
+#
+# The steps of `answer` are played once a request has come whole: `send`, `pause`, `quiet` (the outbox sends nothing
+# meanwhile, and does not shut its sending side), `reset` (the connection is reset at its end, in place of closed), and
+# `wait` (the server waits until the outbox closes). Then the server closes the connection.
+
 # The members that each thing has, and of which kind; those with a question mark may be missing.
 ANY, BYTES, BYTES_OF_TURN = object(), object(), object()
+LEVELS, WAYS = ("must", "strict"), ("pass", "hold", "refuse")
 REPLY = {"status": int, "fields?": dict, "content?": BYTES, "json?": ANY}
 STEPS = {
     "send": BYTES,
     "reply": REPLY,
     "pause": int,
     "quiet": int,
+    "syncs": WAYS,
+    "held": bool,
+    "unkept": bool,
     "shut": bool,
     "stays": bool,
     "closed": bool,
     "cut": bool,
     "reset": bool,
 }
-RACE = {"times": int, "send": BYTES_OF_TURN, "replies": [{"times": int, "reply": REPLY}]}
-ANSWER = {"send": BYTES, "pause": int, "wait": bool, "reset": bool}
-SENDING = {"entry": int, "requests?": [BYTES], "answer": [ANSWER]}
-OUTBOX_STEPS = {"put": {"key": str, "body": BYTES, "amend?": int}, "send": SENDING, "states": [str]}
+RACE = {
+    "times": int,
+    "send": BYTES_OF_TURN,
+    "replies": [{"times": int, "reply": REPLY}],
+    "again?": bool,
+    "syncs?": ("one", "each", "refuse"),
+}
+ANSWER = {"send": BYTES, "pause": int, "quiet": int, "wait": bool, "reset": bool}
+SENDING = {"entry": int, "requests?": [BYTES], "answer": [ANSWER], "syncs?": ("hold", "refuse")}
+OUTBOX_STEPS = {
+    "put": {"key": str, "body": BYTES, "amend?": int},
+    "send": SENDING,
+    "states": [str],
+    "syncs": WAYS,
+}
 CASES = {
     "intake": {
         "name": str,
         "rule": str,
+        "level?": LEVELS,
         "connections": [{"steps": [STEPS], "race": RACE, "restart": ("stop", "kill")}],
         "register?": dict,
         "limit?": int,
         "empty?": bool,
     },
-    "outbox": {"name": str, "rule": str, "filer": str, "steps": [OUTBOX_STEPS]},
+    "outbox": {"name": str, "rule": str, "level?": LEVELS, "filer": str, "steps": [OUTBOX_STEPS]},
 }
 # Of these members a thing has exactly one.
 ONE_OF = (STEPS, ANSWER, OUTBOX_STEPS, CASES["intake"]["connections"][0])
@@ -894,7 +1175,7 @@ def check_case(end, case):
     for content in case.get("register", {}).values():
         to_bytes(content, 0)
     for it in (item["race"] for item in case.get("connections", []) if "race" in item):
-        if it["times"] != sum(one["times"] for one in it["replies"]):
+        if it.get("syncs") != "refuse" and it["times"] != sum(one["times"] for one in it["replies"]):
             raise Unusable(f"the case {case['name']}: a race of {it['times']} connections has another count of replies")
     if not case["name"] or not case["rule"]:
         raise Unusable("a case has no name or no rule")
@@ -909,12 +1190,13 @@ def read_cases(folder, end, only, exact):
     for file in files:
         try:
             whole = json.loads(file.read_bytes())
+            check_form("the level of the cases", whole["level"], LEVELS)
             for case in whole["cases"]:
                 check_case(whole["end"], case)
                 if case["name"] in names:
                     raise Unusable(f"two cases are called {case['name']}")
                 names.add(case["name"])
-                found.append({"end": whole["end"], **case})
+                found.append({"end": whole["end"], "level": whole["level"], **case})
         except Unusable as fault:
             raise Unusable(f"{file}: {fault}") from fault
         except (ValueError, KeyError, TypeError, AttributeError) as fault:
@@ -935,30 +1217,57 @@ def read_cases(folder, end, only, exact):
     return chosen
 
 
+class Tally:
+    """How the cases went that were tried, and why others were not."""
+
+    def __init__(self):
+        self.counts = {level: collections.Counter() for level in LEVELS}
+        self.left, self.late = {}, []
+
+    def take(self, case, how, told):
+        """Takes how a case went, and tells of it if it failed."""
+        if how == "left":
+            self.left.setdefault(told, []).append(case["name"])
+            return
+        self.counts[case["level"]][how] += 1
+        if how != "passed":
+            print(f"{how}: {case['name']} ({case['level']}): {case['rule']}\n  {told}", flush=True)
+
+    def status(self):
+        passed = sum(counts["passed"] for counts in self.counts.values())
+        failed = {level: counts["failed"] + counts["timed out"] for level, counts in self.counts.items()}
+        if failed["must"] or not passed:
+            return 1
+        return 4 if failed["strict"] else 0
+
+
 def tried(cases, attempt, lacks, jobs):
-    """Tries the cases, so many at a time, tells of those that failed, in order, and gives the status."""
-    passed, failed, left = 0, 0, {}
+    """Tries the cases, so many at a time, and those that timed out once more alone; tells of those that failed, and
+    gives the status."""
+    tally = Tally()
 
     def one(case):
         cause = lacks(case)
-        return ("left", cause) if cause else ("tried", attempt(case))
+        return ("left", cause) if cause else attempt(case)
 
     pool = concurrent.futures.ThreadPoolExecutor(jobs)
     try:
-        for case, (kind, fault) in zip(cases, pool.map(one, cases)):
-            if kind == "left":
-                left.setdefault(fault, []).append(case["name"])
-            elif fault:
-                failed += 1
-                print(f"failed: {case['name']}: {case['rule']}\n  {fault}", flush=True)
+        for case, (how, told) in zip(cases, pool.map(one, cases)):
+            if how == "timed out":
+                tally.late.append((case, told))
             else:
-                passed += 1
+                tally.take(case, how, told)
     finally:
         pool.shutdown(cancel_futures=True)
-    for cause, names in left.items():
+    for at, (case, told) in enumerate(tally.late):
+        tally.take(case, *(one(case) if at < MOST_AGAIN else ("timed out", told)))
+    for cause, names in tally.left.items():
         print(f"not tried, since {cause}: {len(names)}, as {names[0]}")
-    print(f"{passed} passed, {failed} failed")
-    return 1 if failed or not passed else 0
+    if tally.late:
+        print(f"timed out, and tried once more: {min(len(tally.late), MOST_AGAIN)} of {len(tally.late)}")
+    for level, counts in tally.counts.items():
+        print(f"{level}: {counts['passed']} passed, {counts['failed']} failed, {counts['timed out']} timed out")
+    return tally.status()
 
 
 def filer_with_filings(options, cases):
@@ -981,7 +1290,7 @@ def filer_with_filings(options, cases):
 def intake_of(options):
     """The end that the options name, and how many cases are tried at a time."""
     if options.command:
-        return Command(options.command, options.again), options.jobs
+        return Command(options.command, options.again, options.no_syncs), options.jobs
     if options.exec:
         return Piped(options.exec), options.jobs
     return Running(options.port), 1
@@ -1008,12 +1317,17 @@ def run_outbox(options, cases):
         "send": options.send or f"{program} send --db {{db}} --port {{port}} --entry {{entry}} --patience {{patience}}",
         "status": options.status or f"{program} status --db {{db}}",
     }
-    return tried(cases, lambda case: try_outbox(templates, case, options.patience), lambda case: None, options.jobs)
+    return tried(
+        cases,
+        lambda case: try_outbox(templates, case, options.patience),
+        lambda case: NO_SYNCS if options.no_syncs and mentions(case, "syncs") else None,
+        options.jobs,
+    )
 
 
 def show(_, cases):
     for case in cases:
-        print(f"{case['end']} {case['name']}: {case['rule']}")
+        print(f"{case['end']} {case['name']} ({case['level']}): {case['rule']}")
     return 0
 
 
@@ -1040,12 +1354,15 @@ def read_words(words):
     shared.add_argument(
         "--patience",
         type=number_to(600),
-        default=10,
+        default=PATIENCE,
         metavar="SECONDS",
         help="how long an answer is waited for (10)",
     )
     shared.add_argument(
         "--jobs", type=number_to(64), default=4, metavar="N", help="how many cases are tried at a time (4)"
+    )
+    shared.add_argument(
+        "--no-syncs", action="store_true", help="leave out the cases that hold or refuse what is asked of the disk"
     )
     intake = parsers.add_parser("intake", parents=[shared], help="a supervisor's end")
     way = intake.add_mutually_exclusive_group(required=True)

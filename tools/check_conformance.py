@@ -1,18 +1,21 @@
 #!/usr/bin/env python3
 """Holds the built programs to the cases of conformance/, and the runner of these cases to account.
 
-    tools/check_conformance.py [INTAKE OUTBOX] [--only WORD]
+    tools/check_conformance.py [INTAKE OUTBOX] [--only WORD] [--patience SECONDS]
 
 Without names it takes the programs that `rt run` builds in their folders. First each case is played on them: over
 sockets with an intake started for each case, over the port of one that runs, on standard input and output, and with the
 outbox. Then wrong programs are played: an intake and an outbox that this script puts itself in front of, changing one
-thing. For each change the named cases have to fail, and the others named, or all others, have to pass. All this takes
-some twenty minutes.
+thing, and a small intake of its own. For each fault the named cases have to fail, and the others named, or all others,
+have to pass. All this takes some twenty minutes; on a busy machine give --patience, which is that of the runner.
 The last line is 'N passed, M failed', and the status 1 if one failed.
 """
+import argparse
 import collections
+import contextlib
 import ctypes
 import json
+import os
 import pathlib
 import re
 import select
@@ -294,6 +297,169 @@ class WrongIntake:
         client.sendall(REPLY_FAULTS.get(self.fault, bytes)(reply))
 
 
+# ---- an intake of this script's own, with one fault in what it keeps and when
+
+
+SOUND = "has no fault"
+EARLY, FOLLOWERS_EARLY = "answers before its commit", "answers those behind the first before its commit"
+LOSES, GAPS = "loses at a kill what came at once", "numbers by rows after a restart"
+RACES_REFUSED, DOUBLES = "keeps each of two refused reports that race", "reads numbers as doubles"
+SMALL_FAULTS = [SOUND, EARLY, FOLLOWERS_EARLY, LOSES, GAPS, RACES_REFUSED, DOUBLES]
+# What is wrong with a report that has these bytes. It judges no others.
+WRONG_PARTS = {
+    b'"namespaces":[]': ("namespaces", "/documentInfo/namespaces"),
+    b"{}": ("document-info", "/documentInfo"),
+}
+PHRASES = {200: "OK", 201: "Created", 422: "Unprocessable Content"}
+
+
+def compact(content):
+    return json.dumps(content, separators=(",", ":")).encode()
+
+
+def problem(reason, findings=()):
+    listed = [{"code": code, "place": place} for code, place in findings]
+    rest = {"reason": reason, "status": 422, "title": PHRASES[422], "type": "about:blank"}
+    return 422, compact({"findings": listed, **rest} if listed else rest)
+
+
+def judged(body):
+    return next((finding for part, finding in WRONG_PARTS.items() if part in body or body == part), None)
+
+
+def read_to_empty_line(given):
+    """The lines before the next empty one, or nothing if the input ends first."""
+    lines = []
+    while (line := given.readline()) != b"\r\n":
+        if not line:
+            return b""
+        lines.append(line)
+    return b"".join(lines)
+
+
+class SmallIntake:
+    """An intake for the requests and reports of the cases named below. It keeps rows in a file of lines, and takes all
+    connections side by side: what came while the disk was busy is synced at once."""
+
+    def __init__(self, fault, path, is_new):
+        self.fault = fault
+        self.file = open(path, "x+b" if is_new else "r+b", buffering=0)
+        self.deciding, self.syncing = threading.Lock(), threading.Lock()
+        self.rows, self.written, self.synced, self.unwritten = {}, 0, 0, []
+        for line in self.file:
+            self.remember(*json.loads(line))
+        self.next = 1 + (len(self.rows) if fault == GAPS else len(self.numbers()))
+
+    def remember(self, filer, key, target, body, number):
+        self.rows[filer, key] = target, body, number
+
+    def numbers(self):
+        return [row[2] for row in self.rows.values() if row[2]]
+
+    def answer(self, head, body):
+        """The answer to a request, and the place in the file up to which it has to be synced."""
+        method, path, filer, target = re.match(r"(GET|POST) (/filings/([^/ ]+)(?:/(\d+))?) ", head).groups()
+        with self.deciding:
+            if method == "GET":
+                return (200, self.list_of(filer)), 0
+            if target:
+                target = int(float(target)) if self.fault == DOUBLES else int(target)
+            key = re.search(r'(?i)\r\nIdempotency-Key:\s*"([^\r]*)"', head)[1]
+            body = body.decode("latin-1")
+            if (filer, key) in self.rows:
+                return self.told(filer, key, target, body), self.written
+        finding = judged(body.encode("latin-1"))
+        if self.fault == RACES_REFUSED and finding:
+            time.sleep(0.2)
+        with self.deciding:
+            if (filer, key) not in self.rows or self.fault == RACES_REFUSED and finding:
+                self.keep(filer, key, target, body, bool(finding))
+            return self.told(filer, key, target, body), self.written
+
+    def keep(self, filer, key, target, body, is_refused):
+        number = None if is_refused or self.is_bound(filer, target) else self.next
+        self.next += number is not None
+        self.remember(filer, key, target, body, number)
+        line = compact([filer, key, target, body, number]) + b"\n"
+        if self.fault == LOSES and self.syncing.locked():
+            self.unwritten.append(line)
+        else:
+            self.written += self.file.write(line)
+
+    def is_bound(self, filer, target):
+        """Whether the filing that is to be replaced may not be."""
+        return target is not None and not any(
+            other == filer and row[2] == target for (other, _), row in self.rows.items()
+        )
+
+    def told(self, filer, key, target, body):
+        first = self.rows[filer, key]
+        if first[:2] != (target, body):
+            return problem("key-reused")
+        if first[2]:
+            return 201, compact({"number": first[2], "status": "registered"})
+        finding = judged(body.encode("latin-1"))
+        return problem("refused", [finding or ("not-replaceable", "")])
+
+    def list_of(self, filer):
+        rows = sorted((row[2], row[1]) for (other, _), row in self.rows.items() if other == filer and row[2])
+        return compact({"filings": [{"facts": body.count('"concept"'), "number": number} for number, body in rows]})
+
+    def sync(self, place):
+        """Waits until the file has been synced up to this place."""
+        if self.fault == FOLLOWERS_EARLY and self.syncing.locked():
+            return
+        with self.syncing:
+            if self.synced < place:
+                with self.deciding:
+                    written = self.written
+                if self.fault == LOSES:
+                    time.sleep(0.3)
+                os.fdatasync(self.file.fileno())
+                self.synced = written
+
+    def serve_one(self, client):
+        """Answers the requests of a connection. If the disk refuses, it is closed."""
+        with client, contextlib.suppress(OSError), client.makefile("rb") as given:
+            while head := read_to_empty_line(given):
+                length = re.search(rb"(?i)\r\ncontent-length: *(\d+)", head)
+                body = given.read(int(length[1]) if length else 0)
+                (status, content), place = self.answer(head.decode("latin-1"), body)
+                if self.fault != EARLY:
+                    self.sync(place)
+                kind = "application/json" if status < 300 else "application/problem+json"
+                client.sendall(f"HTTP/1.1 {status} {PHRASES[status]}\r\nContent-Type: {kind}\r\n"
+                               f"Content-Length: {len(content)}\r\n\r\n".encode() + content)
+                if self.fault == EARLY:
+                    self.sync(place)
+                if b"\r\nconnection: close" in head.lower():
+                    return
+
+    def serve(self, port):
+        listener = socket.create_server(("127.0.0.1", port), backlog=100)
+        while True:
+            client = listener.accept()[0]
+            client.setsockopt(socket.IPPROTO_TCP, socket.TCP_NODELAY, 1)
+            threading.Thread(target=self.serve_one, args=(client,), daemon=True).start()
+
+
+# For each fault the cases that have to fail; the others of these have to pass.
+SMALL_CASES = [
+    "disk.held", "disk.held-behind-a-refused-report", "disk.held-before-repeats", "disk.held-before-others",
+    "disk.refused", "disk.refused-behind-a-refused-report", "disk.refused-to-all", "race.killed-behind-it",
+    "race.one-key-for-8-refused-bodies", "race.one-key-for-8-bodies", "race.8-keys", "repeat.on-another-connection",
+    "restart.number-behind-refused-reports", "restart.killed", "amend.number-beyond-2-to-the-53",
+]  # fmt: skip
+SMALL = {
+    SOUND: [],
+    EARLY: SMALL_CASES[:7],
+    FOLLOWERS_EARLY: ["disk.held-before-repeats", "disk.held-before-others", "disk.refused-to-all"],
+    LOSES: ["race.killed-behind-it", "disk.held-before-others"],
+    GAPS: ["restart.number-behind-refused-reports", "disk.refused-behind-a-refused-report"],
+    RACES_REFUSED: ["race.one-key-for-8-refused-bodies"],
+    DOUBLES: ["amend.number-beyond-2-to-the-53"],
+}
+
 # For each fault the cases that have to fail, and those that have to pass all the same.
 EVERY_OTHER = "every other"
 INTAKES = {
@@ -371,6 +537,13 @@ FILERS = {
     "sends twice": (["request.again", "reply.none"], []),
     "sends twice at once": (["request.of-an-entry", "request.again", "reply.late"], []),
     "sends again while it waits": (["reply.late"], EVERY_OTHER),
+    "takes 7.0 for a number": (["open.201-number-with-point-and-zero"],
+                               ["open.201-number-fraction", "confirmed.number-1"]),
+    "sends before it keeps": (["disk.entry-refused", "disk.second-entry-refused"],
+                              ["request.of-an-entry", "request.of-the-second-entry", "disk.confirmed-held"]),
+    "reports before it keeps": (["disk.confirmed-held", "disk.refused-held", "disk.clashed-held", "disk.state-refused"],
+                                ["request.of-an-entry", "confirmed.number-1", "disk.entry-refused"]),
+    "shuts its sending side": (["request.side-stays-open"], ["request.of-an-entry", "reply.late"]),
     "sends nothing": (["request.of-an-entry", "reply.none"], []),
     "sends the other entry": (["request.of-the-second-entry"], ["request.of-an-entry"]),
     "fails": (["request.of-an-entry", "reply.none"], []),
@@ -406,6 +579,45 @@ def carry_in_haste(listener, port, seconds):
                 due = None
 
 
+def is_whole(request):
+    head, mark, body = request.partition(b"\r\n\r\n")
+    return bool(mark) and len(body) == int(re.search(rb"Content-Length: (\d+)", head)[1])
+
+
+def carry_wrong(fault, listener, port):
+    """Carries what the outbox sends to the runner, and what comes back, with this fault."""
+    outbox, request = listener.accept()[0], b""
+    with outbox, socket.create_connection(("127.0.0.1", port)) as peer:
+        while True:
+            for source in select.select([outbox, peer], [], [])[0]:
+                data = source.recv(65536)
+                if not data:
+                    return
+                if source is outbox:
+                    request += data
+                    peer.sendall(data)
+                    if fault == "shuts its sending side" and is_whole(request):
+                        peer.shutdown(socket.SHUT_WR)
+                        outbox.sendall(peer.recv(65536))
+                else:
+                    if fault == "reports before it keeps":
+                        print("entry 1 confirmed 7", flush=True)
+                    outbox.sendall(data.replace(b'"number":7.0', b'"number":7  '))
+
+
+CARRIED = ["takes 7.0 for a number", "reports before it keeps", "shuts its sending side"]
+
+
+def send_unkept(report, filer, key, port):
+    """Sends a report that is nowhere on the disk."""
+    body = pathlib.Path(report).read_bytes()
+    head = (f'POST /filings/{filer} HTTP/1.1\r\nHost: localhost\r\nIdempotency-Key: "{key}"\r\n'
+            f"Content-Type: application/json\r\nContent-Length: {len(body)}\r\nConnection: close\r\n\r\n")
+    with socket.create_connection(("127.0.0.1", port)) as peer:
+        peer.sendall(head.encode() + body)
+        peer.recv(65536)
+
+
 def play_filer(fault, program, words):
     """Runs a command of the real outbox, with one fault."""
     words = list(words)
@@ -432,29 +644,51 @@ def play_filer(fault, program, words):
         listener = socket.create_server(("127.0.0.1", 0))
         port, words[value("--port")] = int(words[value("--port")]), str(listener.getsockname()[1])
         threading.Thread(target=carry_in_haste, args=(listener, port, HASTE[fault]), daemon=True).start()
+    if fault in CARRIED and name == "send":
+        listener = socket.create_server(("127.0.0.1", 0))
+        port, words[value("--port")] = int(words[value("--port")]), str(listener.getsockname()[1])
+        threading.Thread(target=carry_wrong, args=(fault, listener, port), daemon=True).start()
     if fault == "sends the other entry" and name == "send" and words[value("--entry")] == "2":
         words[value("--entry")] = "1"
     done = subprocess.run([program, *words], capture_output=True, text=True, check=False)
     lines = STATUS_FAULTS[fault](done.stdout) if name == "status" and fault in STATUS_FAULTS else done.stdout
     sys.stdout.write(lines)
+    if fault == "sends before it keeps" and done.returncode:
+        if name == "put":
+            pathlib.Path(words[value("--db")] + ".unkept").write_text(
+                json.dumps([words[value("--body")], "ACME", words[value("--key")]]))
+        if name == "send":
+            send_unkept(*json.loads(pathlib.Path(words[value("--db")] + ".unkept").read_text()),
+                        int(words[value("--port")]))
+        return 0
     return done.returncode
 
 
 # ---- the runner
 
 
+# The runner's patience, if one was given, and that with which wrong programs are tried.
+patience = {}
+PATIENCE_WITH_FAULTS = 4
+
+
 def run_cases(*words):
     """What the runner prints, and its status."""
-    done = subprocess.run([sys.executable, RUNNER, *map(str, words)],
-                          capture_output=True, text=True, check=False, timeout=3000)
+    waits = ["--patience", str(patience["given"])] if patience else []
+    done = subprocess.run([sys.executable, RUNNER, *map(str, words), *waits],
+                          capture_output=True, text=True, check=False, timeout=10_000)
     return done.returncode, done.stdout, done.stderr
 
 
 def told_of(output):
     """The cases that failed, and the counts of the last line."""
-    failed = re.findall(r"(?m)^failed: (\S+?): ", output)
-    counts = re.search(r"(\d+) passed, (\d+) failed\n\Z", output)
-    return failed, (int(counts[1]), int(counts[2])) if counts else None
+    failed = re.findall(r"(?m)^(?:failed|timed out): (\S+) \(", output)
+    counts = re.search(r"must: (\d+) passed, (\d+) failed, (\d+) timed out\n"
+                       r"strict: (\d+) passed, (\d+) failed, (\d+) timed out\n\Z", output)
+    if not counts:
+        return failed, None
+    passed_must, failed_must, late_must, passed_strict, failed_strict, late_strict = map(int, counts.groups())
+    return failed, (passed_must + passed_strict, failed_must + late_must + failed_strict + late_strict)
 
 
 def count_of(end, *words):
@@ -467,7 +701,7 @@ def check_all(what, wanted, *words, least=0):
     """The runner tries so many cases, or at least so many, and each passes."""
     status, output, errors = run_cases(*words)
     failed, counts = told_of(output)
-    sys.stdout.write("".join(line + "\n" for line in output.splitlines() if not line.endswith("failed")))
+    sys.stdout.write("".join(line + "\n" for line in output.splitlines() if not line.endswith("timed out")))
     fault = None
     if status or failed or not counts or counts[1]:
         fault = f"status {status}, failed {failed}, {errors[-500:]}"
@@ -482,16 +716,15 @@ def check_fault(what, fault, must_fail, must_pass, *words):
         only, others = [], count_of(words[0]) - len(must_fail)
     else:
         only, others = [word for name in must_fail + must_pass for word in ("--case", name)], len(must_pass)
-    _, output, errors = run_cases(*words, *only, "--patience", "2")
+    _, output, errors = run_cases(*words, *only, "--patience", PATIENCE_WITH_FAULTS)
     failed, counts = told_of(output)
     wanted = (others, len(must_fail))
     found = (
         None if sorted(failed) == sorted(must_fail) and counts == wanted
         else f"failed {failed}, {counts}: {output[-700:]}{errors[-300:]}"
     )
-    if must_fail and not found and not all(
-        re.search(rf"(?ms)^failed: {re.escape(name)}: .*?wanted: .*?came: ", output) for name in must_fail
-    ):
+    told = r"(?ms)^(?:failed|timed out): {} \(.*?wanted: .*?came: "
+    if must_fail and not found and not all(re.search(told.format(re.escape(name)), output) for name in must_fail):
         found = f"it doesn't say what was wanted and what came: {output[-700:]}"
     tell_one(f"{what} that {fault}", found)
 
@@ -533,6 +766,11 @@ def check_faults(intake, outbox):
         template = words + " {db} {port} {n} {limit} new"
         again = words + " {db} {port} {n} 1000000 again"
         check_fault("an intake", fault, must_fail, must_pass, "intake", "--command", template, "--again", again)
+    for fault, must_fail in SMALL.items():
+        template = own("--small", fault) + " {db} {port}"
+        must_pass = [name for name in SMALL_CASES if name not in must_fail]
+        check_fault("an intake", fault, must_fail, must_pass, "intake", "--command", f"{template} new {{limit}}",
+                    "--again", f"{template} again")
     for fault, (must_fail, must_pass) in FILERS.items():
         check_fault("an outbox", fault, must_fail, must_pass, "outbox", "--command", own("--outbox", fault, outbox))
 
@@ -623,14 +861,22 @@ def main(words):
         fault, program, database, port, connections, limit, how = words[1:]
         wrong = WrongIntake(fault, program, database, port, connections, limit, how == "new")
         wrong.serve()
+    if words[:1] == ["--small"]:
+        fault, database, port, how = words[1:5]
+        SmallIntake(fault, database, how == "new").serve(int(port))
     if words[:1] == ["--outbox"]:
         return play_filer(words[1], words[2], words[3:])
-    only = [words[at + 1] for at, word in enumerate(words[:-1]) if word == "--only"]
-    programs = [word for at, word in enumerate(words) if word != "--only" and (at == 0 or words[at - 1] != "--only")]
-    if len(programs) not in (0, 2):
-        print("check_conformance.py: INTAKE and OUTBOX, or neither", file=sys.stderr)
-        return 2
-    intake, outbox = (pathlib.Path(one).resolve() for one in programs or (trials.INTAKE, trials.OUTBOX))
+    parser = argparse.ArgumentParser(description=__doc__.partition("\n")[0])
+    parser.add_argument("programs", nargs="*", metavar="INTAKE OUTBOX")
+    parser.add_argument("--only", action="append", default=[], metavar="WORD")
+    parser.add_argument("--patience", type=int, metavar="SECONDS")
+    given = parser.parse_args(words)
+    if len(given.programs) not in (0, 2):
+        parser.error("INTAKE and OUTBOX, or neither")
+    only = given.only
+    if given.patience:
+        patience["given"] = given.patience
+    intake, outbox = (pathlib.Path(one).resolve() for one in given.programs or (trials.INTAKE, trials.OUTBOX))
     for program in (intake, outbox):
         if not program.exists():
             built = f"build it: (cd crates/{program.name} && rt run -- --version)"
