@@ -331,8 +331,6 @@ def wait_for_sync(disk, patience, has_come):
     """Waits until a sync is held, or something else has come."""
     until = time.monotonic() + patience
     while not has_come() and not disk.held:
-        if disk.is_blind:
-            raise Unseen("the program syncs by other calls than fsync and the like")
         if time.monotonic() > until:
             raise Late("the disk", "the program waits for it before it answers", f"no sync in {patience} s")
         time.sleep(0.005)
@@ -542,7 +540,7 @@ def content_length(what, head, fields):
 # ---- an intake
 
 
-NO_SYNCS = "--no-syncs was said"
+NO_SYNCS, BLIND = "--no-syncs was said", "the program syncs in a way that is not seen (O_DSYNC or io_uring)"
 
 
 def mentions(it, name):
@@ -756,7 +754,7 @@ def try_intake(end, case, patience):
             intake = end.open(case, pathlib.Path(folder), patience)
         except Unseen as cause:
             return "left", str(cause)
-        what = "the program"
+        what, how, told = "the program", "passed", None
         try:
             for at, item in enumerate(case["connections"], 1):
                 what = f"connection {at}"
@@ -769,14 +767,13 @@ def try_intake(end, case, patience):
             for filer, content in case.get("register", {}).items() if end.reads_lists else ():
                 what = f"the list of {filer} afterwards"
                 Connection(intake.connect(), intake.numbers, patience).play(list_steps(filer, content))
-        except Unseen as cause:
-            return "left", str(cause)
         except (Fault, OSError) as fault:
-            told = intake.told()
-            return how_it_failed(fault), f"{what}: {fault}" + (f"\n    the program said: {shown(told)}" if told else "")
+            said = intake.told()
+            more = f"\n    the program said: {shown(said)}" if said else ""
+            how, told = how_it_failed(fault), f"{what}: {fault}{more}"
         finally:
             intake.end()
-    return "passed", None
+    return ("left", BLIND) if intake.disk and intake.disk.is_blind else (how, told)
 
 
 def how_it_failed(fault):
@@ -884,8 +881,6 @@ class Outbox:
             process.communicate()
             raise Late(f"the command {name}", "it ends", f"it runs after {2 * self.patience + 10} s") from late
         self.is_slow = time.monotonic() - since >= self.patience
-        if self.disk and self.disk.is_blind:
-            raise Unseen("the program syncs by other calls than fsync and the like")
         return process.returncode, output, errors
 
     def done(self, name, **words):
@@ -959,8 +954,9 @@ def as_requests(requests):
 def try_outbox(templates, case, patience):
     """Plays the case, as try_intake does."""
     with tempfile.TemporaryDirectory(prefix="conformance-") as folder:
-        outbox = Outbox(templates, pathlib.Path(folder), patience, Disk() if mentions(case, "syncs") else None)
-        what = "a new outbox"
+        disk = Disk() if mentions(case, "syncs") else None
+        outbox = Outbox(templates, pathlib.Path(folder), patience, disk)
+        what, how, told = "a new outbox", "passed", None
         try:
             outbox.done("init", filer=case["filer"])
             for at, step in enumerate(case["steps"], 1):
@@ -970,8 +966,8 @@ def try_outbox(templates, case, patience):
         except Unseen as cause:
             return "left", str(cause)
         except (Fault, OSError) as fault:
-            return how_it_failed(fault), f"{what}: {fault}"
-    return "passed", None
+            how, told = how_it_failed(fault), f"{what}: {fault}"
+    return ("left", BLIND) if disk and disk.is_blind else (how, told)
 
 
 # ---- commands

@@ -136,6 +136,7 @@ def made_harmless(reply):
 
 # Faults of an intake that takes connections side by side.
 UNLOCKED, NUMBERS_TWICE = "has no lock", "gives a number twice"
+TABS = "takes tabs for characters of a part"
 # A POST: its filer, the number of the filing that it replaces, and what comes up to the end of its key.
 POST = re.compile(rb'(POST /filings/[^ /]+)(/\d+)?( (?:(?!\r\n\r\n)[\s\S])*?\r\nIdempotency-Key: "[^"\r]*)"')
 
@@ -278,6 +279,8 @@ class WrongIntake:
 
     def asked(self, data):
         """What the real intake is asked in place of these bytes."""
+        if self.fault == TABS:
+            return data.replace(b"\t", b"-")
         if self.fault != "forgets what was filed under a key":
             return data
 
@@ -304,7 +307,9 @@ SOUND = "has no fault"
 EARLY, FOLLOWERS_EARLY = "answers before its commit", "answers those behind the first before its commit"
 LOSES, GAPS = "loses at a kill what came at once", "numbers by rows after a restart"
 RACES_REFUSED, DOUBLES = "keeps each of two refused reports that race", "reads numbers as doubles"
-SMALL_FAULTS = [SOUND, EARLY, FOLLOWERS_EARLY, LOSES, GAPS, RACES_REFUSED, DOUBLES]
+# The first of these is late until there is a file, whose path follows it; it makes the file.
+LATE_ONCE, LATE = "is late without ", "is late"
+BLIND = "syncs at each write"
 # What is wrong with a report that has these bytes. It judges no others.
 WRONG_PARTS = {
     b'"namespaces":[]': ("namespaces", "/documentInfo/namespaces"),
@@ -343,7 +348,8 @@ class SmallIntake:
 
     def __init__(self, fault, path, is_new):
         self.fault = fault
-        self.file = open(path, "x+b" if is_new else "r+b", buffering=0)
+        flags = os.O_RDWR | (os.O_CREAT | os.O_EXCL if is_new else 0) | (os.O_DSYNC if fault == BLIND else 0)
+        self.file = open(os.open(path, flags, 0o600), "r+b", buffering=0)
         self.deciding, self.syncing = threading.Lock(), threading.Lock()
         self.rows, self.written, self.synced, self.unwritten = {}, 0, 0, []
         for line in self.file:
@@ -437,6 +443,11 @@ class SmallIntake:
 
     def serve(self, port):
         listener = socket.create_server(("127.0.0.1", port), backlog=100)
+        mark = pathlib.Path(self.fault.removeprefix(LATE_ONCE)) if self.fault.startswith(LATE_ONCE) else None
+        if self.fault == LATE or mark and not mark.exists():
+            if mark:
+                mark.touch()
+            time.sleep(600)
         while True:
             client = listener.accept()[0]
             client.setsockopt(socket.IPPROTO_TCP, socket.TCP_NODELAY, 1)
@@ -497,6 +508,8 @@ INTAKES = {
     "keeps the connection open": (["close.asked", "close.1.0", "head.field-without-colon", "length.missing"], []),
     "closes after each reply": (["stays.keep-alive", "connection.one-after-another", "head.smallest"],
                                 ["close.asked", "length.missing"]),
+    TABS: (["length.list-with-tabs", "continue.in-a-list-with-tabs", "close.in-a-list-with-tabs",
+            "content-coding.list-with-tabs"], ["length.in-a-list", "close.in-a-list", "content-coding.identity"]),
     "says nothing": (["head.smallest", "method.head"], ["connection.without-a-byte"]),
     "completes what was cut": (["cut.before-the-last-byte", "connection.ends-inside-a-body"], ["close.asked"]),
     "has no limit": (["limit.a-new-key", "limit.zero", "race.limit"], ["head.smallest"]),
@@ -691,10 +704,14 @@ def told_of(output):
     return failed, (passed_must + passed_strict, failed_must + late_must + failed_strict + late_strict)
 
 
-def count_of(end, *words):
-    """How many cases there are for this end, as the runner lists them."""
+def levels_of(end, *words):
+    """How each case of this end is marked, by its name, as the runner lists them."""
     output = run_cases("list", *words)[1]
-    return len(re.findall(rf"(?m)^{end} ", output))
+    return dict(re.findall(rf"(?m)^{end} (\S+) \((must|strict)\): ", output))
+
+
+def count_of(end, *words):
+    return len(levels_of(end, *words))
 
 
 def check_all(what, wanted, *words, least=0):
@@ -716,12 +733,13 @@ def check_fault(what, fault, must_fail, must_pass, *words):
         only, others = [], count_of(words[0]) - len(must_fail)
     else:
         only, others = [word for name in must_fail + must_pass for word in ("--case", name)], len(must_pass)
-    _, output, errors = run_cases(*words, *only, "--patience", PATIENCE_WITH_FAULTS)
+    status, output, errors = run_cases(*words, *only, "--patience", PATIENCE_WITH_FAULTS)
     failed, counts = told_of(output)
-    wanted = (others, len(must_fail))
+    levels = levels_of(words[0])
+    wanted = (others, len(must_fail)), 0 if not must_fail else 1 if "must" in map(levels.get, must_fail) else 4
     found = (
-        None if sorted(failed) == sorted(must_fail) and counts == wanted
-        else f"failed {failed}, {counts}: {output[-700:]}{errors[-300:]}"
+        None if sorted(failed) == sorted(must_fail) and (counts, status) == wanted
+        else f"failed {failed}, {counts}, status {status}: {output[-700:]}{errors[-300:]}"
     )
     told = r"(?ms)^(?:failed|timed out): {} \(.*?wanted: .*?came: "
     if must_fail and not found and not all(re.search(told.format(re.escape(name)), output) for name in must_fail):
@@ -760,6 +778,36 @@ def check_programs(intake, outbox, only):
             serving.terminate()
 
 
+def check_late():
+    """A case that times out is tried once more, and said apart if it times out again."""
+    with tempfile.TemporaryDirectory() as folder:
+        for name, fault, lines, wanted in [
+            ("that is late once passes", f"{LATE_ONCE}{folder}/mark", "must: 1 passed, 0 failed, 0 timed out", 0),
+            ("that is late twice fails", LATE, "must: 0 passed, 0 failed, 1 timed out", 1),
+        ]:
+            words = own("--small", fault) + " {db} {port} new {limit}"
+            status, output, errors = run_cases("intake", "--command", words, "--case", "repeat.on-another-connection",
+                                               "--patience", PATIENCE_WITH_FAULTS)
+            is_told = status == wanted and "timed out, and tried once more: 1 of 1" in output and lines in output
+            tell_one(f"an intake {name}", None if is_told else f"status {status}, {output[-700:]}{errors[-300:]}")
+
+
+def check_left():
+    """The cases on the disk are left out, with a line that says so, if they can't be tried or it is asked for."""
+    cases = ["disk.held", "disk.refused", "disk.held-before-others", "repeat.on-another-connection"]
+    chosen = [word for name in cases for word in ("--case", name)]
+    for fault, more, cause in [
+        (BLIND, [], "the program syncs in a way that is not seen"),
+        (SOUND, ["--no-syncs"], "--no-syncs was said"),
+    ]:
+        words = own("--small", fault) + " {db} {port}"
+        status, output, errors = run_cases("intake", "--command", f"{words} new {{limit}}",
+                                           "--again", f"{words} again", *chosen, *more)
+        is_told = re.search(rf"not tried, since .*{cause}.*: 3, as disk.held\nmust: 1 passed, 0 failed", output)
+        tell_one(f"not tried: an intake that {fault}, {' '.join(more)}",
+                 None if is_told and not status else f"status {status}, {output[-700:]}{errors[-300:]}")
+
+
 def check_faults(intake, outbox):
     for fault, (must_fail, must_pass) in INTAKES.items():
         words = own("--intake", fault, intake)
@@ -775,7 +823,7 @@ def check_faults(intake, outbox):
         check_fault("an outbox", fault, must_fail, must_pass, "outbox", "--command", own("--outbox", fault, outbox))
 
 
-CASE = '{"end":"intake","about":"a","cases":[{"name":"a.b","rule":"r","connections":[{"steps":[%s]}]}]}'
+CASE = '{"end":"intake","about":"a","level":"must","cases":[{"name":"a.b","rule":"r","connections":[{"steps":[%s]}]}]}'
 # A command line or a file of cases, and what is said of it.
 REFUSALS = [
     (["intake", "--port", "{free}"], None, "nobody listens on port"),
@@ -796,10 +844,13 @@ REFUSALS = [
     (["list"], '{"end":"middle","cases":[{}]}', "no file of cases"),
     (["list"], CASE.replace('"rule":"r",', "") % "", "the case a.b has no 'rule'"),
     (["list"], CASE.replace('"rule":"r"', '"rule":""') % "", "a case has no name or no rule"),
+    (["list"], CASE.replace('"must"', '"may"') % "", "the level of the cases is none of must, strict"),
+    (["list"], CASE.replace('"rule":"r"', '"rule":"r","level":"may"') % "", "level is none of must, strict"),
     (["list"], CASE.replace('{"name"', '{"name":"a.b","rule":"r","connections":[]},{"name"', 1) % "",
      "two cases are called a.b"),
     (["list"], CASE % '{"sned":""}', "there is no 'sned'"),
     (["list"], CASE.replace('{"steps":[%s]}', '{"restart":"now"}'), "is none of stop, kill"),
+    (["list"], CASE % '{"syncs":"wait"}', "syncs is none of pass, hold, refuse"),
     (["list"], CASE % '{"send":"","pause":1}', "has 2 members in place of one"),
     (["list"], CASE % '{"pause":"1"}', "pause is no int"),
     (["list"], CASE % '{"send":7}', "7 spells no bytes"),
@@ -886,6 +937,8 @@ def main(words):
     check_programs(intake, outbox, only)
     if not only:
         check_refusals()
+        check_late()
+        check_left()
         check_faults(intake, outbox)
     print(f"{len(passed)} passed, {len(trials.failures)} failed")
     return 1 if trials.failures else 0
