@@ -77,7 +77,10 @@ def run_under_filter(descriptor, words):
             sys.exit(1)
         socket.send_fds(runner, [b"."], [listener])
     os.close(listener)
-    os.execvp(words[0], words)
+    try:
+        os.execvp(words[0], words)
+    except OSError as fault:
+        sys.exit(f"{words[0]}: {fault.strerror}")
 
 
 # ---- the runner's side
