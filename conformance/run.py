@@ -420,10 +420,11 @@ def replies_on(peers, is_open, patience):
     return list(came.values())
 
 
-def race(intake, requests, patience):
-    """What came for each of the requests, which are sent at once. Those that get no byte of a reply are sent again, as
-    filers do it: if many wait to be taken, Linux breaks some connections that the intake has never seen."""
-    came = [b""] * len(requests)
+def race(intake, requests, patience, came=()):
+    """What came for each of the requests, which are sent at once but for those of which something came before. Those
+    that get no byte of a reply are sent again, as filers do it: if many wait to be taken, Linux breaks some connections
+    that the intake has never seen."""
+    came = list(came) or [b""] * len(requests)
     while turns := [turn for turn, found in enumerate(came) if not found]:
         # The first waits until somebody listens.
         peers = [intake.connect().peer]
@@ -465,7 +466,8 @@ def race_to_the_disk(intake, requests, how, patience):
         hold_nothing(peers, "before the first request is on the disk", patience)
         peers += [connecting(intake.port) for _ in requests[1:]]
         others = connected_in(peers[1:], paced(GATHERED, patience))
-        send_all(others, [dict(zip(peers, requests))[peer] for peer in others])
+        to_send = dict(zip(peers, requests))
+        send_all(others, [to_send[peer] for peer in others])
         hold_nothing(peers, "before the first request is on the disk", patience)
         if how == "each":
             intake.disk.let_one()
@@ -727,12 +729,12 @@ def list_steps(filer, content):
 def try_race(intake, wanted, patience):
     """Sends the requests of a race, and compares what came."""
     requests = [to_bytes(wanted["send"], intake.numbers.offset, turn) for turn in range(1, wanted["times"] + 1)]
+    how = wanted.get("syncs")
     with RACES:
-        if "syncs" in wanted:
-            came = race_to_the_disk(intake, requests, wanted["syncs"], patience)
-        else:
-            came = race(intake, requests, patience)
-    if wanted.get("syncs") == "refuse":
+        came = race_to_the_disk(intake, requests, how, patience) if how else ()
+        if how != "refuse":
+            came = race(intake, requests, patience, came)
+    if how == "refuse":
         for one in came:
             hold_unkept(one)
         return

@@ -553,6 +553,8 @@ FILERS = {
     "sends again while it waits": (["reply.late"], EVERY_OTHER),
     "takes 7.0 for a number": (["open.201-number-with-point-and-zero"],
                                ["open.201-number-fraction", "confirmed.number-1"]),
+    "takes numbers for doubles": (["confirmed.number-beyond-2-to-the-53", "confirmed.largest-number"],
+                                  ["confirmed.number-1", "open.201-number-too-large"]),
     "sends before it keeps": (["disk.entry-refused", "disk.second-entry-refused"],
                               ["request.of-an-entry", "request.of-the-second-entry", "disk.confirmed-held"]),
     "reports before it keeps": (["disk.confirmed-held", "disk.refused-held", "disk.clashed-held", "disk.state-refused"],
@@ -616,10 +618,14 @@ def carry_wrong(fault, listener, port):
                 else:
                     if fault == "reports before it keeps":
                         print("entry 1 confirmed 7", flush=True)
-                    outbox.sendall(data.replace(b'"number":7.0', b'"number":7  '))
+                    if fault == "takes 7.0 for a number":
+                        data = data.replace(b'"number":7.0', b'"number":7  ')
+                    if fault == "takes numbers for doubles":
+                        data = re.sub(rb'(?<="number":)\d+', lambda it: b"%d" % float(it[0]), data)
+                    outbox.sendall(data)
 
 
-CARRIED = ["takes 7.0 for a number", "reports before it keeps", "shuts its sending side"]
+CARRIED = ["takes 7.0 for a number", "takes numbers for doubles", "reports before it keeps", "shuts its sending side"]
 
 
 def send_unkept(report, filer, key, port):
