@@ -101,6 +101,17 @@ exit "$LEFT_STATUS"
             + ("" if status == 1 else "status --db outbox.db --wait 60\n")
         )
         hold("and what it asks", (folder / "asked").read_text(), asked)
+    # How many seconds a round has the outbox open at most, and how long a command of a page waits for it.
+    (held,) = map(int, re.findall(r"timeout (\d+) outbox send", (DEPLOY / "outbox-round").read_text()))
+    for page in ("FIRST_DAYS.md", "OPERATIONS.md"):
+        found = re.findall(r"`(?:outbox [^`]*)?--wait (\d+)|outbox \w+ --wait (\d+)",
+                           (ROOT / "docs" / page).read_text())
+        waits = [int(first or second) for first, second in found]
+        hold(f"docs/{page}: each command that waits for an outbox waits for longer than a round has it open",
+             (len(waits) > 0, [it for it in waits if it < held + 10]), (True, []))
+    for unit in ("berruzpil-outbox.service", "berruzpil-outbox@.service"):
+        (minutes,) = re.findall(r"(?m)^TimeoutStartSec=(\d+)min$", (DEPLOY / unit).read_text())
+        hold(f"{unit} lets a round end by itself, and no longer", 1 <= int(minutes) - (held + 60) / 60 <= 2, True)
 
 
 def try_snapshot(folder):
@@ -160,7 +171,12 @@ EMPTY = [
     ("register-copies", "register.db", "", "30"),
     ("register-restore", "", "new.db"),
     ("register-restore", "copy.db", ""),
+    ("register-restore", "--replace", "", "register.db"),
+    ("register-restore", "--replace", "copy.db", ""),
     ("outbox-restore", "copy.db", ""),
+    ("outbox-again", "", "again.db", "1"),
+    ("outbox-again", "outbox.db", "", "1"),
+    ("outbox-again", "outbox.db", "again.db", ""),
     ("outbox-round", "", "8081"),
     ("lost-filings", "", "log"),
     ("lost-filings", "copy.db", ""),
@@ -352,7 +368,7 @@ def try_log(folder):
     odd = [b'{"uri":"/\xff","intake_status":"","key":""}\n', b"\n", b"[1]\n", b"7\n"]
     agent = log_line("/filings/ACME", "k-5").replace(b"}", b',"agent":"\xff"}')
     cut, unread = b'{"time":"T","uri":"/filings/AC', "lost-filings: {}: {} lines can't be read, the first is line {}\n"
-    beta, five = 'T BETA "k-2"\n', 'T ACME "k-5"\n'
+    beta, five = 'T BETA "k-2" 4\n', 'T ACME "k-5" 4\n'
     later = [log_line("/2025/filings/ACME", "p-1"), log_line("/filings/ACME", "h-1", host="b.example"),
              log_line("/filings/ACME", "k-2", host="A.example")]
     for what, words, data, wanted in [
@@ -362,12 +378,28 @@ def try_log(folder):
         ("lines that can't be read", (), b"".join(odd + own) + cut, (1, beta, unread.format("log", 4, 2))),
         ("a line with a byte that is no UTF-8", (), agent, (1, five, "")),
         ("a server's lines", ("--host", "a.example"), b"".join(own + later), (1, beta, "")),
-        ("another server's lines", ("--host", "b.example"), b"".join(later), (1, 'T ACME "h-1"\n', "")),
-        ("a path's lines", ("--prefix", "/2025"), b"".join(own + later), (1, 'T ACME "p-1"\n', "")),
+        ("another server's lines", ("--host", "b.example"), b"".join(later), (1, 'T ACME "h-1" 4\n', "")),
+        ("a path's lines", ("--prefix", "/2025"), b"".join(own + later), (1, 'T ACME "p-1" 4\n', "")),
     ]:
         (folder / "log").write_bytes(data)
         done = run(DEPLOY / "lost-filings", *words, "copy.db", "log", cwd=folder)
         hold(f"lost-filings: {what}", (done.returncode, done.stdout, done.stderr), wanted)
+    # One alone, two that were under way at once, a correction of the second of these, and one whose first try, before
+    # all others, nginx gave up, so that it may have been decided at any time since. The copy has filings 1 to 3.
+    spans = [log_line("/filings/ACME", f"s-{at}", status, time=f"2024-01-01T00:00:{second:02}+00:00", seconds=seconds)
+             for at, second, seconds, status in [(1, 10, 0.5, "201"), (2, 20, 0.5, "201"), (3, 21, 1.5, "201"),
+                                                 (5, 5, 2, "504"), (5, 40, 0.5, "201")]]  # fmt: skip
+    spans.insert(3, log_line("/filings/ACME/6", "s-4", time="2024-01-01T00:00:30+00:00", seconds=0.2))
+    wanted = [f'2024-01-01T00:00:{rest}' for rest in [
+        '10+00:00 ACME "s-1" 4-5', '20+00:00 ACME "s-2" 5-7', '21+00:00 ACME "s-3" 5-7',
+        '30+00:00 ACME "s-4" 7-8 replaces 6', '40+00:00 ACME "s-5" 4-8']]  # fmt: skip
+    (folder / "log").write_bytes(b"".join(spans))
+    done = run(DEPLOY / "lost-filings", "copy.db", "log", cwd=folder)
+    hold("lost-filings: the numbers that they had", (done.returncode, done.stdout.splitlines()), (1, wanted))
+    (folder / "log").write_bytes(b"".join(it for it in spans if b"s-5" not in it))
+    done = run(DEPLOY / "lost-filings", "copy.db", "log", cwd=folder)
+    hold("lost-filings: without that one", [line.split('" ')[1] for line in done.stdout.splitlines()],
+         ["4", "5-6", "5-6", "7 replaces 6"])
     (folder / "log").write_bytes(b"".join(own))
     hold("lost-filings: no such log", run(DEPLOY / "lost-filings", "copy.db", "none", cwd=folder).returncode, 3)
     hold("lost-filings: a file that is no copy", run(DEPLOY / "lost-filings", "log", "log", cwd=folder).returncode, 3)
@@ -592,7 +624,7 @@ def try_second_register(folder, intake, second, port):
         make_copy(copy,
                   [("ACME", "k-1"), *((f"{user}.x", "k-1") for user in ODD_SUBJECTS)]
                   if host == "intake.example" else [])
-    for host, missing in [("intake.example", []), (SECOND_HOST, ['ACME "second"'])]:
+    for host, missing in [("intake.example", []), (SECOND_HOST, ['ACME "second" 1'])]:
         done = run(DEPLOY / "lost-filings", "--host", host, copies[host], folder / "filings.log")
         found = [line.partition(" ")[2] for line in done.stdout.splitlines()]
         hold(f"lost-filings of {host}", (done.returncode, found, done.stderr), (1 if missing else 0, missing, ""))

@@ -18,7 +18,7 @@ certificate and the certificate, as mail would. After the days come the parts of
 
 With --planted the faults in tools/planted_faults.txt are planted, one after the other, in what is deployed: each has
 to make a check of its part fail, and each part has to pass without a fault. A WORD takes the faults that have it in
-their line. It needs a real systemd, and takes half an hour for 27 faults.
+their line. It needs a real systemd, and takes three quarters of an hour for 35 faults.
 
 The last line says how many trials passed and failed, and under what. Status 1 if one failed, 77 if nothing could be
 tried.
@@ -116,7 +116,7 @@ WORKERS = "pgrep -P $(cat /run/nginx.pid)"
 HEALTH = "intake-health http://127.0.0.1:8080/filings/health"
 LIST = "curl -s http://127.0.0.1:8081/filings/ACME"
 # A round that the timer started may have the outbox open.
-STATUS = "runuser -u berruzpil -- outbox status --wait 60 --db /var/lib/berruzpil/outbox.db"
+STATUS = "runuser -u berruzpil -- outbox status --wait 200 --db /var/lib/berruzpil/outbox.db"
 METRICS = "/var/lib/prometheus/node-exporter/berruzpil.prom"
 JOB = """Job for {0} failed because the control process exited with error code.
 See "systemctl status {0}" and "journalctl -xeu {0}" for details.
@@ -464,12 +464,118 @@ def certificates(page, supervisor, filer):
 
 def restore(page, supervisor, filer):
     """The copy of the first day is restored, by the commands of the page: the filings after it are lost, and named."""
-    commands = page.block("How do I restore a copy?", "cd ")
+    commands = page.block("How do I restore a copy?", "register-restore")
     hold("a second report", filed(page, filer, "2024-annual-2"), "confirmed N")
     play(supervisor, "a restore", commands, [(COPY_OF_PAGE, copies(supervisor)[0])], [("lost-filings", 1)])
-    start_intake(page, supervisor)
-    hold("the restored register serves", supervisor.paste("curl -s http://127.0.0.1:8080/filings/ACME"),
+    hold("the restored register serves", supervisor.until(ask_health(page, supervisor), seconds=patience())[0], 0)
+    hold("with what the copy has", supervisor.paste("curl -s http://127.0.0.1:8080/filings/ACME"),
          (0, '{"filings":[{"facts":1,"number":1}]}'))
+
+
+def disk(page, supervisor, filer):
+    """The disk of the register is gone while it is served, and an empty one is in its place: a damaged copy is refused,
+    and the commands of the page restore a sound one, which is on another disk."""
+    home, copy = "/var/lib/berruzpil", copies(supervisor)[0]
+    with Shell(supervisor) as shell:
+        shell.paste(f"systemctl stop berruzpil-intake; cp -a {home}/copies /srv/copies; cp -a {home} /srv/home; "
+                    f"mount -t tmpfs tmpfs {home}; cp -a /srv/home/. {home}/")
+        hold("a register on a disk of its own", start_intake(page, supervisor), 0)
+        hold("a report for it", filed(page, filer, "disk-1"), "confirmed N")
+        shell.paste(f"umount -l {home}; mount -t tmpfs -o mode=755 tmpfs {home}; "
+                    f"sed s/a/b/ /srv/copies/{copy} > /srv/damaged.db; chmod 644 /srv/damaged.db")
+        hold("nothing is there", shell.paste(f"ls -A {home}; stat -c %U {home}"), (0, "root\n"))
+        restored, lost = page.block("How do I restore a copy?", "register-restore")
+        names = [(f"{home}/copies/{COPY_OF_PAGE}", f"/srv/copies/{copy}")]
+        status, printed = shell.paste(restored[0].replace(names[0][0], "/srv/damaged.db"))
+        hold("a damaged copy", (status, "nothing was changed: name another copy\n" in printed,
+                                shell.paste(f"ls -A {home}")), (1, True, (0, "")))
+        said = [re.sub(r"what was there is in \S+;", "no file was there;", line) for line in restored[1]]
+        play(supervisor, "a restore on a new disk", [[restored[0], said]], names)
+        hold("the restored register serves", supervisor.until(ask_health(page, supervisor), seconds=patience())[0], 0)
+        hold("with what the copy has", shell.paste("curl -s http://127.0.0.1:8080/filings/ACME"),
+             (0, '{"filings":[{"facts":1,"number":1}]}'))
+        hold("its files belong to the intake's user", shell.paste(f"stat -c '%U %a %n' {home} {home}/register.db"),
+             (0, f"berruzpil 750 {home}\nberruzpil 600 {home}/register.db\n"))
+        status, printed = shell.paste(lost[0].replace(*names[0]))
+        hold("what was lost is named", (status, 'ACME "disk-1" ' in printed), (1, True))
+        hold("a report for the restored register", filed(page, filer, "disk-2"), "confirmed N")
+        shell.paste(f"systemctl stop berruzpil-intake; cp -a {home}/register.db /srv/; umount {home}; "
+                    f"rm {home}/register.db*; mv /srv/register.db {home}/; rm -r /srv/home /srv/copies /srv/damaged.db")
+    start_intake(page, supervisor)
+
+
+def again(page, supervisor, filer):
+    """The filer files again what the restore lost, by the commands of the page."""
+    commands = page.block("How do I file again what a register lost?", "cd ")
+    entries = filer.paste(STATUS.replace("status", "show"))[1]
+    entry = re.search(r"(?m)^entry (\d+) confirmed (\d+), .* key 2024-annual-2$", entries)
+    hold("the entry that was lost", bool(entry), True)
+    number = len(json.loads(filer.paste(LIST)[1])["filings"]) + 1
+    with Shell(filer) as shell:
+        for command, lines in commands:
+            wanted = "".join(f"{line}\n" for line in lines).replace("entry 2", f"entry {entry[1]}")
+            wanted = wanted.replace(f"entry {entry[1]} confirmed 2", f"entry {entry[1]} confirmed {entry[2]}")
+            wanted = wanted.replace("entry 1 confirmed 2", f"entry 1 confirmed {number}")
+            command = re.sub(r"(--entry|again\.db) 2$", rf"\g<1> {entry[1]}", command)
+            hold(f"filed again: {command}", shell.paste(command), (0, wanted))
+    hold("it is filed once more", len(json.loads(filer.paste(LIST)[1])["filings"]), number)
+
+
+# In the place of `date`, of a machine whose clock is years ahead. A container has the clock of its host.
+WRONG_DATE = """#!/bin/sh
+when=now
+for it; do [ "$last" != -d ] || when=$it; last=$it; done
+exec /bin/date -u -d "$when 4000 days" "$last"
+"""
+
+
+def clock(page, supervisor, filer):
+    """The hourly copy by a clock that is years ahead: no other copy goes, and once the clock is right, its copy is not
+    the last one, and is reported."""
+    unit, folder = "berruzpil-snapshot@register", "/var/lib/berruzpil/copies"
+    for days_ago in range(1, 61):
+        name = time.strftime("register-%Y%m%dT%H%M%SZ.db", time.gmtime(time.time() - 86400 * days_ago))
+        supervisor.write(f"{folder}/{name}", "")
+    before = copies(supervisor)
+    supervisor.write("/usr/local/sbin/date", WRONG_DATE, 0o755)
+    hold("a copy by a clock that is years ahead", supervisor.paste(f"systemctl start {unit}"), (0, ""))
+    supervisor.paste("rm /usr/local/sbin/date")
+    hold("no other copy goes", sorted(set(before) - set(copies(supervisor))), [])
+    # The clock of the next copy is right. Its name has whole seconds.
+    time.sleep(1)
+    (ahead,) = set(copies(supervisor)) - set(before)
+    hold("a copy by the right clock", supervisor.paste(f"systemctl start {unit}"), (0, ""))
+    said = f"register-copies: {folder}: 1 copies are of a later time than now: "
+    hold("the other one is reported", said in supervisor.paste(f"journalctl -u {unit} -n 20 -o cat")[1], True)
+    supervisor.paste("systemctl start berruzpil-metrics")
+    found = dict(line.rsplit(" ", 1) for line in supervisor.file(METRICS).read_text().splitlines())
+    begun, later = (int(found.get(f'berruzpil_copy_{name}_seconds{{register="register"}}', -1))
+                    for name in ("timestamp", "ahead"))
+    hold("the last copy is of now", abs(time.time() - begun) < 300, True)
+    hold("how far the other one is ahead", 3999 * 86400 < later <= 4000 * 86400, True)
+    hold("48 copies stay, and that one", len(copies(supervisor)), 49)
+    supervisor.paste(f"cd {folder}; rm {ahead.removesuffix('.db')}.*; find . -name 'register-*.db' -empty -delete")
+
+
+def hang(page, supervisor, filer):
+    """An intake that hangs: while a round waits for it, a report is put in by the command of the page."""
+    put(page, filer, "hang-1")
+    filer.until("systemctl is-active berruzpil-outbox.service", lambda _, printed: "activating" not in printed)
+    supervisor.paste("systemctl kill --signal=STOP berruzpil-intake")
+    a_round = filer.begin("systemctl start berruzpil-outbox")
+    try:
+        busy = filer.until("runuser -u berruzpil -- outbox status --db /var/lib/berruzpil/outbox.db",
+                           lambda status, _: status == 3, seconds=patience())
+        hold("a round waits for the intake", busy[0], 3)
+        command = next(it for it, _ in page.steps(FILER)[5] if "outbox put" in it)
+        status, printed = filer.paste(command.replace("2024-annual-1", "hang-2"))
+        hold("a report is put in beside it", (status, re.sub(r"\d+", "N", printed)), (0, "entry N\n"))
+    finally:
+        supervisor.paste("systemctl kill --signal=CONT berruzpil-intake")
+        a_round.wait(timeout=300)
+    supervisor.until(ask_health(page, supervisor), seconds=patience())
+    round_of(filer)
+    hold("and filed once the intake goes on", set(states(filer).values()) & {"open", ""}, set())
 
 
 def damaged(page, supervisor, filer):
@@ -602,7 +708,7 @@ def several(page, supervisor, filer):
     hold("a register that isn't there has no copy", supervisor.paste(f"systemctl start {unit}"), (1, JOB.format(unit)))
     hold("and there is an alert of it", alert_comes(supervisor, unit, 0), True)
     play(filer, "several outboxes", page.block("How do I run several outboxes?", "runuser"))
-    filer.paste("runuser -u berruzpil -- outbox put --wait 60 --db /var/lib/berruzpil/beta.db "
+    filer.paste("runuser -u berruzpil -- outbox put --wait 200 --db /var/lib/berruzpil/beta.db "
                 "--body /var/lib/berruzpil/report.json --key b-1")
     added = next(it for it, _ in page.steps(SUPERVISOR)[8] if "nginx-filer" in it).replace(" ACME", " BETA")
     if added not in supervisor.paste("cat /etc/nginx/conf.d/nginx-intake.conf")[1]:
@@ -706,7 +812,7 @@ def man_pages(page, supervisor, filer):
 
 # The parts, in the order in which they are played. Each after the first can be played on its own after the days.
 PARTS = {it.__name__: it for it in [
-    days, units, restore, timers, metrics, readers, slow, abort, certificates, stunnel, damaged, upgrade,
+    days, units, restore, again, disk, clock, hang, timers, metrics, readers, slow, abort, certificates, stunnel, damaged, upgrade,
     outbox_upgrade, health, power, several, man_pages,
 ]}  # fmt: skip
 

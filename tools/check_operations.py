@@ -256,7 +256,7 @@ def check_copy_with_journal(folder):
     kept = {it.name: it.read_bytes() for it in copies.iterdir()}
     log = write_log(folder / "filings.log", [log_line("T", "k-1"), log_line("T", "k-9")])
     hold("lost-filings of a copy with a journal", script("lost-filings", copies / "copy.db", log),
-         (1, 'T ACME "k-9"\n', ""))
+         (1, 'T ACME "k-9" 4\n', ""))
     hold("both files are as they were", {it.name: it.read_bytes() for it in copies.iterdir()} == kept, True)
 
 
@@ -316,7 +316,7 @@ def try_readers(what, copies, out, run_script):
         copy = copies / name
         hold(f"{what}: register-restore of {name}", run_script("register-restore", copy, out / "new.db"),
              (0, f"{out / 'new.db'}: restored: {SOUND}\n", ""))
-        hold(f"{what}: lost-filings of {name}", run_script("lost-filings", copy, log), (1, 'T ACME "k-9"\n', ""))
+        hold(f"{what}: lost-filings of {name}", run_script("lost-filings", copy, log), (1, 'T ACME "k-9" 4\n', ""))
         status, said, _ = run_script("register-receipts", copy, log)
         lines = said.splitlines()
         hold(f"{what}: register-receipts of {name}", (status, lines[1].split(",")[-2:], len(lines)),
@@ -601,6 +601,15 @@ def day(ago):
     return time.strftime("%Y%m%d", time.gmtime(time.time() - ago * 86400))
 
 
+def moment_of(ago):
+    """The moment in UTC that was so many seconds ago, as in the name of a copy."""
+    return time.strftime("%Y%m%dT%H%M%SZ", time.gmtime(time.time() - ago))
+
+
+def copies_of(moments):
+    return [f"register-{moment}.db" for moment in moments]
+
+
 def check_kept_copies(folder):
     """register-copies while the register is served: a copy, what came of its restore, and which old copies go."""
     database, kept = folder / "register.db", folder / "copies"
@@ -608,12 +617,13 @@ def check_kept_copies(folder):
     serving = Serving(database, len(REQUESTS) + 1, "--new")
     for it in REQUESTS:
         exchange(serving.port, it)
-    gone = [f"register-{day(40)}T000000Z.db", f"register-{day(31)}T235959Z.db",
-            f"register-{day(20)}T000000Z.db", f"register-{day(20)}T230000Z.db", f"register-{day(2)}T220000Z.db"]
-    # Of each day before yesterday the last one stays, and each of yesterday. Some are no copies of this register.
-    stay = [f"register-{day(30)}T000000Z.db", f"register-{day(20)}T235959Z.db", f"register-{day(2)}T230000Z.db",
-            f"register-{day(1)}T000000Z.db", f"register-{day(1)}T010000Z.db",
-            f"register-2-{day(40)}T000000Z.db", "before-upgrade.db"]  # fmt: skip
+    # Of each day before yesterday the last one stays, for 30 days, and each of yesterday. Some are no copies of this
+    # register.
+    gone = copies_of([f"{day(ago)}T{hour}0000Z" for ago in range(2, 32) for hour in ("00", "22")])
+    gone += copies_of(f"{day(ago)}T235959Z" for ago in (31, 40))
+    stay = copies_of([*(moment_of(60 * minutes) for minutes in range(1, 48)),
+                      *(f"{day(ago)}T235959Z" for ago in range(2, 31)), f"{day(1)}T000000Z", f"{day(1)}T010000Z"])
+    stay += [f"register-2-{day(40)}T000000Z.db", "before-upgrade.db"]
     gone.append(f"register-{day(31)}T235959Z.digest")
     for name in gone + stay:
         (kept / name).write_bytes(b"")
@@ -639,6 +649,80 @@ def check_kept_copies(folder):
     exchange(serving.port, request("k-1", REPORT))
     serving.end()
     hold("the copy is the register", rows(kept / copy) == rows(database), True)
+
+
+# In the place of `date`: a clock that is wrong by $WRONG_BY.
+WRONG_DATE = """#!/bin/sh
+when=now
+for it; do [ "$last" != -d ] || when=$it; last=$it; done
+exec /bin/date -u -d "$when $WRONG_BY" "$last"
+"""
+
+
+def try_clock(folder, kept, wrong_by):
+    """Which copies go if register-copies runs while the clock is wrong by so much, which one it makes, and what it says
+    on standard error."""
+    before, programs = set(names(kept)), folder / "programs"
+    programs.mkdir(exist_ok=True)
+    check_deploy.write_program(programs / "date", WRONG_DATE)
+    env = {**PATHS, "PATH": f"{programs}:{PATHS['PATH']}", "WRONG_BY": wrong_by}
+    done = subprocess.run([DEPLOY / "register-copies", folder / "register.db", kept, "30"], capture_output=True,
+                          text=True, check=False, env=env, timeout=120)
+    hold(f"register-copies, by a clock that is wrong by {wrong_by}", done.returncode, 0)
+    (made,) = {it for it in names(kept) if it.endswith(".db")} - before
+    return sorted(before - set(names(kept))), made, done.stderr
+
+
+def check_wrong_clock(folder):
+    """A clock that is years ahead for some hours: no copy goes by it that would not go by a right one, and what it made
+    is no last copy once the clock is right."""
+    make_register(folder / "register.db")
+    kept, numbers = folder / "copies", folder / "x.prom"
+    kept.mkdir()
+    real = copies_of([*(moment_of(3600 * hours) for hours in range(1, 49)),
+                      *(f"{day(ago)}T000001Z" for ago in range(4, 32))])
+    for name in real:
+        shutil.copy(folder / "register.db", kept / name)
+    gone, _, errors = try_clock(folder, kept, "4000 days")
+    hold("a clock that is suddenly years ahead removes nothing", gone, [])
+    hold("and that is said", errors,
+         f"register-copies: {kept / max(real)} is of more than a day before: no copy is removed this time; "
+         "if the clock is wrong, set it right\n")
+    # For two days more, each hour: by then 48 copies are of that time. The real ones are as old as two days make them.
+    for hours in range(1, 49):
+        shutil.copy(folder / "register.db", kept / copies_of([moment_of(-4000 * 86400 - 3600 * hours)])[0])
+    _, _, errors = try_clock(folder, kept, "4000 days 49 hours")
+    hold("nothing is said of an hour", errors, "")
+    wrong = {moment_of(-4000 * 86400 - 3600 * hours)[:8] for hours in range(50)}
+    daily = {max(it for it in real if it.startswith(f"register-{at}")) for at in {it[9:17] for it in real}}
+    hold("the last copy of each real day is there, but for those that are too old by now",
+         sorted(daily - set(names(kept))), sorted(daily)[: len(daily) + len(wrong) - 31])
+    script("register-metrics", "--into", numbers, "--copies", kept)
+    found = dict(line.rsplit(" ", 1) for line in numbers.read_text().splitlines())
+    begun, ahead = (int(found.get(f'berruzpil_copy_{name}_seconds{{register="register"}}', -1))
+                    for name in ("timestamp", "ahead"))
+    hold("the last copy is a real one", max(real), time.strftime("register-%Y%m%dT%H%M%SZ.db", time.gmtime(begun)))
+    hold("how far the others are ahead", 4000 * 86400 < ahead < 4004 * 86400, True)
+    _, made, errors = try_clock(folder, kept, "0 days")
+    later = [it for it in names(kept) if it.endswith(".db") and it > made]
+    hold("copies of a later time are reported", errors,
+         f"register-copies: {kept}: {len(later)} copies are of a later time than now: set the clock right, "
+         "or remove them if it is right\n")
+    hold("there are as many as were made", len(later) >= 48, True)
+
+
+def check_least_copies(folder):
+    """However few days are kept, 48 copies stay: here the new one and those of 47 days."""
+    make_register(folder / "register.db")
+    kept = folder / "copies"
+    kept.mkdir()
+    made = copies_of(moment_of(86400 * days - 3600) for days in range(1, 61))
+    for name in made:
+        (kept / name).write_bytes(b"")
+    status, _, errors = script("register-copies", folder / "register.db", kept, 3)
+    left = [it for it in names(kept) if it.endswith(".db")]
+    hold("register-copies with few days", (status, errors, len(left)), (0, "", 48))
+    hold("those that stay are the last", left[:-1], sorted(made[:47]))
 
 
 def check_failed_copies(folder):
@@ -848,6 +932,8 @@ berruzpil_copy_filings{register="register"} 3
 berruzpil_copy_received_timestamp_seconds{register="register"} 1704164640
 berruzpil_copy_timestamp_seconds{register="2025"} 1704067200
 berruzpil_copy_timestamp_seconds{register="register"} 1704164645
+berruzpil_copy_ahead_seconds{register="2025"} 0
+berruzpil_copy_ahead_seconds{register="register"} 0
 berruzpil_restore_timestamp_seconds{register="register"} 1704164700
 berruzpil_restore_ok{register="register"} 0
 """
@@ -961,14 +1047,109 @@ def check_other_numbers(folder, kept):
     hold("a certificate that is none", (status, f"{tls / 'none.pem'}: " in errors), (3, True))
 
 
+# ---- in the place of a register
+
+# In the place of `systemctl`: it notes what it is asked, and says that the unit is that of a user who owns nothing.
+SYSTEMCTL = """#!/bin/sh
+echo "$*" >> {0}/asked
+case $1 in
+    show) printf '%s\\n' LoadState="$LOADED" User=nobody Group=nogroup WorkingDirectory={0}/lib ;;
+    start) exit "$STARTS" ;;
+esac
+"""
+UNIT = ["is-active --quiet berruzpil-intake", "stop berruzpil-intake", "start berruzpil-intake"]
+
+
+def try_replace(folder, copy, loaded="loaded", starts=0, register="lib/register.db"):
+    """What register-restore --replace ends with and says, what it asked systemctl, and what is in the register's
+    folder."""
+    check_deploy.write_program(folder / "systemctl", SYSTEMCTL.format(folder))
+    (folder / "asked").unlink(missing_ok=True)
+    env = {**PATHS, "PATH": f"{folder}:{PATHS['PATH']}", "LOADED": loaded, "STARTS": str(starts)}
+    words = [DEPLOY / "register-restore", "--replace", copy, folder / register]
+    done = subprocess.run(words, capture_output=True, text=True, check=False, env=env, timeout=120)
+    asked = (folder / "asked").read_text().splitlines() if (folder / "asked").exists() else []
+    return done.returncode, done.stdout, done.stderr, [it for it in asked if not it.startswith("show")]
+
+
+def owners(*paths):
+    return [(it.stat().st_uid, rights(it)) for it in paths]
+
+
+def check_replace(folder):
+    """A copy in the place of a register that is there, that is gone with its folder, and whose folder is empty and
+    another's; what is refused changes nothing."""
+    if os.geteuid() != 0:
+        print("not tried: register-restore --replace, which needs root")
+        return
+    folder.chmod(0o755)
+    copy, lib = folder / "copy.db", folder / "lib"
+    register = lib / "register.db"
+    make_register(copy)
+    (folder / "text.db").write_text("no database " * 100)
+    for it in (copy, folder / "text.db"):
+        it.chmod(0o644)
+    said = f"{register}: replaced: {SOUND}; no file was there; berruzpil-intake is started\n"
+    hold("a register that is gone with its folder", try_replace(folder, copy), (0, said, "", UNIT))
+    hold("its folder and it belong to the intake's user",
+         (names(lib), owners(lib, register)), (["register.db"], [(NOBODY, "0o750"), (NOBODY, "0o600")]))
+    hold("it is the register of the copy", rows(register) == rows(copy), True)
+    register.unlink()
+    os.chown(lib, 0, 0)
+    lib.chmod(0o755)
+    hold("a register whose disk is new", try_replace(folder, copy), (0, said, "", UNIT))
+    hold("the folder and it belong to the intake's user", owners(lib, register),
+         [(NOBODY, "0o750"), (NOBODY, "0o600")])
+    register.write_bytes(b"damaged")
+    log = lib / "register.db-wal"
+    log.write_bytes(b"a log")
+    status, said, errors, asked = try_replace(folder, copy)
+    away = re.fullmatch(rf"{register}: replaced: {SOUND}; what was there is in ({lib}/away-\d{{8}}T\d{{6}}Z); "
+                        "berruzpil-intake is started\n", said)
+    hold("a register that is there", (status, bool(away), errors, asked), (0, True, "", UNIT))
+    hold("is the register of the copy", (rows(register) == rows(copy), log.exists()), (True, False))
+    if away:
+        kept = pathlib.Path(away[1])
+        hold("what was there is kept", [(kept / it).read_bytes() for it in names(kept)], [b"damaged", b"a log"])
+    before = {it: it.read_bytes() for it in lib.rglob("*") if it.is_file()}
+    next_step = "; nothing was changed: name another copy"
+    secret = pathlib.Path(shutil.copy(copy, folder / "secret.db"))
+    secret.chmod(0o600)
+    for what, words, status, cause, asked in [
+        ("a copy that is none", {"copy": folder / "text.db"}, 1, f"text.db: file is not a database{next_step}", []),
+        ("a copy that isn't there", {"copy": folder / "none.db"}, 1, f"there is no such file{next_step}", []),
+        ("a copy that the user may not read", {"copy": secret}, 3, f"{secret}: the user nobody may not read it", []),
+        ("a unit that isn't there", {"copy": copy, "loaded": "not-found"}, 3, "there is no unit berruzpil-intake,", []),
+        ("a register that no unit serves", {"copy": copy, "register": "register.db"}, 2, f"serves {register}", []),
+    ]:
+        found = try_replace(folder, **words)
+        hold(f"register-restore --replace: {what}", (found[0], found[1], cause in found[2], found[2].count("\n"),
+             found[3]), (status, "", True, 1, asked))  # fmt: skip
+    hold("nothing was changed", {it: it.read_bytes() for it in lib.rglob("*") if it.is_file()} == before, True)
+    with open(register, "r+b") as held:
+        fcntl.lockf(held, fcntl.LOCK_EX, 510, 0x40000002)
+        found = try_replace(folder, copy)
+    hold("a register that a program has open", found,
+         (3, "", f"register-restore: {register}: another program has it open: stop that\n", UNIT))
+    hold("is as it was", {it: it.read_bytes() for it in lib.rglob("*") if it.is_file()} == before, True)
+    found = try_replace(folder, copy, starts=1)
+    hold("an intake that does not start", (found[0], "see journalctl -u berruzpil-intake" in found[2]), (3, True))
+    hold("the register is replaced all the same", rows(register) == rows(copy), True)
+    hold("only root may do that", as_user(DEPLOY / "register-restore", "--replace", copy, register),
+         (3, "", "register-restore: --replace stops and starts the intake: run it as root\n"))
+    hold("no outbox is replaced", script("outbox-restore", "--replace", copy, register)[0], 2)
+
+
 # ---- a new register
 
 
 class Listening:
-    """A program that has a port, and answers each connection with these bytes; or with nothing, and holds it."""
+    """A program that has a port, and answers each connection with these bytes after so many seconds; or with nothing,
+    and holds it."""
 
-    def __init__(self, reply=None):
+    def __init__(self, reply=None, seconds=0):
         self.reply, self.held, self.listener = reply, [], socket.create_server(("127.0.0.1", 0))
+        self.seconds = seconds
         self.port = self.listener.getsockname()[1]
 
     def __enter__(self):
@@ -990,7 +1171,9 @@ class Listening:
             self.held.append(peer)
             if self.reply is not None:
                 read_request(peer)
-                peer.sendall(self.reply)
+                time.sleep(self.seconds)
+                with contextlib.suppress(OSError):
+                    peer.sendall(self.reply)
                 self.held.remove(peer)
                 peer.close()
 
@@ -1066,6 +1249,45 @@ def check_rounds(folder):
     hold("a round while another is running", busy, (75, "", "outbox-round: another round is running\n"))
 
 
+def check_hanging(folder):
+    """An intake that accepts and never answers: while a round waits for it, a report is put in as the page says."""
+    database, page = folder / "outbox.db", (ROOT / "docs" / "FIRST_DAYS.md").read_text()
+    make_outbox(database)
+    (seconds,) = re.findall(r"outbox put --wait (\d+) ", page)
+    with Listening() as other:
+        with subprocess.Popen([DEPLOY / "outbox-round", database, str(other.port)], stdout=subprocess.PIPE,
+                              stderr=subprocess.PIPE, text=True, env=PATHS) as a_round:
+            while not other.held and a_round.poll() is None:
+                time.sleep(0.05)
+            words = ["put", "--wait", seconds, "--db", database, "--body", folder / "reports" / "1", "--key", "k-3"]
+            done = subprocess.run([OUTBOX, *words], capture_output=True, text=True, check=False, timeout=600)
+            hold("a report is put in beside a round to an intake that hangs",
+                 (done.returncode, done.stdout, done.stderr), (0, "entry 3\n", ""))
+            said, errors = a_round.communicate(timeout=300)
+    hold("the round ends by itself", (a_round.returncode, said), (75, "entry 1 open\n"))
+    hold("and says what is open still", errors.splitlines()[-1][:-1], "outbox-round: entries that are open still: ")
+
+
+def check_slow_round(folder):
+    """An intake that takes three seconds for each of twelve reports: a round that may send for so many seconds, here
+    20, ends then. What was answered by then is settled."""
+    database, text = folder / "outbox.db", (DEPLOY / "outbox-round").read_text()
+    make_outbox(database)
+    more = [folder / "reports" / "1"] * 10
+    run(OUTBOX, "put", "--db", database, "--body", *more)
+    short = folder / "outbox-round"
+    check_deploy.write_program(short, re.sub(r"timeout \d+ outbox", "timeout 20 outbox", text))
+    with Listening(reply(201, "Created", b'{"number":1,"status":"registered"}', "application/json"), 3) as other:
+        done = subprocess.run([short, database, str(other.port)], capture_output=True, text=True, check=False,
+                              env=PATHS, timeout=100)
+    states = [line.split()[2] for line in run(OUTBOX, "status", "--db", database).stdout.decode().splitlines()]
+    settled = states.count("confirmed")
+    hold("a round to a slow intake ends with entries open", (done.returncode, done.stderr),
+         (75, f"outbox-round: entries that are open still: {states.count('open')}\n"))
+    hold("some are settled, the first ones",
+         (0 < settled < 12, states), (True, ["confirmed"] * settled + ["open"] * (12 - settled)))
+
+
 # ---- filings that a restore loses
 
 
@@ -1088,7 +1310,7 @@ def check_lost(folder):
     log.write_text(line % (1, "k-1", 201, 201) + line % (2, "k-2", 201, 201) + line % (3, "k-3", 422, 422))
     subprocess.run(["gzip", "-k", log], check=True)
     hold("lost-filings of the register", script("lost-filings", database, log, f"{log}.gz"), (0, "", ""))
-    wanted = (1, 'T2 ACME "k-2"\n', "")
+    wanted = (1, 'T2 ACME "k-2" 2\n', "")
     hold("lost-filings of the copy", script("lost-filings", folder / "copy.db", f"{log}.gz", log), wanted)
     script("register-restore", folder / "copy.db", folder / "new.db")
     hold("lost-filings of what was restored", script("lost-filings", folder / "new.db", log), wanted)
@@ -1098,6 +1320,89 @@ def check_lost(folder):
     unread = f"lost-filings: {log}: 1 lines can't be read, the first is line 6\n"
     found = script("lost-filings", "--host", "intake.example", folder / "copy.db", log)
     hold("lost-filings of a log with odd lines", found, (*wanted[:2], unread))
+
+
+def listed(port, filer="ACME"):
+    """Of each filing of a filer its number, what it replaces, and what replaces it."""
+    content = exchange(port, listing(filer)).partition(b"\r\n\r\n")[2]
+    return [(it["number"], it.get("replaces"), it.get("replaced_by")) for it in json.loads(content)["filings"]]
+
+
+def check_again(folder):
+    """Filings that a restore lost, one of which replaces another, and one a filing that was not lost: they are filed
+    once more from a second outbox, each once. A register that lost none files nothing."""
+    old, new, other = folder / "old.db", folder / "new.db", folder / "other.db"
+    report, large = folder / "report", folder / "large"
+    report.write_bytes(REPORT)
+    large.write_bytes(LARGE)
+    run(OUTBOX, "init", "--db", old, "--filer", "ACME")
+    run(OUTBOX, "init", "--db", folder / "beta.db", "--filer", "BETA")
+
+    def put(key, file, *more):
+        run(OUTBOX, "put", "--db", old, "--body", file, f"--key={key}", *more)
+
+    def waits(database, *pairs):
+        return "".join(f"outbox-again: entry {entry} waits for entry {before}, which it replaces: "
+                       f"send what is in {database}, and run this again\n" for entry, before in pairs)
+
+    serving = Serving(folder / "register.db", 1 << 31, "--new")
+    put("k-1", report)
+    script("outbox-round", old, serving.port)
+    script("register-snapshot", folder / "register.db", folder / "copy.db")
+    put('-2 "a"\\', large)
+    put("k-3", report, "--amend", "2")
+    put("k-4", report, "--amend", "1")
+    hold("the first round", script("outbox-round", old, serving.port)[:2],
+         (0, "entry 2 confirmed 2\nentry 3 confirmed 3\nentry 4 confirmed 4\n"))
+    # Filing 5 is of no outbox here.
+    exchange(serving.port, request("d-1", REPORT))
+    put("k-5", report, "--amend", "5")
+    hold("another round", script("outbox-round", old, serving.port)[:2], (0, "entry 5 confirmed 6\n"))
+    put("k-6", report)
+    filed = [(1, None, 4), (2, None, 3), (3, 2, None), (4, 1, None), (5, None, 6), (6, 5, None)]
+    hold("what is filed", listed(serving.port), filed)
+    hold("outbox-again of what was not lost", script("outbox-again", old, other, 2, 4),
+         (75, f"entry 1: entry 1 of {other}\nentry 2: entry 2 of {other}\n", waits(other, (4, 1))))
+    hold("it is answered as it was", script("outbox-round", other, serving.port)[:2],
+         (0, "entry 1 confirmed 1\nentry 2 confirmed 2\n"))
+    hold("and so is a correction", (script("outbox-again", old, other, 2, 4),
+                                    script("outbox-round", other, serving.port)[:2]),
+         ((0, f"entry 4: entry 3 of {other}\n", ""), (0, "entry 3 confirmed 4\n")))
+    hold("and nothing is filed", listed(serving.port), filed)
+    serving.process.terminate()
+    serving.process.communicate()
+    for what, words, status, cause in [
+        ("an entry that is open", (old, new, 2, 6), 2, "entry 6 is open, and not confirmed"),
+        ("an entry that isn't there", (old, new, 9), 4, "there is no entry 9"),
+        ("a correction of what another outbox filed", (old, new, 5), 1,
+         "entry 5 replaces filing 5, which is no entry here: put its report in by hand"),
+        ("an outbox of another filer", (old, folder / "beta.db", 2), 2, "is an outbox of BETA"),
+        ("no entry", (old, new), 2, "usage"),
+        ("a word that is no entry", (old, new, "x"), 2, "usage"),
+    ]:
+        found = script("outbox-again", *words)
+        hold(f"outbox-again: {what}", (found[0], found[1], cause in found[2], found[2].count("\n"), new.exists()),
+             (status, "", True, 1, False))  # fmt: skip
+    script("register-restore", folder / "copy.db", folder / "restored.db")
+    serving = Serving(folder / "restored.db", 1 << 31)
+    # Another filer gets the number 2 meanwhile.
+    exchange(serving.port, request("k-1", SMALLEST, "BETA"))
+    both = waits(new, (3, 2), (4, 1))
+    hold("outbox-again of what was lost", script("outbox-again", old, new, 3, 4),
+         (75, f"entry 1: entry 1 of {new}\nentry 2: entry 2 of {new}\n", both))
+    hold("and once more before a round", script("outbox-again", old, new, 3, 4), (75, "", both))
+    hold("a round", script("outbox-round", new, serving.port)[:2], (0, "entry 1 confirmed 1\nentry 2 confirmed 3\n"))
+    hold("outbox-again after it", script("outbox-again", old, new, 3, 4),
+         (0, f"entry 3: entry 3 of {new}\nentry 4: entry 4 of {new}\n", ""))
+    hold("the last round", script("outbox-round", new, serving.port)[:2],
+         (0, "entry 3 confirmed 4\nentry 4 confirmed 5\n"))
+    hold("outbox-again at the end", script("outbox-again", old, new, 3, 4), (0, "", ""))
+    hold("each is filed once, and replaces what it replaced", (listed(serving.port), listed(serving.port, "BETA")),
+         ([(1, None, 5), (3, None, 4), (4, 3, None), (5, 1, None)], [(2, None, None)]))
+    serving.process.terminate()
+    serving.process.communicate()
+    bodies = {name: [body for _, _, body, *_ in rows(folder / f"{name}.db")["entry"]][:4] for name in ("old", "new")}
+    hold("with the bytes that they had", bodies["new"] == bodies["old"], True)
 
 
 # ---- nginx in front of the intake
@@ -1149,7 +1454,7 @@ def check_front(folder):
     hold("each request has a line in the log", len(log.read_bytes().splitlines()), len(FRONT))
     hold("lost-filings of the register", script("lost-filings", database, log), (0, "", ""))
     status, said, errors = script("lost-filings", "--host", "intake.example", copy, log)
-    hold("lost-filings of the copy", (status, said.partition(" ")[2], errors), (1, 'ACME "k-2"\n', ""))
+    hold("lost-filings of the copy", (status, said.partition(" ")[2], errors), (1, 'ACME "k-2" 2\n', ""))
 
 
 # ---- a full disk
@@ -1197,14 +1502,20 @@ TRIALS = [
     check_served,
     check_rush,
     check_kept_copies,
+    check_wrong_clock,
+    check_least_copies,
     check_failed_copies,
     check_receipts,
     check_digests,
+    check_replace,
     check_numbers,
     check_pause,
     check_new,
     check_rounds,
+    check_hanging,
+    check_slow_round,
     check_lost,
+    check_again,
     check_front,
     check_full_disk,
 ]

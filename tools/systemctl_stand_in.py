@@ -202,10 +202,17 @@ def is_state(wanted):
     return ask
 
 
+def show(unit):
+    """`systemctl show UNIT --property=NAME,..`"""
+    for name in next(word for word in sys.argv if word.startswith("--property=")).partition("=")[2].split(","):
+        print(f"{name}={'loaded' if name == 'LoadState' else unit.one(name)}")
+    return 0
+
+
 COMMANDS = {
     "start": start, "stop": stop, "restart": restart, "keep": keep, "kill": send_signal,
     "reload": lambda unit: unit.run_all("ExecReload"), "enable": enable,
-    "is-failed": is_state("failed"), "is-active": is_state("active"),
+    "is-failed": is_state("failed"), "is-active": is_state("active"), "show": show,
 }  # fmt: skip
 
 
