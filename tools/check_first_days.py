@@ -812,8 +812,8 @@ def man_pages(page, supervisor, filer):
 
 # The parts, in the order in which they are played. Each after the first can be played on its own after the days.
 PARTS = {it.__name__: it for it in [
-    days, units, restore, again, disk, clock, hang, timers, metrics, readers, slow, abort, certificates, stunnel, damaged, upgrade,
-    outbox_upgrade, health, power, several, man_pages,
+    days, units, restore, again, disk, clock, hang, timers, metrics, readers, slow, abort, certificates, stunnel,
+    damaged, upgrade, outbox_upgrade, health, power, several, man_pages,
 ]}  # fmt: skip
 
 
