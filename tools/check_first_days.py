@@ -470,6 +470,9 @@ def restore(page, supervisor, filer):
     hold("the restored register serves", supervisor.until(ask_health(page, supervisor), seconds=patience())[0], 0)
     hold("with what the copy has", supervisor.paste("curl -s http://127.0.0.1:8080/filings/ACME"),
          (0, '{"filings":[{"facts":1,"number":1}]}'))
+    hold("what was there is kept",
+         supervisor.paste("runuser -u berruzpil -- sh -c 'intake check --db /var/lib/berruzpil/away-*/register.db'"),
+         (0, "sound: 2 kept, 2 filings\n"))
 
 
 def disk(page, supervisor, filer):
