@@ -24,7 +24,7 @@ import time
 
 from trials import (INTAKE, NOT_A_REGISTER, OUTBOX, REPORT, SMALLEST, Peer, Serving, answers, breaks, exchange,
                     free_port, hold, is_silent)
-from trials import make_register, request, run, said, statuses, tell, try_all
+from trials import make_by_sql, make_register, request, run, said, statuses, tell, try_all
 
 
 # ---- what serve says
@@ -405,6 +405,45 @@ def check_damage(folder):
     done = said(run(INTAKE, "check", "--db", changed), folder)
     hold("check of one without the head of a database", done,
          (1, "not a register\n", "intake: changed.db: not a database\n"))
+
+
+# What is done with the moments of 9 requests, and what is wrong then. Each row by the text of docs/PROTOCOL.md.
+CHANGED_MOMENTS = {
+    "DELETE FROM received WHERE seq = 9": 9,
+    "DELETE FROM received WHERE seq = 3": 3,
+    "DELETE FROM received WHERE seq = 2": 2,
+    "DELETE FROM received WHERE seq IN (4, 7)": 4,
+    "DELETE FROM received WHERE seq IN (1, 2, 8)": 8,
+    "DELETE FROM received WHERE seq = 1": None,
+    "DELETE FROM received WHERE seq < 9": None,
+    "DELETE FROM received": None,
+    "UPDATE received SET moment = moment + 1": None,
+    "UPDATE received SET moment = -1 WHERE seq = 5": 5,
+    "UPDATE received SET moment = -1 WHERE seq = 1": 1,
+    "DELETE FROM received WHERE seq < 3; UPDATE received SET moment = -1 WHERE seq = 3": 3,
+    "DELETE FROM received WHERE seq = 3; UPDATE received SET seq = 12 WHERE seq = 9": 3,
+    "DELETE FROM received WHERE seq < 4; INSERT INTO received VALUES (12, 0)": 3,
+    "INSERT INTO received VALUES (10, 0)": 0,
+}
+
+
+def check_moments(folder):
+    """The row that is told is the one whose moment is missing."""
+    register, changed = folder / "register.db", folder / "changed.db"
+    serving = Serving(register, 1, "--new")
+    exchange(serving.port, b"".join(request(f"k-{at}", SMALLEST, close=at == 9) for at in range(1, 10)))
+    serving.end()
+    with sqlite3.connect(register) as old:
+        statements = "\n".join(old.iterdump())
+    old.close()
+    for sql, row in CHANGED_MOMENTS.items():
+        changed.unlink(missing_ok=True)
+        make_by_sql(changed, statements)
+        with sqlite3.connect(changed) as database:
+            database.executescript(sql)
+        database.close()
+        wanted = "sound: 9 kept, 9 filings\n" if row is None else f"damaged at row {row}\n"
+        hold(f"check after {sql}", run(INTAKE, "check", "--db", changed).stdout.decode(), wanted)
 
 
 def check_copies(folder):
@@ -1272,9 +1311,9 @@ if __name__ == "__main__":
         (INTAKE, OUTBOX),
         (check_serving, check_patience, check_limit, check_amendments, check_sent_amendments, check_full_register,
          check_full_outbox, check_puts_of_several, check_files, check_used_port, check_descriptors, check_rights,
-         check_damage, check_copies, check_copy_of_an_outbox, check_lint, check_names_of_files, check_texts_of_reports,
-         check_texts_of_peers, check_line_of_a_long_connection, check_entries, check_round, check_answers, check_strict,
-         check_questions, check_looks, check_what_a_restore_lost, check_receipts, check_patience_of_a_round,
-         check_same_report, check_bodies_of_entries, check_bodies, check_closed_output, check_reading,
-         check_reading_alone, check_readers),
+         check_damage, check_moments, check_copies, check_copy_of_an_outbox, check_lint, check_names_of_files,
+         check_texts_of_reports, check_texts_of_peers, check_line_of_a_long_connection, check_entries, check_round,
+         check_answers, check_strict, check_questions, check_looks, check_what_a_restore_lost, check_receipts,
+         check_patience_of_a_round, check_same_report, check_bodies_of_entries, check_bodies, check_closed_output,
+         check_reading, check_reading_alone, check_readers),
     )

@@ -10,8 +10,8 @@ module _ {C : Type 0} {g : calls.Ghosts C} where
   abbrev pub model : List Event → FoundFile C g → Model
   model events f = replay (held_at f.found.now.items f.nth f.is_log) events
 
-  -- It holds these bytes, got its key, and nothing was asked of it since. So it can be used, and its disk gave back what
-  -- was written.
+  -- It holds these bytes, got its key, and nothing was asked of it since. So it can be used, and its disk gave back
+  -- what was written.
   abbrev pub IsNew : List ℕ → FoundFile C g → Type 0
   IsNew bytes f =
       let now = model (g.history f.calls) f in

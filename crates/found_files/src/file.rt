@@ -12,9 +12,9 @@ use crate::openings::Found;
 use sqlite_disk::{Calls, Disk, Tally, digest_of, is_no_room};
 use std::io;
 
-/// A file that held, as it was opened, what the opening of its number found. After a torn write each byte is supposed to
-/// be old or new, as `Unknown` of the kit has it; otherwise this is the kit's `Modelled`, of which each value has its own
-/// first bytes, and not each type. So one program can open a file, leave it and open it again.
+/// A file that held, as it was opened, what the opening of its number found. After a torn write each byte is supposed
+/// to be old or new, as `Unknown` of the kit has it; otherwise this is the kit's `Modelled`, of which each value has
+/// its own first bytes, and not each type. So one program can open a file, leave it and open it again.
 #[derive(Drop)]
 pub struct FoundFile<'r, C: Calls> {
     calls: C,
@@ -87,7 +87,8 @@ impl<'r, C: Calls> Disk for FoundFile<'r, C> {
 
     ghost faults = { λ f. (model (C.Calls.history f.calls) f).faults };
 
-    ghost tally_of = { λ f. let m = model (C.Calls.history f.calls) f in record { caught = m.caught; refused = m.refused } };
+    ghost tally_of = { λ f. let m = model (C.Calls.history f.calls) f in
+        record { caught = m.caught; refused = m.refused } };
 
     ghost key_of = { λ f. (model (C.Calls.history f.calls) f).key };
 

@@ -1,34 +1,24 @@
--- The bytes of a kept report are printed: what is found in the register, and what is left of it.
-use Rattle.std.proofs.Common.{◌≡◌, ◌∙◌, ℕ, true, false, List, [], Option, Some, None, Result, Ok, Err, IsSome, IfOk}
-use Rattle.std.proofs.Common.{IfErr, OnOk, refl, sym, ap, subst, inr}
+-- The report of a filing is printed: what is found in the register, and what is left of it.
+use Rattle.std.proofs.Common.{◌≡◌, ◌∙◌, ℕ, List, Option, Some, None, Result, Ok, Err, IsSome, IfErr, OnOk, refl, sym}
+use Rattle.std.proofs.Common.{ap, subst, inr}
 use Rattle.std.specs.Prelude.{option_map}
 use Rattle.std.specs.Io.KnownBytes.{Appends}
 use Rattle.sqlite.specs.Store.{Ghosts}
 use Rattle.sqlite.specs.Held.{Held, state}
-use Rattle.sqlite.specs.State.{HasCleanDisk}
-use Rattle.key_string.specs.Key.{is_key}
-use Rattle.filing_model.specs.Answer.{kept_for}
 use Rattle.filing_model.specs.Register.{Filing, Kept, kept, register}
 use Rattle.filing_model.specs.Request.{Request}
-use Rattle.filing_model.specs.Views.{the_request}
 use Rattle.filing_model.proofs.Keeping.{register_numbered}
 use Rattle.table_rows.specs.Leaving.{MayRead}
-use Rattle.table_rows.specs.Standing.{HasCommitted}
 use Rattle.table_rows.proofs.LeavingLemmas.{clean_before, stands}
 use Rattle.register_rows.specs.Catalogue.{Entry, catalogue_of, entry_numbered}
-use Rattle.register_tables.specs.Registers.{IsRegisterOf}
-use Rattle.register_store.specs.Calls.{KeepsStore}
 use Rattle.register_store.specs.Found.{IsPlaced}
-use Rattle.register_store.specs.Outcomes.{kept_as}
-use Rattle.register_store.specs.Store.{ForRegister, ForRequests, HasRequests, StoreParts, shows}
-use Rattle.register_store.specs.declared.outcome.KeptRow.{KeptRow}
+use Rattle.register_store.specs.Store.{ForRegister, StoreParts}
 use Rattle.register_store.proofs.CatalogueLemmas.{filing_absent, filing_there, line_told}
 use Rattle.intake_process.specs.declared.tasks.showing.ShowFault.{ShowFault}
 use Rattle.intake_process.specs.declared.tasks.showing.ShowFault.TheVariants as showing
 use Rattle.intake_process.specs.declared.tasks.text.TextFault.TheVariants.{Output}
-use Rattle.intake_process.specs.Bodies.{PrintsReport, TellsReport, filed_body, sent_body}
+use Rattle.intake_process.specs.Bodies.{PrintsReport, TellsReport, filed_body}
 use Rattle.intake_process.specs.Tasks.{IsReadingFault, PrintsNothing}
-use Rattle.intake_process.proofs.Dating.{clean_mid}
 
 -- ---- what was found is told
 
@@ -100,34 +90,4 @@ module _ {S X : Type 0} (g : Ghosts S) (number : ℕ) (out out' : Option (List �
     refused = quiet;
     kept = λ clean F has. stands leaves clean has.stands;
     clean = λ clean. clean_before leaves clean;
-  }
-
--- ---- the report of a filer and key
-
--- the body of what was found
-pub sent_found : (filer key : List ℕ) (ks : List Kept) (row : Option KeptRow) → is_key key ≡ true
-    → option_map (kept_as filer key) row ≡ kept_for ks (the_request filer key None [])
-    → sent_body filer key ks ≡ option_map (λ r. r.body) row
-sent_found filer key ks row is found = rw is (ap (option_map (λ (k : Kept). k.request.body)) (sym found) ∙ body_of row)
-  where
-    body_of : (row : Option KeptRow)
-        → option_map (λ (k : Kept). k.request.body) (option_map (kept_as filer key) row) ≡ option_map (λ r. r.body) row
-    body_of None = refl
-    body_of (Some r) = refl
-
-pub no_key : (filer key : List ℕ) (ks : List Kept) → is_key key ≡ false → sent_body filer key ks ≡ None
-no_key filer key ks not = rw not refl
-
--- by the store
-module _ {S X : Type 0} (g : Ghosts S) (filer key : List ℕ) (out out' : Option (List ℕ)) (old new : StoreParts S)
-    (r : Result X ShowFault) where
-  pub sent_told : ForRequests g old new (λ requests. TellsReport (sent_body filer key (kept requests)) out out' r)
-      → IfErr r (PrintsNothing (showing.Text Output) out out') → KeepsStore g old new
-      → PrintsReport {S = S} {X = X} g (λ requests. sent_body filer key (kept requests)) out out' old new.conn r
-  sent_told told quiet keeps = record {
-    told = told;
-    refused = quiet;
-    kept = λ clean F has.
-        subst (λ n. HasCommitted (IsRegisterOf n F) (shows g new)) keeps.old_style (keeps.same clean F has).stands;
-    clean = clean_mid g keeps;
   }

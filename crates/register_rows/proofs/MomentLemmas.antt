@@ -12,7 +12,7 @@ use Rattle.table_rows.proofs.StepLemmas.{counted_push}
 use Rattle.register_rows.specs.declared.dates.Dates.{Dates}
 use Rattle.register_rows.specs.Columns.{number_in}
 use Rattle.register_rows.specs.Dated.{AreDatedFrom}
-use Rattle.register_rows.specs.Dates.{AreDates, IsUndatedAt, SaysMoments, SaysNoMoments}
+use Rattle.register_rows.specs.Dates.{AreDates, BeginsBehind, IsUndatedAt, SaysMoments, SaysNoMoments}
 use Rattle.register_rows.specs.Received.{IsMoment, received_row, all_moments}
 use Rattle.register_rows.proofs.SegmentLemmas.{length_counted}
 
@@ -31,23 +31,31 @@ same_moment m n x y e = ap (λ r. unwrap_or (number_in (column r 1)) 0) e
 
 -- ---- rows that are those of no moments
 
--- behind some moments the rows go on, but with no moment
-not_dated : (first : ℕ) (before : List ℕ) (rest : List Row) (dated : List ℕ) → rest ≢ []
+-- behind some moments the rows do not go on with the next one, though there is a next one
+not_dated : (first : ℕ) (before : List ℕ) (rest : List Row) (dated : List ℕ) → length before < length dated
     → ((moment : ℕ) (more : List Row) → IsMoment moment → rest ≢ received_row (first + length before) moment ∷ more)
     → AllByRecursion IsMoment dated
     → counted_from received_row first before ++ rest ≡ counted_from received_row first dated → ⊥
-not_dated first [] rest [] some none within same = some same
-not_dated first [] rest (x ∷ dated) some none within same =
+not_dated first [] rest [] low none within same = absurd (omega (arith, low))
+not_dated first [] rest (x ∷ dated) low none within same =
     let here : first ≡ first + 0 = omega arith in
     none x (counted_from received_row (first + 1) dated) within.0
     (same ∙ ap (λ n. received_row n x ∷ counted_from received_row (first + 1) dated) here)
-not_dated first (y ∷ before) rest [] some none within same = absurd cc
-not_dated first (y ∷ before) rest (x ∷ dated) some none within same =
+not_dated first (y ∷ before) rest [] low none within same = absurd (omega (arith, low))
+not_dated first (y ∷ before) rest (x ∷ dated) low none within same =
     let behind : counted_from received_row (first + 1) before ++ rest ≡ counted_from received_row (first + 1) dated =
     cc in
     let place : first + 1 + length before ≡ first + suc (length before) = omega arith in
-    not_dated (first + 1) before rest dated some
+    not_dated (first + 1) before rest dated (omega (arith, low))
     (λ moment more is e. none moment more is (e ∙ ap (λ n. received_row n moment ∷ more) place)) within.1 behind
+
+-- where two lists of rows are one, they begin at one place
+same_first : (m n : ℕ) (before dated : List ℕ) (rest : List Row) → 0 < length before
+    → counted_from received_row m before ++ rest ≡ counted_from received_row n dated → m ≡ n
+same_first m n [] dated rest some same = absurd (omega (arith, some))
+same_first m n (y ∷ before) [] rest some same = absurd cc
+same_first m n (y ∷ before) (x ∷ dated) rest some same =
+    let one : received_row m y ≡ received_row n x = cc in same_place m n y x one
 
 pub undated_none : (kept_are row : ℕ) (rows : List Row) → IsUndatedAt kept_are rows row → SaysNoMoments kept_are rows
 undated_none kept_are row rows (inl many) moments says =
@@ -56,17 +64,23 @@ undated_none kept_are row rows (inl many) moments says =
     absurd (omega (arith, many.1, long, each, says.one_each))
 undated_none kept_are row rows (inr found) moments says =
     let f = found.1 in
-    let long = ap length says.rows_are in
-    let each = length_counted received_row (says.undated + 1) says.dated in
-    let start : kept_are - length rows + 1 ≡ says.undated + 1 = omega (arith, found.0, long, each, says.one_each) in
-    let place : row ≡ kept_are - length rows + 1 + length f.before = omega (arith, f.place) in
-    let same : counted_from received_row (kept_are - length rows + 1) f.before ++ f.rest
-    ≡ counted_from received_row (kept_are - length rows + 1) says.dated =
-    sym f.rows_are ∙ says.rows_are ∙ ap (λ n. counted_from received_row n says.dated) (sym start) in
-    not_dated (kept_are - length rows + 1) f.before f.rest says.dated f.some
+    let start = starts f.before refl in
+    let place : row ≡ f.first + length f.before = f.place in
+    not_dated f.first f.before f.rest says.dated (omega (arith, f.place, f.is_kept, start, says.one_each))
     (λ moment more is e. f.none moment more is (e ∙ ap (λ n. received_row n moment ∷ more) (sym place))) says.within
-    same
-
+    (sym f.rows_are ∙ says.rows_are ∙ ap (λ n. counted_from received_row n says.dated) (sym start))
+  where
+    starts : (before : List ℕ) → before ≡ found.1.before → found.1.first ≡ says.undated + 1
+    starts [] is =
+        let alone = (found.1.alone (sym is)).0 in
+        let none = ap length is in
+        let long = ap length says.rows_are in
+        let each = length_counted received_row (says.undated + 1) says.dated in
+        omega (arith, alone, none, found.0, found.1.place, long, each, says.one_each)
+    starts (y ∷ before) is =
+        let some = ap length is in
+        same_first found.1.first (says.undated + 1) found.1.before says.dated found.1.rest (omega (arith, some))
+        (sym found.1.rows_are ∙ says.rows_are)
 -- ---- rows looked through, one after another
 
 -- the first rows, so many, are those of the kept requests from this place on
@@ -181,18 +195,19 @@ module _ (rows : List Row) (d : Dates) (are : AreDates rows d) where
   )
 
   -- they are those of the last kept requests
-  pub says_all : (kept_are : ℕ) → d.rows ≤ kept_are → d.first ≡ kept_are - d.rows + 1 → d.rows ≤ d.sound
-      → (moments : List (Option ℕ)) × SaysMoments kept_are rows moments
-  says_all kept_are few first all =
+  pub says_all : (kept_are : ℕ) → d.rows ≤ kept_are → 0 < d.rows → d.first ≤ kept_are - d.rows + 1
+      → kept_are - d.first < d.sound → (moments : List (Option ℕ)) × SaysMoments kept_are rows moments
+  says_all kept_are few some early all =
       let total = long in
       let s = are.sound_are in
-      let nothing : s.rest ≡ [] = no_rows s.rest (omega (arith, total, all, s.many_is, are.many)) in (
+      let first : d.first ≡ kept_are - d.rows + 1 = omega (arith, few, some, early, all, total, s.many_is, are.many) in
+      let nothing : s.rest ≡ [] = no_rows s.rest (omega (arith, few, some, early, all, total, s.many_is, are.many)) in (
         all_moments (kept_are - d.rows) s.before,
         record {
           undated = kept_are - d.rows;
           dated = s.before;
           is = refl;
-          one_each = omega (arith, few, total, all, s.many_is, are.many);
+          one_each = omega (arith, few, some, early, all, total, s.many_is, are.many);
           within = s.within;
           rows_are =
               s.rows_are ∙ ap (λ l. counted_from received_row d.first s.before ++ l) nothing
@@ -204,52 +219,57 @@ module _ (rows : List Row) (d : Dates) (are : AreDates rows d) where
   pub told_many : (kept_are : ℕ) → kept_are < d.rows → IsUndatedAt kept_are rows 0
   told_many kept_are many = inl (refl, subst (λ n. kept_are < n) are.many many)
 
-  -- the first is not that of the first kept request which should have one
+  -- the first is not that of the first kept request which should have one, nor of one before it
   pub told_first : (kept_are : ℕ) → d.rows ≤ kept_are → 0 < d.rows
-      → (d.sound ≡ 0) ⊎ (d.first ≢ kept_are - d.rows + 1) → IsUndatedAt kept_are rows (kept_are - d.rows + 1)
+      → (d.sound ≡ 0) ⊎ (kept_are - d.rows + 1 < d.first) → IsUndatedAt kept_are rows (kept_are - d.rows + 1)
   told_first kept_are few some why =
       inr (
         subst (λ n. n ≤ kept_are) are.many few,
         record {
+          first = kept_are - d.rows + 1;
           before = [];
           rest = rows;
           within = tt;
           rows_are = refl;
-          some = λ none. let n = ap length none in absurd (omega (arith, n, some, are.many));
-          place = omega (arith, are.many);
-          none = λ moment more is e. ⊎_elim (λ zero. are.none zero _ moment more is e)
-              (λ other. elsewhere are.sound_are.before (refl, other) moment more is e) why;
+          place = omega arith;
+          is_kept = omega (arith, few, some);
+          alone = λ _. (omega (arith, are.many), begins);
+          none = λ moment more is e. let behind = begins (kept_are - d.rows + 1) moment more is e in
+              absurd (omega (arith, behind));
         },
       )
     where
-      elsewhere : (before : List ℕ) → (before ≡ are.sound_are.before) × (d.first ≢ kept_are - d.rows + 1)
-          → (moment : ℕ) (more : List Row) → IsMoment moment
-          → rows ≢ received_row (kept_are - d.rows + 1) moment ∷ more
-      elsewhere [] (is, other) moment more fits e =
-          are.none (are.sound_are.many_is ∙ ap length (sym is)) (kept_are - d.rows + 1) moment more fits e
-      elsewhere (x ∷ xs) (is, other) moment more fits e =
+      elsewhere : (before : List ℕ) → before ≡ are.sound_are.before → kept_are - d.rows + 1 < d.first
+          → BeginsBehind (kept_are - d.rows + 1) rows
+      elsewhere [] is later seq moment more fits e =
+          absurd (are.none (are.sound_are.many_is ∙ ap length (sym is)) seq moment more fits e)
+      elsewhere (x ∷ xs) is later seq moment more fits e =
           let mine : rows ≡ counted_from received_row d.first (x ∷ xs) ++ are.sound_are.rest =
           are.sound_are.rows_are ∙ ap (λ l. counted_from received_row d.first l ++ are.sound_are.rest) (sym is) in
-          let one : received_row d.first x ≡ received_row (kept_are - d.rows + 1) moment = cc in
-          other (same_place d.first (kept_are - d.rows + 1) x moment one)
+          let one : received_row d.first x ≡ received_row seq moment = cc in
+          omega (arith, later, same_place d.first seq x moment one)
 
-  -- a later one is not the next
-  pub told_later : (kept_are : ℕ) → d.rows ≤ kept_are → d.first ≡ kept_are - d.rows + 1 → d.sound < d.rows
-      → IsUndatedAt kept_are rows (kept_are - d.rows + 1 + d.sound)
-  told_later kept_are few first fewer =
+      begins : BeginsBehind (kept_are - d.rows + 1) rows
+      begins seq moment more is e =
+          ⊎_elim (λ zero. absurd (are.none zero seq moment more is e))
+          (λ later. elsewhere are.sound_are.before refl later seq moment more is e) why
+
+  -- the rows from the first on end before the last kept request
+  pub told_later : (kept_are : ℕ) → d.rows ≤ kept_are → 0 < d.sound → d.first + d.sound ≤ kept_are
+      → IsUndatedAt kept_are rows (d.first + d.sound)
+  told_later kept_are few some low =
       let s = are.sound_are in
-      let total = long in
-      let start : d.first ≡ kept_are - length rows + 1 = first ∙ ap (λ n. kept_are - n + 1) are.many in
       inr (
         subst (λ n. n ≤ kept_are) are.many few,
         record {
+          first = d.first;
           before = s.before;
           rest = s.rest;
           within = s.within;
-          rows_are = s.rows_are ∙ ap (λ n. counted_from received_row n s.before ++ s.rest) start;
-          some = λ none. let n = ap length none in absurd (omega (arith, n, total, s.many_is, fewer, are.many));
-          place = omega (arith, are.many, s.many_is);
-          none = λ moment more is e. s.ends moment more is (e
-              ∙ ap (λ n. received_row n moment ∷ more) (ap (λ n. n + d.sound) (sym first)));
+          rows_are = s.rows_are;
+          place = ap (λ n. d.first + n) s.many_is;
+          is_kept = low;
+          alone = λ none. let n = ap length none in absurd (omega (arith, n, some, s.many_is));
+          none = λ moment more is e. s.ends moment more is e;
         },
       )

@@ -2,6 +2,7 @@
 use Rattle.std.specs.Prelude.{◌≡◌, ◌≢◌, ◌⊎◌, ◌≤◌, ◌<◌, ℕ, suc, ◌+◌, ◌-◌, List, [], ◌∷◌, ◌++◌, length, Option}
 use Rattle.std.specs.List.{AllByRecursion}
 use Rattle.sqlite.specs.Order.{Row}
+use Rattle.table_rows.specs.Rows.{counted_from}
 use Rattle.register_rows.specs.declared.dates.Dates.{Dates}
 use Rattle.register_rows.specs.Dated.{AreDatedFrom}
 use Rattle.register_rows.specs.Received.{IsMoment, received_row, received_rows, all_moments}
@@ -19,18 +20,22 @@ pub record SaysMoments (kept_are : ℕ) (rows : List Row) (moments : List (Optio
 abbrev pub SaysNoMoments : ℕ → List Row → Type 0
 SaysNoMoments kept_are rows = (moments : List (Option ℕ)) → SaysMoments kept_are rows moments → ⊥
 
--- the place behind these moments of the last of so many kept requests, if as many of them as there are rows have one
-abbrev pub place_behind : ℕ → List Row → List ℕ → ℕ
-place_behind kept_are rows dated = suc (kept_are - length rows + length dated)
+-- the first row, if it is that of a request with its moment, is that of one behind this place
+abbrev pub BeginsBehind : ℕ → List Row → Type 0
+BeginsBehind place rows = (seq moment : ℕ) (more : List Row) → IsMoment moment → rows ≡ received_row seq moment ∷ more
+    → place < seq
 
--- the kept row at this place is the first that should have a moment and has none
+-- The kept row at this place has no moment and should have one: the rows begin with those of the requests right before
+-- it, each with a moment, and do not go on with its own. If they do not begin so, it is the first of the last so many.
 pub record IsFirstUndated (kept_are : ℕ) (rows : List Row) (row : ℕ) : Type 0 where
+  pub first : ℕ
   pub before : List ℕ
   pub rest : List Row
   pub within : AllByRecursion IsMoment before
-  pub rows_are : rows ≡ received_rows (kept_are - length rows) before ++ rest
-  pub some : rest ≢ []
-  pub place : row ≡ place_behind kept_are rows before
+  pub rows_are : rows ≡ counted_from received_row first before ++ rest
+  pub place : row ≡ first + length before
+  pub is_kept : row ≤ kept_are
+  pub alone : before ≡ [] → (row ≡ suc (kept_are - length rows)) × BeginsBehind row rows
   pub none : (moment : ℕ) (more : List Row) → IsMoment moment → rest ≢ received_row row moment ∷ more
 
 -- the row to report: 0 if there are more moments than kept requests, and otherwise the first without one

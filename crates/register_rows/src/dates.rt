@@ -95,7 +95,9 @@ impl Dates {
     }
 
     /// The row to report of so many kept requests, if the rows are not those of the last of them, one for each: the
-    /// first kept row that should have a moment and has none, or 0 if there are more rows.
+    /// first kept row that has no moment and comes behind one that has one. If the first row is none of the last kept
+    /// requests, as many as there are rows, or of one before them, it is the first of these; and 0 if there are more
+    /// rows.
     pub fn first_undated(self, kept: u64) -> Option<u64>
         ensures sound { result ≡ None → (rows : List Row) → AreDates rows self
             → (moments : List (Option ℕ)) × SaysMoments kept rows moments }
@@ -109,11 +111,11 @@ impl Dates {
             return None;
         }
         let place = kept - self.rows + 1;
-        if self.sound == 0 || self.first != place {
+        if self.sound == 0 || self.first > place {
             return Some(place);
         }
-        if self.sound < self.rows {
-            Some(place + self.sound)
+        if self.sound <= kept - self.first {
+            Some(self.first + self.sound)
         } else {
             None
         }

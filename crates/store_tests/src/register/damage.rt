@@ -169,11 +169,17 @@ const OF_TWO: &[Case] = &[
     ("DELETE FROM intake_meta", Some(OpenFault::NotOurs)),
 ];
 
-/// A third request whose filing takes a number in use.
-const OF_THREE: &[Case] = &[(
-    "INSERT INTO filing VALUES (3, 2)",
-    Some(OpenFault::Damaged { row: 2 }),
-)];
+/// A third request whose filing takes a number in use, and one without its moment.
+const OF_THREE: &[Case] = &[
+    (
+        "INSERT INTO filing VALUES (3, 2)",
+        Some(OpenFault::Damaged { row: 2 }),
+    ),
+    (
+        "DELETE FROM received WHERE seq = 3",
+        Some(OpenFault::Damaged { row: 3 }),
+    ),
+];
 
 /// Targets that name no filing, other ones, one that was replaced already, and at last other targets with which each of
 /// these filings is valid: none, one more, and that of another report.

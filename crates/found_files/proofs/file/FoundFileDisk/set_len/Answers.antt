@@ -1,4 +1,5 @@
-use Rattle.std.proofs.Common.{◌≡◌, ℕ, Bool, true, false, cond, List, length, OnOk, Result, Ok, Err, is_ok, refl, inl, inr, rules}
+use Rattle.std.proofs.Common.{◌≡◌, ℕ, Bool, true, false, cond, List, length, OnOk, Result, Ok, Err, is_ok, refl}
+use Rattle.std.proofs.Common.{inl, inr, rules}
 use Rattle.sqlite_disk.specs.Disk.{Cut}
 use Rattle.sqlite_disk.specs.Events.{padded}
 use Rattle.found_files.specs.Found.{model}
@@ -9,7 +10,8 @@ cut_either : (ok : Bool) (file : List ℕ) (len : ℕ) → Cut len file (cond ok
 cut_either true file len = Cut-padded file len
 cut_either false file len = search rules
 
-len_at_ok : {E : Type 0} (r : Result (Unit {0}) E) (file : List ℕ) (len : ℕ) → OnOk r (length (cond (is_ok r) (padded file len) file) ≡ len)
+len_at_ok : {E : Type 0} (r : Result (Unit {0}) E) (file : List ℕ) (len : ℕ)
+    → OnOk r (length (cond (is_ok r) (padded file len) file) ≡ len)
 len_at_ok (Ok x) file len = length-padded file len
 len_at_ok (Err e) file len = tt
 

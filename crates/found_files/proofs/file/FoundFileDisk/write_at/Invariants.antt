@@ -11,7 +11,8 @@ invariant-loop-done g l =
     let step = Torn l.at (length l.bytes) in
     let was = MayLeave true old.seen old.synced old.steps in
     let is = MayLeave true now.seen now.synced now.steps in
-    (l.done ≤ length l.bytes) × (now.is_usable ≡ old.is_usable) × (now.faults ≡ old.faults) × (now.is_honest ≡ old.is_honest)
+    (l.done ≤ length l.bytes) × (now.is_usable ≡ old.is_usable) × (now.faults ≡ old.faults)
+    × (now.is_honest ≡ old.is_honest)
     × (0 < l.done → l.at + l.done ≤ length now.seen)
     × step old.seen now.seen × Follows step was is
     × ((i : ℕ) → i < l.done → slice_index now.seen (l.at + i) ≡ slice_index l.bytes i)
