@@ -308,7 +308,9 @@ static WORDS: [Word<Argument>; 8] = [
             Argument::Bodies,
             Argument::Key,
             Argument::Amend,
-            Argument::Strict("Puts nothing in, and ends with 2, if a report is no JSON [default: warns]"),
+            Argument::Strict(
+                "Puts nothing in, and ends with 2, if a report is no JSON [default: warns]",
+            ),
             Argument::Wait,
         ],
     },

@@ -2,14 +2,14 @@
 //! says. A list has no key and no report. So of another filing under the same number it shows only that it has more or
 //! fewer facts, or replaces another one.
 
-ghost use Rattle.std.specs.Prelude.{◌≡◌, IfOk};
+ghost use Rattle.std.specs.Prelude.{◌≡◌, string_bytes, IfOk};
 ghost use Rattle.serde_json.specs.View.{view};
 ghost use Rattle.xbrl_report.specs.Findings.{findings};
 ghost use Rattle.xbrl_report.specs.ReportParts.{fact_count};
 ghost use Rattle.http_messages.specs.Replies.{reply_parts};
 ghost use Rattle.outbox_core.specs.Reading.{view_entry};
-ghost use Rattle.outbox_process.specs.Listing.{list_request, facts_if, filing_of, has_number, has_facts, has_replaced};
-ghost use Rattle.outbox_process.specs.Listing.{is_sought, begins_with, listed_by, said_of, IsFound};
+ghost use Rattle.outbox_process.specs.Listing.{list_line, list_request, facts_if, filing_of, has_number, has_facts};
+ghost use Rattle.outbox_process.specs.Listing.{has_replaced, is_sought, begins_with, listed_by, said_of, IsFound};
 
 use crate::tasks::fault::{LineFault, TaskFault};
 use http_wire::Reply;
@@ -39,15 +39,19 @@ pub(crate) enum Listed {
     Unsaid,
 }
 
+/// The first line of the request for the list of a filing.
+fn list_line(alloc: Global, filer: &str, number: u64) -> Result<String, AllocError>
+    ensures { IfOk result (λ line. string_bytes line ≡ list_line filer.now number) }
+{
+    format!(in alloc; "GET /filings/{filer}/{number} HTTP/1.1\r\n")
+}
+
 /// The request whose reply lists the filing of this number alone, if it is this filer's.
 pub(crate) fn list_request(alloc: Global, filer: &str, number: u64) -> Result<Vec<u8>, AllocError>
     ensures { IfOk result (λ text. text.items ≡ list_request filer.now number) }
 {
-    let line = format!(in alloc; "GET /filings/{filer}/{number} HTTP/1.1\r\n")?;
-    let mut text = line.into_bytes();
-    text.extend_from_slice(b"Host: localhost\r\n")?;
-    text.extend_from_slice(b"Connection: close\r\n")?;
-    text.extend_from_slice(b"\r\n")?;
+    let mut text = list_line(alloc, filer, number)?.into_bytes();
+    text.extend_from_slice(b"Host: localhost\r\nConnection: close\r\n\r\n")?;
     Ok(text)
 }
 
