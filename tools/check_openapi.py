@@ -31,8 +31,9 @@ ROOT = pathlib.Path(__file__).resolve().parent.parent
 FILE, PROTOCOL = ROOT / "docs" / "openapi.yaml", ROOT / "docs" / "PROTOCOL.md"
 # The filings of a filer, and one of them.
 PATH, NUMBERED = "/filings/{filer}", "/filings/{filer}/{number}"
-# What the server in front answers alone, and the one answer to a method that the file has not.
-IN_FRONT, OTHER_METHODS = {"no-certificate", "not-yours", "wrong-host"}, {"no-method"}
+METHODS = ("get", "post", "put", "patch", "delete")
+# What the server in front answers alone.
+IN_FRONT = {"no-certificate", "not-yours", "wrong-host"}
 failures = []
 
 
@@ -131,7 +132,7 @@ def media_type(status):
 def responses(document):
     """Each path and method with each status and its response."""
     for path in (PATH, NUMBERED):
-        for method in ("get", "post"):
+        for method in METHODS:
             for status, response in document["paths"][path][method]["responses"].items():
                 yield f"{method} {path}", int(status), resolved(document, response)["content"][media_type(int(status))]
 
@@ -166,7 +167,8 @@ def check_examples(document):
         shown.append((f"a report to {path}", body["content"]["application/json"]))
     shown += [(f"{asked} {status}", content) for asked, status, content in responses(document)]
     for what, content in shown:
-        for name, example in content.get("examples", {}).items():
+        tell(f"{what} has an example", None if content.get("examples") else "it has none")
+        for name, example in (content.get("examples") or {}).items():
             tell(f"example {name} of {what}", fault_of(document, content["schema"], example["value"]))
     for name, parameter in document["components"]["parameters"].items():
         tell(f"example of the parameter {name}", fault_of(document, parameter["schema"], parameter["example"]))
@@ -190,7 +192,7 @@ def check_paths(document):
     """The paths are the two that the intake knows, and each method is answered alike on both."""
     paths = document["paths"]
     tell("the paths", None if set(paths) == {PATH, NUMBERED} else f"{sorted(paths)}")
-    for method in ("get", "post"):
+    for method in METHODS:
         same = paths[PATH][method]["responses"] == paths[NUMBERED][method]["responses"]
         tell(f"the answers to {method} on both paths", None if same else "they differ")
 
@@ -207,9 +209,33 @@ def check_protocol(document):
     told = {(int(status), word_of(shown)) for status, shown in rows}
     mine = {(status, word) for _, status, content in responses(document)
             for word in words_of(document, content["schema"]) or {"filings"}}
-    told = {(status, word) for status, word in told if word not in OTHER_METHODS}
     mine = {(status, word) for status, word in mine if word not in IN_FRONT}
     tell("the statuses and their words", None if told == mine else f"{sorted(told ^ mine)}")
+
+
+def check_fields(document):
+    """Each operation wants a certificate, and the fields of replies are those that docs/PROTOCOL.md and the server in
+    front have."""
+    schemes = document["components"]["securitySchemes"]
+    wanted = [kind for one in document["security"] for kind in one]
+    tell("a certificate is wanted", None if [schemes[it]["type"] for it in wanted] == ["mutualTLS"] else f"{wanted}")
+    found = {name: (resolved(document, field).get("example"), status)
+             for _, status, content in responses(document) for name, field in fields_of(document, status).items()}
+    allowed = re.search(r"`Allow: ([A-Z, ]+)` comes with 405", PROTOCOL.read_text())[1]
+    front = (ROOT / "deploy" / "nginx-intake.conf").read_text()
+    retry = int(re.search(r"add_header Retry-After (\d+) always;\s+return 503", front)[1])
+    wanted = {"Allow": (allowed, 405), "Retry-After": (retry, 503)}
+    tell("the fields of replies", None if found == wanted else f"{found} in place of {wanted}")
+
+
+def fields_of(document, status):
+    """The fields of the replies of this status that are declared."""
+    for path in (PATH, NUMBERED):
+        for method in METHODS:
+            response = document["paths"][path][method]["responses"].get(str(status))
+            if response and (found := resolved(document, response).get("headers")):
+                return found
+    return {}
 
 
 # ---- replies
@@ -298,6 +324,8 @@ REQUESTS = [
     ("a key without quotes", "POST", message("POST", REPORT, key="k-1"), 400),
     ("no host", "GET", message("GET", fields=()), 400),
     ("another path", "GET", message("GET", path="/other"), 404),
+    ("another method", "PUT", message("PUT", REPORT), 405),
+    ("another method of one filing", "DELETE", message("DELETE", path="/filings/ACME/1"), 405),
     ("no length", "POST", message("POST", length=False), 411),
     ("a length above the limit", "POST",
      message("POST", fields=("Host: h", "Content-Length: 1048577"), length=False), 413),
@@ -360,6 +388,7 @@ def main(words):
     check_examples(document)
     check_paths(document)
     check_protocol(document)
+    check_fields(document)
     if words:
         program = str(pathlib.Path(words[0]).resolve())
         check_program(document, program, REQUESTS)
