@@ -30,7 +30,8 @@ from trials import failures, hold, tell
 
 ROOT = pathlib.Path(__file__).resolve().parent.parent
 DEPLOY = ROOT / "deploy"
-SCRIPTS = ["register-new", "register-snapshot", "register-copies", "intake-health", "outbox-round"]
+SCRIPTS = ["register-new", "register-snapshot", "register-copies", "intake-health", "outbox-round", "nginx-follow",
+           "certificates-last"]  # fmt: skip
 SECOND_HOST = "2025.example"
 
 
@@ -190,6 +191,10 @@ EMPTY = [
     ("nginx-filer", "", "acme.pem", "acme", "ACME"),
     ("nginx-filer", "fronts.conf", "", "acme", "ACME"),
     ("nginx-filer", "--remove", "fronts.conf", ""),
+    ("nginx-filer", "--sign", "fronts.conf", "", "acme", "ACME"),
+    ("register-metrics", "--into", "x.prom", "--issued", ""),
+    ("certificates-last", "30", ""),
+    ("nginx-follow", "", "x"),
     ("intake-health", ""),
 ]
 
@@ -230,8 +235,9 @@ def try_instances():
     for one, changes, more in [
         ("berruzpil-intake",
          {"registers xBRL-JSON reports once": "of the register %i", "intake: of": "intake of", "register.db": "%i.db",
-          "8080": "${PORT}", "Identifier=intake": "Identifier=intake-%i"},
-         ["EnvironmentFile=/etc/berruzpil/%i.env"]),
+          "PORT=8080 ": "", "Identifier=intake": "Identifier=intake-%i",
+          "EnvironmentFile=-/etc/default/berruzpil": "EnvironmentFile=/etc/berruzpil/%i.env"},
+         []),
         ("berruzpil-outbox", {"outbox: sends": "outbox %i: sends", "outbox.db 8081": "%i.db ${PORT}"},
          ["Environment=PORT=8081", "EnvironmentFile=-/etc/berruzpil/%i.env"]),
     ]:
@@ -542,7 +548,7 @@ def nginx_file(folder, port, intakes, outbox_port):
         f"daemon off;\npid {folder}/pid;\nerror_log {folder}/error.log;\n"
         "worker_processes auto;\nevents {\n    worker_connections 768;\n}\n"
     )
-    log = (DEPLOY / "nginx-berruzpil-log.conf").read_text()
+    log = (DEPLOY / "nginx-berruzpil-log.conf").read_text().replace("127.0.0.1:8079", f"127.0.0.1:{free_port()}")
     (folder / "nginx.conf").write_text(f"{whole}http {{\n    access_log off;\n{temporary}{log}{fronts}{behind}}}\n")
     return folder / "nginx.conf"
 
@@ -666,6 +672,8 @@ def try_removed_lines(folder):
 FILER_USAGE = """usage: nginx-filer FILE CERTIFICATE USER FILER ..
        nginx-filer --remove FILE USER [FILER ..]
        nginx-filer --remove FILE CERTIFICATE
+       nginx-filer --sign FILE REQUEST USER FILER ..
+       nginx-filer --list
 """
 
 
@@ -696,6 +704,8 @@ def try_filer_lines(folder):
         hold(f"nginx-filer: {what}", (done.returncode, done.stdout, done.stderr), wanted)
     hold("nginx-filer: a certificate that is none",
          run(DEPLOY / "nginx-filer", file, file, "acme", "ACME").returncode, 3)
+    hold("nginx-filer: a request that is a certificate",
+         run(DEPLOY / "nginx-filer", "--sign", file, acme, "acme", "ACME").returncode, 3)
     hold("nginx-filer: a file that isn't there",
          run(DEPLOY / "nginx-filer", folder / "none.conf", acme, "acme", "ACME").returncode, 3)
     hold("nginx-filer leaves the file as it was",

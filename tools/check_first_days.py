@@ -43,7 +43,7 @@ from machines import NotPossible, Shell
 ROOT = machines.ROOT
 FAULTS = ROOT / "tools" / "planted_faults.txt"
 COPY_OF_PAGE = "register-20241231T021500Z.db"
-SUPERVISOR, FILER = "A supervisor's first day", "A filer's first day"
+SUPERVISOR, FILER = "A supervisor's first day by hand", "A filer's first day by hand"
 passed = []
 
 
@@ -71,11 +71,12 @@ def commands_in(text, indent):
 
 
 class Page:
-    """docs/FIRST_DAYS.md and docs/OPERATIONS.md of a repository, one after the other."""
+    """docs/FIRST_DAYS.md and docs/OPERATIONS.md of a repository, one after the other, and docs/OWN_CLIENT.md."""
 
     def __init__(self, repository):
         self.text = "\n".join((repository / "docs" / name).read_text(encoding="utf-8")
                               for name in ("FIRST_DAYS.md", "OPERATIONS.md"))
+        self.own_client = blocks_of(repository / "docs" / "OWN_CLIENT.md")
 
     def section(self, title):
         """The text below a heading."""
@@ -94,7 +95,8 @@ class Page:
 
     def packages(self):
         """The Debian packages that the page installs."""
-        return {name for words in re.findall(r"(?m)^ +apt-get install -y (.*)$", self.text) for name in words.split()}
+        words = " ".join(re.findall(r"(?m)^ +apt-get install -y (.*)$", self.text)).split()
+        return {name for name in words if "/" not in name}
 
 
 def without_moments(text):
@@ -104,6 +106,7 @@ def without_moments(text):
         (r"\d{8}T\d{6}Z", "MOMENT"),
         (r"\d{4}-\d\d-\d\dT\d\d:\d\d:\d\d(Z|[+-]\d\d:\d\d)", "MOMENT"),
         (r"filings\.log-\d{4}-\d\d-\d\d", "filings.log-DAY"),
+        (r", until \d{4}-\d\d-\d\d", ", until DAY"),
     ]:
         text = re.sub(pattern, written, text)
     return text
@@ -235,6 +238,7 @@ def days(page, supervisor, filer):
     hold("the intake serves after its upgrade", start_intake(page, supervisor), 0)
     for path, wanted in [("/var/lib/berruzpil/register.db", "0o600"), ("/var/lib/berruzpil", "0o750"),
                          ("/etc/berruzpil/authority/ca.key", "0o600"), ("/var/lib/berruzpil/reading.db", "0o600"),
+                         ("/var/log/berruzpil/filings.log", "0o640"), ("/var/log/berruzpil", "0o751"),
                          (f"/var/lib/berruzpil/copies/{copies(supervisor)[0]}", "0o600"),
                          (METRICS, "0o644")]:  # fmt: skip
         hold(f"who may read {re.sub('[0-9]{8}T[0-9]{6}Z', 'MOMENT', path)}", rights(supervisor, path), wanted)
@@ -262,7 +266,7 @@ def units(page, supervisor, filer):
         print("not tried: systemd-analyze is not installed")
         return
     with Shell(supervisor) as shell:
-        shell.paste("install -m 0755 deploy/outbox-round /usr/local/bin/; mkdir -p /run/verify")
+        shell.paste("install -m 0755 deploy/outbox-round deploy/nginx-follow /usr/local/bin/; mkdir -p /run/verify")
         shell.paste("for it in deploy/berruzpil-*.service deploy/berruzpil-*.timer; "
                     "do cp $it /run/verify/$(basename $it | sed s/@/@1/); done")
         status, printed = shell.paste("ls /run/verify | wc -l; systemd-analyze verify --man=no /run/verify/*")
@@ -409,10 +413,11 @@ def abort(page, supervisor, filer):
 
 def renew(page, supervisor, filer, name):
     """Gives the filer a certificate of another subject, by the commands of the page."""
-    theirs, ours = page.steps(SUPERVISOR), page.steps(FILER)
+    ours = page.steps(FILER)
     play(filer, "another certificate", [ours[2][0]], [("CN=acme-filing", f"CN={name}")])
     carry(filer, supervisor, "acme.csr")
-    play(supervisor, "another certificate", [it for it in theirs[8] if it[0].startswith("openssl req -x509")])
+    supervisor.paste("openssl req -x509 -in acme.csr -days 9 -CA /etc/nginx/tls/filers-ca.pem -CAkey "
+                     "/etc/berruzpil/authority/ca.key -addext basicConstraints=critical,CA:FALSE -out acme.pem")
     carry(supervisor, filer, "acme.pem")
     play(filer, "another certificate",
          [it for it in ours[3] if "acme.pem" in it[0] or it[0] == "systemctl restart nginx"])
@@ -441,7 +446,7 @@ def certificates(page, supervisor, filer):
     hold("the supervisor's log says so", (line["user"], line["status"], line["key"]), ("", 403, '"certificate-1"'))
     round_of(filer)
     added = [it for it in page.steps(SUPERVISOR)[8] if "nginx-filer" in it[0] or "reload nginx" in it[0]]
-    added[0][1][0] = added[0][1][0].replace("acme-filing", "acme-filing-2")
+    added[0][1][:] = [line.replace("acme-filing", "acme-filing-2") for line in added[0][1]]
     play(supervisor, "another certificate", added)
     filer.until(LIST, lambda _, printed: "filings" in printed)
     hold("the round after that", round_of(filer), (0, ""))
@@ -800,6 +805,200 @@ def stunnel(page, supervisor, filer):
     filer.paste("systemctl disable --quiet --now stunnel@stunnel-outbox; systemctl start nginx")
 
 
+# ---- rights, connections, names and certificates
+
+FRONT = "/etc/nginx/conf.d/nginx-intake.conf"
+
+
+def taken(page, supervisor, filer):
+    """A right that is taken away while a report is on its way, a byte every five seconds: it isn't filed half a minute
+    later."""
+    body, spaces = trials.REPORT.decode(), 6
+    filer.write("/run/slow", HEAD.format("taken", len(body) + spaces).encode().decode("unicode_escape") + body)
+    before = supervisor.paste("curl -s http://127.0.0.1:8080/filings/ACME")
+    sending = filer.begin(f"{{ cat /run/slow; for it in $(seq {spaces}); do sleep 5; printf ' '; done; sleep 5; }} | "
+                          f"timeout 60 {TLS} > /run/answer")  # fmt: skip
+    time.sleep(2)
+    written = re.search(r"`(nginx-filer --remove FILE acme.pem)`", page.text)
+    hold("what the page says of a stolen key", bool(written), True)
+    hold("a right is taken away",
+         supervisor.paste(f"{written[1].replace('FILE', FRONT)} && nginx -t -q && systemctl reload nginx"),
+         (0, '"~^CN=acme-filing,O=ACME$" acme;\n'))
+    hold("its certificate is in the list no more", supervisor.paste("nginx-filer --list | grep -c acme-filing,"),
+         (1, "0\n"))
+    sending.wait()
+    hold("a report that was under way is not answered 201", "201" in filer.file("/run/answer").read_text(), False)
+    hold("and not filed", supervisor.paste("curl -s http://127.0.0.1:8080/filings/ACME"), before)
+    supervisor.paste(f"nginx-filer {FRONT} acme.pem acme ACME && systemctl reload nginx; "
+                     "mv /etc/berruzpil/issued/withdrawn/*.pem /etc/berruzpil/issued/")
+    filer.until(LIST, lambda _, printed: "filings" in printed)
+
+
+# How many filers hold a connection at once. $1 is their number.
+MANY = """
+import collections, concurrent.futures, http.client, ssl, sys, threading
+count = int(sys.argv[1])
+context = ssl.create_default_context(cafile="/etc/berruzpil/intake-ca.pem")
+context.load_cert_chain("/etc/berruzpil/filer.pem", "/etc/berruzpil/filer.key")
+body, all_are_there = open("/var/lib/berruzpil/report.json", "rb").read(), threading.Barrier(count)
+threading.stack_size(262144)
+
+
+def file(number):
+    try:
+        front = http.client.HTTPSConnection("intake.example", timeout=600, context=context)
+        try:
+            front.connect()
+        finally:
+            all_are_there.wait(600)
+        front.request("POST", "/filings/ACME", body, {"Idempotency-Key": f'"many-{number}"'})
+        reply = front.getresponse()
+        reply.read()
+        status = reply.status
+        # Each stays there until all have their answers.
+        all_are_there.wait(600)
+        return status
+    except (OSError, http.client.HTTPException, threading.BrokenBarrierError) as fault:
+        return type(fault).__name__
+
+
+with concurrent.futures.ThreadPoolExecutor(count) as threads:
+    print(sorted(collections.Counter(threads.map(file, range(count))).items(), key=str))
+"""
+FILERS_AT_ONCE = 600
+
+
+def many(page, supervisor, filer):
+    """As many filers at once as the page says, behind one process of nginx: each gets its answer, and none a reset."""
+    written = next(it for it, _ in page.steps(SUPERVISOR)[6] if "worker_connections" in it)
+    supervisor.paste("cp /etc/nginx/nginx.conf /root/; sed -i -e 's/worker_processes auto/worker_processes 1/' "
+                     "-e 's/worker_connections [0-9]*/worker_connections 768/' /etc/nginx/nginx.conf")
+    hold("how many connections nginx has", supervisor.paste(f"{written}; systemctl restart nginx"), (0, ""))
+    filer.until(LIST, lambda _, printed: "filings" in printed)
+    filer.write("/run/many.py", MANY)
+    hold(f"{FILERS_AT_ONCE} filers at once", filer.paste(f"ulimit -n 4096; python3 /run/many.py {FILERS_AT_ONCE}"),
+         (0, f"[(201, {FILERS_AT_ONCE})]\n"))
+    supervisor.paste("systemctl start berruzpil-metrics")
+    found = dict(line.rsplit(" ", 1) for line in supervisor.file(METRICS).read_text().splitlines())
+    hold("the numbers say so", (found.get("berruzpil_nginx_up"), found.get("berruzpil_nginx_dropped_total"),
+                                int(found.get("berruzpil_nginx_accepted_total", 0)) > FILERS_AT_ONCE), ("1", "0", True))
+    # With too few, the numbers say that, too.
+    supervisor.paste("sed -i 's/worker_connections [0-9]*/worker_connections 20/' /etc/nginx/nginx.conf; "
+                     "systemctl restart nginx")
+    filer.paste("python3 /run/many.py 40")
+    supervisor.paste("systemctl start berruzpil-metrics")
+    found = dict(line.rsplit(" ", 1) for line in supervisor.file(METRICS).read_text().splitlines())
+    hold("connections that nginx drops are counted", int(found.get("berruzpil_nginx_dropped_total", 0)) > 0, True)
+    supervisor.paste("cp /root/nginx.conf /etc/nginx/; systemctl restart nginx")
+
+
+def lines(page, supervisor, filer):
+    """The disk of the log is full: reports are filed, and the numbers say that their lines are missing."""
+    log = "/var/log/berruzpil"
+    number = 'berruzpil_filings_without_line{register="register"}'
+
+    def lacking():
+        supervisor.paste("systemctl start berruzpil-snapshot@register berruzpil-metrics")
+        return dict(line.rsplit(" ", 1) for line in supervisor.file(METRICS).read_text().splitlines()).get(number)
+
+    hold("no line is missing", lacking(), "0")
+    hold("a small disk for the log, which has a page of lines already", supervisor.paste(
+        f"mount -t tmpfs -o size=64k,mode=0751 tmpfs {log}; install -o www-data -g adm -m 0640 /dev/null "
+        f"{log}/filings.log; {{ echo '{{\"time\":\"'$(date -Is -d '1 hour ago')'\",\"status\":200}}'; "
+        f"yes '{{\"status\":200}}' | head -c 4095; }} | head -c 4096 > {log}/filings.log; "
+        "kill -USR1 $(cat /run/nginx.pid); sleep 1; "
+        f"head -c 1M /dev/zero 2> /dev/null > {log}/fill; stat -c %s {log}/filings.log"), (0, "4096\n"))
+    hold("a report while the log's disk is full", filed(page, filer, "line-1"), "confirmed N")
+    hold("it has no line", supervisor.file(f"{log}/filings.log").stat().st_size, 4096)
+    hold("and the numbers say so", lacking(), "1")
+    supervisor.paste(f"umount -l {log}; kill -USR1 $(cat /run/nginx.pid)")
+
+
+def names(page, supervisor, filer):
+    """The supervisor's host moves to another address, and leads nowhere while nginx starts: the filer's nginx follows
+    it."""
+    if not filer.is_booted:
+        print("not tried: a stand-in has no such unit")
+        return
+    unit, other = "berruzpil-name@intake.example", "198.51.100.3"
+    hold("the timer runs", filer.paste(f"systemctl is-active {unit}.timer"), (0, "active\n"))
+    hold("nothing has moved", filer.paste(f"systemctl start {unit}; cat /run/berruzpil/intake.example.addresses"),
+         (0, f"{machines.ADDRESSES['supervisor']}\n"))
+
+    def move(old, new):
+        supervisor.paste(f"ip addr add {new}/24 dev cable-a; ip addr del {old}/24 dev cable-a")
+        filer.paste(f"sed -i 's/^{old} /{new} /' /etc/hosts")
+
+    move(machines.ADDRESSES["supervisor"], other)
+    hold("it moves", filer.paste(f"systemctl start {unit}")[0], 0)
+    hold("and nginx follows", filer.until(LIST, lambda _, printed: "filings" in printed, seconds=20)[0:1], (0,))
+    filer.paste("cp /etc/hosts /run/hosts; echo '127.0.0.1 localhost' > /etc/hosts")
+    hold("nginx doesn't start while the name leads nowhere", filer.paste("systemctl restart nginx")[0], 1)
+    hold("and says so", filer.paste(f"systemctl start {unit}")[0], 1)
+    filer.paste("cat /run/hosts > /etc/hosts")
+    hold("the name leads there again", filer.paste(f"systemctl start {unit}"), (0, ""))
+    hold("and nginx runs", filer.until(LIST, lambda _, printed: "filings" in printed, seconds=20)[0:1], (0,))
+    move(other, machines.ADDRESSES["supervisor"])
+    filer.paste(f"systemctl start {unit}")
+    filer.until(LIST, lambda _, printed: "filings" in printed, seconds=20)
+
+
+def expiry(page, supervisor, filer):
+    """Certificates that expire in nine days: alerts at both ends, and numbers and a list of those of filers."""
+    unit = "berruzpil-certificates.service"
+    make = ("openssl req -x509 -newkey ec -pkeyopt ec_paramgen_curve:P-256 -nodes -days {} -subj /O=ACME/CN={} "
+            "-keyout /dev/null -out {}")  # fmt: skip
+    for machine, file in [(supervisor, "/etc/nginx/tls/nine.pem"), (filer, "/etc/berruzpil/nine.pem")]:
+        hold(f"{machine.name}: all are valid for a month", machine.paste(f"systemctl start {unit}"), (0, ""))
+        before = len(machine.alerts(unit))
+        machine.paste(make.format(9, "nine", file))
+        hold(f"{machine.name}: one is not", machine.paste(f"systemctl start {unit}"), (1, JOB.format(unit)))
+        hold(f"{machine.name}: there is an alert", alert_comes(machine, unit, before), True)
+        hold(f"{machine.name}: it says which", f"{file}: subject=CN=nine,O=ACME notAfter=" in
+             machine.paste(f"journalctl -q -u {unit} -o cat")[1], True)
+        machine.paste(f"rm {file}; systemctl reset-failed {unit}")
+    issued = "/etc/berruzpil/issued"
+    supervisor.paste(f"{make.format(300, 'twice', f'{issued}/twice-aa.pem')}; "
+                     f"{make.format(9, 'twice', f'{issued}/twice-bb.pem')}; systemctl start berruzpil-metrics")
+    ends = supervisor.paste(f"for it in {issued}/twice-aa.pem {issued}/acme-*.pem; do date +%s -d "
+                            "\"$(openssl x509 -in $it -noout -enddate | cut -d= -f2)\"; done")[1].split()
+    found = dict(line.rsplit(" ", 1) for line in supervisor.file(METRICS).read_text().splitlines())
+    name = 'berruzpil_filer_certificate_expiry_timestamp_seconds{{subject="CN={},O=ACME",user="{}"}}'
+    hold("the numbers of filers' certificates",
+         [found.get(name.format(*who)) for who in [("twice", "twice"), ("acme-filing", "acme")]], [ends[0], ends[-1]])
+    hold("the list of them", [line.split(",", 1)[1] for line in supervisor.paste("nginx-filer --list")[1].splitlines()
+                              if "twice" in line], [f'"CN=twice,O=ACME",twice,{issued}/twice-aa.pem'])
+    supervisor.paste(f"rm {issued}/twice-*.pem")
+
+
+def own_client(page, supervisor, filer):
+    """A filer with an HTTP client of its own, by the commands of docs/OWN_CLIENT.md."""
+    made, *filed_so = page.own_client
+    with Shell(filer) as shell:
+        shell.paste("install -d -m 0700 /root/own; cd /root/own; cp /root/berruzpil/intake-ca.pem .; "
+                    "cp /var/lib/berruzpil/report.json .")
+        for command, lines in made:
+            status, printed = shell.paste(command)
+            hold(f"own client: {textwrap.shorten(command, 90)}", (status, printed.splitlines()), (0, lines))
+        shutil.copyfile(filer.file("/root/own/acme.csr"), supervisor.file("/root/berruzpil/own.csr"))
+        supervisor.paste(f"nginx-filer --sign {FRONT} own.csr acme ACME; nginx -t -q && systemctl reload nginx")
+        shutil.copyfile(supervisor.file("/root/berruzpil/own.pem"), filer.file("/root/own/acme.pem"))
+        before, number = supervisor.paste("curl -s http://127.0.0.1:8080/filings/ACME")[1].count("number"), "N"
+        for command, lines in [it for block in filed_so for it in block]:
+            status, printed = shell.paste(command.replace("$front/N", f"$front/{number}"))
+            number = (re.search(r'"number":(\d+),"status"', printed) or [None, number])[1]
+            hold(f"own client: {textwrap.shorten(command, 90)}", (status, printed.splitlines()),
+                 (0, [line.replace("N", number) for line in lines]))
+        after = supervisor.paste("curl -s http://127.0.0.1:8080/filings/ACME")[1].count("number")
+        hold("it is filed once", after - before, 1)
+
+
+def blocks_of(file):
+    """The commands of each block of a page, and what each prints."""
+    blocks = re.findall(r"(?m)(?:^ {4}\S.*\n|^ {8}.*\n)+", file.read_text(encoding="utf-8"))
+    return [commands_in(block, 4) for block in blocks]
+
+
 def man_pages(page, supervisor, filer):
     """Each example of each rendered man page, in the filer's network, where port 8080 is free."""
     check, folder = ROOT / "tools" / "check_man_pages.py", supervisor.programs[0].parent
@@ -816,7 +1015,7 @@ def man_pages(page, supervisor, filer):
 # The parts, in the order in which they are played. Each after the first can be played on its own after the days.
 PARTS = {it.__name__: it for it in [
     days, units, restore, again, disk, clock, hang, timers, metrics, readers, slow, abort, certificates, stunnel,
-    damaged, upgrade, outbox_upgrade, health, power, several, man_pages,
+    damaged, upgrade, outbox_upgrade, health, power, taken, many, lines, names, expiry, own_client, several, man_pages,
 ]}  # fmt: skip
 
 
@@ -824,7 +1023,8 @@ PARTS = {it.__name__: it for it in [
 
 FAULT = re.compile(r"(\w+): (\S+): `(.*)` => `(.*)`")
 # Where the days put what is in deploy/.
-INSTALLED = ["/usr/local/bin", "/usr/local/lib/berruzpil", "/etc/systemd/system", "/etc/nginx/conf.d"]
+INSTALLED = ["/usr/local/bin", "/usr/local/lib/berruzpil", "/etc/systemd/system", "/etc/nginx/conf.d",
+             "/etc/nginx/modules-enabled"]  # fmt: skip
 
 
 class Fault:
@@ -838,7 +1038,7 @@ class Fault:
 
     def misfit(self):
         """What is wrong with the line, or nothing."""
-        if self.part not in PARTS:
+        if self.part not in PARTS and not self.part.startswith("package_"):
             return f"there is no part {self.part}"
         count = (ROOT / self.file).read_text(encoding="utf-8").count(self.old)
         return None if count == 1 else f"this text is there {count} times"
@@ -905,7 +1105,7 @@ def sees(base, programs, kept, part, fault):
 
 def try_faults(base, programs, word):
     """Plays the days once, and each part over what they leave: without a fault, and with each of its faults."""
-    chosen = faults(word)
+    chosen = [fault for fault in faults(word) if fault.part in PARTS]
     with machines.joined(lambda name: machines.Booted(name, base, ROOT, programs)) as both:
         days(Page(ROOT), *both)
         kept = {machine.name: machine.shut_down() for machine in both}

@@ -101,7 +101,7 @@ QUESTIONS = {
     "Do I get a receipt?": ("`--receipts FOLDER`", "`sha256`", "not signed"),
 }
 # Commands that only root can use as they are written, and those of the kit.
-NEEDS_ROOT = re.compile(r"\b(?:systemctl|runuser|apt-get|useradd|journalctl|logrotate)\b"
+NEEDS_ROOT = re.compile(r"\b(?:systemctl|runuser|apt-get|useradd|journalctl|logrotate|berruzpil-setup)\b"
                         r"|(?<![\w.])/(?:etc|var|usr/local|lib)/|^install ", re.M)
 NEEDS_KIT = re.compile(r"\brt (?:try|run|ci|check|lib|test|must-fail)\b|^\.ci/run\b", re.M)
 

@@ -110,7 +110,7 @@ class Shell:
         """The status of a command, and what it prints."""
         self.process.stdin.write(f"{{ {command}\n}} </dev/null >{self.output} 2>&1; echo $?\n".encode())
         self.process.stdin.flush()
-        if not select.select([self.process.stdout], [], [], 240)[0]:
+        if not select.select([self.process.stdout], [], [], 900)[0]:
             raise TimeoutError(f"{self.machine.name}: {command}")
         status = int(self.process.stdout.readline())
         return status, self.machine.file(self.output).read_text(encoding="utf-8", errors="replace")
