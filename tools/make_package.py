@@ -3,17 +3,20 @@
 
     tools/make_package.py PROGRAMS FOLDER VERSION       writes FOLDER/berruzpil_VERSION_amd64.deb
 
-PROGRAMS has intake, outbox and drill. The package puts them and the scripts of deploy/ into /usr/bin, reading.sql into
-/usr/lib/berruzpil, the units into /lib/systemd/system, and man pages, completions and pages where Debian has them; the
-files for nginx, stunnel and logrotate are examples. It runs nothing when it is installed or removed, so it makes no
-user and no folder for databases. The time of all files is SOURCE_DATE_EPOCH, if that is given, so that the same
-programs give the same package. tools/release calls this; tools/check_package.py tries the package.
+PROGRAMS has intake, outbox and drill. The package puts them and the scripts of deploy/ into /usr/bin, the units into
+/lib/systemd/system, the rules of logrotate into /etc, the other files of deploy/ into /usr/lib/berruzpil and beside the
+examples, and man pages, completions and pages where Debian has them. deploy/package/ has what makes the user and the
+folders, what the administrator sets, and what dpkg runs. The time of all files is SOURCE_DATE_EPOCH, if that is given,
+so that the same programs give the same package. tools/release calls this; tools/check_package.py tries the package.
 """
+import contextlib
+import email.utils
 import gzip
 import hashlib
 import os
 import pathlib
 import re
+import sqlite3
 import subprocess
 import sys
 import tempfile
@@ -21,18 +24,23 @@ import time
 
 import completions
 import man_pages
+import trials
 
 ROOT = pathlib.Path(__file__).resolve().parent.parent
 # Where the units expect programs and scripts that were installed by hand, and where a package has them.
 BY_HAND, PACKAGED = b"/usr/local/bin/", b"/usr/bin/"
 DOCUMENTS = "usr/share/doc/berruzpil"
-EXAMPLES = [
-    "nginx-berruzpil-log.conf",
-    "nginx-intake.conf",
-    "nginx-outbox.conf",
-    "stunnel-outbox.conf",
-    "logrotate-berruzpil",
-]
+# Where the files of deploy/package/ go.
+PACKAGE = {
+    "sysusers.conf": "usr/lib/sysusers.d/berruzpil.conf",
+    "tmpfiles.conf": "usr/lib/tmpfiles.d/berruzpil.conf",
+    "default": "etc/default/berruzpil",
+    "lintian-overrides": "usr/share/lintian/overrides/berruzpil",
+}
+# What dpkg runs.
+SCRIPTS = ["postinst", "prerm", "postrm"]
+LOGROTATE = "logrotate-berruzpil"
+MAINTAINER = "Berruzpil maintainers <maintainers@users.noreply.berruzpil.example>"
 COPYRIGHT = """Berruzpil
 
 No licence is given yet. Which one it will be is for those to say who own it.
@@ -61,22 +69,55 @@ def libraries_of(programs):
         tuple(map(int, it.split(b"."))) for content in contents for it in re.findall(rb"GLIBC_(2\.\d+)", content)
     ]
     found = [f"libc6 (>= {'.'.join(map(str, max(versions)))})"] if versions else []
-    return ", ".join(found + ["libgcc-s1"] * any(b"libgcc_s.so.1\0" in content for content in contents))
+    return found + ["libgcc-s1"] * any(b"libgcc_s.so.1\0" in content for content in contents)
+
+
+def form_of_register(programs):
+    """The form of the registers that the intake makes."""
+    with tempfile.TemporaryDirectory() as folder:
+        database = pathlib.Path(folder, "register.db")
+        trials.make_register(database, programs / "intake")
+        with contextlib.closing(sqlite3.connect(database)) as rows:
+            return str(rows.execute("SELECT form FROM intake_meta").fetchone()[0])
+
+
+def scripts_of(programs, version, files):
+    """What dpkg runs, with what it has to know of this package."""
+    units = [path.rpartition("/")[2] for path, (content, _) in files.items()
+             if "/systemd/system/" in path and b"[Install]" in content and "@" not in path]  # fmt: skip
+    known = {"@FORM@": form_of_register(programs), "@VERSION@": version, "@UNITS@": " ".join(units)}
+    found = {}
+    for name in SCRIPTS:
+        text = (ROOT / "deploy" / "package" / name).read_text(encoding="utf-8")
+        for mark, value in known.items():
+            text = text.replace(mark, value)
+        found[name] = text.encode()
+    return found
+
+
+def changelog(version, moment):
+    """The only entry that Debian's own programs read. What changed is said in CHANGELOG.md."""
+    return (f"berruzpil ({version}) unstable; urgency=medium\n\n  * See CHANGELOG.md in this folder.\n\n"
+            f" -- {MAINTAINER}  {email.utils.formatdate(moment)}\n")  # fmt: skip
 
 
 def files_of(programs):
     """Each file of the package by its path there: its bytes, and whether it is run."""
     found = {f"usr/bin/{name}": ((programs / name).read_bytes(), True) for name in man_pages.SEE_ALSO}
-    for file in sorted((ROOT / "deploy").iterdir()):
+    for file in sorted(it for it in (ROOT / "deploy").iterdir() if it.is_file()):
         content = file.read_bytes()
         if file.suffix in (".service", ".timer"):
             found[f"lib/systemd/system/{file.name}"] = content.replace(BY_HAND, PACKAGED), False
-        elif file.name in EXAMPLES:
-            found[f"{DOCUMENTS}/examples/{file.name}"] = content, False
+        elif file.name == LOGROTATE:
+            found["etc/logrotate.d/berruzpil"] = content, False
         elif content.startswith(b"#!"):
             found[f"usr/bin/{file.name}"] = content, True
         else:
-            found[f"usr/lib/berruzpil/{file.name}"] = content, False
+            for folder in ("usr/lib/berruzpil", f"{DOCUMENTS}/examples"):
+                found[f"{folder}/{file.name}"] = content, False
+    for name, path in PACKAGE.items():
+        found[path] = (ROOT / "deploy" / "package" / name).read_bytes(), False
+    found[f"{DOCUMENTS}/examples/report.json"] = trials.REPORT, False
     for name, program in man_pages.programs_in(programs).items():
         page = man_pages.page(name, program).encode()
         found[f"usr/share/man/man1/{name}.1.gz"] = gzip.compress(page, mtime=0), False
@@ -90,21 +131,19 @@ def files_of(programs):
     ).split():
         found[f"{DOCUMENTS}/{name}"] = (ROOT / name).read_bytes(), name.endswith("run.py")
     found[f"{DOCUMENTS}/copyright"] = COPYRIGHT.encode(), False
-    found[f"{DOCUMENTS}/changelog.gz"] = gzip.compress((ROOT / "CHANGELOG.md").read_bytes(), mtime=0), False
     return found
 
 
 def control(programs, version, files):
-    depends = libraries_of(programs)
     fields = {
         "Package": "berruzpil",
         "Version": version,
         "Architecture": "amd64",
-        "Maintainer": "Berruzpil maintainers <maintainers@users.noreply.berruzpil.example>",
+        "Maintainer": MAINTAINER,
         "Installed-Size": str(sum(-(-len(content) // 1024) for content, _ in files.values())),
-        **({"Depends": depends} if depends else {}),
-        "Recommends": "curl, nginx, openssl, python3, sqlite3",
-        "Suggests": "logrotate, prometheus-node-exporter, stunnel4",
+        "Depends": ", ".join([*libraries_of(programs), "python3", "systemd | systemd-standalone-sysusers"]),
+        "Recommends": "curl, logrotate, nginx, openssl, sqlite3",
+        "Suggests": "prometheus-node-exporter, stunnel4",
         "Section": "net",
         "Priority": "optional",
         "Description": DESCRIPTION.format(proved=UNPROVED if is_unproved(version) else PROVED).rstrip("\n"),
@@ -122,6 +161,9 @@ def make(programs, folder, version):
     """Writes the package, and gives its path."""
     moment = int(os.environ.get("SOURCE_DATE_EPOCH", time.time()))
     files = files_of(programs)
+    # Debian's own name of a changelog, of which a version with a hyphen has two.
+    name = "changelog.Debian.gz" if "-" in version else "changelog.gz"
+    files[f"{DOCUMENTS}/{name}"] = gzip.compress(changelog(version, moment).encode(), mtime=0), False
     target = folder / f"berruzpil_{version}_amd64.deb"
     with tempfile.TemporaryDirectory() as name:
         tree = pathlib.Path(name, "package")
@@ -130,6 +172,10 @@ def make(programs, folder, version):
         sums = "".join(f"{hashlib.md5(content).hexdigest()}  {path}\n" for path, (content, _) in sorted(files.items()))
         write(tree / "DEBIAN/md5sums", sums.encode(), 0o644)
         write(tree / "DEBIAN/control", control(programs, version, files).encode(), 0o644)
+        conffiles = "".join(f"/{path}\n" for path in sorted(files) if path.startswith("etc/"))
+        write(tree / "DEBIAN/conffiles", conffiles.encode(), 0o644)
+        for script, content in scripts_of(programs, version, files).items():
+            write(tree / "DEBIAN" / script, content, 0o755)
         for path in [tree, *tree.rglob("*")]:
             if path.is_dir():
                 path.chmod(0o755)

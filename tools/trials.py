@@ -202,9 +202,9 @@ def is_silent(connection):
         pass
 
 
-def make_register(database):
-    """A register without filings."""
-    serving = Serving(database, 1, "--new")
+def make_register(database, program=None):
+    """A register without filings, maybe of another build."""
+    serving = Serving(database, 1, "--new", program=program)
     exchange(serving.port, b"GET / HTTP/1.1\r\nHost: h\r\n\r\n")
     serving.end()
 
