@@ -834,31 +834,25 @@ def taken(page, supervisor, filer):
     filer.until(LIST, lambda _, printed: "filings" in printed)
 
 
-# How many filers hold a connection at once. $1 is their number.
+# Filers that file at once. $1 is their number. Each keeps its connection until all have their answers.
 MANY = """
 import collections, concurrent.futures, http.client, ssl, sys, threading
-count = int(sys.argv[1])
+count, held = int(sys.argv[1]), []
 context = ssl.create_default_context(cafile="/etc/berruzpil/intake-ca.pem")
 context.load_cert_chain("/etc/berruzpil/filer.pem", "/etc/berruzpil/filer.key")
-body, all_are_there = open("/var/lib/berruzpil/report.json", "rb").read(), threading.Barrier(count)
+body = open("/var/lib/berruzpil/report.json", "rb").read()
 threading.stack_size(262144)
 
 
 def file(number):
+    front = http.client.HTTPSConnection("intake.example", timeout=300, context=context)
+    held.append(front)
     try:
-        front = http.client.HTTPSConnection("intake.example", timeout=600, context=context)
-        try:
-            front.connect()
-        finally:
-            all_are_there.wait(600)
         front.request("POST", "/filings/ACME", body, {"Idempotency-Key": f'"many-{number}"'})
         reply = front.getresponse()
         reply.read()
-        status = reply.status
-        # Each stays there until all have their answers.
-        all_are_there.wait(600)
-        return status
-    except (OSError, http.client.HTTPException, threading.BrokenBarrierError) as fault:
+        return reply.status
+    except (OSError, http.client.HTTPException) as fault:
         return type(fault).__name__
 
 
@@ -866,6 +860,24 @@ with concurrent.futures.ThreadPoolExecutor(count) as threads:
     print(sorted(collections.Counter(threads.map(file, range(count))).items(), key=str))
 """
 FILERS_AT_ONCE = 600
+
+
+def file_at_once(supervisor, filer, count):
+    """So many filers send a report each while the intake is stopped, so that all of them wait at once. Gives how many
+    got which answer once it goes on."""
+    supervisor.paste("systemctl kill --signal=STOP berruzpil-intake")
+    begun = filer.begin(f"ulimit -n 4096; python3 /run/many.py {count} > /run/many")
+    supervisor.until("ss -Htn state established '( sport = :443 )' | wc -l",
+                     lambda _, printed: int(printed) >= count, seconds=60)  # fmt: skip
+    time.sleep(3)
+    supervisor.paste("systemctl kill --signal=CONT berruzpil-intake")
+    begun.wait()
+    return filer.file("/run/many").read_text()
+
+
+def numbers_of(supervisor):
+    supervisor.paste("systemctl start berruzpil-metrics")
+    return dict(line.rsplit(" ", 1) for line in supervisor.file(METRICS).read_text().splitlines())
 
 
 def many(page, supervisor, filer):
@@ -876,19 +888,17 @@ def many(page, supervisor, filer):
     hold("how many connections nginx has", supervisor.paste(f"{written}; systemctl restart nginx"), (0, ""))
     filer.until(LIST, lambda _, printed: "filings" in printed)
     filer.write("/run/many.py", MANY)
-    hold(f"{FILERS_AT_ONCE} filers at once", filer.paste(f"ulimit -n 4096; python3 /run/many.py {FILERS_AT_ONCE}"),
-         (0, f"[(201, {FILERS_AT_ONCE})]\n"))
-    supervisor.paste("systemctl start berruzpil-metrics")
-    found = dict(line.rsplit(" ", 1) for line in supervisor.file(METRICS).read_text().splitlines())
+    hold(f"{FILERS_AT_ONCE} filers at once", file_at_once(supervisor, filer, FILERS_AT_ONCE),
+         f"[(201, {FILERS_AT_ONCE})]\n")
+    found = numbers_of(supervisor)
     hold("the numbers say so", (found.get("berruzpil_nginx_up"), found.get("berruzpil_nginx_dropped_total"),
                                 int(found.get("berruzpil_nginx_accepted_total", 0)) > FILERS_AT_ONCE), ("1", "0", True))
     # With too few, the numbers say that, too.
     supervisor.paste("sed -i 's/worker_connections [0-9]*/worker_connections 20/' /etc/nginx/nginx.conf; "
                      "systemctl restart nginx")
-    filer.paste("python3 /run/many.py 40")
-    supervisor.paste("systemctl start berruzpil-metrics")
-    found = dict(line.rsplit(" ", 1) for line in supervisor.file(METRICS).read_text().splitlines())
-    hold("connections that nginx drops are counted", int(found.get("berruzpil_nginx_dropped_total", 0)) > 0, True)
+    file_at_once(supervisor, filer, 40)
+    hold("connections that nginx drops are counted",
+         int(numbers_of(supervisor).get("berruzpil_nginx_dropped_total", 0)) > 0, True)
     supervisor.paste("cp /root/nginx.conf /etc/nginx/; systemctl restart nginx")
 
 

@@ -383,8 +383,12 @@ def package_setup(page, package, supervisor, filer):
             "sed -i 's/worker_connections 8192/worker_connections 4000/' /etc/nginx/nginx.conf",
             "systemctl disable --quiet --now berruzpil-metrics.timer",
             "echo LIMIT=7000 >> /etc/default/berruzpil",
+            "systemctl restart berruzpil-intake",
         ]:
             shell.paste(command)
+    hold("what is set reaches the intake",
+         supervisor.until("tr '\\0' ' ' < /proc/$(systemctl show --value -p MainPID berruzpil-intake)/cmdline | "
+                          "grep -o -- '--limit 7000'", seconds=20), (0, "--limit 7000\n"))  # fmt: skip
     before = files_of(supervisor)
     status, printed = supervisor.paste(SETUP)
     hold("berruzpil-setup after an administrator", (status, "was disabled, and stays so" in printed), (0, True))
