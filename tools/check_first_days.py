@@ -896,9 +896,10 @@ def many(page, supervisor, filer):
     # With too few, the numbers say that, too.
     supervisor.paste("sed -i 's/worker_connections [0-9]*/worker_connections 20/' /etc/nginx/nginx.conf; "
                      "systemctl restart nginx")
+    before = numbers_of(supervisor)
     file_at_once(supervisor, filer, 40)
-    hold("connections that nginx drops are counted",
-         int(numbers_of(supervisor).get("berruzpil_nginx_dropped_total", 0)) > 0, True)
+    after, name = numbers_of(supervisor), "berruzpil_resets_sent_total"
+    hold("resets are counted", int(after.get(name, 0)) > int(before.get(name, 0)), True)
     supervisor.paste("cp /root/nginx.conf /etc/nginx/; systemctl restart nginx")
 
 
@@ -935,19 +936,22 @@ def names(page, supervisor, filer):
     hold("nothing has moved", filer.paste(f"systemctl start {unit}; cat /run/berruzpil/intake.example.addresses"),
          (0, f"{machines.ADDRESSES['supervisor']}\n"))
 
+    def is_list(_, printed):
+        return "filings" in printed
+
     def move(old, new):
         supervisor.paste(f"ip addr add {new}/24 dev cable-a; ip addr del {old}/24 dev cable-a")
         filer.paste(f"sed -i 's/^{old} /{new} /' /etc/hosts")
 
     move(machines.ADDRESSES["supervisor"], other)
     hold("it moves", filer.paste(f"systemctl start {unit}")[0], 0)
-    hold("and nginx follows", filer.until(LIST, lambda _, printed: "filings" in printed, seconds=20)[0:1], (0,))
+    hold("and nginx follows", "filings" in filer.until(LIST, is_list, seconds=20)[1], True)
     filer.paste("cp /etc/hosts /run/hosts; echo '127.0.0.1 localhost' > /etc/hosts")
     hold("nginx doesn't start while the name leads nowhere", filer.paste("systemctl restart nginx")[0], 1)
     hold("and says so", filer.paste(f"systemctl start {unit}")[0], 1)
     filer.paste("cat /run/hosts > /etc/hosts")
     hold("the name leads there again", filer.paste(f"systemctl start {unit}"), (0, ""))
-    hold("and nginx runs", filer.until(LIST, lambda _, printed: "filings" in printed, seconds=20)[0:1], (0,))
+    hold("and nginx runs", "filings" in filer.until(LIST, is_list, seconds=20)[1], True)
     move(other, machines.ADDRESSES["supervisor"])
     filer.paste(f"systemctl start {unit}")
     filer.until(LIST, lambda _, printed: "filings" in printed, seconds=20)

@@ -495,7 +495,7 @@ def package_removal(page, package, supervisor, filer):
     data = supervisor.paste(DIGEST)
     hold("it is removed", supervisor.paste("apt-get remove -y berruzpil")[0], 0)
     hold("no program of it runs", supervisor.paste("pgrep -x intake"), (1, ""))
-    hold("no unit is left", supervisor.paste(f"{UNITS} --all 'berruzpil*'"), (0, ""))
+    hold("no unit runs", supervisor.paste(f"{UNITS} 'berruzpil*'"), (0, ""))
     no_unit_has_failed(supervisor)
     hold("data stay", supervisor.paste(DIGEST), data)
     hold("what was set stays", supervisor.paste("ls /etc/default/berruzpil /etc/logrotate.d/berruzpil")[0], 0)
