@@ -19,15 +19,12 @@ use Rattle.outbox_process.specs.Faults.{IsNotPrinted}
 
 -- ---- the request
 
--- request-line (RFC 9112, section 3): the filing is in the path
-abbrev pub list_line : List ℕ → ℕ → List ℕ
-list_line filer number = codes "GET /filings/" ++ filer ++ codes "/" ++ decimal number ++ codes " HTTP/1.1\r\n"
-
--- The request whose reply lists the filing of a number alone, if it is this filer's. The connection is closed after the
--- reply. This order of lines is an own rule.
+-- The request whose reply lists the filing of a number alone, if it is this filer's: its request-line has the filing in
+-- the path (RFC 9112, section 3). The connection is closed after the reply. This order of lines is an own rule.
 abbrev pub list_request : List ℕ → ℕ → List ℕ
 list_request filer number =
-    list_line filer number ++ codes "Host: localhost\r\nConnection: close\r\n\r\n"
+    codes "GET /filings/" ++ filer ++ (codes "/" ++ decimal number)
+    ++ codes " HTTP/1.1\r\nHost: localhost\r\nConnection: close\r\n\r\n"
 
 -- ---- the filing
 

@@ -8,7 +8,7 @@ ghost use Rattle.xbrl_report.specs.Findings.{findings};
 ghost use Rattle.xbrl_report.specs.ReportParts.{fact_count};
 ghost use Rattle.http_messages.specs.Replies.{reply_parts};
 ghost use Rattle.outbox_core.specs.Reading.{view_entry};
-ghost use Rattle.outbox_process.specs.Listing.{list_line, list_request, facts_if, filing_of, has_number, has_facts};
+ghost use Rattle.outbox_process.specs.Listing.{list_request, facts_if, filing_of, has_number, has_facts};
 ghost use Rattle.outbox_process.specs.Listing.{has_replaced, is_sought, begins_with, listed_by, said_of, IsFound};
 
 use crate::tasks::fault::{LineFault, TaskFault};
@@ -39,19 +39,16 @@ pub(crate) enum Listed {
     Unsaid,
 }
 
-/// The first line of the request for the list of a filing.
-fn list_line(alloc: Global, filer: &str, number: u64) -> Result<String, AllocError>
-    ensures { IfOk result (λ line. string_bytes line ≡ list_line filer.now number) }
-{
-    format!(in alloc; "GET /filings/{filer}/{number} HTTP/1.1\r\n")
-}
-
 /// The request whose reply lists the filing of this number alone, if it is this filer's.
 pub(crate) fn list_request(alloc: Global, filer: &str, number: u64) -> Result<Vec<u8>, AllocError>
     ensures { IfOk result (λ text. text.items ≡ list_request filer.now number) }
 {
-    let mut text = list_line(alloc, filer, number)?.into_bytes();
-    text.extend_from_slice(b"Host: localhost\r\nConnection: close\r\n\r\n")?;
+    let mut text = Vec::new(alloc);
+    text.extend_from_slice(b"GET /filings/")?;
+    text.extend_from_slice(filer.as_bytes())?;
+    let place = format!(in alloc; "/{number}")?;
+    text.extend_from_slice(place.as_bytes())?;
+    text.extend_from_slice(b" HTTP/1.1\r\nHost: localhost\r\nConnection: close\r\n\r\n")?;
     Ok(text)
 }
 
