@@ -144,9 +144,9 @@ export function pauseAfter(tries) {
     return Math.min(1000 * 2 ** tries, 300_000);
 }
 
-/** The entry to be sent at this moment: of those that are due the one that was put in first. Null if none is due. */
-export function nextEntry(entries, now) {
-    return entries.find((entry) => entry.state === "open" && waitFor(entry, now) === 0) ?? null;
+/** The entries to be sent at this moment, in the order in which they were put in. */
+export function dueEntries(entries, now) {
+    return entries.filter((entry) => entry.state === "open" && waitFor(entry, now) === 0);
 }
 
 /** How many milliseconds an open entry waits still. A clock that was set back makes it wait no longer than a pause. */

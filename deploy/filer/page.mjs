@@ -109,7 +109,7 @@ function chosenReport(name, bytes, sha256) {
     const remove = make("button", { type: "button", "aria-label": filled(texts.removeOf, name) }, texts.remove);
     const note = faint();
     const row = make("tr", {}, ...cells(
-        [texts.file, make("div", {}, name), note],
+        [texts.file, make("div", {}, name, note)],
         [texts.size, shownNumber(bytes.length)],
         [texts.key, key],
         [texts.target, target],
@@ -219,7 +219,7 @@ function refreshSoon() {
     refreshing ??= setTimeout(() => {
         refreshing = null;
         refresh().catch(stop);
-    }, 150);
+    }, 300);
 }
 
 function showCounts() {
@@ -345,8 +345,8 @@ async function showFilings() {
         at("filings-said").textContent = filled(texts.listFailed, answer);
         return;
     }
-    const count = shownNumber(filings.length);
-    at("filings-said").textContent = filings.length > 0 ? filled(texts.listed, count) : filled(texts.noFilings, filer);
+    const said = filings.length > 0 ? texts.listed : texts.noFilings;
+    at("filings-said").textContent = filled(said, filer, shownNumber(filings.length));
     at("filings").hidden = filings.length === 0;
     at("filing-rows").replaceChildren(...filings.reverse().map(filingRow));
     const there = new Set(filings.map(({ number }) => number));

@@ -3,7 +3,7 @@
  * has the lock. An entry is read from the store before it is sent, so nothing is sent that is not kept. Its state is
  * stored before anybody hears of it.
  */
-import { LARGEST_CONTENT, isWhole, nextEntry, pauseAfter, reasonOf, requestOf, waitFor } from "./core.mjs";
+import { LARGEST_CONTENT, dueEntries, isWhole, pauseAfter, reasonOf, requestOf, waitFor } from "./core.mjs";
 
 /** How long an answer is waited for: longer than a server in front waits for the register. */
 const PATIENCE = 200_000;
@@ -61,7 +61,7 @@ export class Sender {
         await navigator.locks.request(lock, async () => {
             began();
             for (;;) {
-                await this.#step();
+                await this.#round();
             }
         });
     }
@@ -77,26 +77,29 @@ export class Sender {
         });
     }
 
-    /** Waits so many milliseconds, or until it was woken since the step began. */
+    /** Waits so many milliseconds, or until it was woken since the round began. */
     async #rest(pause) {
         await Promise.race([this.#woken, new Promise((resolve) => setTimeout(resolve, pause))]);
     }
 
-    /** Sends the next entry that is due, or waits until one may be. */
-    async #step() {
+    /** Sends each entry that is due, and waits until another one may be. */
+    async #round() {
         this.#sleepFromNow();
         const entries = await this.#store.openEntries();
-        const entry = nextEntry(entries, Date.now());
-        if (entry === null) {
-            await this.#rest(Math.min(...entries.map((it) => waitFor(it, Date.now())), pauseAfter(Infinity)));
-            return;
+        const due = dueEntries(entries, Date.now());
+        for (const entry of due) {
+            const reply = await exchange(this.#base, requestOf(entry), await this.#store.report(entry.id));
+            const isKept = await this.#keep(entry, reply);
+            this.#failures = reply !== null && isKept ? 0 : this.#failures + 1;
+            // If nobody answers, or nothing can be kept, that is so for each entry.
+            if (this.#failures > 0) {
+                await this.#rest(pauseAfter(this.#failures));
+                return;
+            }
         }
-        const reply = await exchange(this.#base, requestOf(entry), await this.#store.report(entry.id));
-        const isKept = await this.#keep(entry, reply);
-        // If nobody answers, or nothing can be kept, that is so for each entry.
-        this.#failures = reply !== null && isKept ? 0 : this.#failures + 1;
-        if (this.#failures > 0) {
-            await this.#rest(pauseAfter(this.#failures));
+        if (due.length === 0) {
+            const waits = entries.map((entry) => waitFor(entry, Date.now()));
+            await this.#rest(waits.reduce((least, wait) => Math.min(least, wait), pauseAfter(Infinity)));
         }
     }
 

@@ -137,7 +137,7 @@ const ENGLISH = {
     amending: "The next report that you choose replaces filing {0}.",
     noAmending: "Do not replace it",
     listFailed: "The list could not be got. {0}",
-    listed: "The register has {0} filings.",
+    listed: "Filings of {0}: {1}.",
     notThere:
         "The register does not have these filings, which it had confirmed: {0}. It may have been restored from a " +
         "copy: ask the supervisor.",
