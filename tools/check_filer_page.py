@@ -50,6 +50,7 @@ LOCATION = """
     # The page that is an outbox, for filers without Linux, for every certificate of the filers' authority. It loads
     # nothing from elsewhere. It lies beside `/filings/`, in whose folder it looks for the register.
     location = /file {
+        absolute_redirect off;
         return 308 /file/;
     }
     location ^~ /file/ {
@@ -519,8 +520,9 @@ WRONG = [
 
 
 def try_core(folder):
+    outbox = given.page.parent.parent / "tools" / "outbox_of_page.mjs"
     kit = [sys.executable, ROOT / "conformance" / "run.py", "outbox", "--patience", "60", "--command",
-           f"node {shlex.quote(str(ROOT / 'tools' / 'outbox_of_page.mjs'))}"]
+           f"node {shlex.quote(str(outbox))}"]
     ran = subprocess.run(kit, capture_output=True, text=True, check=False)
     tell(f"the conformance kit: {(ran.stdout.splitlines() or [''])[-1]}",
          ran.stdout + ran.stderr if ran.returncode else None)
@@ -563,12 +565,15 @@ def try_words(folder):
 
 
 def hold_filed(bench, entries, sent):
-    """Each report that was sent is confirmed, under the number that a repeat of it is answered, and filed once."""
-    filed = len(bench.filings())
+    """Each report that was sent is confirmed, under the number that a repeat of it is answered, and filed once. Of many
+    some 50 are repeated."""
+    filed, shown = len(bench.filings()), {key: number for _, _, key, _, number in entries}
     hold("each is confirmed", sorted((key, state) for _, _, key, state, _ in entries),
          sorted((key, "confirmed") for key, _ in sent))
-    hold("under its number", {key: number for _, _, key, _, number in entries},
-         {key: bench.number_of(key, body) for key, body in sent})
+    again = sent[:: max(1, len(sent) // 50)]
+    hold("under its number", {key: shown.get(key) for key, _ in again},
+         {key: bench.number_of(key, body) for key, body in again})
+    hold("no two under one number", len(set(shown.values())), len(sent))
     hold("each is filed once", (filed, len(bench.filings())), (len(sent), len(sent)))
 
 
@@ -709,7 +714,7 @@ def try_lost(folder):
         keys = browser.file([("one.json", bench.report(1)), ("two.json", bench.report(2))])
         hold_filed(bench, browser.settled(2), list(zip(keys, [bench.report(1), bench.report(2)])))
         # Chromium itself sends a request again at once if a connection that was kept open breaks.
-        hold("there is a pause", max(after - before for before, after in zip(times, times[1:])) >= 4, True)
+        hold("there is a pause", max(after - before for before, after in zip(times, times[1:])) >= 2, True)
 
 
 def try_offline(folder):
@@ -854,7 +859,7 @@ def try_policy(folder):
                 f"fetch('https://{OTHER}/fetch').catch(() => 0).finally(arguments[0])")
             fields = browser.driver.execute_async_script(
                 "fetch('/file').then((reply) => arguments[0]([reply.url, ...['Content-Security-Policy',"
-                "'X-Content-Type-Options', 'Cache-Control'].map((name) => reply.headers.get(name))]))")
+                "'X-Content-Type-Options', 'Cache-Control'].map((name) => reply.headers.get(name))]), arguments[0])")
             hold("the fields of the page", fields,
                  [f"https://{HOST}/file/", "frame-ancestors 'none'", "nosniff", "no-cache"])
             found = browser.run("return [window.foreign, window.inline,"
@@ -977,8 +982,10 @@ FAULTS = [
 def is_seen(fault, folder):
     """Whether a trial fails on a page with this fault."""
     _, trial, name, old, new = fault
-    given.page = folder / "filer"
+    given.page = folder / "deploy" / "filer"
     shutil.copytree(ROOT / "deploy" / "filer", given.page)
+    (folder / "tools").mkdir()
+    shutil.copy(ROOT / "tools" / "outbox_of_page.mjs", folder / "tools")
     text = (given.page / name).read_text()
     if text.count(old) != 1:
         sys.exit(f"{name} has {old!r} {text.count(old)} times")
