@@ -24,11 +24,6 @@ export function marked(text) {
     return text.split("`").map((part, at) => (at % 2 === 1 ? make("code", {}, part) : part));
 }
 
-/** A table's head: its columns, the last of which may be unnamed to the eye. */
-export function tableHead(...titles) {
-    return make("thead", {}, make("tr", {}, ...titles.map((title) => make("th", { scope: "col" }, title))));
-}
-
 /** Makes these the rows of a table's body, in this order. A row that stays is not touched, so it keeps the focus. */
 export function arrange(body, rows) {
     const wanted = new Set(rows);

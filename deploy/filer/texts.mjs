@@ -11,7 +11,6 @@ const ENGLISH = {
     notProved:
         "This page is an outbox for filers without Linux. Unlike the program `outbox`, it is not proved. " +
         "It keeps reports in this browser, on this machine, until the register has answered.",
-    noScript: "This page needs JavaScript.",
 
     filer: "Filer's code",
     openFiler: "Open",
@@ -55,7 +54,6 @@ const ENGLISH = {
     putFailed: "Nothing was put in: the browser said {0}.",
     kept: "Kept, and being sent: {0}.",
 
-    entries: "Outbox",
     noEntries: "Nothing was put in yet.",
     show: "Show",
     all: "all ({0})",
@@ -117,11 +115,7 @@ const ENGLISH = {
     findingsOf: "Findings of entry {0}",
     findingsIntro: "Correct the report and file it under a new key. A correction can bring up further findings.",
     noFindings: "The register gave no findings.",
-    where: "Line:column",
-    finding: "What is wrong",
-    value: "In the report",
     missing: "missing",
-    wholeReport: "the whole report",
     close: "Close",
 
     filings: "Filings in the register",
