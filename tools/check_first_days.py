@@ -266,7 +266,8 @@ def units(page, supervisor, filer):
         print("not tried: systemd-analyze is not installed")
         return
     with Shell(supervisor) as shell:
-        shell.paste("install -m 0755 deploy/outbox-round deploy/nginx-follow /usr/local/bin/; mkdir -p /run/verify")
+        shell.paste("install -m 0755 deploy/outbox-round deploy/nginx-follow deploy/mirror-health /usr/local/bin/; "
+                    "mkdir -p /run/verify")
         shell.paste("for it in deploy/berruzpil-*.service deploy/berruzpil-*.timer; "
                     "do cp $it /run/verify/$(basename $it | sed s/@/@1/); done")
         status, printed = shell.paste("ls /run/verify | wc -l; systemd-analyze verify --man=no /run/verify/*")

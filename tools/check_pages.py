@@ -102,6 +102,7 @@ QUESTIONS = {
 }
 # Commands that only root can use as they are written, and those of the kit.
 NEEDS_ROOT = re.compile(r"\b(?:systemctl|runuser|apt-get|useradd|journalctl|logrotate|berruzpil-setup)\b"
+                        r"|\bregister-takeover\b"
                         r"|(?<![\w.])/(?:etc|var|usr/local|lib)/|^install ", re.M)
 NEEDS_KIT = re.compile(r"\brt (?:try|run|ci|check|lib|test|must-fail)\b|^\.ci/run\b", re.M)
 

@@ -114,7 +114,9 @@ def files_of(programs):
             found[f"usr/bin/{file.name}"] = content, True
         else:
             for folder in ("usr/lib/berruzpil", f"{DOCUMENTS}/examples"):
-                found[f"{folder}/{file.name}"] = content, False
+                found[f"{folder}/{file.name}"] = content.replace(BY_HAND, PACKAGED), False
+    for file in sorted((ROOT / "deploy" / "filer").iterdir()):
+        found[f"usr/share/berruzpil/filer/{file.name}"] = file.read_bytes(), False
     for name, path in PACKAGE.items():
         found[path] = (ROOT / "deploy" / "package" / name).read_bytes(), False
     found[f"{DOCUMENTS}/examples/report.json"] = trials.REPORT, False
@@ -143,7 +145,7 @@ def control(programs, version, files):
         "Installed-Size": str(sum(-(-len(content) // 1024) for content, _ in files.values())),
         "Depends": ", ".join([*libraries_of(programs), "python3", "systemd | systemd-standalone-sysusers"]),
         "Recommends": "curl, logrotate, nginx, openssl, sqlite3",
-        "Suggests": "prometheus-node-exporter, stunnel4",
+        "Suggests": "drbd-utils, iputils-arping, prometheus-node-exporter, stunnel4",
         "Section": "net",
         "Priority": "optional",
         "Description": DESCRIPTION.format(proved=UNPROVED if is_unproved(version) else PROVED).rstrip("\n"),

@@ -1,0 +1,405 @@
+"""Two machines with a mirrored disk between them, on which tools/check_takeover.py plays take-overs.
+
+A machine is a Debian 12 with a kernel, a systemd and a power of its own: Debian's user-mode-linux, whose kernel is
+Debian's as a process, with its DRBD. Both are joined by a network of the filers, in which this program is, too, and by
+the cable of the mirror; both are bridges with addresses that nobody else sees. The power switch is this program: to
+take the power from a machine is to kill all its processes at once. What a machine wrote to its disk is in a file of
+this one and survives that, as on a disk whose cache has a battery.
+
+`apart` runs the caller in namespaces, so that nothing of it is left: no process, no mount, no network.
+"""
+import contextlib
+import hashlib
+import http.server
+import os
+import pathlib
+import re
+import shutil
+import signal
+import subprocess
+import sys
+import tempfile
+import textwrap
+import threading
+import time
+
+import machines
+from machines import NotPossible, run
+
+ROOT = machines.ROOT
+ADDRESS, SWITCH = "192.0.2.10", "192.0.2.254"
+NEEDED = ["ip", "bridge", "unshare", "apt-get", "dpkg-deb", "mkfs.ext4", "e2fsck", "debugfs", "ssh", "ssh-keygen"]
+PACKAGES = """nginx-light drbd-utils systemd systemd-sysv kmod iproute2 iputils-arping openssh-server openssh-client
+    curl e2fsprogs procps netbase python3 user-mode-linux base-files base-passwd bash bsdutils coreutils dash
+    debianutils diffutils findutils grep gzip hostname libc-bin login mawk ncurses-base sed tar util-linux""".split()
+MEGABYTE = 1 << 20
+# How many times longer than on a quiet machine anything may take here.
+PATIENCE = float(os.environ.get("BERRUZPIL_PATIENCE", "1"))
+# What a machine does at its start, before ssh: its networks, as the kernel's words have its number.
+BEGIN = """#!/bin/sh
+number=$(sed 's/.*number=\\([12]\\).*/\\1/' /proc/cmdline)
+ip link set lo up
+for it in 0 1; do ip link set vec$it name eth$it; done
+ip address add 192.0.2.$number/24 dev eth0
+ip address add 198.51.100.$number/24 dev eth1
+ip link set eth0 up
+ip link set eth1 up
+"""
+BEGIN_UNIT = """[Unit]
+Description=The networks of this machine
+DefaultDependencies=no
+After=local-fs.target systemd-tmpfiles-setup.service
+Before=ssh.service nginx.service drbd.service network.target network-online.target
+Wants=network-online.target
+[Service]
+Type=oneshot
+RemainAfterExit=yes
+ExecStart=/lab/begin
+"""
+# A machine that gets little of the processor takes its time.
+MANAGER = "[Manager]\nDefaultTimeoutStartSec=30min\nDefaultTimeoutStopSec=30min\nDefaultDeviceTimeoutSec=30min\n"
+# Nothing here needs these, and a machine starts sooner without them.
+MASKED = """apt-daily-upgrade.timer apt-daily.timer dbus.service dbus.socket dev-hugepages.mount dev-mqueue.mount
+    dpkg-db-backup.timer e2scrub_all.timer e2scrub_reap.service fstrim.timer getty.target getty@tty1.service
+    kmod-static-nodes.service ldconfig.service logrotate.timer man-db.timer modprobe@configfs.service
+    modprobe@dm_mod.service modprobe@drm.service modprobe@efi_pstore.service modprobe@fuse.service modprobe@loop.service
+    proc-sys-fs-binfmt_misc.automount remote-fs.target sys-fs-fuse-connections.mount sys-kernel-config.mount
+    sys-kernel-debug.mount sys-kernel-tracing.mount systemd-ask-password-console.path systemd-ask-password-wall.path
+    systemd-binfmt.service systemd-firstboot.service systemd-hwdb-update.service systemd-initctl.socket
+    systemd-journal-catalog-update.service systemd-logind.service systemd-modules-load.service systemd-networkd.service
+    systemd-pcrphase.service systemd-random-seed.service systemd-remount-fs.service systemd-resolved.service
+    systemd-sysctl.service systemd-sysusers.service systemd-timesyncd.service systemd-tmpfiles-clean.timer
+    systemd-tmpfiles-setup-dev.service systemd-udev-settle.service systemd-udev-trigger.service
+    systemd-udevd-control.socket systemd-udevd-kernel.socket systemd-udevd.service systemd-update-done.service
+    systemd-update-utmp-runlevel.service systemd-update-utmp.service systemd-user-sessions.service""".split()
+
+
+# ---- apart from this machine
+
+
+def lacking():
+    """Why no machine can be made here, or nothing."""
+    if os.geteuid() != 0:
+        return "this needs root"
+    if absent := machines.absent(NEEDED):
+        return f"not installed: {', '.join(absent)} (Debian: iproute2 e2fsprogs openssh-client)"
+    return None if os.path.exists("/dev/net/tun") else "there is no /dev/net/tun"
+
+
+def apart():
+    """Runs this program again in namespaces of its own, and gives its status; nothing if this is that run already. The
+    run has a scratch folder, which `machines.scratch` names."""
+    if machines.APART in os.environ:
+        return None
+    with tempfile.TemporaryDirectory(prefix="berruzpil-", dir=machines.CACHE) as folder:
+        # The shell is the first process there, and waits for each that has lost its parent.
+        words = ["setpriv", "--pdeathsig", "KILL", "unshare", "--mount", "--net", "--pid", "--fork", "--kill-child",
+                 "--mount-proc", "--propagation", "private", "sh", "-c", '"$@"; exit $?', "sh"]  # fmt: skip
+        return subprocess.run([*words, sys.executable, "-u", *sys.argv], check=False,
+                              env={**os.environ, machines.APART: folder}).returncode
+
+
+# ---- the files of a machine
+
+
+def front():
+    """The file for nginx in front of the intake without TLS and certificates: whoever comes may file for all."""
+    text = (ROOT / "deploy/nginx-intake.conf").read_text()
+    text = re.sub(r"(?m)^ *ssl_.*\n", "", text)
+    return text.replace("listen 443 ssl;", "listen 80 default_server;").replace("default 0;", "default 1;")
+
+
+def key_pair(path):
+    run("ssh-keygen", "-q", "-t", "ed25519", "-N", "", "-f", path)
+    return path.with_name(f"{path.name}.pub").read_text()
+
+
+def unpack(folder):
+    """Debian's packages, unpacked below FOLDER/tree. Their scripts are not run, since a debootstrap takes longer."""
+    (folder / "debs/partial").mkdir(parents=True)
+    (folder / "debs/status").touch()
+    words = ["-o", f"Dir::State::status={folder}/debs/status", "-o", f"Dir::Cache::archives={folder}/debs"]
+    done = subprocess.run(["apt-get", "-y", "-d", "-qq", *words, "--no-install-recommends", "install", *PACKAGES],
+                          stdout=subprocess.PIPE, stderr=subprocess.STDOUT, text=True, check=False)  # fmt: skip
+    if done.returncode:
+        raise NotPossible("apt-get: " + (done.stdout.strip().splitlines() or ["failed"])[-1])
+    tree = folder / "tree"
+    for it in ("bin", "sbin", "lib", "lib64"):
+        (tree / "usr" / it).mkdir(parents=True)
+        (tree / it).symlink_to(f"usr/{it}")
+    for package in sorted((folder / "debs").glob("*.deb")):
+        with subprocess.Popen(["dpkg-deb", "--fsys-tarfile", package], stdout=subprocess.PIPE) as fetch:
+            # Files that are links to folders already are left as they are.
+            subprocess.run(["tar", "-k", "-x", "-C", tree, "-f", "-"], stdin=fetch.stdout, stderr=subprocess.DEVNULL,
+                           check=False)  # fmt: skip
+    for it in ("doc", "man", "locale", "info"):
+        shutil.rmtree(tree / "usr/share" / it, ignore_errors=True)
+    return tree
+
+
+def furnish(tree):
+    """What the scripts of the packages would have made, and what the first day makes before step 3."""
+
+    def write(path, text, mode=0o644):
+        (tree / path).parent.mkdir(parents=True, exist_ok=True)
+        (tree / path).write_text(text)
+        (tree / path).chmod(mode)
+
+    modules = tree / "lib/modules"
+    modules.mkdir()
+    for it in (tree / "usr/lib/uml/modules").iterdir():
+        shutil.move(it, modules)
+    run("chroot", tree, "/sbin/depmod", "-a", next(modules.iterdir()).name)
+    run("chroot", tree, "/sbin/ldconfig")
+    users = (tree / "usr/share/base-passwd/passwd.master").read_text().replace("root:*:", "root::")
+    write("etc/passwd", users + "sshd:x:101:65534::/run/sshd:/usr/sbin/nologin\n"
+          "berruzpil:x:110:110::/var/lib/berruzpil:/usr/sbin/nologin\n")  # fmt: skip
+    write("etc/group", (tree / "usr/share/base-passwd/group.master").read_text()
+          + "systemd-journal:x:999:\nberruzpil:x:110:\n")  # fmt: skip
+    write("etc/shadow", "", 0o640)
+    for it in ("auth", "account", "session", "session-noninteractive", "password"):
+        write(f"etc/pam.d/common-{it}", f"{it.partition('-')[0]} sufficient pam_permit.so\n")
+    if not (tree / "usr/bin/awk").exists():
+        (tree / "usr/bin/awk").symlink_to("mawk")
+    for it in ("etc/.updated", "var/.updated", "etc/fstab"):
+        write(it, "")
+    write("etc/machine-id", "0123456789abcdef0123456789abcdef\n")
+    write("etc/hosts", "127.0.0.1 localhost\n192.0.2.1 a\n192.0.2.2 b\n")
+    # A key for this program.
+    (tree / "lab").mkdir()
+    write("root/.ssh/authorized_keys", key_pair(tree / "lab/key"), 0o600)
+    for it in ("root/.ssh", "root"):
+        (tree / it).chmod(0o700)
+    for it in (tree / "etc/ssh").glob("ssh_host_*"):
+        it.unlink()
+    key_pair(tree / "etc/ssh/ssh_host_ed25519_key")
+    write("etc/ssh/sshd_config", "UsePAM no\nUseDNS no\nMaxStartups 100\nHostKey /etc/ssh/ssh_host_ed25519_key\n")
+    write("lab/begin", BEGIN, 0o755)
+    write("etc/systemd/system/lab.service", BEGIN_UNIT)
+    write("etc/systemd/system.conf.d/lab.conf", MANAGER)
+    write("etc/systemd/system/systemd-journald.service.d/lab.conf", "[Service]\nWatchdogSec=0\n")
+    wants = tree / "etc/systemd/system/multi-user.target.wants"
+    shutil.rmtree(wants, ignore_errors=True)
+    wants.mkdir(parents=True)
+    for it in ("ssh", "nginx"):
+        (wants / f"{it}.service").symlink_to(f"/lib/systemd/system/{it}.service")
+    (wants / "lab.service").symlink_to("/etc/systemd/system/lab.service")
+    (tree / "etc/systemd/system/default.target").unlink(missing_ok=True)
+    (tree / "etc/systemd/system/default.target").symlink_to("/lib/systemd/system/multi-user.target")
+    for it in MASKED:
+        (tree / "etc/systemd/system" / it).unlink(missing_ok=True)
+        (tree / "etc/systemd/system" / it).symlink_to("/dev/null")
+    for it in ("var/log/journal", "var/log/nginx", "var/lib/nginx", "var/log/berruzpil", "var/lib/berruzpil/copies",
+               "etc/drbd.d", "var/lib/drbd"):  # fmt: skip
+        (tree / it).mkdir(parents=True, exist_ok=True)
+    for it in ("var/lib/berruzpil", "var/lib/berruzpil/copies"):
+        os.chown(tree / it, 110, 110)
+        (tree / it).chmod(0o750)
+
+
+def base():
+    """The folder with the files of a machine: `image`, its disk; `linux`, its kernel; `key`, to come in by. The first
+    call makes it, from Debian's mirror."""
+    recipe = pathlib.Path(__file__).read_text().partition("# ---- machines\n")[0]
+    kept = machines.CACHE / f"mirrored-{hashlib.sha256(recipe.encode()).hexdigest()[:16]}"
+    if kept.exists():
+        return kept
+    machines.CACHE.mkdir(parents=True, exist_ok=True)
+    print(f"making the files of a machine in {kept}, once", flush=True)
+    with tempfile.TemporaryDirectory(prefix="mirrored-", dir=machines.CACHE) as name:
+        folder = pathlib.Path(name)
+        tree = unpack(folder)
+        shutil.move(tree / "usr/bin/linux.uml", folder / "linux")
+        furnish(tree)
+        shutil.copy(tree / "lab/key", folder / "key")
+        with open(folder / "image", "wb") as file:
+            file.truncate(1200 * MEGABYTE)
+        run("mkfs.ext4", "-q", "-F", "-J", "size=8", "-d", tree, folder / "image")
+        for it in ("tree", "debs"):
+            shutil.rmtree(folder / it)
+        folder.rename(kept)
+        folder.mkdir()
+    return kept
+
+
+# ---- machines
+
+
+class Machine:
+    """A machine of the lab. It is off until `boot`."""
+
+    def __init__(self, name, number, lab):
+        self.name, self.number, self.lab, self.process = name, number, lab, None
+        self.host, self.other = f"192.0.2.{number}", None
+        self.disk, self.plain = lab.scratch / f"{name}.disk", lab.scratch / f"{name}.plain"
+        for path in (self.disk, self.plain):
+            with open(path, "wb") as file:
+                file.truncate(lab.size * MEGABYTE)
+        for net in (0, 1):
+            run("ip", "tuntap", "add", f"{name}{net}", "mode", "tap")
+            run("ip", "link", "set", f"{name}{net}", "master", f"br{net}", "up")
+
+    def on(self):
+        """Gives it power."""
+        for net in (0, 1):
+            self.plug(net, True)
+        words = [self.lab.base / "linux", f"umid={self.lab.scratch.name}-{self.name}", "mem=384M",
+                 f"ubd0={self.lab.scratch}/{self.name}.cow,{self.lab.base}/image", f"ubd1={self.disk}",
+                 f"ubd2={self.plain}", "root=/dev/ubda", "rw", f"number={self.number}",
+                 *(f"vec{net}:transport=tap,ifname={self.name}{net},mac=52:54:00:00:0{net}:0{self.number},gro=1"
+                   for net in (0, 1)),
+                 f"systemd.hostname={self.name}", "con=null", "con0=null,fd:1", "net.ifnames=0", "panic=1"]  # fmt: skip
+        with open(self.lab.scratch / f"{self.name}.console", "ab") as log:
+            self.process = subprocess.Popen(list(map(str, words)), stdin=subprocess.DEVNULL, stdout=log, stderr=log,
+                                            start_new_session=True)  # fmt: skip
+
+    def off(self):
+        """Takes its power. Once this is back, no process of it is there."""
+        with self.lab.lock:
+            if self.process is None:
+                return
+            group, deadline = self.process.pid, time.monotonic() + 20
+            while time.monotonic() < deadline:
+                try:
+                    os.killpg(group, signal.SIGKILL)
+                except ProcessLookupError:
+                    break
+                with contextlib.suppress(subprocess.TimeoutExpired):
+                    self.process.wait(timeout=0.02)
+            else:
+                raise SystemExit(f"{self.name} without power runs still")
+            self.process = None
+
+    def plug(self, net, is_in):
+        """Puts it into the filers' network (0) or onto the cable (1), or takes it out."""
+        run("ip", "link", "set", f"{self.name}{net}", "up" if is_in else "down")
+
+    def ssh(self, command, timeout=120, given=None):
+        """The status of a command, and what it prints."""
+        words = ["ssh", "-q", "-i", self.lab.key, "-o", "BatchMode=yes", "-o", "StrictHostKeyChecking=no", "-o",
+                 "UserKnownHostsFile=/dev/null", "-o", f"ConnectTimeout={10 * PATIENCE:.0f}",
+                 f"root@{self.host}", command]  # fmt: skip
+        try:
+            done = subprocess.run(list(map(str, words)), input=given or b"", stdout=subprocess.PIPE,
+                                  stderr=subprocess.STDOUT, timeout=timeout * PATIENCE, check=False)  # fmt: skip
+        except subprocess.TimeoutExpired:
+            return 124, "no answer in time"
+        return done.returncode, done.stdout if command.startswith("cat ") else done.stdout.decode("utf-8", "replace")
+
+    def until(self, command, is_there=lambda status, said: status == 0, seconds=120):
+        """Whether it comes to that in so many seconds."""
+        deadline = time.monotonic() + seconds * PATIENCE
+        while not is_there(*(found := self.ssh(command))):
+            if time.monotonic() > deadline:
+                print(f"{self.name}: not in time: {command}: {found}", flush=True)
+                return False
+            time.sleep(0.3)
+        return True
+
+    def boot(self):
+        """Gives it power, and says whether its units were started in time."""
+        self.on()
+        return self.until("systemctl is-active multi-user.target", seconds=300)
+
+    def paste(self, commands):
+        """Pastes commands into one shell at the top of the repository: the status of each, and what it prints."""
+        text = "".join(f"{{ {command}\n}} </dev/null >/run/printed 2>&1\necho \"@ $?\"; cat /run/printed\n"
+                       for command in commands)  # fmt: skip
+        _, said = self.ssh("cd /root/berruzpil && exec bash", timeout=300, given=text.encode())
+        parts = re.split(r"(?m)^@ (\d+)\n", said)[1:]
+        return [(int(status), printed) for status, printed in zip(parts[::2], parts[1::2])]
+
+    def state(self):
+        return self.ssh("mirror-state")[1].split()
+
+    def is_whole(self, seconds=600):
+        return self.until("mirror-state", lambda _, said: said.split()[:1] + said.split()[2:5]
+                          == ["Connected", "UpToDate/UpToDate", "C", "r"], seconds)  # fmt: skip
+
+    def alerts(self):
+        return self.ssh("journalctl -q -b -t berruzpil -p alert -o cat")[1].splitlines()
+
+    def fetch(self, path, to):
+        """Brings a file from the machine."""
+        status, content = self.ssh(f"cat {path}", timeout=300)
+        to.write_bytes(content)
+        return status == 0
+
+    def dead_register(self, folder):
+        """The register of a machine that has no power, as a start of the file system finds it: its path in a folder."""
+        copy = folder / "dead.disk"
+        run("cp", "--sparse=always", self.disk, copy)
+        # It replays the journal of the file system, and says so with status 1.
+        subprocess.run(["e2fsck", "-fy", copy], stdout=subprocess.DEVNULL, stderr=subprocess.DEVNULL, check=False)
+        for it in ("register.db", "register.db-wal"):
+            subprocess.run(["debugfs", "-R", f"dump /{it} {folder / it}", copy], stderr=subprocess.DEVNULL, check=False)
+            if (folder / it).exists() and not (folder / it).stat().st_size:
+                (folder / it).unlink()
+        copy.unlink()
+        return folder / "register.db"
+
+
+class Lab:
+    """Both machines, their networks and the power switch. `deploy` is the folder of that name, as it is to be tried."""
+
+    def __init__(self, programs, deploy, size):
+        self.base, self.scratch, self.size, self.lock = base(), machines.scratch(), size, threading.RLock()
+        self.programs, self.deploy, self.key = programs, deploy, self.scratch / "key"
+        shutil.copy(self.base / "key", self.key)
+        self.key.chmod(0o600)
+        run("ip", "link", "set", "lo", "up")
+        for net in (0, 1):
+            run("ip", "link", "add", f"br{net}", "type", "bridge")
+            run("ip", "link", "set", f"br{net}", "up")
+        run("ip", "address", "add", f"{SWITCH}/24", "dev", "br0")
+        self.switch_answers = True
+        self.a, self.b = Machine("a", 1, self), Machine("b", 2, self)
+        self.a.other, self.b.other = self.b, self.a
+        threading.Thread(target=self.power_switch().serve_forever, daemon=True).start()
+
+    def power_switch(self):
+        """GET /off/a is answered once a has no power."""
+        lab = self
+
+        class Switch(http.server.BaseHTTPRequestHandler):
+            def do_GET(self):
+                machine = {"/off/a": lab.a, "/off/b": lab.b}.get(self.path)
+                if machine and lab.switch_answers:
+                    machine.off()
+                self.send_response(200 if machine and lab.switch_answers else 503)
+                self.send_header("Content-Length", "0")
+                self.end_headers()
+
+            def log_message(self, *_):
+                pass
+
+        return http.server.ThreadingHTTPServer((SWITCH, 99), Switch)
+
+    def furnish(self, machine):
+        """What both have before the page begins: the repository, programs, and nginx in front."""
+        with tempfile.TemporaryDirectory() as name:
+            tree = pathlib.Path(name)
+            shutil.copytree(self.deploy, tree / "root/berruzpil/deploy")
+            (tree / "usr/local/bin").mkdir(parents=True)
+            for program in self.programs:
+                shutil.copy(program, tree / "usr/local/bin")
+            for it in ("intake-health", "lost-filings"):
+                shutil.copy(self.deploy / it, tree / "usr/local/bin")
+            (tree / "etc/nginx/conf.d").mkdir(parents=True)
+            (tree / "etc/nginx/conf.d/nginx-intake.conf").write_text(front())
+            shutil.copy(self.deploy / "nginx-berruzpil-log.conf", tree / "etc/nginx/conf.d")
+            files = subprocess.check_output(["tar", "-C", tree, "--owner=0", "--group=0", "-c", "root", "usr", "etc"])
+        status, said = machine.ssh("tar -C / --no-overwrite-dir -x && systemctl restart nginx && sync", given=files)
+        return "" if status == 0 else textwrap.shorten(said, 200)
+
+    def cable(self, is_in):
+        run("ip", "link", "set", "br1", "up" if is_in else "down")
+
+    def apart(self, are_apart):
+        """Whether the two machines see nothing of each other, while both see the filers and the power switch."""
+        for name in ("a0", "b0", "a1", "b1"):
+            run("bridge", "link", "set", "dev", name, "isolated", "on" if are_apart else "off")
+
+    def leave(self):
+        self.a.off()
+        self.b.off()
