@@ -82,6 +82,7 @@ QUESTIONS = {
     "The hourly copy failed": ("`journalctl -u berruzpil-snapshot@register`", "`register.tried`"),
     "The register is full": ("1,000,000 keys", "LIMIT=", "MemoryMax="),
     "The clock is wrong": ("moments in the register", "log of nginx", "names of copies", "certificate", "receipts"),
+    "The machine is lost": ("`register-takeover`", "is not surely down", "`mirror-health`", "nobody files twice"),
     "An entry stays open": ("75", "Never make a new key"),
     "How do I restart an intake?": ("`systemctl restart berruzpil-intake`", "SIGTERM", "`register-new"),
     "Does it serve?": ("`/health`", "`intake-health", "answered 503"),

@@ -37,6 +37,7 @@ import pathlib
 import random
 import re
 import shutil
+import signal
 import socket
 import sqlite3
 import subprocess
@@ -449,12 +450,13 @@ class Play:
             since = self.dies(first)
             hold(f"{what}: a round of the outbox was under way", under_way)
             time.sleep(0.3)
-            told, died = dict(self.filers.told), self.rows_of_dead(first)
-            keys = {(text(row[1]), text(row[2])) for row in died}
-            hold(f"{what}: what was answered is on its disk, too", [it for it in told if it not in keys][:9], [])
+            told = dict(self.filers.told)
             say(f"kill {n + 1}: {first.name} is dead after {len(told)} answers")
             said = self.take_over(self.second, since=since)
             found = int((re.search(r"sound: (\d+) kept", said) or [0, 0])[1])
+            died = self.rows_of_dead(first)
+            keys = {(text(row[1]), text(row[2])) for row in died}
+            hold(f"{what}: what was answered is on its disk, too", [it for it in told if it not in keys][:9], [])
             sending.wait()
             hold(f"{what}: the outbox comes to its end", self.outbox.finish())
             self.compare(what, (died, found))
@@ -512,7 +514,7 @@ class Play:
     def same_disks(self, what):
         """Both disks have the same bytes, as DRBD compares them."""
         hold(f"{what}: all clients come to rest", self.filers.pause())
-        self.first.ssh("sync; drbdadm verify register")
+        hold(f"{what}: drbdadm verify", self.first.ssh("sync; drbdadm verify register; sleep 1")[0], 0)
         self.first.until("mirror-state", lambda _, said: said.startswith("Connected "), 300)
         hold(f"{what}: both disks are the same", self.first.state()[5:], ["0"])
 
@@ -572,7 +574,8 @@ class Play:
         told = len(self.filers.told)
         self.refuses(f"{what}, and from the power switch", second, "is not surely down")
         hold(f"{what}: nobody was answered meanwhile", len(self.filers.told), told)
-        hold(f"{what}: an alert", any("nobody could make sure" in it for it in first.alerts()))
+        hold(f"{what}: an alert", first.until("journalctl -q -b -t berruzpil -p alert -o cat",
+                                              lambda _, said: "nobody could make sure" in said, 60))  # fmt: skip
         self.lab.apart(False)
         hold(f"{what}: it goes on by itself", self.filers.until(50))
         hold(f"{what}: the mirror is whole again", first.is_whole())
@@ -653,8 +656,8 @@ class Play:
         what = "a second machine that hangs for some seconds"
         first, second = self.first, self.second
         self.filers.until(20)
-        os.killpg(second.process.pid, 19)
-        threading.Timer(3.2, os.killpg, (second.process.pid, 18)).start()
+        os.kill(second.process.pid, signal.SIGSTOP)
+        threading.Timer(3, os.kill, (second.process.pid, signal.SIGCONT)).start()
         status, said = first.ssh("mirror-health")
         say(said.strip())
         hold(f"{what}: mirror-health says so", (status, "a write took" in said), (1, True))
@@ -717,8 +720,8 @@ for it in them: it.start()
 for it in them: it.join()
 print(sum(answers) / seconds)
 """ % trials.REPORT
-PARTS = ["states", "planned", "kills", "torn", "dead_second", "cut_cable", "isolated", "cut_apart", "both", "stale",
-         "damaged", "slow"]  # fmt: skip
+PARTS = ["states", "units", "planned", "kills", "torn", "dead_second", "cut_cable", "isolated", "cut_apart", "both",
+         "stale", "damaged", "slow"]  # fmt: skip
 
 
 # ---- the states of a mirror, without machines
@@ -733,7 +736,7 @@ echo "$name $*" >> /run/called
 [ ! -e "/run/said/$name" ] || { cat "/run/said/$name" | tail -n +2; exit "$(head -n 1 "/run/said/$name")"; }
 """
 STOOD_FOR = ["arping", "curl", "drbdadm", "findmnt", "intake", "ip", "journalctl", "logger", "mountpoint", "runuser",
-             "ssh", "systemctl", "mirror-state", "switch"]  # fmt: skip
+             "sleep", "ssh", "systemctl", "mirror-state", "switch"]  # fmt: skip
 SITE = [
     ('"fence_ipmilan -a 192.0.2.102 -l fence -P SECRET --lanplus -o off"', '"switch"'),
     ("FIRST=a", "FIRST=$(uname -n)"),
@@ -763,6 +766,8 @@ STATES = [
     ("register-takeover --is-off", ALONE, {}, 2, "usage: register-takeover", False),
     ("register-takeover --off b", ALONE, {}, 2, "usage: register-takeover", False),
     ("register-takeover", SERVED, {"ssh": "255", "switch": "1"}, 1, "b is not surely down", False),
+    ("register-takeover", SERVED, {"ssh": "2 mirror-asked: refused"}, 1,
+     "b serves on: mirror-asked: refused; or take its power: register-fence b", False),
     ("register-takeover", SERVED, {"ssh": "255"}, 1, "it answers over the cable still", False),
     ("register-takeover", SERVED, {"ssh": "1 register-release: something has a file open"}, 1,
      "b serves on: something has a file open; or take its power: register-fence b", False),
@@ -819,8 +824,8 @@ STATES = [
 BEGUN = re.compile(r"(?m)^systemctl start berruzpil-(intake|address)")
 
 
-def play_states(deploy):
-    """Each of STATES, in namespaces of its own."""
+def play_states(deploy, script="", word=""):
+    """Each of STATES, in namespaces of its own; or those of a script that have a word in them."""
     with tempfile.TemporaryDirectory() as name:
         folder = pathlib.Path(name)
         folder.chmod(0o755)
@@ -835,9 +840,10 @@ def play_states(deploy):
         for old, new in SITE:
             site = site.replace(old, new)
         (folder / "etc/mirror").write_text(site)
-        for words, state, ends, status, last, begun in STATES:
-            play_state(folder, words, state, ends, (status, last, begun))
-    say(f"{len(STATES)} states of a mirror were played")
+        for words, state, ends, *wanted in STATES:
+            if words.startswith(script) and word in f"{state} {ends} {wanted}":
+                play_state(folder, words, state, ends, tuple(wanted))
+    say("the states of a mirror were played")
 
 
 def play_state(folder, words, state, ends, wanted):
@@ -854,11 +860,84 @@ def play_state(folder, words, state, ends, wanted):
               "mkdir -p /etc/berruzpil && mount --bind $0/etc /etc/berruzpil && exec \"$@\"")  # fmt: skip
     done = subprocess.run(["unshare", "--mount", "--propagation", "private", "sh", "-c", script, folder,
                            *f"/usr/local/bin/{words}".split()], stdin=subprocess.DEVNULL, capture_output=True,
-                          text=True, timeout=60, check=False)  # fmt: skip
+                          text=True, timeout=60 * PATIENCE, check=False)  # fmt: skip
     said = (done.stdout + done.stderr).strip().splitlines() or [""]
     called = (folder / "run/called").read_text()
     found = done.returncode, wanted[1] if wanted[1] in said[-1] else said[-1], bool(BEGUN.search(called))
     hold(f"{words}, while the mirror is {state}, and {given} fail", found, wanted)
+
+
+# ---- the units, on one machine without a mirror
+
+# What stands for DRBD on a container: the roles are in a file, and the mirrored disk is a folder.
+STANDS_FOR_DRBD = {
+    "drbdadm": "case $1 in primary) echo Primary > /run/role ;; secondary) echo Secondary > /run/role ;; esac",
+    "mirror-state": f"cat /run/state 2> /dev/null || echo '{WHOLE}' | sed \"s,Secondary/,$(cat /run/role)/,\"",
+    "mount": 'case "$*" in *drbd0*) exec /bin/mount --bind /srv /var/lib/berruzpil ;; esac; exec /bin/mount "$@"',
+    "findmnt": "echo /dev/drbd0",
+    "arping": "exit 0",
+}
+ACTIVE = "for it in intake mirror address; do systemctl is-active berruzpil-$it; done"
+ANSWERS = "until curl -s -o /dev/null http://127.0.0.1:8080/filings/x; do sleep 0.2; done"
+HAS_ADDRESS = "ip -o -4 address show lo | grep -c ' 192.0.2.10/24 '"
+ALERTS = "journalctl -q -t berruzpil -p alert -o cat"
+# What is pasted, one after the other, and a part of what it prints.
+UNITS = [
+    ("systemctl start berruzpil-intake; systemctl is-active berruzpil-intake", "inactive\n"),
+    ("systemctl start berruzpil-health@8080 && " + ALERTS + " | wc -l", "0\n"),
+    ("systemctl start berruzpil-mirror && install -d -o berruzpil -g berruzpil -m 0750 /var/lib/berruzpil && "
+     f"runuser -u berruzpil -- register-new {REGISTER} 8080 2> /dev/null", "sound: 0 kept, 0 filings\n"),
+    ("register-takeover", "register.db: sound: 0 kept, 0 filings\nregister-takeover: a serves since"),
+    (f"{ACTIVE}; {HAS_ADDRESS}", "active\nactive\nactive\n1\n"),
+    ("register-takeover", "register-takeover: a serves since"),
+    ("mirror-health /run/numbers > /dev/null; cut -d' ' -f1 /run/numbers", "berruzpil_mirror_write_seconds\n"),
+    # It is started again, and the address stays.
+    (f"systemctl kill --signal=KILL berruzpil-intake; sleep 1; {ANSWERS}; {ACTIVE}; {HAS_ADDRESS}",
+     "active\nactive\nactive\n1\n"),
+    (f"setsid sleep 1000 < {REGISTER} > /dev/null 2>&1 & sleep 0.5; register-release", "this machine serves on: end"),
+    (f"{ANSWERS}; {ACTIVE}", "active\nactive\nactive\n"),
+    (f"pkill sleep; sleep 1; register-release; cat /run/role; {ACTIVE}; {HAS_ADDRESS}; mountpoint /var/lib/berruzpil",
+     "a has let go of the register\nSecondary\ninactive\ninactive\ninactive\n0\n/var/lib/berruzpil is not a"),
+    ("systemctl start berruzpil-health@8080; systemctl is-failed berruzpil-health@8080", "inactive\n"),
+    (f"register-takeover; {ANSWERS}; {ACTIVE}", "active\nactive\nactive\n"),
+    # The timer raises the alert.
+    (f"echo '{ALONE}' > /run/state; systemctl start berruzpil-mirror-health.timer; sleep 45; {ALERTS}",
+     "berruzpil-mirror-health.service failed"),
+    (f"grep whole {METRICS}", "berruzpil_mirror_whole 0\n"),
+]  # fmt: skip
+
+
+def play_units(given, deploy):
+    """The units and what is called by hand, by a systemd in a container, with the built intake."""
+    page = check_first_days.Page(machines.ROOT)
+    base = machines.base_for_booting(page.packages() - {"drbd-utils", "iputils-arping", "openssh-server"})
+    run("mkdir", "-p", "/run/netns")
+    run("mount", "-t", "tmpfs", "tmpfs", "/run/netns")
+    machine = machines.Booted("a", base, deploy.parent, (given.intake, given.outbox))
+    for name, script in STANDS_FOR_DRBD.items():
+        machine.write(f"/usr/local/sbin/{name}", f"#!/bin/sh\n{script}\n", 0o755)
+    for file in (given.intake, *given.beside):
+        machine.write(f"/usr/local/bin/{file.name}", "")
+        shutil.copy(file, machine.file(f"/usr/local/bin/{file.name}"))
+    try:
+        machine.boot()
+        machine.paste("useradd --system --home-dir /var/lib/berruzpil --shell /usr/sbin/nologin berruzpil; "
+                      "install -d -o berruzpil -g berruzpil -m 0750 /var/lib/berruzpil; ip link set lo up; "
+                      "echo Secondary > /run/role")  # fmt: skip
+        files = [command for command, _ in page.block(SECTION, ". /etc/berruzpil/mirror\n    sed")]
+        names = [command for command, _ in page.block(SECTION, "apt-get install -y drbd-utils")][1:]
+        with machines.Shell(machine) as shell:
+            for command in [*names, "sed -i s/INTERFACE=eth0/INTERFACE=lo/ /etc/berruzpil/mirror", *files[2:]]:
+                if not command.startswith(("drbdadm", "systemctl enable", "[ -e")):
+                    hold(f"the page: {command}", shell.paste(command), (0, ""))
+        for command, wanted in UNITS:
+            status, printed = machine.paste(command)
+            hold(f"on a container: {command}", printed if wanted not in printed else wanted, wanted)
+    finally:
+        group = machine.group.parent
+        machine.leave()
+        machines.remove_groups(group)
+    say("the units were played on a container")
 
 
 # ---- planted faults
@@ -871,7 +950,7 @@ def plain_disk(play):
 
 
 # The part that has to fail, a file of deploy/ (or what stands for what in the names of the site), which text in it
-# becomes which, and what is prepared.
+# becomes which, and what is prepared; of STATES, a word of those that are played.
 FAULTS = {
     "fencing that answers yes without doing it": ("isolated", "berruzpil-mirror.conf", "curl -sSf", "true", None),
     "protocol A": ("torn", "drbd-register.res", "protocol C;", "protocol A;", None),
@@ -882,21 +961,22 @@ FAULTS = {
     "a take-over of a disk that is out of date": (
         "stale", "register-takeover", "*:UpToDate/*)", "*) drbdadm primary --force register;", None),
     "a disk that is out of date is taken": (
-        "states", "register-takeover", "*:UpToDate/*)", "*:UpToDate/* | *:Outdated/*)", None),
-    "nobody asks who has the address": ("states", "register-takeover", "[ $? != 1 ] ||", "true ||", None),
+        "states", "register-takeover", "*:UpToDate/*)", "*:UpToDate/* | *:Outdated/*)", "is Outdated"),
+    "nobody asks who has the address": (
+        "states", "register-takeover", "[ $? != 1 ] ||", "true ||", "has 192.0.2.10 still"),
     "a power switch without an answer is believed": (
         "states", "register-fence", "timeout 60 sh -c \"$POWER_OFF\" 2>&1) || {", "sh -c \"$POWER_OFF\") || true || {",
-        None),
+        "may be on still"),
     "DRBD is told that all is well whatever comes": (
-        "states", "register-fence-peer", "\nexit 1\n", "\nexit 7\n", None),
-    "a split brain is gone over": ("states", "register-takeover", "!= StandAlone", "!= Alone", None),
+        "states", "register-fence-peer", "\nexit 1\n", "\nexit 7\n", "switch"),
+    "a split brain is gone over": ("states", "register-takeover", "!= StandAlone", "!= Alone", "split brain"),
     "a register that is damaged is served": (
-        "states", "register-takeover", "intake check --db", "true intake check --db", None),
+        "states", "register-takeover", "intake check --db", "true intake check --db", "intake check does not pass"),
     "the disk was not let go of": (
-        "states", "register-release", "&& ! mountpoint -q /var/lib/berruzpil && drbdadm", "; drbdadm", None),
+        "states", "register-release", "&& ! mountpoint -q /var/lib/berruzpil && drbdadm", "; drbdadm", "a file below"),
     "an asynchronous mirror is whole": (
-        "states", "mirror-health", "UpToDate/UpToDate:C:r)", "UpToDate/UpToDate:*:r)", None),
-    "another disk is mounted": ("states", "mirror-health", "!= /dev/drbd0", "= /dev/null", None),
+        "states", "mirror-health", "UpToDate/UpToDate:C:r)", "UpToDate/UpToDate:*:r)", "the protocol is A"),
+    "another disk is mounted": ("states", "mirror-health", "!= /dev/drbd0", "= /dev/null", "not the mirrored disk"),
     "nobody asks about the mirror": (
         "dead_second", "berruzpil-mirror-health.timer", "OnCalendar=*:*:0/30", "OnCalendar=monthly", None),
 }  # fmt: skip
@@ -938,8 +1018,13 @@ def play(given):
             deploy, parts = with_fault(given.fault, pathlib.Path(folder)), [FAULTS[given.fault][0]]
             given.prepare = FAULTS[given.fault][4]
         if "states" in parts:
-            play_states(deploy)
-            parts = [it for it in parts if it != "states"]
+            play_states(deploy, *([FAULTS[given.fault][1], FAULTS[given.fault][4]] if given.fault else []))
+        if "units" in parts:
+            try:
+                play_units(given, deploy)
+            except NotPossible as fault:
+                print(f"not tried: units: {fault}")
+        parts = [it for it in parts if it not in ("states", "units")]
         if parts:
             play_on_machines(given, deploy, parts)
     print(f"{sum(passed.values())} passed, {len(failed)} failed", flush=True)
@@ -998,7 +1083,7 @@ def main(words):
             raise NotPossible(why)
         if given.planted:
             return plant(given)
-        if given.part != ["states"] and not (given.fault and FAULTS[given.fault][0] == "states"):
+        if {*([FAULTS[given.fault][0]] if given.fault else given.part or PARTS)} - {"states", "units"}:
             mirrored_machines.base()
         status = mirrored_machines.apart()
         return play(given) if status is None else status

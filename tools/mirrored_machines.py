@@ -11,6 +11,7 @@ this one and survives that, as on a disk whose cache has a battery.
 import contextlib
 import hashlib
 import http.server
+import inspect
 import os
 import pathlib
 import re
@@ -91,6 +92,7 @@ def apart():
     run has a scratch folder, which `machines.scratch` names."""
     if machines.APART in os.environ:
         return None
+    machines.CACHE.mkdir(parents=True, exist_ok=True)
     with tempfile.TemporaryDirectory(prefix="berruzpil-", dir=machines.CACHE) as folder:
         # The shell is the first process there, and waits for each that has lost its parent.
         words = ["setpriv", "--pdeathsig", "KILL", "unshare", "--mount", "--net", "--pid", "--fork", "--kill-child",
@@ -200,7 +202,7 @@ def furnish(tree):
 def base():
     """The folder with the files of a machine: `image`, its disk; `linux`, its kernel; `key`, to come in by. The first
     call makes it, from Debian's mirror."""
-    recipe = pathlib.Path(__file__).read_text().partition("# ---- machines\n")[0]
+    recipe = repr((PACKAGES, BEGIN, BEGIN_UNIT, MANAGER, MASKED, inspect.getsource(unpack), inspect.getsource(furnish)))
     kept = machines.CACHE / f"mirrored-{hashlib.sha256(recipe.encode()).hexdigest()[:16]}"
     if kept.exists():
         return kept
