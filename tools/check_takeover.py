@@ -971,7 +971,7 @@ FAULTS = {
         "states", "register-fence-peer", "\nexit 1\n", "\nexit 7\n", "switch"),
     "a split brain is gone over": ("states", "register-takeover", "!= StandAlone", "!= Alone", "split brain"),
     "a register that is damaged is served": (
-        "states", "register-takeover", "intake check --db", "true intake check --db", "intake check does not pass"),
+        "states", "register-takeover", "$(runuser -u", "$(true runuser -u", "intake check does not pass"),
     "the disk was not let go of": (
         "states", "register-release", "&& ! mountpoint -q /var/lib/berruzpil && drbdadm", "; drbdadm", "a file below"),
     "an asynchronous mirror is whole": (
