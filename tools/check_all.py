@@ -38,6 +38,7 @@ CHECKS = [
     (["tools/check_conformance.py"], 20),
     (["tools/check_first_days.py", *PROGRAMS], 15),
     (["tools/check_takeover.py", *PROGRAMS], 40),
+    (["tools/check_filer_page.py"], 15),
     (["tools/refuse_programs.py"], 30),
     (["bench/run.py"], 10),
     (["bench/memory.py"], 5),

@@ -45,33 +45,6 @@ except ImportError:
 
 PROGRAMS = ["chromium", "chromedriver", "certutil", "pk12util", "node", "nginx", "openssl"]
 HOST, OTHER = "intake.example", "other.example"
-# What nginx-intake.conf has for the page.
-LOCATION = """
-    # The page that is an outbox, for filers without Linux, for every certificate of the filers' authority. It loads
-    # nothing from elsewhere. It lies beside `/filings/`, in whose folder it looks for the register.
-    location = /file {
-        absolute_redirect off;
-        return 308 /file/;
-    }
-    location ^~ /file/ {
-        alias /usr/share/berruzpil/filer/;
-        index index.html;
-        access_log off;
-        types {
-            text/html html;
-            text/css css;
-            text/javascript mjs;
-            image/svg+xml svg;
-        }
-        charset utf-8;
-        charset_types text/css text/javascript;
-        add_header Content-Security-Policy "frame-ancestors 'none'" always;      # the rest of its policy is in the page
-        add_header X-Content-Type-Options nosniff always;
-        add_header Referrer-Policy no-referrer always;
-        add_header Cross-Origin-Opener-Policy same-origin always;
-        add_header Cache-Control no-cache always;       # after an upgrade a filer has the new page at once
-    }
-"""
 # The programs, the page, and how many seconds are waited for what should come, on a machine that has much else to do.
 # The filers of the trials begin with `prefix`, and `port` is that of the intake.
 given = argparse.Namespace(intake=INTAKE, outbox=OUTBOX, page=ROOT / "deploy" / "filer", pictures=None, patience=180,
@@ -287,8 +260,6 @@ class Bench:
             self.nginx.wait(60)
         folder = self.folder
         text = (ROOT / "deploy" / "nginx-intake.conf").read_text()
-        if "location ^~ /file/" not in text:
-            text = text.replace("    location / {\n", LOCATION.lstrip("\n") + "    location / {\n")
         for old, new in [
             ("127.0.0.1:8080", f"127.0.0.1:{self.back.port}"), ("listen 443", f"listen 127.0.0.1:{self.nginx_port}"),
             ("/etc/nginx/tls/filers-ca.pem", f"{folder}/ca.pem"), ("/etc/nginx/tls", str(folder)),
