@@ -46,7 +46,7 @@ WIDTH = 120
 # Files whose lines may be as long as they are: pages and data, and formats that have no line that goes on.
 ANY_WIDTH = re.compile(r"\.(?:md|json|yaml|edit)$|^crates\.txt$|^conformance/cases/|^crates/\w+/(?:stdin|stdout|args)$")
 HANDFUL = 5
-WORDS = 42_000
+WORDS = 47_600
 # Between these two lines docs/PROOF.md has how many wrong bodies there are.
 COUNTED, COUNTED_END = "<!-- counted by tools/try_wrong_bodies.py --count -->", "<!-- end of what is counted -->"
 # When the one request of a copy came, in milliseconds since 1970.
