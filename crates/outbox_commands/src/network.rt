@@ -238,7 +238,8 @@ impl<'r> Dial for PeerDial<'r> {
     ) {
         self.is_late = self.has_lost_patience(came);
         let exchange = (id, came);
-        self.over = self.over.and(&exchange, &writer.written);
+        let over = self.over.and(&exchange, &writer.written);
+        self.over = over;
     }
 
     fn gives_up(&self) -> bool {

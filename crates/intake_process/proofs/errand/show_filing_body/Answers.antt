@@ -7,12 +7,12 @@ use Rattle.intake_process.proofs.errand.show_filing_body.Goals as goal
 pub returns-in-Ok : goal.returns-in-Ok
 returns-in-Ok g c =
     let out = g.O.Write.contents c.args.output.now in
-    let out' = g.O.Write.contents c.print_filed.new.output in
+    let out' = g.O.Write.contents c.print_filed-conn.new.output in
     let errand = asked.FilingBody c.args.number in
-    let conn = c.print_filed.result.0 in
+    let conn = c.print_filed-conn.result.0 in
     subst (λ r. RunsErrand g.S.Store errand out out' c.args.conn conn r) (sym c.shown_as.ensures)
-    (shows_filed g.S.Store out out' c.args.conn c.in-Ok.register conn c.print_filed.result.1 c.in-Ok.ensures
-    c.args.number c.print_filed.ensures)
+    (shows_filed g.S.Store out out' c.args.conn c.in-Ok.register conn c.print_filed-conn.result.1 c.in-Ok.ensures
+    c.args.number c.print_filed-conn.ensures)
 
 pub returns-in-Err : goal.returns-in-Err
 returns-in-Err g c =

@@ -9,6 +9,6 @@ returns-clause-over c =
     let before = c.args.self.now.over.items in (
       map output_of before,
       refl,
-      ap (map output_of) c.and.ensures
+      ap (map output_of) c.and-over.ensures
           ∙ map-append output_of before (((c.args.id, c.args.came), c.args.writer.written) ∷ []),
     )
