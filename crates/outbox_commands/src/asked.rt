@@ -82,7 +82,6 @@ fn put_of<'a>(
         bodies: values_of(alloc, values, "body")?,
         key: value_of(values, "key"),
         target: target_of(values),
-        is_strict: is_set(values, "strict"),
     }))
 }
 
@@ -108,20 +107,6 @@ fn ask_of<'a>(database: &'a str, values: &ArgMatches<'a>) -> Option<Task<'a>>
     })
 }
 
-fn show_of<'a>(database: &'a str, values: &ArgMatches<'a>) -> Option<Task<'a>>
-    ensures { IsTaskOn database.entry (codes "show") (options_of values.now) result }
-{
-    let entry = number_of(values, "entry");
-    if is_set(values, "body") {
-        Some(Task::Body {
-            database,
-            entry: entry?,
-        })
-    } else {
-        Some(Task::Show { database, entry })
-    }
-}
-
 /// The task on the outbox of this file that a word asks for. `None` if it asks for none, or a value is not there that
 /// the task needs.
 fn task_of<'a>(
@@ -139,7 +124,10 @@ fn task_of<'a>(
         "send" => Ok(send_of(database, values)),
         "ask" => Ok(ask_of(database, values)),
         "status" => Ok(Some(Task::Status { database })),
-        "show" => Ok(show_of(database, values)),
+        "show" => Ok(Some(Task::Show {
+            database,
+            entry: number_of(values, "entry"),
+        })),
         _ => Ok(None),
     }
 }

@@ -41,8 +41,6 @@ pub enum Task<'a> {
         bodies: Vec<&'a str>,
         key: Option<&'a str>,
         target: Target,
-        /// Whether a report that is no JSON is a fault.
-        is_strict: bool,
     },
     /// Upgrade an outbox of an earlier version.
     Migrate {
@@ -72,11 +70,6 @@ pub enum Task<'a> {
         database: &'a str,
         entry: Option<u64>,
     },
-    /// Show the report of this entry.
-    Body {
-        database: &'a str,
-        entry: u64,
-    },
 }
 
 impl<'a> Task<'a> {
@@ -94,8 +87,7 @@ impl<'a> Task<'a> {
             | Task::Send { database, .. }
             | Task::Ask { database, .. }
             | Task::Status { database }
-            | Task::Show { database, .. }
-            | Task::Body { database, .. } => database,
+            | Task::Show { database, .. } => database,
         }
     }
 
@@ -231,10 +223,15 @@ fn flag<'a>(alloc: Global, name: &'a str, help: &'a str) -> Arg<'a> {
         .action(ArgAction::SetTrue)
 }
 
-/// The flag that asks for the report of an entry alone.
-fn body<'a>(alloc: Global) -> Result<Arg<'a>, AllocError> {
-    let help = "Prints the report of the entry: its bytes, and nothing else [default: a line]";
-    flag(alloc, "body", help).requires_arg("entry")
+fn strict<'a>(alloc: Global) -> Arg<'a> {
+    flag(
+        alloc,
+        "strict",
+        concat!(
+            "Ends with 1 if an entry is refused or clashed, and else with 3 if one stays open ",
+            "[default: 0 if each reply was read]",
+        ),
+    )
 }
 
 /// What a task is given on the command line.
@@ -253,9 +250,7 @@ enum Argument {
     /// The id of an entry, which has to be given, with this help.
     ThisEntry(&'static str),
     All,
-    /// Whether less than all is a fault, with this help.
-    Strict(&'static str),
-    Body,
+    Strict,
     Wait,
     /// Whether lines are JSON objects, with this help.
     Json(&'static str),
@@ -277,8 +272,7 @@ impl ToArg for Argument {
             Argument::ThisEntry(help) => entry(alloc, help).required(true),
             Argument::All => all(alloc)?,
             Argument::Wait => wait(alloc),
-            Argument::Strict(help) => flag(alloc, "strict", help),
-            Argument::Body => body(alloc)?,
+            Argument::Strict => strict(alloc),
             Argument::Json(help) => flag(alloc, "json", help),
             Argument::Files => report_files(alloc),
         })
@@ -300,17 +294,13 @@ static WORDS: [Word<Argument>; 8] = [
             "Example: outbox put --db outbox.db --body report.json --key 2024-annual-1\n\n",
             "Several reports, as --body q1.json q2.json, get random keys and replace no filing. ",
             "All are read first: if one can't be, none is put in.\n",
-            "If one is then refused, those before it stay in the outbox, and none after it is put in.\n",
-            "One that is no JSON, as an empty one, is put in with a warning: a register refuses it, and keeps its key.",
+            "If one is then refused, those before it stay in the outbox, and none after it is put in.",
         ),
         arguments: &[
             Argument::Database,
             Argument::Bodies,
             Argument::Key,
             Argument::Amend,
-            Argument::Strict(
-                "Puts nothing in, and ends with 2, if a report is no JSON [default: warns]",
-            ),
             Argument::Wait,
         ],
     },
@@ -330,10 +320,7 @@ static WORDS: [Word<Argument>; 8] = [
             Argument::Port,
             Argument::Entry("The entry's id [default: the open entry with the least id]"),
             Argument::All,
-            Argument::Strict(concat!(
-                "Ends with 1 if an entry is refused or clashed, and else with 3 if one stays open ",
-                "[default: 0 if each reply was read]",
-            )),
+            Argument::Strict,
             Argument::Patience,
             Argument::Wait,
             Argument::Receipts,
@@ -343,18 +330,15 @@ static WORDS: [Word<Argument>; 8] = [
         name: "ask",
         about: concat!(
             "Sends a settled entry's request again, and prints the reply, ",
-            "with a line for each finding; the outbox stays as it is",
+            "with a line for each finding; changes nothing",
         ),
         example: concat!(
             "Example: outbox ask --db outbox.db --entry 1 --port 8080\n\n",
-            "A register that has the request answers as it did at first, and changes nothing.\n",
-            "Of a confirmed entry it is asked for the filing before: if it does not list it, nothing is sent.\n",
-            "The request of a refused or clashed one is sent at once: ",
-            "a register that lost it, as one restored from an older copy, decides it anew.\n",
+            "The register answers the same request as it did at first. ",
             "An open entry is refused: outbox send sends it.\n",
-            "Exit status: 0 the reply was read; 1 not an outbox, or a damaged one; 2 the entry is open;\n",
-            "3 the filing is not listed, the reply contradicts the entry, an exchange failed, nobody listens, ",
-            "or memory or the disk failed; 4 no such entry",
+            "Exit status: 0 the reply was read; 1 not an outbox, or a damaged one; 2 the entry is open; ",
+            "3 the reply contradicts the entry, the exchange failed, nobody listens, or memory or the disk failed; ",
+            "4 no such entry",
         ),
         arguments: &[
             Argument::Database,
@@ -378,16 +362,12 @@ static WORDS: [Word<Argument>; 8] = [
         name: "show",
         about: concat!(
             "Prints a line for each entry, or for one: ",
-            "its state, its length, the filing that it replaces, and its key; or one's report",
+            "its state, its length, the filing that it replaces, and its key",
         ),
-        example: concat!(
-            "Example: outbox show --db outbox.db --entry 1\n",
-            "Example: outbox show --db outbox.db --entry 1 --body",
-        ),
+        example: "Example: outbox show --db outbox.db --entry 1",
         arguments: &[
             Argument::Database,
             Argument::Entry("The entry's id [default: each entry]"),
-            Argument::Body,
             Argument::Wait,
         ],
     },
@@ -420,7 +400,7 @@ pub(crate) fn command<'a>(alloc: Global) -> Result<Command<'a>, AllocError> {
         .after_help(concat!(
             "Exit status: 0 done;\n",
             "1 not an outbox, a damaged one, one that is there already, or a report with findings;\n",
-            "2 a wrong command line, a key that is in use, a report that is too large or, with --strict, no JSON,\n",
+            "2 a wrong command line, a key that is in use, a report that is too large ",
             "or a question about an open entry;\n",
             "3 memory, a file, the disk or the network failed; 4 no such entry",
         ))
