@@ -81,6 +81,7 @@ undated_none kept_are row rows (inr found) moments says =
         let some = ap length is in
         same_first found.1.first (says.undated + 1) found.1.before says.dated found.1.rest (omega (arith, some))
         (sym found.1.rows_are ∙ says.rows_are)
+
 -- ---- rows looked through, one after another
 
 -- the first rows, so many, are those of the kept requests from this place on

@@ -30,8 +30,13 @@ pub returns-then-self-kept-2-clause-told : goal.returns-then-self-kept-2-clause-
 returns-then-self-kept-2-clause-told c rows are =
     let told =
     told_later rows c.args.self are c.args.kept (omega (arith, c.if-self-kept.false))
-    (omega (arith, c.if-self-eq0-2.false)) (omega (arith, c.if-self-kept.false, c.if-self-eq0.false,
-    c.if-self-place.false, c.if-self-kept-2.true)) in
+    (omega (arith, c.if-self-eq0-2.false)) (omega (
+      arith,
+      c.if-self-kept.false,
+      c.if-self-eq0.false,
+      c.if-self-place.false,
+      c.if-self-kept-2.true,
+    )) in
     (undated_none c.args.kept (c.args.self.first + c.args.self.sound) rows told, told)
 
 pub returns-else-self-kept-2-clause-sound : goal.returns-else-self-kept-2-clause-sound
