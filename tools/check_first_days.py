@@ -513,6 +513,23 @@ def disk(page, supervisor, filer):
     start_intake(page, supervisor)
 
 
+def again(page, supervisor, filer):
+    """The filer files again what the restore lost, by the commands of the page."""
+    commands = page.block("How do I file again what a register lost?", "cd ")
+    entries = filer.paste(STATUS.replace("status", "show"))[1]
+    entry = re.search(r"(?m)^entry (\d+) confirmed (\d+), .* key 2024-annual-2$", entries)
+    hold("the entry that was lost", bool(entry), True)
+    number = len(json.loads(filer.paste(LIST)[1])["filings"]) + 1
+    with Shell(filer) as shell:
+        for command, lines in commands:
+            wanted = "".join(f"{line}\n" for line in lines).replace("entry 2", f"entry {entry[1]}")
+            wanted = wanted.replace(f"entry {entry[1]} confirmed 2", f"entry {entry[1]} confirmed {entry[2]}")
+            wanted = wanted.replace("entry 1 confirmed 2", f"entry 1 confirmed {number}")
+            command = re.sub(r"(--entry|again\.db) 2$", rf"\g<1> {entry[1]}", command)
+            hold(f"filed again: {command}", shell.paste(command), (0, wanted))
+    hold("it is filed once more", len(json.loads(filer.paste(LIST)[1])["filings"]), number)
+
+
 # In the place of `date`, of a machine whose clock is years ahead. A container has the clock of its host.
 WRONG_DATE = """#!/bin/sh
 when=now
@@ -1012,7 +1029,7 @@ def man_pages(page, supervisor, filer):
 
 # The parts, in the order in which they are played. Each after the first can be played on its own after the days.
 PARTS = {it.__name__: it for it in [
-    days, units, restore, disk, clock, hang, timers, metrics, readers, slow, abort, certificates, stunnel,
+    days, units, restore, again, disk, clock, hang, timers, metrics, readers, slow, abort, certificates, stunnel,
     damaged, upgrade, outbox_upgrade, health, power, taken, many, lines, names, expiry, own_client, several, man_pages,
 ]}  # fmt: skip
 

@@ -1330,6 +1330,83 @@ def listed(port, filer="ACME"):
     return [(it["number"], it.get("replaces"), it.get("replaced_by")) for it in json.loads(content)["filings"]]
 
 
+def check_again(folder):
+    """Filings that a restore lost, one of which replaces another, and one a filing that was not lost: they are filed
+    once more from a second outbox, each once. A register that lost none files nothing."""
+    old, new, other = folder / "old.db", folder / "new.db", folder / "other.db"
+    report, large = folder / "report", folder / "large"
+    report.write_bytes(REPORT)
+    large.write_bytes(LARGE)
+    run(OUTBOX, "init", "--db", old, "--filer", "ACME")
+    run(OUTBOX, "init", "--db", folder / "beta.db", "--filer", "BETA")
+
+    def put(key, file, *more):
+        run(OUTBOX, "put", "--db", old, "--body", file, f"--key={key}", *more)
+
+    def waits(database, *pairs):
+        return "".join(f"outbox-again: entry {entry} waits for entry {before}, which it replaces: "
+                       f"send what is in {database}, and run this again\n" for entry, before in pairs)
+
+    serving = Serving(folder / "register.db", 1 << 31, "--new")
+    put("k-1", report)
+    script("outbox-round", old, serving.port)
+    script("register-snapshot", folder / "register.db", folder / "copy.db")
+    put('-2 "a"\\', large)
+    put("k-3", report, "--amend", "2")
+    put("k-4", report, "--amend", "1")
+    hold("the first round", script("outbox-round", old, serving.port)[:2],
+         (0, "entry 2 confirmed 2\nentry 3 confirmed 3\nentry 4 confirmed 4\n"))
+    # Filing 5 is of no outbox here.
+    exchange(serving.port, request("d-1", REPORT))
+    put("k-5", report, "--amend", "5")
+    hold("another round", script("outbox-round", old, serving.port)[:2], (0, "entry 5 confirmed 6\n"))
+    put("k-6", report)
+    filed = [(1, None, 4), (2, None, 3), (3, 2, None), (4, 1, None), (5, None, 6), (6, 5, None)]
+    hold("what is filed", listed(serving.port), filed)
+    hold("outbox-again of what was not lost", script("outbox-again", old, other, 2, 4),
+         (75, f"entry 1: entry 1 of {other}\nentry 2: entry 2 of {other}\n", waits(other, (4, 1))))
+    hold("it is answered as it was", script("outbox-round", other, serving.port)[:2],
+         (0, "entry 1 confirmed 1\nentry 2 confirmed 2\n"))
+    hold("and so is a correction", (script("outbox-again", old, other, 2, 4),
+                                    script("outbox-round", other, serving.port)[:2]),
+         ((0, f"entry 4: entry 3 of {other}\n", ""), (0, "entry 3 confirmed 4\n")))
+    hold("and nothing is filed", listed(serving.port), filed)
+    serving.process.terminate()
+    serving.process.communicate()
+    for what, words, status, cause in [
+        ("an entry that is open", (old, new, 2, 6), 2, "entry 6 is open, and not confirmed"),
+        ("an entry that isn't there", (old, new, 9), 4, "there is no entry 9"),
+        ("a correction of what another outbox filed", (old, new, 5), 1,
+         "entry 5 replaces filing 5, which is no entry here: put its report in by hand"),
+        ("an outbox of another filer", (old, folder / "beta.db", 2), 2, "is an outbox of BETA"),
+        ("no entry", (old, new), 2, "usage"),
+        ("a word that is no entry", (old, new, "x"), 2, "usage"),
+    ]:
+        found = script("outbox-again", *words)
+        hold(f"outbox-again: {what}", (found[0], found[1], cause in found[2], found[2].count("\n"), new.exists()),
+             (status, "", True, 1, False))  # fmt: skip
+    script("register-restore", folder / "copy.db", folder / "restored.db")
+    serving = Serving(folder / "restored.db", 1 << 31)
+    # Another filer gets the number 2 meanwhile.
+    exchange(serving.port, request("k-1", SMALLEST, "BETA"))
+    both = waits(new, (3, 2), (4, 1))
+    hold("outbox-again of what was lost", script("outbox-again", old, new, 3, 4),
+         (75, f"entry 1: entry 1 of {new}\nentry 2: entry 2 of {new}\n", both))
+    hold("and once more before a round", script("outbox-again", old, new, 3, 4), (75, "", both))
+    hold("a round", script("outbox-round", new, serving.port)[:2], (0, "entry 1 confirmed 1\nentry 2 confirmed 3\n"))
+    hold("outbox-again after it", script("outbox-again", old, new, 3, 4),
+         (0, f"entry 3: entry 3 of {new}\nentry 4: entry 4 of {new}\n", ""))
+    hold("the last round", script("outbox-round", new, serving.port)[:2],
+         (0, "entry 3 confirmed 4\nentry 4 confirmed 5\n"))
+    hold("outbox-again at the end", script("outbox-again", old, new, 3, 4), (0, "", ""))
+    hold("each is filed once, and replaces what it replaced", (listed(serving.port), listed(serving.port, "BETA")),
+         ([(1, None, 5), (3, None, 4), (4, 3, None), (5, 1, None)], [(2, None, None)]))
+    serving.process.terminate()
+    serving.process.communicate()
+    bodies = {name: [body for _, _, body, *_ in rows(folder / f"{name}.db")["entry"]][:4] for name in ("old", "new")}
+    hold("with the bytes that they had", bodies["new"] == bodies["old"], True)
+
+
 # ---- nginx in front of the intake
 
 MALFORMED = check_deploy.problem(400, "malformed", "Bad Request")
@@ -1440,6 +1517,7 @@ TRIALS = [
     check_hanging,
     check_slow_round,
     check_lost,
+    check_again,
     check_front,
     check_full_disk,
 ]

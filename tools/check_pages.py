@@ -427,6 +427,7 @@ EXAMPLES = [
     Example("README.md", "export PATH=", port=8080),
     Example("docs/PROTOCOL.md", "example=$(mktemp -d)", port=8080),
     Example("docs/OPERATIONS.md", "intake export --db copy.db", prints_nothing, port=8081, scene=make_copy),
+    Example("docs/OPERATIONS.md", "intake show --db copy.db", prints_nothing, port=8081, scene=make_copy),
     Example("docs/OPERATIONS.md", "intake digest --db copy.db", shows_a_digest, port=8081, scene=make_copy),
     Example("docs/OPERATIONS.md", "mkdir site", prints_nothing, port=8081, scene=make_copy),
     Example("docs/OPERATIONS.md", "outbox ask --db outbox.db", port=8081, scene=make_refused_entry),

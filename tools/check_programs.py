@@ -755,7 +755,7 @@ def check_texts_of_peers(folder):
     run(OUTBOX, "send", "--db", outbox, "--port", serving.port)
     serving.end()
     content = f"x\n{HOSTILE}".encode() + b"\xff"
-    peer = Peer(answers(reply(b"200 OK", content, "text/plain")))
+    peer = Peer(answers(listed(1)), answers(reply(b"200 OK", content, "text/plain")))
     hold("a content of a peer", said(run(OUTBOX, "ask", "--db", outbox, "--port", peer.port, "--entry", 1), folder),
          (0, f"entry 1: 200 OK\nx\\u000a{TAME}\ufffd\n", ""))
 
@@ -788,6 +788,11 @@ def problem(status, reason):
 
 def registered(number):
     return reply(b"201 Created", f'{{"number":{number},"status":"registered"}}'.encode())
+
+
+def listed(number, more=""):
+    """The reply to a question about a filing that is there."""
+    return reply(b"200 OK", f'{{"filings":[{{"facts":0,"number":{number}{more}}}]}}'.encode())
 
 
 def make_outbox(folder, entries):
@@ -932,12 +937,12 @@ def ask(outbox, entry, port, *words):
 
 def check_questions(folder):
     """Settled entries are asked about: a register answers as it did at first, and another peer's answer is shown all
-    the same."""
+    the same. Two connections are made for a confirmed one."""
     outbox, poor = make_outbox(folder, 1), folder / "poor.json"
     poor.write_bytes(b"{}")
     run(OUTBOX, "put", "--db", outbox, "--body", poor, "--key", "k-2")
     run(OUTBOX, "put", "--db", outbox, "--body", folder / "report.json", "--key", "k-3", "--amend", 7)
-    serving = Serving(folder / "register.db", 7, "--new")
+    serving = Serving(folder / "register.db", 8, "--new")
     run(OUTBOX, "send", "--db", outbox, "--port", serving.port, "--all")
     before = said(run(OUTBOX, "show", "--db", outbox), folder)
     created = 'entry 1: 201 Created\n{"number":1,"status":"registered"}\n'
@@ -950,7 +955,8 @@ def check_questions(folder):
     objects = f'{{"content":{content},"entry":2,"status":422}}\n{NO_INFO_OBJECT}'
     hold("a question as objects", said(ask(outbox, 2, serving.port, "--json"), folder), (0, objects, ""))
     serving.end()
-    other = Peer(answers(CLASHED), answers(reply(b"200 OK", b"a\nb\xff", "text/plain")), answers(reply(b"418 No", b"")))
+    texts = CLASHED, reply(b"200 OK", b"a\nb\xff", "text/plain"), listed(1), reply(b"418 No", b"")
+    other = Peer(*map(answers, texts))
     clashed = (
         "entry 2: 422 Unprocessable Content\n"
         '{"reason":"key-reused","status":422,"title":"Unprocessable Content","type":"about:blank"}\n'
@@ -960,10 +966,108 @@ def check_questions(folder):
     hold("a content that is no line of text", said(ask(outbox, 2, other.port), folder),
          (0, "entry 2: 200 OK\na\\u000ab\ufffd\n", ""))
     hold("an answer without content", said(ask(outbox, 1, other.port), folder), (0, "entry 1: 418\n\n", ""))
-    cut = Peer(answers(registered(1)[:-1]))
+    cut = Peer(answers(listed(1)), answers(registered(1)[:-1]))
     hold("a cut answer", said(ask(outbox, 1, cut.port), folder),
          (3, "", f"outbox: 127.0.0.1:{cut.port}: the reply is cut\n"))
     hold("the outbox is as it was", said(run(OUTBOX, "show", "--db", outbox), folder), before)
+
+
+# What a register answers that is asked for filing 7, which has no fact and replaces filing 2, and whether it lists it;
+# None if the reply is no list.
+LISTS = [
+    (listed(7, ',"replaces":2'), True),
+    (listed(7, ',"replaced_by":9,"replaces":2'), True),
+    (reply(b"200 OK", b'{"more":1,"filings":[{"replaces":2,"number":7,"facts":0}]}', "text/plain"), True),
+    (reply(b"200 OK", b'{"filings":[]}'), False),
+    (listed(7), False),
+    (listed(7, ',"replaces":3'), False),
+    (listed(8, ',"replaces":2'), False),
+    (listed('"7"', ',"replaces":2'), False),
+    (listed("7.0", ',"replaces":2'), False),
+    (listed(7, ',"facts":1,"replaces":2'), False),
+    (reply(b"200 OK", b'{"filings":[{"number":7,"replaces":2}]}'), False),
+    (reply(b"200 OK", b'{"filings":[{"facts":0,"replaces":2}]}'), False),
+    (reply(b"200 OK", b'{"filings":{}}'), None),
+    (reply(b"200 OK", b'{"filing":[]}'), None),
+    (reply(b"200 OK", b'[{"facts":0,"number":7,"replaces":2}]'), None),
+    (reply(b"200 OK", b""), None),
+    (reply(b"200 OK", b"<html></html>", "text/html"), None),
+    (reply(b"202 Accepted", b'{"filings":[{"facts":0,"number":7,"replaces":2}]}'), None),
+    (registered(7), None),
+    (problem(b"404 Not Found", "no-path"), None),
+    (problem(b"503 Service Unavailable", "unavailable"), None),
+]
+LOOK = b"GET /filings/ACME/7 HTTP/1.1\r\nHost: localhost\r\nConnection: close\r\n\r\n"
+NOT_LISTED = "entry 1 is confirmed 7, but the register has no such filing of this filer; nothing was sent: "
+NOT_LISTED += "another register answers, or it was restored; ask its supervisor"
+
+
+def check_looks(folder):
+    """Of a confirmed entry nothing is sent again unless the register lists its filing."""
+    outbox, report = folder / "outbox.db", folder / "report.json"
+    report.write_bytes(SMALLEST)
+    run(OUTBOX, "init", "--db", outbox, "--filer", "ACME")
+    run(OUTBOX, "put", "--db", outbox, "--body", report, "--key", "k-1", "--amend", 2)
+    first = Peer(answers(registered(7)))
+    run(OUTBOX, "send", "--db", outbox, "--port", first.port)
+    for text, is_listed in LISTS:
+        peer = Peer(answers(text), *[answers(registered(7))] * (is_listed is True))
+        found = said(ask(outbox, 1, peer.port), folder)
+        told = f'entry 1: 201 Created\n{{"number":7,"status":"registered"}}\n'
+        told, fault = (told, "") if is_listed else ("", NOT_LISTED)
+        if is_listed is None:
+            fault = f"asked for filing 7 of entry 1, it answered {text[9:12].decode()} and no list of it; "
+            fault += "nothing was sent: ask again once it serves"
+        wanted = (0, told, "") if is_listed else (3, "", f"outbox: 127.0.0.1:{peer.port}: {fault}\n")
+        hold(f"a look for a filing: {text[9:]}", found, wanted)
+        hold("what is sent for it", peer.taken, [LOOK, *first.taken] if is_listed else [LOOK])
+    for what, act in FAILING:
+        peer = Peer(act)
+        found = said(ask(outbox, 1, peer.port), folder)
+        hold(f"a look that fails: {what}", (found, peer.taken),
+             ((3, "", f"outbox: 127.0.0.1:{peer.port}: {what}\n"), [LOOK]))
+    late = Peer(is_silent)
+    found = said(ask(outbox, 1, late.port, "--patience", 1), folder)
+    hold("a look that nobody answers", (found, late.taken),
+         ((3, "", f"outbox: 127.0.0.1:{late.port}: no reply within 1 s\n"), [LOOK]))
+    kept = folder / "receipts"
+    kept.mkdir()
+    asked = ask(outbox, 1, Peer(answers(reply(b"200 OK", b'{"filings":[]}'))).port, "--receipts", kept)
+    hold("no receipt of a look", (asked.returncode, list(kept.iterdir())), (3, []))
+
+
+def check_what_a_restore_lost(folder):
+    """A register is restored from an older copy. Whoever asks about the filings that it lost files none anew."""
+    outbox, register, older = make_outbox(folder, 4), folder / "register.db", folder / "older"
+    older.mkdir()
+
+    def sound():
+        return said(run(INTAKE, "check", "--db", register), folder)
+
+    for entries, fresh in (((1, 2), ["--new"]), ((3, 4), [])):
+        serving = Serving(register, 2, *fresh)
+        for entry in entries:
+            run(OUTBOX, "send", "--db", outbox, "--port", serving.port, "--entry", entry)
+        serving.end()
+        if fresh:
+            for file in folder.glob("register.db*"):
+                shutil.copy(file, older)
+    hold("4 filings", sound(), (0, "sound: 4 kept, 4 filings\n", ""))
+    for file in folder.glob("register.db*"):
+        file.unlink()
+    for file in older.iterdir():
+        shutil.copy(file, folder)
+    states = said(run(OUTBOX, "status", "--db", outbox), folder)
+    serving = Serving(register, 6)
+    for entry in (1, 2, 3, 4):
+        found = said(ask(outbox, entry, serving.port), folder)
+        told = f'entry {entry}: 201 Created\n{{"number":{entry},"status":"registered"}}\n'
+        fault = NOT_LISTED.replace("entry 1", f"entry {entry}").replace("confirmed 7", f"confirmed {entry}")
+        hold(f"a question about entry {entry} after a restore", found,
+             (0, told, "") if entry < 3 else (3, "", f"outbox: 127.0.0.1:{serving.port}: {fault}\n"))
+    serving.end()
+    hold("nothing is filed anew", sound(), (0, "sound: 2 kept, 2 filings\n", ""))
+    hold("the outbox is as it was then", said(run(OUTBOX, "status", "--db", outbox), folder), states)
 
 
 def receipt_name(filer, entry, key):
@@ -984,11 +1088,11 @@ def check_kept_receipts(folder, outbox, receipt):
     words = "ask", "--db", outbox, "--entry", 2, "--receipts", kept, "--port"
     front = reply(b"400 Bad Request", b"<html>nginx</html>", "text/html")
     for text, told in ((registered(8), "confirmed 8"), (REFUSED, "refused"), (CLASHED, "clashed")):
-        peer = Peer(answers(text))
+        peer = Peer(answers(listed(7)), answers(text))
         asked = said(run(OUTBOX, *words, peer.port), folder)
         hold(f"a reply that contradicts: {told}", asked[::2], (3, contradiction(peer.port, 2, "confirmed 7", told)))
         hold("which leaves the receipt", receipt.read_bytes() == first, True)
-    asked = said(run(OUTBOX, *words, Peer(answers(front)).port), folder)
+    asked = said(run(OUTBOX, *words, Peer(answers(listed(7)), answers(front)).port), folder)
     hold("the page of a front", (asked[0], receipt.read_bytes() == first), (3, True))
     # A folder of several outboxes: one of another filer, and one of the same filer, whose entries have the same ids.
     for filer, key in (("BETA", "k-2"), ("ACME", "other")):
@@ -1008,13 +1112,13 @@ def check_kept_receipts(folder, outbox, receipt):
               ({"filer": "BETA"}, {"key": "k-3"}, {"entry": 3})]
     for other in [*others, b"", b"[]", b"notes"]:
         receipt.write_bytes(other)
-        asked = said(run(OUTBOX, *words, Peer(answers(registered(7))).port), folder)
+        asked = said(run(OUTBOX, *words, Peer(answers(listed(7)), answers(registered(7))).port), folder)
         hold(f"no receipt over another: {other[:20]}", (asked[::2], receipt.read_bytes()), ((3, taken), other))
     receipt.unlink()
     target = folder / "elsewhere"
     target.write_bytes(first)
     receipt.symlink_to(target)
-    asked = said(run(OUTBOX, *words, Peer(answers(registered(7))).port), folder)
+    asked = said(run(OUTBOX, *words, Peer(answers(listed(7)), answers(registered(7))).port), folder)
     hold("no receipt through a link", (asked[::2], target.read_bytes() == first), ((3, taken), True))
     receipt.unlink()
     hold("nothing else is left there", sorted(it.name for it in kept.iterdir()),
@@ -1042,7 +1146,8 @@ def check_receipts(folder):
     members = list(json.loads((kept / name).read_text()))
     hold("in the order of names", members, sorted(members))
     (kept / name).unlink()
-    again = Peer(answers(problem(b"503 Service Unavailable", "unavailable")), answers(registered(7)))
+    texts = listed(7), problem(b"503 Service Unavailable", "unavailable"), listed(7), registered(7)
+    again = Peer(*map(answers, texts))
     asked = run(OUTBOX, "ask", "--db", outbox, "--entry", 2, "--port", again.port, "--receipts", kept)
     lost = "outbox: receipts that were not written: 1; outbox ask --receipts writes one again\n"
     content = '{"reason":"unavailable","status":503,"title":"Service Unavailable","type":"about:blank"}'
@@ -1110,6 +1215,77 @@ def check_same_report(folder):
     hold("16 entries are compared", said(put, folder), (0, "entry 23\n", ""))
 
 
+def check_bodies_of_entries(folder):
+    """`show --body` gives the bytes of a report back, and nothing else."""
+    outbox = folder / "outbox.db"
+    run(OUTBOX, "init", "--db", outbox, "--filer", "ACME")
+    bodies = [REPORT, SMALLEST + b"\n", b"", b"\n", bytes(range(256)), b"\xff" * 1_048_576, b"\r\n\0 "]
+    for entry, body in enumerate(bodies, 1):
+        (folder / "report").write_bytes(body)
+        run(OUTBOX, "put", "--db", outbox, "--body", folder / "report", "--key", f"k-{entry}")
+    for entry, body in enumerate(bodies, 1):
+        shown = run(OUTBOX, "show", "--db", outbox, "--entry", entry, "--body")
+        hold(f"the report of entry {entry}", (shown.returncode, shown.stdout == body, shown.stderr), (0, True, b""))
+    with open("/dev/full", "wb") as full:
+        done = subprocess.run([OUTBOX, "show", "--db", outbox, "--entry", "1", "--body"], stdout=full,
+                              stderr=subprocess.PIPE, check=False)
+    hold("a report for which there is no room", (done.returncode, done.stderr),
+         (3, b"outbox: the output cannot be written\n"))
+
+
+def valid_report(value):
+    """The example with this value, and members that are ignored around it: it is no text of another writer's."""
+    return b'\r\n\t{"\\u0000": "\\n",' + REPORT.replace(b'"value":"100"', b'"value":"%d"' % value)[1:] + b" \n\n"
+
+
+def body_of(register, *words):
+    """What show prints of a report: the status, the bytes and the errors."""
+    done = run(INTAKE, "show", "--db", register, *words, "--body")
+    return done.returncode, done.stdout, done.stderr.decode().replace(f"{register.parent}/", "")
+
+
+def check_bodies(folder):
+    """Each report that was sent comes back byte for byte, by its number or by its filer and key, a refused one too."""
+    register = folder / "register.db"
+    # By filer and key, with the status. The same key of another filer, a key with quotes and blanks, NUL bytes, bytes
+    # that are no UTF-8, a long report, and none at all.
+    sent = {
+        ("ACME", "k-1"): (valid_report(1), 201),
+        ("BETA", "k-1"): (valid_report(2).replace(b"lei:ACME", b"lei:BETA"), 201),
+        ("ACME", 'a "key" \\'): (valid_report(3), 201),
+        ("ACME", "nul"): (b"\0{}\0\0", 400),
+        ("ACME", "bytes"): (bytes(range(256)) * 2, 400),
+        ("ACME", "large"): (b"\n" * 65_536, 400),
+        ("ACME", "none"): (b"", 400),
+        ("ACME", "last"): (valid_report(4), 201),
+    }
+    serving = Serving(register, len(sent) + 1, "--new")
+    for (filer, key), (body, status) in sent.items():
+        spelled = key.replace("\\", "\\\\").replace('"', '\\"')
+        hold(f"POST of {key}", statuses(exchange(serving.port, request(spelled, body, filer))), [status])
+    hold("another report under a key", statuses(exchange(serving.port, request("k-1", b"{}"))), [422])
+    serving.end()
+    before = register.read_bytes()
+    number = 0
+    for (filer, key), (body, status) in sent.items():
+        hold(f"report of {filer}, {key}", body_of(register, "--filer", filer, "--key", key) == (0, body, ""), True)
+        if status == 201:
+            number += 1
+            hold(f"report of filing {number}", body_of(register, "--number", number) == (0, body, ""), True)
+    hold("report of no filing", body_of(register, "--number", number + 1),
+         (4, b"", f"intake: register.db: there is no filing {number + 1}\n"))
+    for filer, key in (("BETA", "nul"), ("GAMMA", "k-1"), ("ACME", '"k-1"')):
+        hold(f"report of {filer}, {key}", body_of(register, "--filer", filer, "--key", key),
+             (4, b"", "intake: register.db: this filer has no request under this key\n"))
+    for words in (("--number", 1), ("--filer", "ACME", "--key", "large")):
+        with open("/dev/full", "wb") as full:
+            done = subprocess.run([INTAKE, "show", "--db", register, *map(str, words), "--body"], stdout=full,
+                                  stderr=subprocess.PIPE, check=False)
+        hold("an output that takes no report", (done.returncode, done.stderr),
+             (3, b"intake: the output cannot be written\n"))
+    hold("the register stays", register.read_bytes() == before, True)
+
+
 def check_closed_output(folder):
     database, report = folder / "outbox.db", folder / "report.json"
     report.write_bytes(SMALLEST)
@@ -1137,6 +1313,7 @@ if __name__ == "__main__":
          check_full_outbox, check_puts_of_several, check_files, check_used_port, check_descriptors, check_rights,
          check_damage, check_moments, check_copies, check_copy_of_an_outbox, check_lint, check_names_of_files,
          check_texts_of_reports, check_texts_of_peers, check_line_of_a_long_connection, check_entries, check_round,
-         check_answers, check_strict, check_questions, check_receipts, check_patience_of_a_round, check_same_report,
-         check_closed_output, check_reading, check_reading_alone, check_readers),
+         check_answers, check_strict, check_questions, check_looks, check_what_a_restore_lost, check_receipts,
+         check_patience_of_a_round, check_same_report, check_bodies_of_entries, check_bodies, check_closed_output,
+         check_reading, check_reading_alone, check_readers),
     )

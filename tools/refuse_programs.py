@@ -238,6 +238,22 @@ def try_outbox(counts, folder):
         status,
         stands_as(b"entry 1 open\n"),
     )
+    try_command(
+        counts,
+        folder,
+        "outbox show --body",
+        words_of(OUTBOX, "show", "--db", database, "--entry", 1, "--body"),
+        status,
+        stands_as(b"entry 1 open\n"),
+    )
+    try_command(
+        counts,
+        folder,
+        "outbox put --strict",
+        words_of(OUTBOX, "put", "--db", database, "--body", report, "--key", "k-2", "--strict"),
+        status,
+        stands_as(b"entry 1 open\n", b"entry 1 open\nentry 2 open\n"),
+    )
     amend = words_of(OUTBOX, "put", "--db", database, "--body", report, "--key", "k-2", "--amend", 1)
     try_command(
         counts,
@@ -290,6 +306,9 @@ def try_register(counts, folder):
     try_command(counts, folder, "intake check --against", against, check, sound)
     moments = words_of(INTAKE, "list", "--db", database, "--filer", "ACME", "--moments")
     try_command(counts, folder, "intake list --moments", moments, check, sound)
+    for words in (("--number", 1), ("--filer", "ACME", "--key", "k-1")):
+        body = words_of(INTAKE, "show", "--db", database, *words, "--body")
+        try_command(counts, folder, f"intake show {words[0]} --body", body, check, sound)
     moments = words_of(INTAKE, "show", "--db", database, "--number", 1, "--moments")
     try_command(counts, folder, "intake show --moments", moments, check, sound)
 

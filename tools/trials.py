@@ -157,12 +157,12 @@ class Serving:
 
 class Peer:
     """A peer of an outbox that takes a request whole on each connection, answers it by the next of these acts,
-    and closes it. During the last one it listens no more."""
+    and closes it. During the last one it listens no more. `taken` has the requests."""
 
     def __init__(self, *acts):
         self.listener = socket.create_server(("127.0.0.1", 0))
         self.port = self.listener.getsockname()[1]
-        self.acts = acts
+        self.acts, self.taken = acts, []
         threading.Thread(target=self.serve, daemon=True).start()
 
     def serve(self):
@@ -170,19 +170,20 @@ class Peer:
             with self.listener.accept()[0] as connection:
                 if left == 1:
                     self.listener.close()
-                take_request(connection)
+                self.taken.append(take_request(connection))
                 self.acts[-left](connection)
 
 
 def take_request(connection):
-    """Reads a request to the end of its body."""
+    """Reads a request to the end of its body, if it has one."""
     found = b""
     while b"\r\n\r\n" not in found:
         found += connection.recv(65536)
     head, _, body = found.partition(b"\r\n\r\n")
-    length = int(head.lower().split(b"content-length:")[1].split(b"\r\n")[0])
-    while len(body) < length:
+    _, _, length = (head + b"\r\n").lower().partition(b"content-length:")
+    while len(body) < int(length.partition(b"\r\n")[0] or 0):
         body += connection.recv(65536)
+    return head + b"\r\n\r\n" + body
 
 
 def answers(text):

@@ -9,6 +9,8 @@ use Rattle.intake_commands.specs.declared.options.Task.TheVariants as task
 abbrev pub changes_nothing : Errand → Bool
 changes_nothing (errand.List filer dated) = true
 changes_nothing (errand.Show number dated) = true
+changes_nothing (errand.FilingBody number) = true
+changes_nothing (errand.RequestBody filer key) = true
 changes_nothing (errand.Check against) = true
 changes_nothing (errand.Export form filer) = true
 changes_nothing (errand.Digest until) = true

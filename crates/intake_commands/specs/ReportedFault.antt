@@ -38,6 +38,7 @@ IsErrandTold name (errand.Migrate why holding) told = told ≡ fault.Register na
 IsErrandTold name (errand.List why) told = told ≡ fault.Register name (visit.List why)
 IsErrandTold name (errand.Store why) told = told ≡ fault.Register name (visit.Store why)
 IsErrandTold name (errand.NoFiling number) told = told ≡ fault.Register name (visit.NoFiling number)
+IsErrandTold name errand.NoRequest told = told ≡ fault.Register name visit.NoRequest
 IsErrandTold name (errand.TooFew kept) told = told ≡ fault.Register name (visit.TooFew kept)
 IsErrandTold name (errand.Another count) told = told ≡ fault.Register name (visit.Another count)
 IsErrandTold name (errand.Text text.Memory) told = told ≡ fault.Command command.Memory

@@ -36,6 +36,7 @@ visit_status (visit.Store why) = 3
 visit_status (visit.NotClosed error) = 3
 visit_status (visit.List why) = 3
 visit_status (visit.NoFiling number) = 4
+visit_status visit.NoRequest = 4
 visit_status (visit.TooFew kept) = 4
 visit_status (visit.Another count) = 1
 
@@ -45,6 +46,7 @@ fault_status (fault.Command why) = command_line.status_of why
 fault_status fault.NoInit = 2
 fault_status fault.Limit = 2
 fault_status fault.Against = 2
+fault_status fault.Key = 2
 fault_status (fault.InMemory why) = 3
 fault_status (fault.Register name why) = visit_status why
 fault_status (fault.Connection why) = 3

@@ -109,6 +109,7 @@ Serves task port port' old new result =
 -- whether the filer's code of an errand, if it has one, is the code of a filer
 abbrev pub is_wanted : Errand → Bool
 is_wanted (asked.List filer dated) = is_filer filer.now
+is_wanted (asked.RequestBody filer key) = is_filer filer.now
 is_wanted (asked.Export form (Some filer)) = is_filer filer.now
 is_wanted other = true
 

@@ -1,6 +1,6 @@
 -- What the command line asks `intake` for, by the word that `clap` found and the values of its options. `clap` says
 -- nothing of which words give which values, since an option may have a value that begins with a hyphen.
-use Rattle.std.specs.Prelude.{◌≡◌, ◌⊎◌, ◌&&◌, ℕ, Bool, true, false, List, [], ◌∷◌, map, codes, Option, Some, None}
+use Rattle.std.specs.Prelude.{◌≡◌, ◌⊎◌, ◌&&◌, ◌||◌, ℕ, Bool, true, false, List, [], ◌∷◌, map, codes, Option, Some, None}
 use Rattle.std.specs.Prelude.{Result, Ok, Err, is_some, option_map, option_and_then, unwrap_or, if◌then◌else◌, eqb}
 use Rattle.std.specs.Prelude.{slice_get}
 use Rattle.std.specs.List.{after_first, before_first, list_any}
@@ -13,6 +13,7 @@ use Rattle.clap.specs.declared.error.Error.{Error}
 use Rattle.clap.specs.declared.error.kind.ErrorKind.TheVariants.{OutOfMemory}
 use Rattle.clap.specs.declared.parser.matches.ArgMatches.{ArgMatches}
 use Rattle.hex.specs.Hex.{decode_sized}
+use Rattle.key_string.specs.Key.{is_key}
 use Rattle.command_line.specs.declared.fault.CommandFault.TheVariants as command
 use Rattle.register_export.specs.declared.facts.record.FactForm.{FactForm}
 use Rattle.register_export.specs.declared.facts.record.FactForm.TheVariants.{Csv, JsonLines}
@@ -20,6 +21,7 @@ use Rattle.finding_lines.specs.declared.form.Form.{Form}
 use Rattle.finding_lines.specs.declared.form.Form.TheVariants.{Sentences, Objects}
 use Rattle.intake_process.specs.declared.tasks.errand.Errand.{Errand}
 use Rattle.intake_process.specs.declared.tasks.errand.Errand.TheVariants.{List as ListOf, Show, Check, Migrate, Export}
+use Rattle.intake_process.specs.declared.tasks.errand.Errand.TheVariants.{FilingBody, RequestBody}
 use Rattle.intake_process.specs.declared.tasks.errand.Errand.TheVariants.{Digest, Pages}
 use Rattle.intake_process.specs.declared.tasks.errand.Published.{Published}
 use Rattle.intake_commands.specs.declared.fault.NotDone.{NotDone}
@@ -73,6 +75,20 @@ against_of options = option_and_then published_in (value (codes "against") optio
 abbrev pub is_against : List Row → Bool
 is_against options = option_map_or (λ text. is_some (published_in text)) (value (codes "against") options) true
 
+-- whether the value of `--key`, if there is one, is a key
+abbrev pub is_keyed : List Row → Bool
+is_keyed options = option_map_or is_key (value (codes "key") options) true
+
+-- whether a request is named, by its filer and key
+abbrev pub has_request : List Row → Bool
+has_request options =
+    is_some (value (codes "filer") options) && (is_some (value (codes "key") options) && is_keyed options)
+
+-- whether it is said what to show: a filing, or with `--body` maybe a request
+abbrev pub has_shown : List Row → Bool
+has_shown options =
+    is_some (number 64 (codes "number") options) || (is_set (codes "body") options && has_request options)
+
 -- ---- tasks
 
 -- the register of `--db` is served as the options say: a new one with `--new`, and with lines of what came with `--log`
@@ -98,8 +114,15 @@ IsErrand word options (ListOf filer dated) =
     (word ≡ codes "list") × (value (codes "filer") options ≡ Some filer.now)
     × (dated ≡ is_set (codes "moments") options)
 IsErrand word options (Show filing dated) =
-    (word ≡ codes "show") × (number 64 (codes "number") options ≡ Some filing)
-    × (dated ≡ is_set (codes "moments") options)
+    (word ≡ codes "show") × (is_set (codes "body") options ≡ false)
+    × (number 64 (codes "number") options ≡ Some filing) × (dated ≡ is_set (codes "moments") options)
+IsErrand word options (FilingBody filing) =
+    (word ≡ codes "show") × (is_set (codes "body") options ≡ true)
+    × (number 64 (codes "number") options ≡ Some filing)
+IsErrand word options (RequestBody filer key) =
+    (word ≡ codes "show") × (is_set (codes "body") options ≡ true) × (number 64 (codes "number") options ≡ None)
+    × (value (codes "filer") options ≡ Some filer.now) × (value (codes "key") options ≡ Some key.now)
+    × (is_key key.now ≡ true)
 IsErrand word options (Check against) =
     (word ≡ codes "check") × (is_against options ≡ true) × (against_of options ≡ against)
 IsErrand word options Migrate = word ≡ codes "migrate"
@@ -113,7 +136,7 @@ IsErrand word options (Pages folder) = (word ≡ codes "pages") × (value (codes
 abbrev pub has_errand : Text → List Row → Bool
 has_errand word options =
     if bytes_eq word (codes "list") then is_some (value (codes "filer") options)
-    else if bytes_eq word (codes "show") then is_some (number 64 (codes "number") options)
+    else if bytes_eq word (codes "show") then has_shown options
     else if bytes_eq word (codes "export") then is_some (format_of options)
     else if bytes_eq word (codes "pages") then is_some (value (codes "into") options)
     else if bytes_eq word (codes "check") then is_against options
@@ -159,9 +182,12 @@ folder_of other = []
 
 -- ---- what is asked for
 
--- the fault of options that ask for nothing: the value of `--against` writes no digest, or there is no task
+-- the fault of options that ask for nothing: the value of `--against` writes no digest, that of `--key` is no key, or
+-- there is no task
 abbrev pub unasked : List Row → NotDone
-unasked options = if is_against options then fault.Command command.NoTask else fault.Against
+unasked options =
+    if is_against options then (if is_keyed options then fault.Command command.NoTask else fault.Key)
+    else fault.Against
 
 -- a task, if the word that was found asks for one, and its file is waited for as long as `--wait` says, or not at all;
 -- without a word one connection is run, with the limit that is set if nothing is said

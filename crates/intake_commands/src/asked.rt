@@ -1,8 +1,9 @@
 //! Reads what the command line asks for, by the word that `clap` found and the values of its options.
 
-ghost use Rattle.std.specs.Prelude.{◌≡◌, IfOk, IfErr, IfSome, string_bytes, unwrap_or, map, codes, Some, None, false};
+ghost use Rattle.std.specs.Prelude.{◌≡◌, IfOk, IfErr, IfSome, string_bytes, unwrap_or, map, codes, Some, None};
+ghost use Rattle.std.specs.Prelude.{true, false};
 ghost use Rattle.clap.specs.Words.{subcommand_rows_of};
-ghost use Rattle.command_line.specs.Values.{options_of};
+ghost use Rattle.command_line.specs.Values.{is_set, number, options_of};
 ghost use Rattle.intake_commands.specs.Words.{limit_of, form_of, format_of, has_serving, IsServingOf};
 ghost use Rattle.intake_commands.specs.Words.{unasked};
 ghost use Rattle.intake_commands.specs.Words.{IsErrandBy, IsTaskBy, IsAsked, IsRead, IsReadBy, IsUnread, IsUnreadBy};
@@ -19,6 +20,7 @@ use command_line::{
 };
 use finding_lines::Form;
 use intake_process::Errand;
+use key_string::is_key;
 use register_export::FactForm;
 use std::alloc::{AllocError, Global};
 
@@ -81,10 +83,38 @@ fn list_of<'a>(values: &ArgMatches<'a>) -> Option<Errand<'a>>
 fn show_of<'a>(values: &ArgMatches<'a>) -> Option<Errand<'a>>
     ensures { IsErrandBy (codes "show") (options_of values.now) result }
 {
-    Some(Errand::Show {
-        number: number_of(values, "number")?,
-        moments: is_set(values, "moments"),
-    })
+    if is_set(values, "body") {
+        body_of(values)
+    } else {
+        Some(Errand::Show {
+            number: number_of(values, "number")?,
+            moments: is_set(values, "moments"),
+        })
+    }
+}
+
+fn body_of<'a>(values: &ArgMatches<'a>) -> Option<Errand<'a>>
+    requires { is_set (codes "body") (options_of values.now) ≡ true }
+    ensures { IsErrandBy (codes "show") (options_of values.now) result }
+{
+    match number_of(values, "number") {
+        Some(number) => Some(Errand::FilingBody { number }),
+        None => request_body_of(values),
+    }
+}
+
+fn request_body_of<'a>(values: &ArgMatches<'a>) -> Option<Errand<'a>>
+    requires body { is_set (codes "body") (options_of values.now) ≡ true }
+    requires filing { number 64 (codes "number") (options_of values.now) ≡ None }
+    ensures { IsErrandBy (codes "show") (options_of values.now) result }
+{
+    let filer = value_of(values, "filer")?;
+    let key = value_of(values, "key")?;
+    if is_key(key.as_bytes()) {
+        Some(Errand::RequestBody { filer, key })
+    } else {
+        None
+    }
 }
 
 fn export_of<'a>(values: &ArgMatches<'a>) -> Option<Errand<'a>>
@@ -205,7 +235,10 @@ fn unasked<'a>(values: &ArgMatches<'a>) -> NotDone<'a>
 {
     match value_of(values, "against") {
         Some(text) if read_published(text).is_none() => NotDone::Against,
-        _ => NotDone::Command(CommandFault::NoTask),
+        _ => match value_of(values, "key") {
+            Some(text) if !is_key(text.as_bytes()) => NotDone::Key,
+            _ => NotDone::Command(CommandFault::NoTask),
+        },
     }
 }
 

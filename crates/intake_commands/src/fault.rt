@@ -141,6 +141,8 @@ pub enum VisitFault {
     List(Unavailable),
     #[error("there is no filing {number}")]
     NoFiling { number: u64 },
+    #[error("this filer has no request under this key")]
+    NoRequest,
     /// The register keeps so many requests, and that is fewer than were asked for.
     #[error("no more are kept than {kept}")]
     TooFew { kept: u64 },
@@ -175,6 +177,7 @@ impl VisitFault {
             VisitFault::NotClosed(_) => 3,
             VisitFault::List(_) => 3,
             VisitFault::NoFiling { number: _ } => 4,
+            VisitFault::NoRequest => 4,
             VisitFault::TooFew { kept: _ } => 4,
             VisitFault::Another { count: _ } => 1,
         }
@@ -194,6 +197,7 @@ impl VisitFault {
             VisitFault::NotClosed(_) => None,
             VisitFault::List(_) => None,
             VisitFault::NoFiling { number: _ } => None,
+            VisitFault::NoRequest => None,
             VisitFault::TooFew { kept: _ } => None,
             VisitFault::Another { count: _ } => None,
         }
@@ -211,6 +215,8 @@ pub enum NotDone<'a> {
     Limit,
     #[error("--against: it is N:HEX, a number and 64 hexadecimal digits, as intake digest prints both")]
     Against,
+    #[error("--key: it is 1 to 1024 printable ASCII characters")]
+    Key,
     #[error("{0}")]
     InMemory(CreateFault),
     #[error("{file}: {fault}", file = OneLine(*.name))]
@@ -245,7 +251,7 @@ impl NotDone<'_> {
         match self {
             NotDone::Command(fault) => fault.status(),
             NotDone::Register { name: _, fault } => fault.status(),
-            NotDone::Limit | NotDone::Against | NotDone::NoInit => 2,
+            NotDone::Limit | NotDone::Against | NotDone::Key | NotDone::NoInit => 2,
             NotDone::InMemory(_) => 3,
             NotDone::Connection(_) => 3,
             NotDone::Network { port: _, error: _ } => 3,
@@ -263,7 +269,7 @@ impl NotDone<'_> {
             NotDone::Command(CommandFault::NotText | CommandFault::NoTask | CommandFault::Filer) =>
                 None,
             NotDone::Command(CommandFault::Output | CommandFault::Memory) => None,
-            NotDone::Limit | NotDone::Against | NotDone::NoInit => None,
+            NotDone::Limit | NotDone::Against | NotDone::Key | NotDone::NoInit => None,
             NotDone::InMemory(_) => None,
             NotDone::Connection(_) => None,
             NotDone::Network { port: _, error: _ } => None,

@@ -170,7 +170,7 @@ fn wait<'a>(alloc: Global) -> Arg<'a> {
     .required(false)
 }
 
-fn number<'a>(alloc: Global) -> Arg<'a> {
+fn number<'a>(alloc: Global) -> Result<Arg<'a>, AllocError> {
     number_option(
         alloc,
         "number",
@@ -178,6 +178,41 @@ fn number<'a>(alloc: Global) -> Arg<'a> {
         "The number of the filing, as list prints it",
         value_parser!(u64).range(0..=i64::MAX),
     )
+    .required(false)
+    .required_unless_present_any(&["filer", "key"])?
+    .conflicts_with_all(&["filer", "key"])
+}
+
+fn filer_of_key<'a>(alloc: Global) -> Result<Arg<'a>, AllocError> {
+    option(
+        alloc,
+        "filer",
+        "CODE",
+        "The code of the filer who sent the report, with --key",
+    )
+    .required(false)
+    .requires_arg("key")
+}
+
+fn key<'a>(alloc: Global) -> Result<Arg<'a>, AllocError> {
+    option(
+        alloc,
+        "key",
+        "KEY",
+        "The key under which the filer sent it, as the line Idempotency-Key has it without quotes, with --body",
+    )
+    .required(false)
+    .requires_all(&["filer", "body"])?
+    .conflicts_with("moments")
+}
+
+fn body<'a>(alloc: Global) -> Result<Arg<'a>, AllocError> {
+    flag(
+        alloc,
+        "body",
+        "Prints the report as it was sent, byte for byte, registered or refused [default: the facts]",
+    )
+    .conflicts_with("moments")
 }
 
 /// The formats of an export, as the command line names them.
@@ -255,6 +290,9 @@ enum Argument {
     Log,
     Filer,
     Number,
+    FilerOfKey,
+    Key,
+    Body,
     Json,
     Files,
     Format,
@@ -287,7 +325,10 @@ impl ToArg for Argument {
                 "Prints a line of JSON for each connection: its number, how it ended, filers, requests, statuses",
             ),
             Argument::Filer => filer_option(alloc),
-            Argument::Number => number(alloc),
+            Argument::Number => number(alloc)?,
+            Argument::FilerOfKey => filer_of_key(alloc)?,
+            Argument::Key => key(alloc)?,
+            Argument::Body => body(alloc)?,
             Argument::Json => json(alloc),
             Argument::Files => report_files(alloc),
             Argument::Format => format(alloc),
@@ -346,11 +387,19 @@ static WORDS: [Word<Argument>; 10] = [
     },
     Word {
         name: "show",
-        about: "Prints the facts of a filing, each as a line of JSON",
-        example: "Example: intake show --db register.db --number 1",
+        about: "Prints the facts of a filing, each as a line of JSON, or the report as it was sent",
+        example: concat!(
+            "Example: intake show --db register.db --number 1\n",
+            "Example: intake show --db register.db --number 1 --body > filed.json\n",
+            "Example: intake show --db register.db --filer ACME --key 2024-annual-1 --body > sent.json\n\n",
+            "The second prints the report of a filing, and the third the report of any request, a refused one too.",
+        ),
         arguments: &[
             Argument::Database,
             Argument::Number,
+            Argument::FilerOfKey,
+            Argument::Key,
+            Argument::Body,
             Argument::Moments,
             Argument::Wait,
         ],
@@ -408,7 +457,7 @@ pub(crate) fn command<'a>(alloc: Global) -> Result<Command<'a>, AllocError> {
             "Exit status: 0 done;\n",
             "1 not a register, a damaged one, another one, one that is there already, or a report with findings;\n",
             "2 a wrong command line, or a report that is too large;\n",
-            "3 memory, a file, the disk or the network failed; 4 no such filing, or fewer requests",
+            "3 memory, a file, the disk or the network failed; 4 no such filing or request, or fewer requests",
         ))
         .subcommands(tasks)
 }

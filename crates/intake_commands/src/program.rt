@@ -109,6 +109,8 @@ fn only_reads(task: &Task<'_>) -> bool
                 number: _,
                 moments: _,
             } => true,
+            Errand::FilingBody { number: _ } => true,
+            Errand::RequestBody { filer: _, key: _ } => true,
             Errand::Check { against: _ } => true,
             Errand::Migrate => false,
             Errand::Export { form: _, filer: _ } => true,

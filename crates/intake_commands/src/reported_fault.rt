@@ -56,6 +56,7 @@ pub(crate) fn errand_fault<'a, D: Disk + Drop, P: Place<D>, F: SiteFolder>(
         ErrandFault::List(fault) => VisitFault::List(fault).at(name),
         ErrandFault::Store(fault) => VisitFault::Store(fault).at(name),
         ErrandFault::NoFiling { number } => VisitFault::NoFiling { number }.at(name),
+        ErrandFault::NoRequest => VisitFault::NoRequest.at(name),
         ErrandFault::TooFew { kept } => VisitFault::TooFew { kept }.at(name),
         ErrandFault::Another { count } => VisitFault::Another { count }.at(name),
         ErrandFault::Text(TextFault::Memory) => NotDone::Command(CommandFault::Memory),

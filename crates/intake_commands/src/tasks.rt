@@ -119,6 +119,8 @@ fn is_wanted(errand: Errand<'_>) -> bool
             number: _,
             moments: _,
         } => true,
+        Errand::FilingBody { number: _ } => true,
+        Errand::RequestBody { filer, key: _ } => is_filer(filer),
         Errand::Check { against: _ } => true,
         Errand::Migrate => true,
         Errand::Export {

@@ -137,9 +137,9 @@ lines_more ks moments rows at d low text line received before its line_is =
 
 -- a fault of a filing that is there says of none that it is missing
 not_missing : {X : Type 0} (why : ShowFault) → IsReadingFault why → (r : Result X ShowFault) → r ≡ Err why
-    → r ≡ Err showing.NoFiling → ⊥
+    → r ≡ Err showing.Missing → ⊥
 not_missing why reading r is e =
-    let same : why ≡ showing.NoFiling = cc (sym is ∙ e) in
+    let same : why ≡ showing.Missing = cc (sym is ∙ e) in
     subst IsReadingFault same reading
 
 module _ {S X : Type 0} (g : Ghosts S) (number : ℕ) (dated : Bool) (out out' : Option (List ℕ))

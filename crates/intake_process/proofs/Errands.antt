@@ -62,6 +62,7 @@ use Rattle.intake_process.specs.declared.tasks.showing.ShowFault.{ShowFault}
 use Rattle.intake_process.specs.declared.tasks.showing.ShowFault.TheVariants as showing
 use Rattle.intake_process.specs.declared.tasks.text.TextFault.{TextFault}
 use Rattle.intake_process.specs.declared.tasks.text.TextFault.TheVariants.{Memory, Output}
+use Rattle.intake_process.specs.Bodies.{PrintsReport, TellsReport, filed_body, sent_body}
 use Rattle.intake_process.specs.Lines.{list_line, moment_lines, shown_lines, sound_line, migrated_line, digest_line}
 use Rattle.intake_process.specs.Tasks.{PrintsNothing, ListsFilings, ShowsFiling, ChecksRegister, MigratesRegister}
 use Rattle.intake_process.specs.Tasks.{IsMissed, IsOfDigest, ListsMoments, is_held}
@@ -83,6 +84,8 @@ pub no_print : (errand : Errand) (out out' : Option (List ℕ)) (why : ErrandFau
     → IsQuiet errand out out' why
 no_print (asked.List filer dated) out out' why same = inr same
 no_print (asked.Show number dated) out out' why same = inr same
+no_print (asked.FilingBody number) out out' why same = inr same
+no_print (asked.RequestBody filer key) out out' why same = inr same
 no_print (asked.Check against) out out' why same = inr same
 no_print asked.Migrate out out' why same = inr same
 no_print (asked.Export form filer) out out' why same = λ _. same
@@ -94,6 +97,8 @@ pub no_begin : (errand : Errand) (requests : List Request) (moments : List (Opti
     (why : ErrandFault) → is_broken_off why ≡ false → IsBegun errand requests moments out out' why
 no_begin (asked.List filer dated) requests moments out out' why not = tt
 no_begin (asked.Show number dated) requests moments out out' why not = tt
+no_begin (asked.FilingBody number) requests moments out out' why not = tt
+no_begin (asked.RequestBody filer key) requests moments out out' why not = tt
 no_begin (asked.Check against) requests moments out out' why not = tt
 no_begin asked.Migrate requests moments out out' why not = tt
 no_begin (asked.Export form filer) requests moments out out' why not = λ is. absurd (true≢false (sym is ∙ not))
@@ -107,6 +112,7 @@ refused_whole (fault.Migrate why holding) is = refl
 refused_whole (fault.List why) is = refl
 refused_whole (fault.Store why) is = absurd (true≢false (sym is))
 refused_whole (fault.NoFiling number) is = refl
+refused_whole fault.NoRequest is = refl
 refused_whole (fault.TooFew kept) is = refl
 refused_whole (fault.Another count) is = refl
 refused_whole (fault.Text why) is = absurd (true≢false (sym is))
@@ -311,15 +317,15 @@ module _ (filer : Bor (List ℕ)) where
 
 -- ---- show
 
-show_quiet : (number : ℕ) (out out' : Option (List ℕ)) (r : Result (Unit {0}) ShowFault)
+show_quiet : (missing : ErrandFault) (out out' : Option (List ℕ)) (r : Result (Unit {0}) ShowFault)
     → IfErr r (PrintsNothing (showing.Text Output) out out')
-    → IfErr (shown_as number r) (PrintsNothing (fault.Text Output) out out')
-show_quiet number out out' (Ok done) quiet = tt
-show_quiet number out out' (Err showing.NoFiling) quiet =
-    elim quiet [ inl other ↦ (let no : showing.NoFiling ≡ showing.Text Output = other in cc) | inr none ↦ inr none ]
-show_quiet number out out' (Err (showing.Store why)) quiet =
+    → IfErr (shown_as missing r) (PrintsNothing (fault.Text Output) out out')
+show_quiet missing out out' (Ok done) quiet = tt
+show_quiet missing out out' (Err showing.Missing) quiet =
+    elim quiet [ inl other ↦ (let no : showing.Missing ≡ showing.Text Output = other in cc) | inr none ↦ inr none ]
+show_quiet missing out out' (Err (showing.Store why)) quiet =
     elim quiet [ inl other ↦ (let no : showing.Store why ≡ showing.Text Output = other in cc) | inr none ↦ inr none ]
-show_quiet number out out' (Err (showing.Text why)) quiet =
+show_quiet missing out out' (Err (showing.Text why)) quiet =
     elim quiet [
       | inl failed ↦ (let is : showing.Text why ≡ showing.Text Output = failed in
           let same : fault.Text why ≡ fault.Text Output = cc in inl same)
@@ -330,12 +336,12 @@ show_told : (number : ℕ) (dated : Bool) (requests : List Request) (moments : L
     (out out' : Option (List ℕ)) (r : Result (Unit {0}) ShowFault)
     → OnOk r ((facts : List FactRecord) × (facts_numbered number (register requests) ≡ Some facts)
     × Appends out out' (shown_lines dated number (moment_of (kept requests) moments number) facts))
-    → OnOk (shown_as number r) ((text : List ℕ) × (text_of (asked.Show number dated) requests moments ≡ Some text)
-    × Appends out out' text)
+    → OnOk (shown_as (fault.NoFiling number) r) ((text : List ℕ)
+    × (text_of (asked.Show number dated) requests moments ≡ Some text) × Appends out out' text)
 show_told number dated requests moments out out' (Ok done) shown =
     let lines = shown_lines dated number (moment_of (kept requests) moments number) in
     (lines shown.0, ap (option_map lines) shown.1, shown.2)
-show_told number dated requests moments out out' (Err showing.NoFiling) shown = tt
+show_told number dated requests moments out out' (Err showing.Missing) shown = tt
 show_told number dated requests moments out out' (Err (showing.Store why)) shown = tt
 show_told number dated requests moments out out' (Err (showing.Text why)) shown = tt
 
@@ -344,23 +350,23 @@ some_of : {A B : Type 0} (f : A → B) (o : Option A) → (o ≡ None → ⊥) �
 some_of f None not = absurd (not refl)
 some_of f (Some a) not = refl
 
-other_than_text : (why : TextFault) → (showing.Text why ≡ showing.NoFiling)
+other_than_text : (why : TextFault) → (showing.Text why ≡ showing.Missing)
     ⊎ ((store : StoreFault) × (showing.Text why ≡ showing.Store store)) → ⊥
 other_than_text why told =
     elim told [
-      | inl none ↦ (let no : showing.Text why ≡ showing.NoFiling = none in
+      | inl none ↦ (let no : showing.Text why ≡ showing.Missing = none in
           cc)
       | inr store ↦ (let no : showing.Text why ≡ showing.Store store.0 = store.1 in cc)
     ]
 
 show_may : (number : ℕ) (dated : Bool) (requests : List Request) (moments : List (Option ℕ))
     (r : Result (Unit {0}) ShowFault)
-    → (r ≡ Err showing.NoFiling → facts_numbered number (register requests) ≡ None)
+    → (r ≡ Err showing.Missing → facts_numbered number (register requests) ≡ None)
     → IfErr r (λ why. facts_numbered number (register requests) ≡ None
-    → (why ≡ showing.NoFiling) ⊎ ((store : StoreFault) × (why ≡ showing.Store store)))
-    → IfErr (shown_as number r) (MayFail (asked.Show number dated) requests moments)
+    → (why ≡ showing.Missing) ⊎ ((store : StoreFault) × (why ≡ showing.Store store)))
+    → IfErr (shown_as (fault.NoFiling number) r) (MayFail (asked.Show number dated) requests moments)
 show_may number dated requests moments (Ok done) missing found = tt
-show_may number dated requests moments (Err showing.NoFiling) missing found =
+show_may number dated requests moments (Err showing.Missing) missing found =
     (refl, ap (option_map (shown_lines dated number (moment_of (kept requests) moments number))) (missing refl))
 show_may number dated requests moments (Err (showing.Store why)) missing found = tt
 show_may number dated requests moments (Err (showing.Text why)) missing found =
@@ -368,26 +374,27 @@ show_may number dated requests moments (Err (showing.Text why)) missing found =
     (facts_numbered number (register requests)) (λ none. other_than_text why (found none))
 
 show_says : {S : Type 0} (g : Ghosts S) (number : ℕ) (dated : Bool) (old new : Held S)
-    (r : Result (Unit {0}) ShowFault) → IfErr (shown_as number r) (Says g (asked.Show number dated) old new)
+    (r : Result (Unit {0}) ShowFault)
+    → IfErr (shown_as (fault.NoFiling number) r) (Says g (asked.Show number dated) old new)
 show_says g number dated old new (Ok done) = tt
-show_says g number dated old new (Err showing.NoFiling) = refl
+show_says g number dated old new (Err showing.Missing) = refl
 show_says g number dated old new (Err (showing.Store why)) = tt
 show_says g number dated old new (Err (showing.Text why)) = tt
 
 module _ {S : Type 0} (g : Ghosts S) (number : ℕ) (dated : Bool) (out out' : Option (List ℕ)) (conn : Held S)
     (old new : StoreParts S) (r : Result (Unit {0}) ShowFault) where
   pub shows_filing : OpensOrGivesBack g conn (Ok old) → ShowsFiling g number dated out out' old new r
-      → RunsErrand g (asked.Show number dated) out out' conn new.conn (shown_as number r)
+      → RunsErrand g (asked.Show number dated) out out' conn new.conn (shown_as (fault.NoFiling number) r)
   shows_filing opened shows_it =
-      let quiet : IfErr (shown_as number r) (PrintsNothing (fault.Text Output) out out') =
-      show_quiet number out out' r shows_it.refused in
+      let quiet : IfErr (shown_as (fault.NoFiling number) r) (PrintsNothing (fault.Text Output) out out') =
+      show_quiet (fault.NoFiling number) out out' r shows_it.refused in
       let was_clean : HasCleanDisk (shows g new) → HasCleanDisk (shows g old) =
       clean_before (shows g old) (shows g new) shows_it.keeps.crash in record {
         told = λ clean old_style requests firsts_are rows moments are.
             let was = was_clean clean in
             let has = (opened.outcome.only was old_style requests rows).1 in
             let dates = has_moments g conn old opened was requests has moments are.0 are.1 in
-            tells (asked.Show number dated) requests moments out out' (shown_as number r)
+            tells (asked.Show number dated) requests moments out out' (shown_as (fault.NoFiling number) r)
             (show_told number dated requests moments out out' r (shows_it.shown clean requests has moments dates))
             (show_may number dated requests moments r (shows_it.missing clean requests has)
             (shows_it.found clean requests has)) quiet (λ why. tt);
@@ -402,6 +409,86 @@ module _ {S : Type 0} (g : Ghosts S) (number : ℕ) (dated : Bool) (out out' : O
         quiet = quiet;
       }
 
+-- ---- show --body
+
+filed_tells : (number : ℕ) (requests : List Request) (moments : List (Option ℕ)) (out out' : Option (List ℕ))
+    (r : Result (Unit {0}) ShowFault) → TellsReport (filed_body number (register requests)) out out' r
+    → IfErr r (PrintsNothing (showing.Text Output) out out')
+    → Tells (asked.FilingBody number) requests moments out out' (shown_as (fault.NoFiling number) r)
+filed_tells number requests moments out out' (Ok done) told quiet = told
+filed_tells number requests moments out out' (Err showing.Missing) told quiet =
+    ((refl, told), show_quiet (fault.NoFiling number) out out' (Err showing.Missing) quiet, tt)
+filed_tells number requests moments out out' (Err (showing.Store why)) told quiet =
+    (tt, show_quiet (fault.NoFiling number) out out' (Err (showing.Store why)) quiet, tt)
+filed_tells number requests moments out out' (Err (showing.Text why)) told quiet =
+    (told, show_quiet (fault.NoFiling number) out out' (Err (showing.Text why)) quiet, tt)
+
+filed_says : {S : Type 0} (g : Ghosts S) (number : ℕ) (old new : Held S) (r : Result (Unit {0}) ShowFault)
+    → IfErr (shown_as (fault.NoFiling number) r) (Says g (asked.FilingBody number) old new)
+filed_says g number old new (Ok done) = tt
+filed_says g number old new (Err showing.Missing) = refl
+filed_says g number old new (Err (showing.Store why)) = tt
+filed_says g number old new (Err (showing.Text why)) = tt
+
+sent_tells : (filer key : Bor (List ℕ)) (requests : List Request) (moments : List (Option ℕ))
+    (out out' : Option (List ℕ)) (r : Result (Unit {0}) ShowFault)
+    → TellsReport (sent_body filer.now key.now (kept requests)) out out' r
+    → IfErr r (PrintsNothing (showing.Text Output) out out')
+    → Tells (asked.RequestBody filer key) requests moments out out' (shown_as fault.NoRequest r)
+sent_tells filer key requests moments out out' (Ok done) told quiet = told
+sent_tells filer key requests moments out out' (Err showing.Missing) told quiet =
+    (told, show_quiet fault.NoRequest out out' (Err showing.Missing) quiet, tt)
+sent_tells filer key requests moments out out' (Err (showing.Store why)) told quiet =
+    (tt, show_quiet fault.NoRequest out out' (Err (showing.Store why)) quiet, tt)
+sent_tells filer key requests moments out out' (Err (showing.Text why)) told quiet =
+    (told, show_quiet fault.NoRequest out out' (Err (showing.Text why)) quiet, tt)
+
+sent_says : {S : Type 0} (g : Ghosts S) (filer key : Bor (List ℕ)) (old new : Held S) (r : Result (Unit {0}) ShowFault)
+    → IfErr (shown_as fault.NoRequest r) (Says g (asked.RequestBody filer key) old new)
+sent_says g filer key old new (Ok done) = tt
+sent_says g filer key old new (Err showing.Missing) = tt
+sent_says g filer key old new (Err (showing.Store why)) = tt
+sent_says g filer key old new (Err (showing.Text why)) = tt
+
+module _ {S : Type 0} (g : Ghosts S) (out out' : Option (List ℕ)) (conn : Held S) (store : StoreParts S) (new : Held S)
+    (r : Result (Unit {0}) ShowFault) (opened : OpensOrGivesBack g conn (Ok store)) where
+  -- the register is committed still
+  report_kept : {found_in : List Request → Option (List ℕ)} → PrintsReport g found_in out out' store new r
+      → HasCleanDisk (state g new) → (old_style : ℕ) (requests : List Request)
+      → IsRegisterOf old_style requests (state g conn).now
+      → HasCommitted (IsRegisterOf old_style requests) (state g new)
+  report_kept prints clean old_style requests rows =
+      let only = opened.outcome.only (prints.clean clean) old_style requests rows in
+      subst (λ n. HasCommitted (IsRegisterOf n requests) (state g new)) only.0 (prints.kept clean requests only.1)
+
+  pub shows_filed : (number : ℕ)
+      → PrintsReport g (λ requests. filed_body number (register requests)) out out' store new r
+      → RunsErrand g (asked.FilingBody number) out out' conn new (shown_as (fault.NoFiling number) r)
+  shows_filed number prints = record {
+    told = λ clean old_style requests firsts_are rows moments are.
+        let has = (opened.outcome.only (prints.clean clean) old_style requests rows).1 in
+        filed_tells number requests moments out out' r (prints.told clean requests has) prints.refused;
+    kept = λ clean not old_style requests firsts_are rows. report_kept prints clean old_style requests rows;
+    found = λ clean not. as_register g conn store opened (prints.clean clean);
+    current = λ clean is. cc;
+    refused = filed_says g number conn new r;
+    quiet = show_quiet (fault.NoFiling number) out out' r prints.refused;
+  }
+
+  pub shows_sent : (filer key : Bor (List ℕ))
+      → PrintsReport g (λ requests. sent_body filer.now key.now (kept requests)) out out' store new r
+      → RunsErrand g (asked.RequestBody filer key) out out' conn new (shown_as fault.NoRequest r)
+  shows_sent filer key prints = record {
+    told = λ clean old_style requests firsts_are rows moments are.
+        let has = (opened.outcome.only (prints.clean clean) old_style requests rows).1 in
+        sent_tells filer key requests moments out out' r (prints.told clean requests has) prints.refused;
+    kept = λ clean not old_style requests firsts_are rows. report_kept prints clean old_style requests rows;
+    found = λ clean not. as_register g conn store opened (prints.clean clean);
+    current = λ clean is. cc;
+    refused = sent_says g filer key conn new r;
+    quiet = show_quiet fault.NoRequest out out' r prints.refused;
+  }
+
 -- ---- the database gave no register of this version
 
 module _ {S X : Type 0} (g : Ghosts S) (out : Option (List ℕ)) (conn back : Held S) (why : OpenFault)
@@ -410,6 +497,18 @@ module _ {S X : Type 0} (g : Ghosts S) (out : Option (List ℕ)) (conn back : He
       → RunsErrand {S = S} {X = X} g (asked.List filer dated) out out conn back (Err (fault.Open why holding))
   list_refused filer dated gives =
       refuses {S = S} {X = X} g (asked.List filer dated) out conn back (fault.Open why holding) refl
+      (λ clean old_style requests rows moments. gives.sound clean old_style requests rows) (gives.why, gives.crash)
+
+  pub filed_refused : (number : ℕ) → GivesBackOpening g conn why back
+      → RunsErrand {S = S} {X = X} g (asked.FilingBody number) out out conn back (Err (fault.Open why holding))
+  filed_refused number gives =
+      refuses {S = S} {X = X} g (asked.FilingBody number) out conn back (fault.Open why holding) refl
+      (λ clean old_style requests rows moments. gives.sound clean old_style requests rows) (gives.why, gives.crash)
+
+  pub sent_refused : (filer key : Bor (List ℕ)) → GivesBackOpening g conn why back
+      → RunsErrand {S = S} {X = X} g (asked.RequestBody filer key) out out conn back (Err (fault.Open why holding))
+  sent_refused filer key gives =
+      refuses {S = S} {X = X} g (asked.RequestBody filer key) out conn back (fault.Open why holding) refl
       (λ clean old_style requests rows moments. gives.sound clean old_style requests rows) (gives.why, gives.crash)
 
   pub show_refused : (number : ℕ) (dated : Bool) → GivesBackOpening g conn why back

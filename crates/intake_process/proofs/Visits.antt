@@ -51,6 +51,8 @@ may_files : (errand : Errand) (requests : List Request) (moments : List (Option 
 may_files (asked.List filer false) requests moments why = tt
 may_files (asked.List filer true) requests moments why = tt
 may_files (asked.Show number dated) requests moments why = tt
+may_files (asked.FilingBody number) requests moments why = tt
+may_files (asked.RequestBody filer key) requests moments why = tt
 may_files (asked.Check against) requests moments why = tt
 may_files asked.Migrate requests moments why = tt
 may_files (asked.Export form filer) requests moments why = tt
@@ -65,6 +67,8 @@ module _ {S : Type 0} (g : database.Ghosts S) (old new : Held S) where
   unopened_says (asked.List filer false) why holding says = says.1
   unopened_says (asked.List filer true) why holding says = says.1
   unopened_says (asked.Show number dated) why holding says = says.1
+  unopened_says (asked.FilingBody number) why holding says = says.1
+  unopened_says (asked.RequestBody filer key) why holding says = says.1
   unopened_says (asked.Check against) why holding says = says.1
   unopened_says asked.Migrate why holding says = absurd says
   unopened_says (asked.Export form filer) why holding says = says.1
@@ -75,6 +79,8 @@ module _ {S : Type 0} (g : database.Ghosts S) (old new : Held S) where
   files_say (asked.List filer false) why says = says
   files_say (asked.List filer true) why says = says
   files_say (asked.Show number dated) why says = says
+  files_say (asked.FilingBody number) why says = says
+  files_say (asked.RequestBody filer key) why says = says
   files_say (asked.Check against) why says = says
   files_say asked.Migrate why says = says
   files_say (asked.Export form filer) why says = says
@@ -87,6 +93,8 @@ module _ {S : Type 0} (g : database.Ghosts S) (old new : Held S) where
   migrate_says (asked.List filer false) why holding says = absurd says
   migrate_says (asked.List filer true) why holding says = absurd says
   migrate_says (asked.Show number dated) why holding says = absurd says
+  migrate_says (asked.FilingBody number) why holding says = absurd says
+  migrate_says (asked.RequestBody filer key) why holding says = absurd says
   migrate_says (asked.Check against) why holding says = absurd says
   migrate_says asked.Migrate why holding says = says.2
   migrate_says (asked.Export form filer) why holding says = absurd says
@@ -119,6 +127,7 @@ module _ {S : Type 0} (g : database.Ghosts S) (old new : Held S) where
   refused_commits errand was_taken (Err (fault.Store why)) says refused sure = absurd (true≢false (sym refused))
   refused_commits errand was_taken (Err (fault.NoFiling number)) says refused sure =
       absurd (true≢false (sym refused))
+  refused_commits errand was_taken (Err fault.NoRequest) says refused sure = absurd (true≢false (sym refused))
   refused_commits errand was_taken (Err (fault.TooFew kept)) says refused sure = absurd (true≢false (sym refused))
   refused_commits errand was_taken (Err (fault.Another count)) says refused sure = absurd (true≢false (sym refused))
   refused_commits errand was_taken (Err (fault.Text why)) says refused sure = absurd (true≢false (sym refused))

@@ -28,6 +28,7 @@ use Rattle.register_pages.specs.Pages.{WritesSite}
 use Rattle.intake_process.specs.declared.tasks.errand.Errand.{Errand}
 use Rattle.intake_process.specs.declared.tasks.errand.Errand.TheVariants as asked
 use Rattle.intake_process.specs.declared.tasks.text.TextFault.TheVariants.{Memory, Output}
+use Rattle.intake_process.specs.Bodies.{filed_body, sent_body}
 use Rattle.intake_process.specs.Lines.{list_line, moment_lines, shown_lines, sound_line, migrated_line, digest_line}
 use Rattle.intake_process.specs.Tasks.{PrintsNothing, is_held}
 use Rattle.intake_process.specs.declared.errand.ErrandFault.{ErrandFault}
@@ -36,8 +37,8 @@ use Rattle.intake_process.specs.declared.errand.ErrandFault.TheVariants as fault
 -- ---- an errand to a register
 
 -- what is printed of a register that keeps these requests, each with its moment, if that is known; `None` if no filing
--- has the number that is asked for, if there are fewer requests than a digest is asked of, or if they are not those of
--- the published digest
+-- has the number that is asked for, or no request the filer and key, if there are fewer requests than a digest is asked
+-- of, or if they are not those of the published digest
 abbrev pub text_of : Errand → List Request → List (Option ℕ) → Option (List ℕ)
 text_of (asked.List filer false) requests moments = Some (list_line filer.now (register requests))
 text_of (asked.List filer true) requests moments =
@@ -45,6 +46,8 @@ text_of (asked.List filer true) requests moments =
 text_of (asked.Show number dated) requests moments =
     option_map (shown_lines dated number (moment_of (kept requests) moments number))
     (facts_numbered number (register requests))
+text_of (asked.FilingBody number) requests moments = filed_body number (register requests)
+text_of (asked.RequestBody filer key) requests moments = sent_body filer.now key.now (kept requests)
 text_of (asked.Check against) requests moments =
     if is_held against requests moments then Some (sound_line (length requests) (length (register requests))) else None
 text_of asked.Migrate requests moments = Some migrated_line
@@ -58,6 +61,8 @@ text_of (asked.Pages folder) requests moments = Some []
 abbrev pub IsRegisterFor : Errand → ℕ → List Request → Database → Type 0
 IsRegisterFor (asked.List filer dated) old_style requests db = IsRegisterOf old_style requests db
 IsRegisterFor (asked.Show number dated) old_style requests db = IsRegisterOf old_style requests db
+IsRegisterFor (asked.FilingBody number) old_style requests db = IsRegisterOf old_style requests db
+IsRegisterFor (asked.RequestBody filer key) old_style requests db = IsRegisterOf old_style requests db
 IsRegisterFor (asked.Check against) old_style requests db = IsRegisterOf old_style requests db
 IsRegisterFor (asked.Export form filer) old_style requests db = IsRegisterOf old_style requests db
 IsRegisterFor (asked.Digest until) old_style requests db = IsRegisterOf old_style requests db
@@ -76,8 +81,9 @@ IsReadFor g asked.Migrate conn = (form : Earlier) → IsAlone form (state g conn
     → (old_style : ℕ) × (requests : List Request) × IsEarlierOf form old_style requests (state g conn).now
 IsReadFor g errand conn = IsReadAsRegister g conn
 
--- Why an errand to such a register is not done: no filing has the number, there are fewer requests than were asked for,
--- the first of them have another digest than the published one, or memory, the disk, the output or the folder failed.
+-- Why an errand to such a register is not done: no filing has the number, no request the filer and key, there are fewer
+-- requests than were asked for, the first of them have another digest than the published one, or memory, the disk, the
+-- output or the folder failed.
 -- If the files gave no database, the fault of that is left to the contract of their place.
 abbrev pub MayFail : Errand → List Request → List (Option ℕ) → ErrandFault → Type 0
 MayFail asked.Migrate requests moments (fault.Open why holding) = ⊥
@@ -86,6 +92,8 @@ MayFail errand requests moments (fault.Open why holding) = IsFailure why
 MayFail (asked.List filer false) requests moments (fault.List why) = Unit {0}
 MayFail (asked.List filer true) requests moments (fault.Store why) = Unit {0}
 MayFail (asked.Show number dated) requests moments (fault.Store why) = Unit {0}
+MayFail (asked.FilingBody number) requests moments (fault.Store why) = Unit {0}
+MayFail (asked.RequestBody filer key) requests moments (fault.Store why) = Unit {0}
 MayFail (asked.Check against) requests moments (fault.Store why) = IsSome against
 MayFail (asked.Export form filer) requests moments (fault.Store why) = Unit {0}
 MayFail (asked.Digest until) requests moments (fault.Store why) = Unit {0}
@@ -93,6 +101,10 @@ MayFail (asked.Pages folder) requests moments (fault.Store why) = Unit {0}
 MayFail (asked.Pages folder) requests moments fault.Folder = Unit {0}
 MayFail (asked.Show number dated) requests moments (fault.NoFiling missing) =
     (missing ≡ number) × (text_of (asked.Show number dated) requests moments ≡ None)
+MayFail (asked.FilingBody number) requests moments (fault.NoFiling missing) =
+    (missing ≡ number) × (text_of (asked.FilingBody number) requests moments ≡ None)
+MayFail (asked.RequestBody filer key) requests moments fault.NoRequest =
+    text_of (asked.RequestBody filer key) requests moments ≡ None
 MayFail (asked.Digest until) requests moments (fault.TooFew kept) =
     (kept ≡ length requests) × (text_of (asked.Digest until) requests moments ≡ None)
 MayFail (asked.Check against) requests moments (fault.TooFew kept) =
@@ -157,12 +169,16 @@ Says g errand old new (fault.Open why holding) =
 Says g (asked.List filer false) old new (fault.List why) = Unit {0}
 Says g (asked.List filer true) old new (fault.Store why) = Unit {0}
 Says g (asked.Show number dated) old new (fault.Store why) = Unit {0}
+Says g (asked.FilingBody number) old new (fault.Store why) = Unit {0}
+Says g (asked.RequestBody filer key) old new (fault.Store why) = Unit {0}
 Says g (asked.Check against) old new (fault.Store why) = IsSome against
 Says g (asked.Export form filer) old new (fault.Store why) = Unit {0}
 Says g (asked.Digest until) old new (fault.Store why) = Unit {0}
 Says g (asked.Pages folder) old new (fault.Store why) = Unit {0}
 Says g (asked.Pages folder) old new fault.Folder = Unit {0}
 Says g (asked.Show number dated) old new (fault.NoFiling missing) = missing ≡ number
+Says g (asked.FilingBody number) old new (fault.NoFiling missing) = missing ≡ number
+Says g (asked.RequestBody filer key) old new fault.NoRequest = Unit {0}
 Says g (asked.Digest until) old new (fault.TooFew kept) = Unit {0}
 Says g (asked.Check against) old new (fault.TooFew kept) = IsSomeAnd against (λ p. kept < p.count)
 Says g (asked.Check against) old new (fault.Another count) = IsSomeAnd against (λ p. count ≡ p.count)

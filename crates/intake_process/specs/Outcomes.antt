@@ -1,5 +1,5 @@
 -- What an errand answers, by the result of its task.
-use Rattle.std.specs.Prelude.{ℕ, Result, Ok, Err}
+use Rattle.std.specs.Prelude.{Result, Ok, Err}
 use Rattle.intake_process.specs.declared.tasks.listing.ListFault.{ListFault}
 use Rattle.intake_process.specs.declared.tasks.listing.ListFault.TheVariants as listing
 use Rattle.intake_process.specs.declared.tasks.showing.ShowFault.{ShowFault}
@@ -18,11 +18,12 @@ listed_as (Ok done) = Ok done
 listed_as (Err (listing.Intake why)) = Err (fault.List why)
 listed_as (Err (listing.Text why)) = Err (fault.Text why)
 
-abbrev pub shown_as : {X : Type 0} → ℕ → Result X ShowFault → Result X ErrandFault
-shown_as number (Ok done) = Ok done
-shown_as number (Err showing.NoFiling) = Err (fault.NoFiling number)
-shown_as number (Err (showing.Store why)) = Err (fault.Store why)
-shown_as number (Err (showing.Text why)) = Err (fault.Text why)
+-- `missing` says that what was to be shown is not there
+abbrev pub shown_as : {X : Type 0} → ErrandFault → Result X ShowFault → Result X ErrandFault
+shown_as missing (Ok done) = Ok done
+shown_as missing (Err showing.Missing) = Err missing
+shown_as missing (Err (showing.Store why)) = Err (fault.Store why)
+shown_as missing (Err (showing.Text why)) = Err (fault.Text why)
 
 abbrev pub printed_as : {X : Type 0} → Result X TextFault → Result X ErrandFault
 printed_as (Ok done) = Ok done

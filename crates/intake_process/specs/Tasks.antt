@@ -76,7 +76,7 @@ pub record ListsMoments {S X : Type 0} (g : Ghosts S) (filer : List ℕ) (out ou
 
 -- a fault of a filing that is there
 abbrev pub IsReadingFault : ShowFault → Type 0
-IsReadingFault showing.NoFiling = ⊥
+IsReadingFault showing.Missing = ⊥
 IsReadingFault other = Unit {0}
 
 -- What `show` prints: the facts of the filing of this number in the register, which stays, and before them when it was
@@ -86,11 +86,11 @@ pub record ShowsFiling {S X : Type 0} (g : Ghosts S) (number : ℕ) (dated : Boo
   pub shown : ForMoments g old new (λ requests moments.
       OnOk result ((facts : List FactRecord) × (facts_numbered number (register requests) ≡ Some facts)
       × Appends out out' (shown_lines dated number (moment_of (kept requests) moments number) facts)))
-  pub missing : store.ForRequests g old new (λ requests. result ≡ Err showing.NoFiling
+  pub missing : store.ForRequests g old new (λ requests. result ≡ Err showing.Missing
       → facts_numbered number (register requests) ≡ None)
   pub found : store.ForRequests g old new (λ requests. IfErr result (λ fault.
       facts_numbered number (register requests) ≡ None
-      → (fault ≡ showing.NoFiling) ⊎ ((why : StoreFault) × (fault ≡ showing.Store why))))
+      → (fault ≡ showing.Missing) ⊎ ((why : StoreFault) × (fault ≡ showing.Store why))))
   pub refused : IfErr result (PrintsNothing (showing.Text Output) out out')
   pub keeps : KeepsStore g old new
 

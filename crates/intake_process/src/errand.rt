@@ -7,6 +7,7 @@ ghost use Rattle.table_rows.specs.Standing.{IsAtRest};
 ghost use Rattle.intake_process.specs.Errands.{FillsFolder, RunsErrand, is_refusal};
 ghost use Rattle.intake_process.specs.Outcomes.{listed_as, records_fault, shown_as, printed_as, writing_fault};
 
+use crate::tasks::bodies::{print_filed, print_sent};
 use crate::tasks::checking::{CheckFault, CheckProgress, check};
 use crate::tasks::dating::list_moments;
 use crate::tasks::digesting::print_digest;
@@ -45,6 +46,8 @@ pub enum ErrandFault {
     Store(StoreFault),
     /// There is no filing of this number.
     NoFiling { number: u64 },
+    /// There is no request of this filer under this key.
+    NoRequest,
     /// The register keeps so many requests, and that is fewer than were asked for.
     TooFew { kept: u64 },
     /// The digest of the first requests, so many, is not the one that was published.
@@ -88,13 +91,13 @@ fn listed_as(listed: Result<(), ListFault>) -> Result<(), ErrandFault>
     }
 }
 
-/// What an errand to show the filing of this number answers, by the result of showing it.
-fn shown_as(number: u64, shown: Result<(), ShowFault>) -> Result<(), ErrandFault>
-    ensures { result ≡ shown_as number shown }
+/// What an errand to show something answers, by the result of showing it. `missing` says that it is not there.
+fn shown_as(missing: ErrandFault, shown: Result<(), ShowFault>) -> Result<(), ErrandFault>
+    ensures { result ≡ shown_as missing shown }
 {
     match shown {
         Ok(()) => Ok(()),
-        Err(ShowFault::NoFiling) => Err(ErrandFault::NoFiling { number }),
+        Err(ShowFault::Missing) => Err(missing),
         Err(ShowFault::Store(fault)) => Err(ErrandFault::Store(fault)),
         Err(ShowFault::Text(fault)) => Err(ErrandFault::Text(fault)),
     }
@@ -150,6 +153,8 @@ pub(crate) fn run_errand<S: Alter + Drop, P: CheckProgress, F: Folder, O: Write>
     match errand {
         Errand::List { filer, moments } => list_filings(alloc, conn, filer, moments, output),
         Errand::Show { number, moments } => show_filing(alloc, conn, number, moments, output),
+        Errand::FilingBody { number } => show_filing_body(alloc, conn, number, output),
+        Errand::RequestBody { filer, key } => show_request_body(alloc, conn, filer, key, output),
         Errand::Check { against } => check_register(alloc, conn, against, progress, output),
         Errand::Migrate => migrate_register(alloc, conn, output),
         Errand::Export { form, filer } => export_facts(alloc, conn, form, filer, output),
@@ -241,7 +246,57 @@ fn show_filing<S: Alter + Drop, O: Write>(
     match Store::open_or_back(alloc, conn) {
         Ok(mut register) => {
             let shown = show(alloc, &mut register, number, moments, output);
-            (register.into_conn(), shown_as(number, shown))
+            (
+                register.into_conn(),
+                shown_as(ErrandFault::NoFiling { number }, shown),
+            )
+        }
+        Err((fault, back)) => {
+            let holding = held_in(&back);
+            (back, Err(ErrandFault::Open(fault, holding)))
+        }
+    }
+}
+
+/// Prints the report that is the filing of this number.
+fn show_filing_body<S: Alter + Drop, O: Write>(
+    alloc: Global,
+    conn: Connection<S>,
+    number: u64,
+    output: &mut O,
+) -> (Connection<S>, Result<(), ErrandFault>)
+    requires { IsAtRest conn }
+    ensures { RunsErrand S.Store (Errand.FilingBody number) (O.contents output.old) (O.contents output.new) conn
+        result.0 result.1 }
+{
+    match Store::open_or_back(alloc, conn) {
+        Ok(register) => {
+            let (conn, shown) = print_filed(register, number, output);
+            (conn, shown_as(ErrandFault::NoFiling { number }, shown))
+        }
+        Err((fault, back)) => {
+            let holding = held_in(&back);
+            (back, Err(ErrandFault::Open(fault, holding)))
+        }
+    }
+}
+
+/// Prints the first report of a filer under this key.
+fn show_request_body<S: Alter + Drop, O: Write>(
+    alloc: Global,
+    conn: Connection<S>,
+    filer: &str,
+    key: &str,
+    output: &mut O,
+) -> (Connection<S>, Result<(), ErrandFault>)
+    requires { IsAtRest conn }
+    ensures { RunsErrand S.Store (Errand.RequestBody filer.entry key.entry) (O.contents output.old)
+        (O.contents output.new) conn result.0 result.1 }
+{
+    match Store::open_or_back(alloc, conn) {
+        Ok(register) => {
+            let (conn, shown) = print_sent(alloc, register, filer, key, output);
+            (conn, shown_as(ErrandFault::NoRequest, shown))
         }
         Err((fault, back)) => {
             let holding = held_in(&back);

@@ -1,6 +1,7 @@
 //! What `intake` does with a register and prints of it: each task is one call. No file, no port and no words of a
 //! command line are known here.
 
+pub(crate) mod bodies;
 pub(crate) mod checking;
 pub(crate) mod dating;
 pub(crate) mod digesting;

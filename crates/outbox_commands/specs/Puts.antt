@@ -1,12 +1,13 @@
 -- Reports of files are put into an outbox, one after another. `net` is the traffic of the network, on which nothing
 -- goes then, and `out` and `out'` are what the output has before and after.
 use Rattle.std.specs.Prelude.{◌≡◌, ◌⊎◌, ◌||◌, ◌&&◌, ℕ, Bool, true, false, List, [], ◌∷◌, map, length, leb, is_none}
-use Rattle.std.specs.Prelude.{Option, Some, None, Result, Ok, Err}
+use Rattle.std.specs.Prelude.{is_some, Option, Some, None, Result, Ok, Err}
 use Rattle.std.specs.Borrow.{Bor}
 use Rattle.std.specs.List.{All}
 use Rattle.sqlite_disk.specs.declared.Disk.{Ghosts}
 use Rattle.sqlite.specs.declared.error.Error.{Error}
 use Rattle.key_string.specs.Key.{IsTextFault}
+use Rattle.xbrl_report.specs.Findings.{tree}
 use Rattle.command_line.specs.declared.fault.CommandFault.TheVariants as command
 use Rattle.database_places.specs.Places.{IsHonest}
 use Rattle.outbox_process.specs.Dials.{Traffic}
@@ -51,6 +52,27 @@ IsReadFor text file report = (report.file ≡ file) × IsKeyFor text report.key
 abbrev pub AreReadFor : Option (Bor (List ℕ)) → List (Bor (List ℕ)) → List ReportFile → Type 0
 AreReadFor text files reports =
     (map (λ report. report.file) reports ≡ files) × All (λ report. IsKeyFor text report.key) reports
+
+-- whether a body can be read as JSON; a register refuses one that can't
+abbrev pub is_json : List ℕ → Bool
+is_json body = is_some (tree body)
+
+-- if it is strict, the body can be read as JSON
+abbrev pub IsFit : Bool → List ℕ → Type 0
+IsFit strict body = strict ≡ true → is_json body ≡ true
+
+-- the same of each of these reports
+abbrev pub AreFit : Bool → List ReportFile → Type 0
+AreFit strict reports = All (λ report. IsFit strict report.body.items) reports
+
+-- it is strict, and a report is no JSON; or memory failed
+abbrev pub IsUnfit : Bool → NotDone → Type 0
+IsUnfit strict why =
+    ((strict ≡ true) × ((name : Bor (List ℕ)) × (why ≡ fault.NotJson name))) ⊎ (why ≡ fault.Command command.Memory)
+
+-- a report was not read, or is not fit
+abbrev pub IsNotTaken : Bool → Option (Bor (List ℕ)) → NotDone → Type 0
+IsNotTaken strict text why = IsNotRead text why ⊎ IsUnfit strict why
 
 -- ---- they are put in
 
@@ -115,14 +137,15 @@ abbrev pub IsUntouched : {D : Type 0} {g : Ghosts D} → Traffic → Traffic →
 IsUntouched net net' out out' old new = (new ≡ old) × (net' ≡ net) × (out' ≡ out)
 
 -- A key or a filing was given for several reports, and nothing was done. Otherwise all reports were read, and then put
--- in, or the outbox was refused; or one was not read, and nothing was done.
-abbrev pub PutsReports : {D X : Type 0} (g : Ghosts D) → List (Bor (List ℕ)) → Option (Bor (List ℕ)) → Target → Traffic
-    → Traffic → Option (List ℕ) → Option (List ℕ) → Parts g → Parts g → Result X NotDone → Type 0
-PutsReports g files text target net net' out out' old new result =
+-- in, or the outbox was refused; or one was not read or, if it is strict, is no JSON, and nothing was done.
+abbrev pub PutsReports : {D X : Type 0} (g : Ghosts D) → Bool → List (Bor (List ℕ)) → Option (Bor (List ℕ)) → Target
+    → Traffic → Traffic → Option (List ℕ) → Option (List ℕ) → Parts g → Parts g → Result X NotDone → Type 0
+PutsReports g strict files text target net net' out out' old new result =
     ((is_for_one (length files) text target ≡ false) × (result ≡ Err fault.ForOne)
     × IsUntouched net net' out out' old new)
     ⊎ ((is_for_one (length files) text target ≡ true)
-    × (((reports : List ReportFile) × AreReadFor text files reports × (net' ≡ net)
+    × (((reports : List ReportFile) × AreReadFor text files reports × AreFit strict reports × (net' ≡ net)
     × (PutsThem g (map (put_of target) reports) net out out' old new (status_by result)
     ⊎ (IsRefused g Found old new (status_by result) × (out' ≡ out))))
-    ⊎ ((why : NotDone) × (result ≡ Err why) × IsNotRead text why × IsUntouched net net' out out' old new)))
+    ⊎ ((why : NotDone) × (result ≡ Err why) × IsNotTaken strict text why
+    × IsUntouched net net' out out' old new)))

@@ -7,6 +7,7 @@ use Rattle.outbox_commands.specs.declared.options.Task.TheVariants as task
 abbrev pub only_reads : Task → Bool
 only_reads (task.Status database) = true
 only_reads (task.Show database entry) = true
+only_reads (task.Body database entry) = true
 only_reads (task.Ask database peer id form) = true
 only_reads other = false
 

@@ -19,7 +19,7 @@ use Rattle.outbox_process.specs.declared.fault.OpeningFault.TheVariants as openi
 use Rattle.outbox_process.specs.Process.{Parts, Keeps, IsOfCurrent, OpensProcess, ClosesProcess}
 use Rattle.outbox_commands.specs.declared.fault.NotDone.{NotDone}
 use Rattle.outbox_commands.specs.declared.options.Task.{Task}
-use Rattle.outbox_commands.specs.declared.options.Task.TheVariants.{Init, Put, Migrate, Send, Ask, Status, Show}
+use Rattle.outbox_commands.specs.declared.options.Task.TheVariants.{Init, Put, Migrate, Send, Ask, Status, Show, Body}
 use Rattle.outbox_commands.specs.Puts.{PutsReports}
 use Rattle.outbox_commands.specs.Status.{opening_status, status_by}
 use Rattle.outbox_commands.specs.Visits.{IsToldAs, IsRefused, VisitsOutbox, opening_verdict}
@@ -80,8 +80,8 @@ abbrev pub Does : {D X : Type 0} (g : Ghosts D) → Task → Traffic → Traffic
     → Parts g → Result X NotDone → Type 0
 Does g (Init database filer) net net' out out' old new result =
     MakesOutbox g filer old new (status_by result) × (net' ≡ net) × (out' ≡ out)
-Does g (Put database files key target) net net' out out' old new result =
-    PutsReports g files.items key target net net' out out' old new result
+Does g (Put database files key target strict) net net' out out' old new result =
+    PutsReports g strict files.items key target net net' out out' old new result
 Does g (Migrate database) net net' out out' old new result =
     MigratesOutbox g out out' old new (status_by result) × (net' ≡ net)
 Does g (Send database peer which strict) net net' out out' old new result =
@@ -94,3 +94,5 @@ Does g (Show database None) net net' out out' old new result =
     VisitsOutbox g false errand.ShowEach net net' out out' old new (status_by result)
 Does g (Show database (Some id)) net net' out out' old new result =
     VisitsOutbox g false (errand.ShowEntry id) net net' out out' old new (status_by result)
+Does g (Body database id) net net' out out' old new result =
+    VisitsOutbox g false (errand.ShowBody id) net net' out out' old new (status_by result)

@@ -1,7 +1,8 @@
 -- What the command line asks `outbox` for, by the word that `clap` found and the values of its options. `clap` says
 -- nothing of which words give which values, since an option may have a value that begins with a hyphen.
-use Rattle.std.specs.Prelude.{◌≡◌, ◌⊎◌, ◌&&◌, ◌^◌, ℕ, Bool, true, false, List, [], ◌∷◌, map, codes, nat_lt, nat_le}
-use Rattle.std.specs.Prelude.{Option, Some, None, is_some, option_map, option_and_then, unwrap_or, if◌then◌else◌}
+use Rattle.std.specs.Prelude.{◌≡◌, ◌⊎◌, ◌&&◌, ◌||◌, ◌^◌, not, ℕ, Bool, true, false, List, [], ◌∷◌, map, codes}
+use Rattle.std.specs.Prelude.{nat_lt, nat_le, Option, Some, None, is_some, option_map, option_and_then, unwrap_or}
+use Rattle.std.specs.Prelude.{if◌then◌else◌}
 use Rattle.std.specs.Borrow.{Bor}
 use Rattle.std.specs.List.{list_any}
 use Rattle.std.specs.Option.{option_map_or}
@@ -17,7 +18,7 @@ use Rattle.outbox_process.specs.declared.errand.Which.{Which}
 use Rattle.outbox_process.specs.declared.errand.Which.TheVariants.{Next, Entry, All}
 use Rattle.outbox_commands.specs.declared.options.Peer.{Peer}
 use Rattle.outbox_commands.specs.declared.options.Task.{Task}
-use Rattle.outbox_commands.specs.declared.options.Task.TheVariants.{Init, Put, Migrate, Send, Ask, Status, Show}
+use Rattle.outbox_commands.specs.declared.options.Task.TheVariants.{Init, Put, Migrate, Send, Ask, Status, Show, Body}
 use Rattle.outbox_commands.specs.declared.options.Asked.{Asked}
 use Rattle.outbox_commands.specs.declared.options.Asked.TheVariants.{Outbox, Lint}
 use Rattle.command_line.specs.Values.{value, values, is_set, number}
@@ -49,12 +50,13 @@ pub record IsPeerOf (options : List Row) (peer : Peer) : Type 0 where
 -- the file of the outbox
 abbrev pub database_of : Task → Bor Text
 database_of (Init database filer) = database
-database_of (Put database bodies key target) = database
+database_of (Put database bodies key target strict) = database
 database_of (Migrate database) = database
 database_of (Send database peer which strict) = database
 database_of (Ask database peer id form) = database
 database_of (Status database) = database
 database_of (Show database entry) = database
+database_of (Body database entry) = database
 
 -- the intake that a task calls; one that calls none keeps no receipts
 abbrev pub Calls : Task → Peer → Type 0
@@ -66,9 +68,10 @@ Calls other called = called.receipts ≡ None
 abbrev pub IsTask : Text → List Row → Task → Type 0
 IsTask word options (Init database filer) =
     (word ≡ codes "init") × (value (codes "filer") options ≡ Some filer.now)
-IsTask word options (Put database bodies key target) =
+IsTask word options (Put database bodies key target strict) =
     (word ≡ codes "put") × (map (λ text. text.now) bodies.items ≡ values (codes "body") options)
     × (option_map (λ text. text.now) key ≡ value (codes "key") options) × (target.number ≡ amended options)
+    × (strict ≡ is_set (codes "strict") options)
 IsTask word options (Migrate database) = word ≡ codes "migrate"
 IsTask word options (Send database peer which strict) =
     (word ≡ codes "send") × IsPeerOf options peer × (which ≡ which_of options)
@@ -78,7 +81,9 @@ IsTask word options (Ask database peer id form) =
     × (form ≡ form_of options)
 IsTask word options (Status database) = word ≡ codes "status"
 IsTask word options (Show database entry) =
-    (word ≡ codes "show") × (entry ≡ number 64 (codes "entry") options)
+    (word ≡ codes "show") × (is_set (codes "body") options ≡ false) × (entry ≡ number 64 (codes "entry") options)
+IsTask word options (Body database entry) =
+    (word ≡ codes "show") × (is_set (codes "body") options ≡ true) × (number 64 (codes "entry") options ≡ Some entry)
 
 -- whether a word asks for a task, and the values are there that the task needs beside its file
 abbrev pub has_task : Text → List Row → Bool
@@ -87,7 +92,9 @@ has_task word options =
     else if bytes_eq word (codes "send") then is_some (number 16 (codes "port") options)
     else if bytes_eq word (codes "ask")
     then is_some (number 16 (codes "port") options) && is_some (number 64 (codes "entry") options)
-    else list_any (bytes_eq word) (codes "put" ∷ codes "migrate" ∷ codes "status" ∷ codes "show" ∷ [])
+    else if bytes_eq word (codes "show")
+    then not (is_set (codes "body") options) || is_some (number 64 (codes "entry") options)
+    else list_any (bytes_eq word) (codes "put" ∷ codes "migrate" ∷ codes "status" ∷ [])
 
 -- the task on this file that a word asks for, if it asks for one
 abbrev pub IsTaskOn : Bor Text → Text → List Row → Option Task → Type 0

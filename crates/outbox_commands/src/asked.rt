@@ -82,6 +82,7 @@ fn put_of<'a>(
         bodies: values_of(alloc, values, "body")?,
         key: value_of(values, "key"),
         target: target_of(values),
+        is_strict: is_set(values, "strict"),
     }))
 }
 
@@ -107,6 +108,20 @@ fn ask_of<'a>(database: &'a str, values: &ArgMatches<'a>) -> Option<Task<'a>>
     })
 }
 
+fn show_of<'a>(database: &'a str, values: &ArgMatches<'a>) -> Option<Task<'a>>
+    ensures { IsTaskOn database.entry (codes "show") (options_of values.now) result }
+{
+    let entry = number_of(values, "entry");
+    if is_set(values, "body") {
+        Some(Task::Body {
+            database,
+            entry: entry?,
+        })
+    } else {
+        Some(Task::Show { database, entry })
+    }
+}
+
 /// The task on the outbox of this file that a word asks for. `None` if it asks for none, or a value is not there that
 /// the task needs.
 fn task_of<'a>(
@@ -124,10 +139,7 @@ fn task_of<'a>(
         "send" => Ok(send_of(database, values)),
         "ask" => Ok(ask_of(database, values)),
         "status" => Ok(Some(Task::Status { database })),
-        "show" => Ok(Some(Task::Show {
-            database,
-            entry: number_of(values, "entry"),
-        })),
+        "show" => Ok(show_of(database, values)),
         _ => Ok(None),
     }
 }

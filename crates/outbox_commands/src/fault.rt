@@ -201,6 +201,11 @@ pub enum NotDone<'a> {
     ForOne,
     #[error("{0}")]
     Report(#[from] ReportFault<'a>),
+    /// A report that has to be JSON is not.
+    #[error("{file}: no JSON, which a register refuses; with --strict no report is put in", file = OneLine(*.name))]
+    NotJson {
+        name: &'a str,
+    },
     #[error("{file}: {fault}", file = OneLine(*.name))]
     Outbox {
         name: &'a str,
@@ -252,6 +257,21 @@ pub enum NotDone<'a> {
         id: u64,
         state: State,
         told: State,
+    },
+    /// Nothing was sent again, since the register would file anew what it does not have.
+    #[error("127.0.0.1:{port}: entry {id} is confirmed {number}, but the register has no such filing of this filer; nothing was sent: {why}", why = OTHER_REGISTER)]
+    NotListed {
+        port: u16,
+        id: u64,
+        number: u64,
+    },
+    /// Nothing was sent again, since it is not known whether the register has the filing.
+    #[error("127.0.0.1:{port}: asked for filing {number} of entry {id}, it answered {status} and no list of it; nothing was sent: ask again once it serves")]
+    NoList {
+        port: u16,
+        id: u64,
+        number: u64,
+        status: u16,
     },
     #[error("{folder}: no receipt can be written there: {error}", folder = OneLine(*.name))]
     Folder {
@@ -363,6 +383,13 @@ impl<'a> NotDone<'a> {
             } => VisitFault::NotTold { id }.at(name),
             TaskFault::NotTold { fault, .. } => fault.into(),
             TaskFault::Send { id, fault } => NotDone::of_sending(fault, name, id, port, late),
+            TaskFault::NotListed { id, number } => NotDone::NotListed { port, id, number },
+            TaskFault::NoList { id, number, status } => NotDone::NoList {
+                port,
+                id,
+                number,
+                status,
+            },
             TaskFault::Contradicts { id, state, told } => NotDone::Contradicts {
                 port,
                 id,
@@ -428,6 +455,7 @@ impl NotDone<'_> {
             NotDone::LastPut { fault, .. } => fault.status(),
             NotDone::Key(KeyFault::Memory) => 3,
             NotDone::Key(_) | NotDone::ForOne => 2,
+            NotDone::NotJson { .. } => 2,
             NotDone::Connect { .. } => 3,
             NotDone::Exchange { .. } => 3,
             NotDone::Patience { .. } => 3,
@@ -435,6 +463,7 @@ impl NotDone<'_> {
             // After 1 a report has to be changed, after 3 an entry is sent again: 1 goes first.
             NotDone::Unfiled { refused: 0, .. } => 3,
             NotDone::Unfiled { .. } => 1,
+            NotDone::NotListed { .. } | NotDone::NoList { .. } => 3,
             NotDone::Contradicts { .. } => 3,
             NotDone::Folder { .. } => 3,
             NotDone::Receipts { .. } => 3,

@@ -229,6 +229,19 @@ impl<'r> Dial for PeerDial<'r> {
         self.untold = Some(Exchanged { id, came, noted });
     }
 
+    fn end_look(
+        &mut self,
+        _reader: Self::Reader,
+        writer: Self::Writer,
+        id: u64,
+        came: Result<State, ExchangeFault>,
+    ) {
+        self.is_late = self.has_lost_patience(came);
+        let exchange = (id, came);
+        let over = self.over.and(&exchange, &writer.written);
+        self.over = over;
+    }
+
     fn gives_up(&self) -> bool {
         self.is_late
     }

@@ -41,6 +41,8 @@ pub enum Task<'a> {
         bodies: Vec<&'a str>,
         key: Option<&'a str>,
         target: Target,
+        /// Whether a report that is no JSON is a fault.
+        is_strict: bool,
     },
     /// Upgrade an outbox of an earlier version.
     Migrate {
@@ -70,6 +72,11 @@ pub enum Task<'a> {
         database: &'a str,
         entry: Option<u64>,
     },
+    /// Show the report of this entry.
+    Body {
+        database: &'a str,
+        entry: u64,
+    },
 }
 
 impl<'a> Task<'a> {
@@ -87,7 +94,8 @@ impl<'a> Task<'a> {
             | Task::Send { database, .. }
             | Task::Ask { database, .. }
             | Task::Status { database }
-            | Task::Show { database, .. } => database,
+            | Task::Show { database, .. }
+            | Task::Body { database, .. } => database,
         }
     }
 
@@ -223,15 +231,10 @@ fn flag<'a>(alloc: Global, name: &'a str, help: &'a str) -> Arg<'a> {
         .action(ArgAction::SetTrue)
 }
 
-fn strict<'a>(alloc: Global) -> Arg<'a> {
-    flag(
-        alloc,
-        "strict",
-        concat!(
-            "Ends with 1 if an entry is refused or clashed, and else with 3 if one stays open ",
-            "[default: 0 if each reply was read]",
-        ),
-    )
+/// The flag that asks for the report of an entry alone.
+fn body<'a>(alloc: Global) -> Result<Arg<'a>, AllocError> {
+    let help = "Prints the report of the entry: its bytes, and nothing else [default: a line]";
+    flag(alloc, "body", help).requires_arg("entry")
 }
 
 /// What a task is given on the command line.
@@ -250,7 +253,9 @@ enum Argument {
     /// The id of an entry, which has to be given, with this help.
     ThisEntry(&'static str),
     All,
-    Strict,
+    /// Whether less than all is a fault, with this help.
+    Strict(&'static str),
+    Body,
     Wait,
     /// Whether lines are JSON objects, with this help.
     Json(&'static str),
@@ -272,7 +277,8 @@ impl ToArg for Argument {
             Argument::ThisEntry(help) => entry(alloc, help).required(true),
             Argument::All => all(alloc)?,
             Argument::Wait => wait(alloc),
-            Argument::Strict => strict(alloc),
+            Argument::Strict(help) => flag(alloc, "strict", help),
+            Argument::Body => body(alloc)?,
             Argument::Json(help) => flag(alloc, "json", help),
             Argument::Files => report_files(alloc),
         })
@@ -294,13 +300,17 @@ static WORDS: [Word<Argument>; 8] = [
             "Example: outbox put --db outbox.db --body report.json --key 2024-annual-1\n\n",
             "Several reports, as --body q1.json q2.json, get random keys and replace no filing. ",
             "All are read first: if one can't be, none is put in.\n",
-            "If one is then refused, those before it stay in the outbox, and none after it is put in.",
+            "If one is then refused, those before it stay in the outbox, and none after it is put in.\n",
+            "One that is no JSON, as an empty one, is put in with a warning: a register refuses it, and keeps its key.",
         ),
         arguments: &[
             Argument::Database,
             Argument::Bodies,
             Argument::Key,
             Argument::Amend,
+            Argument::Strict(
+                "Puts nothing in, and ends with 2, if a report is no JSON [default: warns]",
+            ),
             Argument::Wait,
         ],
     },
@@ -320,7 +330,10 @@ static WORDS: [Word<Argument>; 8] = [
             Argument::Port,
             Argument::Entry("The entry's id [default: the open entry with the least id]"),
             Argument::All,
-            Argument::Strict,
+            Argument::Strict(concat!(
+                "Ends with 1 if an entry is refused or clashed, and else with 3 if one stays open ",
+                "[default: 0 if each reply was read]",
+            )),
             Argument::Patience,
             Argument::Wait,
             Argument::Receipts,
@@ -330,15 +343,18 @@ static WORDS: [Word<Argument>; 8] = [
         name: "ask",
         about: concat!(
             "Sends a settled entry's request again, and prints the reply, ",
-            "with a line for each finding; changes nothing",
+            "with a line for each finding; the outbox stays as it is",
         ),
         example: concat!(
             "Example: outbox ask --db outbox.db --entry 1 --port 8080\n\n",
-            "The register answers the same request as it did at first. ",
+            "A register that has the request answers as it did at first, and changes nothing.\n",
+            "Of a confirmed entry it is asked for the filing before: if it does not list it, nothing is sent.\n",
+            "The request of a refused or clashed one is sent at once: ",
+            "a register that lost it, as one restored from an older copy, decides it anew.\n",
             "An open entry is refused: outbox send sends it.\n",
-            "Exit status: 0 the reply was read; 1 not an outbox, or a damaged one; 2 the entry is open; ",
-            "3 the reply contradicts the entry, the exchange failed, nobody listens, or memory or the disk failed; ",
-            "4 no such entry",
+            "Exit status: 0 the reply was read; 1 not an outbox, or a damaged one; 2 the entry is open;\n",
+            "3 the filing is not listed, the reply contradicts the entry, an exchange failed, nobody listens, ",
+            "or memory or the disk failed; 4 no such entry",
         ),
         arguments: &[
             Argument::Database,
@@ -362,12 +378,16 @@ static WORDS: [Word<Argument>; 8] = [
         name: "show",
         about: concat!(
             "Prints a line for each entry, or for one: ",
-            "its state, its length, the filing that it replaces, and its key",
+            "its state, its length, the filing that it replaces, and its key; or one's report",
         ),
-        example: "Example: outbox show --db outbox.db --entry 1",
+        example: concat!(
+            "Example: outbox show --db outbox.db --entry 1\n",
+            "Example: outbox show --db outbox.db --entry 1 --body",
+        ),
         arguments: &[
             Argument::Database,
             Argument::Entry("The entry's id [default: each entry]"),
+            Argument::Body,
             Argument::Wait,
         ],
     },
@@ -400,7 +420,7 @@ pub(crate) fn command<'a>(alloc: Global) -> Result<Command<'a>, AllocError> {
         .after_help(concat!(
             "Exit status: 0 done;\n",
             "1 not an outbox, a damaged one, one that is there already, or a report with findings;\n",
-            "2 a wrong command line, a key that is in use, a report that is too large ",
+            "2 a wrong command line, a key that is in use, a report that is too large or, with --strict, no JSON,\n",
             "or a question about an open entry;\n",
             "3 memory, a file, the disk or the network failed; 4 no such entry",
         ))

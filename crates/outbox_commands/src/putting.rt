@@ -3,6 +3,7 @@
 ghost use Rattle.std.specs.Prelude.{◌≡◌, None, map, IfOk, IfErr, IsSome};
 ghost use Rattle.outbox_process.specs.Process.{parts};
 ghost use Rattle.outbox_commands.specs.Puts.{IsKeyFor, IsNoKeyFor, IsNotRead, IsReadFor, AreReadFor, put_of};
+ghost use Rattle.outbox_commands.specs.Puts.{is_json, IsFit, IsUnfit, AreFit, IsNotTaken};
 ghost use Rattle.outbox_commands.specs.Puts.{PutsOne, EndsTurns, PutsReports, is_for_one};
 ghost use Rattle.outbox_commands.specs.Status.{status_of, status_by, task_status};
 
@@ -16,9 +17,11 @@ use outbox_core::key_of;
 use outbox_process::{Beginning, Errand, OutboxProcess, Target, TaskFault};
 use rand::make_rng;
 use rand::rngs::StdRng;
+use serde_json::Value;
 use sqlite_disk::Disk;
-use std::alloc::Global;
+use std::alloc::{AllocError, Global};
 use std::io::Write;
+use terminal_text::OneLine;
 use uuid::Uuid;
 
 /// A report that was read in the file of this name, and its key.
@@ -57,35 +60,86 @@ fn key<'a>(rt: &HostRuntime, text: Option<&str>) -> Result<KeyText, NotDone<'a>>
     }
 }
 
+/// Whether a body can be read as JSON.
+fn is_json(alloc: Global, body: &[u8]) -> Result<bool, AllocError>
+    ensures { IfOk result (λ is. is ≡ is_json body.now) }
+{
+    match Value::from_slice(alloc, body) {
+        Ok(_) => Ok(true),
+        Err(error) if error.is_memory() => Err(AllocError),
+        Err(_) => Ok(false),
+    }
+}
+
+/// Reports on the standard error that the report of this file is no JSON.
+fn tell_no_json<E: Write>(file: &str, errors: &mut E) {
+    // Nothing is left to be done if this text can't be written either.
+    let _ = writeln!(
+        errors,
+        "outbox: {}: no JSON, which a register refuses; with --strict no report would be put in",
+        OneLine(file)
+    );
+}
+
+/// Looks whether the body of the report in the file of this name is JSON. If not, that is a fault if it is strict, and
+/// is reported on the standard error otherwise.
+fn look_at<'a, E: Write>(
+    alloc: Global,
+    file: &'a str,
+    body: &[u8],
+    is_strict: bool,
+    errors: &mut E,
+) -> Result<(), NotDone<'a>>
+    ensures fit { IfOk result (λ _. IsFit is_strict body.now) }
+    ensures refused { IfErr result (IsUnfit is_strict) }
+{
+    if !is_json(alloc, body)? {
+        if is_strict {
+            return Err(NotDone::NotJson { name: file });
+        }
+        tell_no_json(file, errors);
+    }
+    Ok(())
+}
+
 /// The report in the file of this name, with the key that was given or one at random.
-fn read_report<'a>(
+fn read_report<'a, E: Write>(
     rt: &HostRuntime,
     file: &'a str,
     key_text: Option<&str>,
+    is_strict: bool,
+    errors: &mut E,
 ) -> Result<ReportFile<'a>, NotDone<'a>>
     ensures read { IfOk result (IsReadFor key_text.entry file.entry) }
-    ensures refused { IfErr result (IsNotRead key_text.entry) }
+    ensures fit { IfOk result (λ report. IsFit is_strict report.body.items) }
+    ensures refused { IfErr result (IsNotTaken is_strict key_text.entry) }
 {
     let key = key(rt, key_text)?;
     match report(rt, file) {
-        Ok(body) => Ok(ReportFile { file, key, body }),
+        Ok(body) => {
+            look_at(rt.alloc(), file, body.as_slice(), is_strict, errors)?;
+            Ok(ReportFile { file, key, body })
+        }
         Err(fault) => Err(NotDone::Report(fault)),
     }
 }
 
 /// The reports in the files of these names, in order, each with the key that was given or one at random. It ends at the
-/// first that cannot be read.
-fn read_each<'a>(
+/// first that cannot be read or, if it is strict, is no JSON.
+fn read_each<'a, E: Write>(
     rt: &HostRuntime,
     files: &[&'a str],
     key_text: Option<&str>,
+    is_strict: bool,
+    errors: &mut E,
 ) -> Result<Vec<ReportFile<'a>>, NotDone<'a>>
     ensures read { IfOk result (λ reports. AreReadFor key_text.entry files.now reports.items) }
-    ensures refused { IfErr result (IsNotRead key_text.entry) }
+    ensures fit { IfOk result (λ reports. AreFit is_strict reports.items) }
+    ensures refused { IfErr result (IsNotTaken is_strict key_text.entry) }
 {
     let mut reports = Vec::new(rt.alloc());
     for &file in files {
-        let report = read_report(rt, file, key_text)?;
+        let report = read_report(rt, file, key_text, is_strict, errors)?;
         if reports.push(report).is_err() {
             return Err(NotDone::Command(CommandFault::Memory));
         }
@@ -183,18 +237,20 @@ pub(crate) fn put<'a, D: Disk + Drop, P: Place<D> + Drop, N: Network, O: Write, 
     files: &[&'a str],
     key_text: Option<&str>,
     target: Target,
+    is_strict: bool,
     output: &mut O,
     errors: &mut E,
 ) -> Result<(), NotDone<'a>>
     requires { process.old.outbox ≡ None }
-    ensures { PutsReports D.Disk files.now key_text.entry target (N.traffic network.old) (N.traffic network.new)
-        (O.contents output.old) (O.contents output.new) (parts P.lying process.old) (parts P.lying process.new) result }
+    ensures { PutsReports D.Disk is_strict files.now key_text.entry target (N.traffic network.old)
+        (N.traffic network.new) (O.contents output.old) (O.contents output.new) (parts P.lying process.old)
+        (parts P.lying process.new) result }
 {
     if !is_for_one(files.len(), key_text, target) {
         return Err(NotDone::ForOne);
     }
     // If one file cannot be read, no report is put in.
-    let reports = read_each(rt, files, key_text)?;
+    let reports = read_each(rt, files, key_text, is_strict, errors)?;
     let alloc = rt.alloc();
     if let Err(fault) = open(alloc, process, Beginning::Found) {
         return Err(NotDone::of_opening(fault, name));

@@ -144,9 +144,10 @@ pub(crate) fn perform_task<'a, D: Disk + Drop, P: Place<D> + Drop, N: Network, O
             bodies,
             key,
             target,
+            is_strict,
             ..
         } => put(
-            rt, process, network, name, &bodies, key, target, output, errors,
+            rt, process, network, name, &bodies, key, target, is_strict, output, errors,
         ),
         Task::Migrate { .. } => migrate(alloc, process, name, output, errors),
         Task::Send {
@@ -176,6 +177,10 @@ pub(crate) fn perform_task<'a, D: Disk + Drop, P: Place<D> + Drop, N: Network, O
         }
         Task::Show { entry: None, .. } => {
             let errand = Errand::ShowEach;
+            run_errand(alloc, process, network, name, errand, false, output, errors)
+        }
+        Task::Body { entry, .. } => {
+            let errand = Errand::ShowBody(entry);
             run_errand(alloc, process, network, name, errand, false, output, errors)
         }
     }
@@ -214,7 +219,7 @@ fn only_reads(task: &Task<'_>) -> bool
     ensures { result ≡ only_reads task.now }
 {
     match task {
-        Task::Status { .. } | Task::Show { .. } | Task::Ask { .. } => true,
+        Task::Status { .. } | Task::Show { .. } | Task::Body { .. } | Task::Ask { .. } => true,
         Task::Init { .. } | Task::Put { .. } | Task::Migrate { .. } | Task::Send { .. } => false,
     }
 }

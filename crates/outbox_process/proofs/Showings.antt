@@ -43,7 +43,7 @@ module _ {S : Type 0} (g : Ghosts S) where
   pub more : {X : Type 0} (told : List (ℕ × Stored)) (at : ℕ) (or : ℕ
       × Stored) (box mid box' : OutboxParts S) (out so_far out' : Option (List ℕ)) (done : X) → at < length told
       → ShowsFirst told at box mid out so_far
-      → ShowsEntry g (slice_index_or told at or).0 mid box' so_far out' (Ok done)
+      → ShowsEntry g long_line (slice_index_or told at or).0 mid box' so_far out' (Ok done)
       → ShowsFirst told (at + 1) box box' out out'
   more told at or box mid box' out so_far out' done within a b = record {
     shown = λ clean entries had are.
@@ -89,7 +89,7 @@ module _ {S : Type 0} (g : Ghosts S) where
   pub broken : {X : Type 0} (told : List (ℕ × Stored)) (at : ℕ) (or : ℕ
       × Stored) (box mid box' : OutboxParts S) (out so_far out' : Option (List ℕ)) (fault : TaskFault)
       → at < length told → ShowsFirst told at box mid out so_far
-      → ShowsEntry {X = X} g (slice_index_or told at or).0 mid box' so_far out' (Err fault)
+      → ShowsEntry {X = X} g long_line (slice_index_or told at or).0 mid box' so_far out' (Err fault)
       → ShowsEach {X = X} g (AreTold told) box box' out out' (Err fault)
   broken told at or box mid box' out so_far out' fault within a b = record {
     shown = λ clean entries had are. tt;

@@ -1,4 +1,5 @@
--- A settled entry is asked about: its request is sent again, and the reply is printed; own rules.
+-- A settled entry is asked about: its request is sent again, and the reply is printed. Of a confirmed one the register
+-- is asked first whether it lists the filing; own rules.
 use Rattle.std.specs.Prelude.{◌≡◌, ◌≢◌, ◌⊎◌, ◌≤◌, ℕ, List, [], length, take, Option, Some, Result, Ok, Err, IfOk, IfErr}
 use Rattle.std.specs.Io.KnownBytes.{Appends}
 use Rattle.sqlite.specs.Store.{Ghosts}
@@ -11,6 +12,7 @@ use Rattle.finding_lines.specs.declared.form.Form.{Form}
 use Rattle.filing_model.specs.Outbox.{Entry, State as Shown, Open, bytes_of, request_of}
 use Rattle.filing_model.specs.Views.{view_state}
 use Rattle.filing_model.specs.declared.state.State.{State}
+use Rattle.filing_model.specs.declared.state.State.TheVariants as stored
 use Rattle.outbox_core.specs.Entries.{found_at}
 use Rattle.outbox_core.specs.Reading.{view_entry}
 use Rattle.outbox_core.specs.Saying.{Says}
@@ -29,6 +31,7 @@ use Rattle.outbox_process.specs.declared.tasks.fault.TaskFault.TheVariants.{IsOp
 use Rattle.outbox_process.specs.Answering.{PrintsAnswer}
 use Rattle.outbox_process.specs.Dials.{Traffic}
 use Rattle.outbox_process.specs.Faults.{IsNotPrinted}
+use Rattle.outbox_process.specs.Listing.{list_request, IsFound}
 use Rattle.outbox_process.specs.Looking.{IsNotFound}
 use Rattle.outbox_process.specs.Sending.{IsOneConnection, IsOpenAt}
 
@@ -85,6 +88,26 @@ IsReplied id state request old new (Err (Exchange fault)) =
     × IsOneConnection old new from.left (record { id = id; came = Err fault; bytes = bytes })
     × IsFault from.left to.left from.read_failures to.read_failures from.write_failures to.write_failures fault
 
+-- ---- whether the filing is listed
+
+-- what is answered is what the reply says of the filing; or no reply was read
+abbrev pub IsListed : List ℕ → ℕ → ℕ → Entry → Result Reply SendFault → Result (Unit {0}) TaskFault → Type 0
+IsListed filer id number entry (Ok reply) result = IsFound filer id number entry (reply_parts reply) result
+IsListed filer id number entry (Err why) result = result ≡ Err (Send id why)
+
+-- On a connection of its own, which was made for the entry of this id, the register was asked for the filing of a
+-- number of this filer. Or memory ran out, and no connection was made.
+abbrev pub Looks : List ℕ → ℕ → ℕ → Entry → Traffic → Traffic → Result (Unit {0}) TaskFault → Type 0
+Looks filer id number entry old new result =
+    ((came : Result Reply SendFault) × IsReplied id stored.Open (list_request filer number) old new came
+    × IsListed filer id number entry came result)
+    ⊎ ((fault : TaskFault) × (result ≡ Err fault) × IsNotPrinted fault × (new ≡ old))
+
+-- of a confirmed entry the register was asked for its filing; of any other no connection was made
+abbrev pub LooksFirst : List ℕ → ℕ → Entry → State → Traffic → Traffic → Result (Unit {0}) TaskFault → Type 0
+LooksFirst filer id entry (stored.Confirmed number) old new result = Looks filer id number entry old new result
+LooksFirst filer id entry other old new result = (result ≡ Ok tt) × (new ≡ old)
+
 -- ---- all of it
 
 -- a reply says nothing of an entry in this state, or as what it is settled
@@ -109,16 +132,33 @@ IsAnswered form filer id state entry (Ok reply) out out' result =
     TellsReply form filer id state entry (reply_parts reply) out out' result
 IsAnswered form filer id state entry (Err why) out out' result = (result ≡ Err (Send id why)) × (out' ≡ out)
 
--- The settled entry of an id was asked about.
+-- the request of the entry of an id was sent again, and this is what was said of the reply
+abbrev pub AsksAgain : {X : Type 0} → Form → List ℕ → ℕ → Read → List ℕ → Traffic → Traffic → Option (List ℕ)
+    → Option (List ℕ) → Result X TaskFault → Type 0
+AsksAgain form filer id entry request old new out out' result =
+    (came : Result Reply SendFault) × IsReplied id entry.state request old new came
+    × IsAnswered form filer id entry.state (view_entry entry) came out out' result
+
+-- the same after a look that found the filing, or was not needed; after a fault nothing was sent or printed
+abbrev pub AsksAfter : {X : Type 0} → Result (Unit {0}) TaskFault → Form → List ℕ → ℕ → Read → List ℕ → Traffic
+    → Traffic → Option (List ℕ) → Option (List ℕ) → Result X TaskFault → Type 0
+AsksAfter (Ok found) form filer id entry request old new out out' result =
+    AsksAgain form filer id entry request old new out out' result
+AsksAfter (Err fault) form filer id entry request old new out out' result =
+    (result ≡ Err fault) × (new ≡ old) × (out' ≡ out)
+
+-- The settled entry of an id was asked about. Of a confirmed one its request was sent again only if the register lists
+-- the filing.
 pub record Asks {S X : Type 0} (g : Ghosts S) (form : Form) (id : ℕ) (old new : Traffic) (box box' : OutboxParts S)
     (out out' : Option (List ℕ)) (result : Result X TaskFault) : Type 0 where
   pub entry : Read
   pub request : List ℕ
   pub about : ForEntries g box box' (λ entries. IsAbout box.filer entries id entry request)
   pub settled : view_state entry.state ≢ Open
-  pub came : Result Reply SendFault
-  pub replied : IsReplied id entry.state request old new came
-  pub answered : IsAnswered form box.filer id entry.state (view_entry entry) came out out' result
+  pub looked : Result (Unit {0}) TaskFault
+  pub between : Traffic
+  pub looks : LooksFirst box.filer id (view_entry entry).1 entry.state old between looked
+  pub asks : AsksAfter looked form box.filer id entry request between new out out' result
 
 -- the settled entry of an id was asked about, or it was not, and nothing was sent or printed; the outbox was only read
 abbrev pub AsksEntry : {S X : Type 0} → Ghosts S → Form → ℕ → Traffic → Traffic → OutboxParts S → OutboxParts S

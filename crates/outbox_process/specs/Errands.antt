@@ -9,15 +9,17 @@ use Rattle.outbox_process.specs.declared.tasks.rounds.Round.{Round}
 use Rattle.outbox_process.specs.Asking.{AsksEntry}
 use Rattle.outbox_process.specs.Dials.{Traffic}
 use Rattle.outbox_process.specs.Endings.{none_sent, one_sent}
+use Rattle.outbox_process.specs.Lines.{long_line}
 use Rattle.outbox_process.specs.Looking.{AreAny}
 use Rattle.outbox_process.specs.Putting.{PutsAndTells}
 use Rattle.outbox_process.specs.Rounds.{SendsAll}
 use Rattle.outbox_process.specs.Sending.{SendsEntry, SendsNext}
-use Rattle.outbox_process.specs.Showing.{ShowsStates, ShowsEntry, ShowsEach}
+use Rattle.outbox_process.specs.Showing.{ShowsStates, ShowsEntry, ShowsEach, body_of}
 use Rattle.outbox_process.specs.declared.errand.Done.{Done}
 use Rattle.outbox_process.specs.declared.errand.Done.TheVariants as done
 use Rattle.outbox_process.specs.declared.errand.Errand.{Errand}
 use Rattle.outbox_process.specs.declared.errand.Errand.TheVariants.{Put, Send, Ask, ShowStates, ShowEntry, ShowEach}
+use Rattle.outbox_process.specs.declared.errand.Errand.TheVariants.{ShowBody}
 use Rattle.outbox_process.specs.declared.errand.Which.{Which}
 use Rattle.outbox_process.specs.declared.errand.Which.TheVariants.{Next, Entry, All}
 
@@ -54,6 +56,8 @@ DoesErrand g (Ask id form) net net' box box' out out' result =
 DoesErrand g ShowStates net net' box box' out out' result =
     Answers {A = Unit {0}} (λ _. done.Shown) result (ShowsStates g box box' out out') × (net' ≡ net)
 DoesErrand g (ShowEntry id) net net' box box' out out' result =
-    Answers {A = Unit {0}} (λ _. done.Shown) result (ShowsEntry g id box box' out out') × (net' ≡ net)
+    Answers {A = Unit {0}} (λ _. done.Shown) result (ShowsEntry g long_line id box box' out out') × (net' ≡ net)
 DoesErrand g ShowEach net net' box box' out out' result =
     Answers {A = Unit {0}} (λ _. done.Shown) result (ShowsEach g AreAny box box' out out') × (net' ≡ net)
+DoesErrand g (ShowBody id) net net' box box' out out' result =
+    Answers {A = Unit {0}} (λ _. done.Shown) result (ShowsEntry g body_of id box box' out out') × (net' ≡ net)

@@ -7,6 +7,7 @@ pub mod Errands
 pub mod Faults
 pub mod Lending
 pub mod Lines
+pub mod Listing
 pub mod Looking
 pub mod Memory
 pub mod Process

@@ -22,18 +22,23 @@ pub record ShowsStates {S X : Type 0} (g : Ghosts S) (box box' : OutboxParts S) 
   pub kept : ForEntries g box box' (HasEntries g box')
   pub filer : box'.filer ≡ box.filer
 
--- The entry of an id was found, and its line was printed, or could not be; or it was not found, and nothing was
+-- The entry of an id was found, and this was printed of it, or could not be; or it was not found, and nothing was
 -- printed.
-abbrev pub IsShown : {S X : Type 0} → Ghosts S → ℕ → OutboxParts S → OutboxParts S → Option (List ℕ) → Option (List ℕ)
-    → Result X TaskFault → Type 0
-IsShown g id box box' out out' result =
+abbrev pub IsShown : {S X : Type 0} → Ghosts S → (ℕ × Entry
+    → List ℕ) → ℕ → OutboxParts S → OutboxParts S → Option (List ℕ) → Option (List ℕ) → Result X TaskFault → Type 0
+IsShown g text_of id box box' out out' result =
     ((entry : Entry) × ForEntries g box box' (λ entries. entry_at entries id ≡ Some entry)
-    × OnOk result (Appends out out' (long_line (id, entry))) × IfErr result IsNotPrinted)
+    × OnOk result (Appends out out' (text_of (id, entry))) × IfErr result IsNotPrinted)
     ⊎ ((fault : TaskFault) × (result ≡ Err fault) × IsNotFound g box box' id fault × (out' ≡ out))
 
-pub record ShowsEntry {S X : Type 0} (g : Ghosts S) (id : ℕ) (box box' : OutboxParts S) (out out' : Option (List ℕ))
+-- the bytes of its report
+abbrev pub body_of : ℕ × Entry → List ℕ
+body_of (id, entry) = entry.body
+
+pub record ShowsEntry {S X : Type 0} (g : Ghosts S) (text_of : ℕ × Entry
+    → List ℕ) (id : ℕ) (box box' : OutboxParts S) (out out' : Option (List ℕ))
     (result : Result X TaskFault) : Type 0 where
-  pub shown : IsShown g id box box' out out' result
+  pub shown : IsShown g text_of id box box' out out' result
   pub kept : ForEntries g box box' (HasEntries g box')
   pub filer : box'.filer ≡ box.filer
   pub clean : HasCleanDisk (shows g box') → HasCleanDisk (shows g box)

@@ -10,7 +10,7 @@ use crate::tasks::fault::TaskFault;
 use crate::tasks::putting::put;
 use crate::tasks::rounds::{Round, send_all};
 use crate::tasks::sending::{send_entry, send_next};
-use crate::tasks::showing::{show_each, show_entry, show_states};
+use crate::tasks::showing::{show_body, show_each, show_entry, show_states};
 use finding_lines::Form;
 use key_string::KeyText;
 use outbox_core::Outbox;
@@ -51,6 +51,8 @@ pub enum Errand {
     ShowEntry(u64),
     /// Show the state, the length and the key of each entry.
     ShowEach,
+    /// Show the report of this entry, and nothing else.
+    ShowBody(u64),
 }
 
 /// What came of an errand.
@@ -89,6 +91,7 @@ pub(crate) fn do_errand<S: Alter, N: Dial, O: Write>(
         Errand::ShowStates => shown(show_states(alloc, outbox, output)),
         Errand::ShowEntry(id) => shown(show_entry(alloc, outbox, id, output)),
         Errand::ShowEach => shown(show_each(alloc, outbox, output)),
+        Errand::ShowBody(id) => shown(show_body(outbox, id, output)),
     }
 }
 

@@ -23,4 +23,4 @@ pub use tasks::memory::{Finished, Replies};
 pub use tasks::putting::put;
 pub use tasks::rounds::{Round, send_all};
 pub use tasks::sending::{send_entry, send_next};
-pub use tasks::showing::{show_each, show_entry, show_states};
+pub use tasks::showing::{show_body, show_each, show_entry, show_states};

@@ -6,6 +6,7 @@ pub(crate) mod asking;
 pub(crate) mod dial;
 pub(crate) mod fault;
 pub(crate) mod lines;
+pub(crate) mod listing;
 pub(crate) mod looking;
 pub(crate) mod memory;
 pub(crate) mod putting;

@@ -105,6 +105,8 @@ for_errand : (errand : Errand)
     ⊎ ((requests : List Request) (db : Database) → IsRegisterOf 0 requests db → IsRegisterFor errand 0 requests db)
 for_errand (asked.List filer dated) = inr (λ requests db is. is)
 for_errand (asked.Show number dated) = inr (λ requests db is. is)
+for_errand (asked.FilingBody number) = inr (λ requests db is. is)
+for_errand (asked.RequestBody filer key) = inr (λ requests db is. is)
 for_errand (asked.Check against) = inr (λ requests db is. is)
 for_errand asked.Migrate = inl refl
 for_errand (asked.Export form filer) = inr (λ requests db is. is)

@@ -38,7 +38,7 @@ use Rattle.outbox_commands.specs.Visits.{VisitsOutbox}
 use Rattle.outbox_commands.specs.declared.fault.NotDone.{NotDone}
 use Rattle.outbox_commands.specs.declared.fault.NotDone.TheVariants as fault
 use Rattle.outbox_commands.specs.declared.options.Task.{Task}
-use Rattle.outbox_commands.specs.declared.options.Task.TheVariants.{Init, Put, Migrate, Send, Ask, Status, Show}
+use Rattle.outbox_commands.specs.declared.options.Task.TheVariants.{Init, Put, Migrate, Send, Ask, Status, Show, Body}
 use Rattle.outbox_commands.specs.declared.putting.ReportFile.{ReportFile}
 use Rattle.program_runs.specs.Deeds.{Deed, Added}
 use Rattle.program_runs.specs.Runs.{LiesClosed, IsRunBy, putting, AreOfPutting, AreOfSend, AreOfAsk, AreOfNetwork}
@@ -251,15 +251,15 @@ module _ {D : Type 0} {g : Ghosts D} where
       lies puts.opens puts.closes certain (λ keeps sure.
       turns target reports net out out' puts.opened puts.done puts.turns.0 it honest puts.turns.1 keeps sure)
 
-  put : {X : Type 0} (files : List (Bor (List ℕ))) (text : Option (Bor (List ℕ))) (target : Target)
+  put : {X : Type 0} (strict : Bool) (files : List (Bor (List ℕ))) (text : Option (Bor (List ℕ))) (target : Target)
       (net net' : Traffic) (out out' : Option (List ℕ)) (old new : Parts g) (result : Result X NotDone) (it : Contents)
-      → IsHonest g → LiesClosed old it → PutsReports g files text target net net' out out' old new result
+      → IsHonest g → LiesClosed old it → PutsReports g strict files text target net net' out out' old new result
       → new.is_certain ≡ true → IsRunBy it old new (AreOfPutting files text target (status_by result))
-  put files text target net net' out out' old new result it honest lies puts certain = elim puts [
+  put strict files text target net net' out out' old new result it honest lies puts certain = elim puts [
     | inl two ↦ stayed old new it (AreOfPutting files text target (status_by result))
         (inl (failed_by result fault.ForOne two.1, refl)) lies two.2.0
     | inr read ↦ elim read.1 [
-      | inl all ↦ elim all.3 [
+      | inl all ↦ elim all.4 [
         | inl them ↦
             let is = puts_them target all.0 net out out' old new (status_by result) it honest lies them certain in
             record {
@@ -360,12 +360,12 @@ module _ {D : Type 0} {g : Ghosts D} where
     stays = by.stays;
   }
 
-  put_net : {X : Type 0} (files : List (Bor (List ℕ))) (text : Option (Bor (List ℕ))) (target : Target)
+  put_net : {X : Type 0} (strict : Bool) (files : List (Bor (List ℕ))) (text : Option (Bor (List ℕ))) (target : Target)
       (net net' : Traffic) (out out' : Option (List ℕ)) (old new : Parts g) (result : Result X NotDone)
-      → PutsReports g files text target net net' out out' old new result → net' ≡ net
-  put_net files text target net net' out out' old new result puts = elim puts [
+      → PutsReports g strict files text target net net' out out' old new result → net' ≡ net
+  put_net strict files text target net net' out out' old new result puts = elim puts [
     | inl two ↦ two.2.1
-    | inr read ↦ elim read.1 [ inl all ↦ all.2 | inr none ↦ none.3.1 ]
+    | inr read ↦ elim read.1 [ inl all ↦ all.3 | inr none ↦ none.3.1 ]
   ]
 
   -- a task that shows something
@@ -388,12 +388,12 @@ module _ {D : Type 0} {g : Ghosts D} where
   run (Init database filer) net net' out out' old new result it honest lies made does certain =
       with_also it old new (λ deeds. deeds ≡ []) (AreOfNetwork net net') (no_connection net net' does.1)
       (inits filer old new (status_by result) it honest lies made does.0 certain)
-  run (Put database files key target) net net' out out' old new result it honest lies made does certain =
+  run (Put database files key target strict) net net' out out' old new result it honest lies made does certain =
       let status = status_by result in
-      let same = put_net files.items key target net net' out out' old new result does in
+      let same = put_net strict files.items key target net net' out out' old new result does in
       with_also it old new (AreOfPutting files.items key target status) (AreOfNetwork net net')
       (puts_quietly files.items key target net net' status same)
-      (put files.items key target net net' out out' old new result it honest lies does certain)
+      (put strict files.items key target net net' out out' old new result it honest lies does certain)
   run (Migrate database) net net' out out' old new result it honest lies made does certain =
       with_also it old new (λ deeds. deeds ≡ []) (AreOfNetwork net net') (no_connection net net' does.1)
       (migrates out out' old new (status_by result) it honest lies does.0 certain)
@@ -418,5 +418,9 @@ module _ {D : Type 0} {g : Ghosts D} where
       looks net net' before after it honest has is.0.1.kept is.0.1.filer is.1)
   run (Show database (Some id)) net net' out out' old new result it honest lies made does certain =
       shows (errand.ShowEntry id) net net' out out' old new (status_by result) it honest lies does certain
+      (λ before after came has filer is.
+      looks net net' before after it honest has is.0.1.kept is.0.1.filer is.1)
+  run (Body database id) net net' out out' old new result it honest lies made does certain =
+      shows (errand.ShowBody id) net net' out out' old new (status_by result) it honest lies does certain
       (λ before after came has filer is.
       looks net net' before after it honest has is.0.1.kept is.0.1.filer is.1)

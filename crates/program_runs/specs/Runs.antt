@@ -14,7 +14,7 @@ use Rattle.outbox_process.specs.declared.target.Target.{Target}
 use Rattle.outbox_commands.specs.Puts.{AreReadFor}
 use Rattle.outbox_commands.specs.declared.putting.ReportFile.{ReportFile}
 use Rattle.outbox_commands.specs.declared.options.Task.{Task}
-use Rattle.outbox_commands.specs.declared.options.Task.TheVariants.{Init, Put, Migrate, Send, Ask, Status, Show}
+use Rattle.outbox_commands.specs.declared.options.Task.TheVariants.{Init, Put, Migrate, Send, Ask, Status, Show, Body}
 use Rattle.program_runs.specs.Deeds.{Deed, Added, Wrote, Heard, Asked, AreDone}
 
 -- the outbox of these contents lies there, by the log and the database file together; or no files do, as before an
@@ -76,19 +76,22 @@ AreOfSend Next deeds = (id : ℕ) × AreOfOne id deeds
 AreOfSend (Entry id) deeds = AreOfOne id deeds
 AreOfSend All deeds = (ids : List ℕ) × AreOfTurns ids deeds
 
--- a request was written, whole or in part, or none
+-- one request was written, whole or in part, or two, the first of which asks for the filing; or none
 abbrev pub AreOfAsk : List Deed → Type 0
-AreOfAsk deeds = (deeds ≡ []) ⊎ ((written : List ℕ) × (deeds ≡ Asked written ∷ []))
+AreOfAsk deeds =
+    (deeds ≡ []) ⊎ (((written : List ℕ) × (deeds ≡ Asked written ∷ []))
+    ⊎ ((looked written : List ℕ) × (deeds ≡ Asked looked ∷ Asked written ∷ [])))
 
 -- what a task that ends with this status does with an outbox
 abbrev pub AreOfTask : Task → ℕ → List Deed → Type 0
 AreOfTask (Init database filer) status deeds = deeds ≡ []
-AreOfTask (Put database files key target) status deeds = AreOfPutting files.items key target status deeds
+AreOfTask (Put database files key target strict) status deeds = AreOfPutting files.items key target status deeds
 AreOfTask (Migrate database) status deeds = deeds ≡ []
 AreOfTask (Send database peer which strict) status deeds = AreOfSend which deeds
 AreOfTask (Ask database peer id form) status deeds = AreOfAsk deeds
 AreOfTask (Status database) status deeds = deeds ≡ []
 AreOfTask (Show database entry) status deeds = deeds ≡ []
+AreOfTask (Body database entry) status deeds = deeds ≡ []
 
 -- ---- on which connections
 

@@ -22,6 +22,15 @@ pub enum Errand<'a> {
         number: u64,
         moments: bool,
     },
+    /// Print the bytes of the report that is the filing of this number.
+    FilingBody {
+        number: u64,
+    },
+    /// Print the bytes of the first report of this filer under this key, whether it was registered or refused.
+    RequestBody {
+        filer: &'a str,
+        key: &'a str,
+    },
     /// Say whether the register is sound, and has the requests of a digest that was published, if one is given.
     Check {
         against: Option<Published>,

@@ -20,14 +20,14 @@ use std::io::Write;
 use terminal_text::OneLine;
 use xbrl_report::Fact;
 
-/// Why the facts of a filing are not shown.
+/// Why a filing is not shown, or the report of a request.
 #[derive(Clone, Copy, Debug, PartialEq, Eq)]
 pub enum ShowFault {
-    /// There is no filing of this number.
-    NoFiling,
+    /// There is none of this number, or of this filer and key.
+    Missing,
     /// The register could not be read.
     Store(StoreFault),
-    /// They could not be printed.
+    /// It could not be printed.
     Text(TextFault),
 }
 
@@ -68,7 +68,7 @@ pub fn show<S: Alter, O: Write>(
         register.new result }
 {
     let Some(facts) = register.facts(number)? else {
-        return Err(ShowFault::NoFiling);
+        return Err(ShowFault::Missing);
     };
     let text = shown_lines(alloc, register, number, moments, &facts)?;
     print(output, text.as_bytes())?;

@@ -1,19 +1,22 @@
-//! A settled entry is asked about: its request is sent again, and the reply is printed.
+//! A settled entry is asked about: its request is sent again, and the reply is printed. Of a confirmed one the register
+//! is asked first whether it lists the filing, since a register that lost it would file the report anew.
 
 ghost use Rattle.std.specs.Prelude.{◌≡◌, IfOk, IfErr};
 ghost use Rattle.http_messages.specs.Replies.{reply_parts};
 ghost use Rattle.filer_client.specs.Exchange.{HearsFrom, IsFaultOf};
 ghost use Rattle.outbox_core.specs.Reading.{view_entry};
-ghost use Rattle.outbox_process.specs.Asking.{FindsQuestion, WritesQuestion, IsReplied, TellsReply, AsksEntry};
+ghost use Rattle.outbox_process.specs.Asking.{FindsQuestion, WritesQuestion, IsReplied, Looks, LooksFirst, TellsReply};
+ghost use Rattle.outbox_process.specs.Asking.{AsksEntry};
 
 use crate::tasks::answering::print_answer;
 use crate::tasks::dial::Dial;
 use crate::tasks::fault::{LineFault, SendFault, TaskFault};
+use crate::tasks::listing::{find_listed, list_request};
 use crate::tasks::looking::{entry_of, is_open};
 use filer_client::{ExchangeFault, request_bytes};
 use finding_lines::Form;
 use http_wire::{Reply, Sink, Source, read_reply, write_all};
-use outbox_core::{Entry, Outbox, Said, said_of};
+use outbox_core::{Entry, Outbox, Said, State, said_of};
 use sqlite::Alter;
 use std::alloc::Global;
 use std::io::Write;
@@ -96,6 +99,72 @@ fn ask_once<N: Dial>(
     }
 }
 
+/// Sends a request for a list on a connection of its own, for the entry of this id, and answers the reply.
+fn look_once<N: Dial>(
+    alloc: Global,
+    network: &mut N,
+    id: u64,
+    request: &[u8],
+) -> Result<Reply, SendFault>
+    ensures { IsReplied id State.Open request.now (N.traffic network.old) (N.traffic network.new) result }
+{
+    match network.connect() {
+        Ok((mut reader, mut writer)) => {
+            match ask_on(alloc, &mut reader, &mut writer, request) {
+                Ok(reply) => {
+                    network.end_look(reader, writer, id, Ok(State::Open));
+                    Ok(reply)
+                }
+                Err(fault) => {
+                    network.end_look(reader, writer, id, Err(fault));
+                    Err(SendFault::Exchange(fault))
+                }
+            }
+        }
+        Err(error) => Err(SendFault::Connect(error)),
+    }
+}
+
+/// Asks on a connection of its own whether the register lists the filing of this number of this filer as what the entry
+/// of this id would be. If not, the fault says why.
+fn look<N: Dial>(
+    alloc: Global,
+    network: &mut N,
+    filer: &str,
+    id: u64,
+    number: u64,
+    entry: &Entry,
+) -> Result<(), TaskFault>
+    ensures { Looks filer.now id number (view_entry entry.now).1 (N.traffic network.old) (N.traffic network.new)
+        result }
+{
+    let Ok(request) = list_request(alloc, filer, number) else {
+        return Err(TaskFault::Line(LineFault::Memory));
+    };
+    match look_once(alloc, network, id, request.as_slice()) {
+        Ok(reply) => find_listed(alloc, filer, id, number, entry, &reply),
+        Err(fault) => Err(TaskFault::Send { id, fault }),
+    }
+}
+
+/// Before the request of this entry of this filer is sent again: if it is confirmed, its filing has to be listed.
+fn look_first<N: Dial>(
+    alloc: Global,
+    network: &mut N,
+    filer: &str,
+    id: u64,
+    entry: &Entry,
+) -> Result<(), TaskFault>
+    ensures { LooksFirst filer.now id (view_entry entry.now).1 entry.now.state (N.traffic network.old)
+        (N.traffic network.new) result }
+{
+    match entry.state {
+        State::Confirmed(number) => look(alloc, network, filer, id, number, entry),
+        // No list has what was refused.
+        State::Open | State::Refused | State::Clashed => Ok(()),
+    }
+}
+
 /// Prints the reply to a question about the entry of this id, which is of this filer, and refuses one that contradicts
 /// the entry.
 fn tell_reply<O: Write>(
@@ -127,8 +196,8 @@ fn tell_reply<O: Write>(
 
 /// Sends the request of a settled entry again, on a connection of its own, and prints the reply: its status, its
 /// content, and a line for each finding for which it refuses the report. A reply that contradicts the entry is a fault.
-/// The outbox stays as it is, whatever the reply says. An open entry is refused, since asking about it would be sending
-/// it.
+/// Of a confirmed entry nothing is sent unless the register lists its filing, for which it is asked first. The outbox
+/// stays as it is, whatever the replies say. An open entry is refused, since asking about it would be sending it.
 pub fn ask<S: Alter, N: Dial, O: Write>(
     alloc: Global,
     network: &mut N,
@@ -141,6 +210,7 @@ pub fn ask<S: Alter, N: Dial, O: Write>(
         (O.contents output.old) (O.contents output.new) result }
 {
     let question = question_of(alloc, outbox, id)?;
+    look_first(alloc, network, outbox.filer(), id, &question.entry)?;
     match ask_once(alloc, network, id, &question) {
         Ok(reply) => {
             tell_reply(

@@ -36,6 +36,18 @@ pub trait Dial {
         ensures coming { (traffic self.new).coming ≡ (traffic self.old).coming }
         ensures over { Adds (traffic self.old).over (traffic self.new).over id came (Self.Writer.written writer) };
 
+    /// Takes back a connection that is over, on which it was only asked whether a filing is listed, as which the entry
+    /// of this id is confirmed. So nothing is to be reported or kept of what came.
+    fn end_look(
+        &mut self,
+        reader: Self::Reader,
+        writer: Self::Writer,
+        id: u64,
+        came: Result<State, ExchangeFault>,
+    )
+        ensures coming { (traffic self.new).coming ≡ (traffic self.old).coming }
+        ensures over { Adds (traffic self.old).over (traffic self.new).over id came (Self.Writer.written writer) };
+
     /// Whether a round ends after an exchange that failed.
     fn gives_up(&self) -> bool
         ensures { result ≡ (traffic self.now).gives_up };

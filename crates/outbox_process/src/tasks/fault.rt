@@ -48,6 +48,12 @@ pub enum TaskFault {
     NotTold { id: u64, fault: LineFault },
     /// The entry of this id was tried and is open still, and this was printed.
     Send { id: u64, fault: SendFault },
+    /// The entry of this id is confirmed under this number, but the register does not list it as that filing. So its
+    /// request was not sent again.
+    NotListed { id: u64, number: u64 },
+    /// Whether the register lists the filing of this number, as which the entry of this id is confirmed, is not known:
+    /// the reply has this status, and no list. So the request of the entry was not sent again.
+    NoList { id: u64, number: u64, status: u16 },
     /// The reply to the question about the entry of this id is printed, and contradicts the entry, which is in this
     /// state: it would settle an open entry as the other.
     Contradicts { id: u64, state: State, told: State },

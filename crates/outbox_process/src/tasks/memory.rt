@@ -101,6 +101,16 @@ impl<'a> Dial for Replies<'a> {
         };
     }
 
+    fn end_look(
+        &mut self,
+        reader: Device<&'a [u8]>,
+        writer: MemoryWriter,
+        id: u64,
+        came: Result<State, ExchangeFault>,
+    ) {
+        self.end(reader, writer, id, came);
+    }
+
     fn gives_up(&self) -> bool {
         false
     }

@@ -1,10 +1,11 @@
 //! Shows entries.
 
+ghost use Rattle.outbox_process.specs.Lines.{long_line};
 ghost use Rattle.outbox_process.specs.Looking.{AreAny};
-ghost use Rattle.outbox_process.specs.Showing.{AreTold, ShowsStates, ShowsEntry, ShowsEach};
+ghost use Rattle.outbox_process.specs.Showing.{AreTold, ShowsStates, ShowsEntry, ShowsEach, body_of};
 
 use crate::tasks::fault::TaskFault;
-use crate::tasks::lines::{print_long, print_states};
+use crate::tasks::lines::{print_bytes, print_long, print_states};
 use crate::tasks::looking::{entry_of, states_of};
 use outbox_core::{Outbox, State};
 use sqlite::Alter;
@@ -32,10 +33,26 @@ pub fn show_entry<S: Alter, O: Write>(
     id: u64,
     output: &mut O,
 ) -> Result<(), TaskFault>
-    ensures { ShowsEntry S.Store id outbox.old outbox.new (O.contents output.old) (O.contents output.new) result }
+    ensures { ShowsEntry S.Store long_line id outbox.old outbox.new (O.contents output.old) (O.contents output.new)
+        result }
 {
     let entry = entry_of(outbox, id)?;
     print_long(alloc, id, &entry, output)?;
+    Ok(())
+}
+
+/// Prints the report of the entry of this id: its bytes, and nothing else. Answers `NoEntry` exactly if no entry has
+/// the id.
+pub fn show_body<S: Alter, O: Write>(
+    outbox: &mut Outbox<S>,
+    id: u64,
+    output: &mut O,
+) -> Result<(), TaskFault>
+    ensures { ShowsEntry S.Store body_of id outbox.old outbox.new (O.contents output.old) (O.contents output.new)
+        result }
+{
+    let entry = entry_of(outbox, id)?;
+    print_bytes(entry.body.as_slice(), output)?;
     Ok(())
 }
 

@@ -9,6 +9,13 @@ returns-in-List-clause-fills g c = no_pages g.S.Store c.args.errand _ _ _ _ (ap 
 pub returns-in-Show-clause-fills : goal.returns-in-Show-clause-fills
 returns-in-Show-clause-fills g c = no_pages g.S.Store c.args.errand _ _ _ _ (ap is_for_pages c.in-Show.is)
 
+pub returns-in-FilingBody-clause-fills : goal.returns-in-FilingBody-clause-fills
+returns-in-FilingBody-clause-fills g c = no_pages g.S.Store c.args.errand _ _ _ _ (ap is_for_pages c.in-FilingBody.is)
+
+pub returns-in-RequestBody-clause-fills : goal.returns-in-RequestBody-clause-fills
+returns-in-RequestBody-clause-fills g c =
+    no_pages g.S.Store c.args.errand _ _ _ _ (ap is_for_pages c.in-RequestBody.is)
+
 pub returns-in-Check-clause-fills : goal.returns-in-Check-clause-fills
 returns-in-Check-clause-fills g c = no_pages g.S.Store c.args.errand _ _ _ _ (ap is_for_pages c.in-Check.is)
 

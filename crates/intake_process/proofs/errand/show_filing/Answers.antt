@@ -1,5 +1,6 @@
 use Rattle.std.proofs.Common.{sym, subst}
 use Rattle.intake_process.specs.declared.tasks.errand.Errand.TheVariants as asked
+use Rattle.intake_process.specs.declared.errand.ErrandFault.TheVariants as fault
 use Rattle.intake_process.specs.Errands.{RunsErrand}
 use Rattle.intake_process.specs.Outcomes.{shown_as}
 use Rattle.intake_process.proofs.Errands.{shows_filing, show_refused}
@@ -11,8 +12,8 @@ returns-in-Ok g c =
     let out' = g.O.Write.contents c.show-shown.new.output in
     let errand = asked.Show c.args.number c.args.moments in
     subst (λ r. RunsErrand g.S.Store errand out out' c.args.conn c.into_conn.result r) (sym c.shown_as.ensures)
-    (subst (λ conn. RunsErrand g.S.Store errand out out' c.args.conn conn (shown_as c.args.number c.show-shown.result))
-    (sym c.into_conn.ensures)
+    (subst (λ conn. RunsErrand g.S.Store errand out out' c.args.conn conn
+    (shown_as (fault.NoFiling c.args.number) c.show-shown.result)) (sym c.into_conn.ensures)
     (shows_filing g.S.Store c.args.number c.args.moments out out' c.args.conn c.in-Ok.register c.show-shown.new.register
     c.show-shown.result c.in-Ok.ensures c.show-shown.ensures))
 

@@ -21,6 +21,7 @@ returns-in-Err g c =
       inl (
         c.in_ok-reports.reports.items,
         c.in_ok-reports.ensures.read,
+        c.in_ok-reports.ensures.fit,
         refl,
         inr (record { why = r.why; opens = r.opens; says = c.of_opening.ensures ∙ r.says }, refl),
       ),
@@ -34,6 +35,7 @@ returns g c =
       inl (
         c.in_ok-reports.reports.items,
         c.in_ok-reports.ensures.read,
+        c.in_ok-reports.ensures.fit,
         c.put_each-done.ensures.traffic,
         inl (record {
           opened = before;
