@@ -3,8 +3,8 @@ use Rattle.std.specs.Prelude.{ℕ, Result, Ok, Err}
 use Rattle.command_line.specs.Status.{status_of as command_status}
 use Rattle.event_script.specs.declared.fault.ScriptFault.{ScriptFault}
 use Rattle.event_script.specs.declared.fault.ScriptFault.TheVariants as script
-use Rattle.world.specs.declared.fault.Fault.{Fault as WorldFault}
-use Rattle.world.specs.declared.fault.Fault.TheVariants as world
+use Rattle.schedule.specs.declared.fault.Fault.{Fault as WorldFault}
+use Rattle.schedule.specs.declared.fault.Fault.TheVariants as world
 use Rattle.drill_commands.specs.declared.fault.NotDone.{NotDone}
 use Rattle.drill_commands.specs.declared.fault.NotDone.TheVariants as drill
 

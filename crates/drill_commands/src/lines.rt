@@ -6,8 +6,8 @@ ghost use Rattle.command_line.specs.declared.fault.CommandFault.TheVariants.{Mem
 ghost use Rattle.intake_core.specs.declared.intake.Unavailable.TheVariants.{Down};
 ghost use Rattle.drill_commands.specs.Refusals.{AreNotShown, IsNotShown};
 ghost use Rattle.drill_commands.specs.Shown.{filing_shown, entry_shown, world_shown};
-ghost use Rattle.world.specs.Listed.{view_listed, are_up};
-ghost use Rattle.world.specs.Played.{IsSame};
+ghost use Rattle.schedule.specs.Listed.{view_listed, are_up};
+ghost use Rattle.schedule.specs.Played.{IsSame};
 
 use crate::fault::NotDone;
 use event_script::{append_done, append_entry, append_filing};

@@ -6,8 +6,7 @@ ghost use Rattle.intake_core.specs.Held.{ForRequests, has_stopped};
 ghost use Rattle.gateway_server.specs.Ahead.{AreFiled, AsksToFile, DecidesAhead, IsFiled, view_filed};
 
 use gateway_requests::{Route, first_request, route_of};
-use intake_answers::Request;
-use intake_core::{Intake, Moment};
+use intake_core::{Intake, Moment, Request};
 use key_string::KeyText;
 use sqlite::Alter;
 use std::alloc::{AllocError, Global};

@@ -14,7 +14,7 @@ mod stop;
 pub use ahead::{decide_ahead, files_first};
 pub use filing_model::{Ended, Mark};
 pub use gateway_requests::completed;
-pub use intake_answers::fact_line;
+pub use intake_core::fact_line;
 pub use port::Port;
 pub use port_fault::PortFault;
 pub use serving::{Partly, Served, serve, serve_until};

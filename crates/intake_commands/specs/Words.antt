@@ -15,8 +15,8 @@ use Rattle.clap.specs.declared.parser.matches.ArgMatches.{ArgMatches}
 use Rattle.hex.specs.Hex.{decode_sized}
 use Rattle.key_string.specs.Key.{is_key}
 use Rattle.command_line.specs.declared.fault.CommandFault.TheVariants as command
-use Rattle.register_export.specs.declared.facts.record.FactForm.{FactForm}
-use Rattle.register_export.specs.declared.facts.record.FactForm.TheVariants.{Csv, JsonLines}
+use Rattle.register_extracts.specs.declared.facts.record.FactForm.{FactForm}
+use Rattle.register_extracts.specs.declared.facts.record.FactForm.TheVariants.{Csv, JsonLines}
 use Rattle.finding_lines.specs.declared.form.Form.{Form}
 use Rattle.finding_lines.specs.declared.form.Form.TheVariants.{Sentences, Objects}
 use Rattle.intake_process.specs.declared.tasks.errand.Errand.{Errand}

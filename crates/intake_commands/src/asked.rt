@@ -21,7 +21,7 @@ use command_line::{
 use finding_lines::Form;
 use intake_process::Errand;
 use key_string::is_key;
-use register_export::FactForm;
+use register_extracts::FactForm;
 use std::alloc::{AllocError, Global};
 
 /// How many keys are kept at most.

@@ -2,8 +2,7 @@
 
 ghost use Rattle.std.specs.Prelude.{◌≡◌, None};
 
-use markup::Markup;
-use register_pages::{Folder, NotWritten};
+use register_pages::{Folder, Markup, NotWritten};
 use std::alloc::AllocError;
 use std::fs::{self, File, OpenOptions};
 use std::hash::{BuildHasher, RandomState};

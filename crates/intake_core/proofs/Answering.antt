@@ -22,8 +22,8 @@ use Rattle.filing_model.specs.Style.{style_of, HasStyle}
 use Rattle.filing_model.specs.Views.{view_answer, view_outcome}
 use Rattle.filing_model.proofs.Answers.{answer_new}
 use Rattle.filing_model.proofs.Keeping.{kept_grows, kept_new}
-use Rattle.intake_answers.specs.Cache.{IsKeptIn}
-use Rattle.intake_answers.proofs.CacheLemmas.{IsKeptIn-more}
+use Rattle.intake_core.specs.Cache.{IsKeptIn}
+use Rattle.intake_core.proofs.CacheLemmas.{IsKeptIn-more}
 use Rattle.intake_core.specs.declared.intake.Intake.{Intake}
 use Rattle.intake_core.specs.Group.{AreDecidedInTurn, Given}
 use Rattle.intake_core.specs.Held.{ChangesOnlyCache, HoldsRequests, limit_of, old_style_of, with_request}

@@ -15,11 +15,11 @@ use Rattle.filing_model.specs.declared.served.Style.TheVariants.{Problem}
 use Rattle.filing_model.proofs.Firsts.{firsts_new, firsts_repeat, same_key-refl}
 use Rattle.filing_model.proofs.Keeping.{kept_new, kept_none, kept_found}
 use Rattle.register_store.specs.Store.{HasRequests}
-use Rattle.intake_answers.specs.declared.cache.Cache.{Cache}
+use Rattle.intake_core.specs.declared.cache.Cache.{Cache}
 use Rattle.intake_core.specs.declared.intake.Intake.{Intake}
-use Rattle.intake_answers.specs.Cache.{IsKeptIn, RemembersIfAny}
+use Rattle.intake_core.specs.Cache.{IsKeptIn, RemembersIfAny}
 use Rattle.intake_core.specs.Held.{HoldsRequests, old_style_of, old_style_in}
-use Rattle.intake_answers.proofs.CacheLemmas.{IsKeptIn-more}
+use Rattle.intake_core.proofs.CacheLemmas.{IsKeptIn-more}
 
 -- what holds of a value that was made holds of it as an option
 pub IfSome-made : {X E : Type 0} (made : Result X E) (P : X → Type 0) → IfOk made P → IfSome (result_ok made) P

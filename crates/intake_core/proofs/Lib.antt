@@ -3,3 +3,4 @@ pub mod Dating
 pub mod Deciding
 pub mod Group
 pub mod Together
+pub mod CacheLemmas

@@ -13,7 +13,7 @@ use Rattle.register_tables.specs.Registers.{LeavesRegister}
 use Rattle.intake_core.specs.declared.intake.Intake.{Intake}
 use Rattle.intake_core.specs.declared.intake.Unavailable.{Unavailable}
 use Rattle.intake_core.specs.declared.intake.Unavailable.TheVariants.{Down, Full, Store}
-use Rattle.intake_answers.specs.Answered.{IsAnswerTo}
+use Rattle.intake_core.specs.Answered.{IsAnswerTo}
 use Rattle.intake_core.specs.Held.{store_of, shows, limit_of, old_style_of, old_style_in, has_stopped, HoldsRequests}
 use Rattle.intake_core.specs.Held.{KeepsSetting, ForRequests, IsDurableAs, SurvivesAs, with_request}
 use Rattle.intake_core.specs.Moments.{KeepsMoments}

@@ -9,7 +9,7 @@ use Rattle.sqlite.specs.Tree.{Trees}
 use Rattle.filing_model.specs.declared.answer.Answer.{Answer}
 use Rattle.filing_model.specs.Request.{Request, firsts, has_key}
 use Rattle.register_tables.specs.Registers.{LeavesRegister}
-use Rattle.intake_answers.specs.Answered.{IsAnswerTo}
+use Rattle.intake_core.specs.Answered.{IsAnswerTo}
 use Rattle.intake_core.specs.declared.intake.Intake.{Intake}
 use Rattle.intake_core.specs.declared.intake.Unavailable.{Unavailable}
 use Rattle.intake_core.specs.declared.intake.Unavailable.TheVariants.{Down, Full, Store}

@@ -7,7 +7,7 @@ use Rattle.filing_model.specs.Request.{Request, firsts}
 use Rattle.register_store.specs.Store.{StoreParts, HasRequests}
 use Rattle.register_store.specs.Store as register
 use Rattle.intake_core.specs.declared.intake.Intake.{Intake}
-use Rattle.intake_answers.specs.Cache.{RemembersIfAny}
+use Rattle.intake_core.specs.Cache.{RemembersIfAny}
 
 -- its register
 abbrev pub store_of : {S : Type 0} → Intake S → StoreParts S

@@ -3,3 +3,6 @@ pub mod Group
 pub mod Held
 pub mod Moments
 pub mod Together
+pub mod Answered
+pub mod Cache
+pub mod FactLine

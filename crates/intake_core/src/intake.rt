@@ -21,7 +21,7 @@ ghost use Rattle.intake_core.specs.declared.intake.Unavailable.TheVariants.{Down
 mod group;
 
 use filing_model::{Answer, FilingRow, Outcome, Registered, Style};
-use intake_answers::{Cache, Request, answer_by, name_of};
+use crate::{Cache, Request, answer_by, name_of};
 use key_string::KeyText;
 use register_store::{KeptRow, Moment, NewRow, Store, StoreFault};
 use sqlite::Alter;
@@ -265,8 +265,8 @@ impl<S: Alter> Intake<S> {
 }
 
 impl<S: Alter> Intake<S> {
-    ghost use Rattle.intake_answers.specs.Answered.{IsAnswerTo};
-    ghost use Rattle.intake_answers.specs.Cache.{IsKeptIn, IsNameIfAny};
+    ghost use Rattle.intake_core.specs.Answered.{IsAnswerTo};
+    ghost use Rattle.intake_core.specs.Cache.{IsKeptIn, IsNameIfAny};
     ghost use Rattle.intake_core.specs.Calls.{AnswersIf, IsRequest, TellsIfFree};
     ghost use Rattle.intake_core.specs.Held.{store_of, limit_of, old_style_of, old_style_in, has_stopped};
     ghost use Rattle.intake_core.specs.Held.{HoldsRequests, ForRequests, ChangesOnlyCache, SurvivesAs, with_request};

@@ -25,12 +25,12 @@ use Rattle.register_tables.specs.declared.fault.OpenFault.{OpenFault}
 use Rattle.register_tables.specs.declared.opening.Counts.{Counts}
 use Rattle.register_tables.specs.Opening.{ReadsRegister, IsReadAsRegister}
 use Rattle.register_tables.specs.Registers.{IsRegisterOf}
-use Rattle.register_moments.specs.Dated.{ForDated}
-use Rattle.register_moments.proofs.Dating.{still}
-use Rattle.register_digest.specs.declared.digest.Digest.{Digest}
-use Rattle.register_digest.specs.Digest.{digest_until}
-use Rattle.register_digest.specs.Views.{bytes_of, count_of}
-use Rattle.register_digest.proofs.Requests.{length-kept}
+use Rattle.register_extracts.specs.Dated.{ForDated}
+use Rattle.register_extracts.proofs.Dating.{still}
+use Rattle.register_extracts.specs.declared.digest.Digest.{Digest}
+use Rattle.register_extracts.specs.Digest.{digest_until}
+use Rattle.register_extracts.specs.Views.{bytes_of, count_of}
+use Rattle.register_extracts.proofs.Requests.{length-kept}
 use Rattle.intake_process.specs.declared.tasks.checking.CheckFault.{CheckFault}
 use Rattle.intake_process.specs.declared.tasks.checking.CheckFault.TheVariants as checking
 use Rattle.intake_process.specs.declared.tasks.errand.Published.{Published}

@@ -25,8 +25,8 @@ use Rattle.register_store.specs.Moments.{ForMoments, moment_in}
 use Rattle.register_store.specs.Numbered.{facts_numbered}
 use Rattle.register_store.specs.Store.{ForRequests, StoreParts, shows}
 use Rattle.register_store.proofs.CatalogueLemmas.{line_told}
-use Rattle.register_moments.specs.Moments.{moment_of}
-use Rattle.register_moments.proofs.Numbers.{its_moment}
+use Rattle.register_extracts.specs.Moments.{moment_of}
+use Rattle.register_extracts.proofs.Numbers.{its_moment}
 use Rattle.intake_process.specs.declared.tasks.showing.ShowFault.{ShowFault}
 use Rattle.intake_process.specs.declared.tasks.showing.ShowFault.TheVariants as showing
 use Rattle.intake_process.specs.declared.tasks.text.TextFault.TheVariants.{Output}

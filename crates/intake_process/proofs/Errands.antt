@@ -30,20 +30,20 @@ use Rattle.register_store.specs.Calls.{KeepsStore, OpensOrGivesBack}
 use Rattle.register_store.specs.Moments.{HasMoments}
 use Rattle.register_store.specs.Numbered.{facts_numbered}
 use Rattle.register_store.specs.Store.{StoreParts, HasRequests, shows}
-use Rattle.register_moments.specs.Dated.{ForDatedRows}
-use Rattle.register_moments.specs.Moments.{moment_of}
-use Rattle.register_digest.specs.declared.digest.Digest.{Digest}
-use Rattle.register_digest.specs.declared.fault.DigestFault.TheVariants as digest
-use Rattle.register_digest.specs.Digest.{digest_until}
-use Rattle.register_digest.specs.Registers.{DigestsRegister, digested}
-use Rattle.register_digest.specs.Views.{Digested, view_digest}
-use Rattle.register_export.specs.declared.facts.record.FactForm.{FactForm}
-use Rattle.register_export.specs.Exports.{ExportsFacts}
-use Rattle.register_export.specs.Exports.{UnlessOutput}
-use Rattle.register_export.specs.Records.{export_begun, export_text}
-use Rattle.register_export.specs.declared.fault.ExportFault.TheVariants as export
-use Rattle.register_export.specs.declared.fault.RecordsFault.{RecordsFault}
-use Rattle.register_export.specs.declared.fault.RecordsFault.TheVariants as records
+use Rattle.register_extracts.specs.Dated.{ForDatedRows}
+use Rattle.register_extracts.specs.Moments.{moment_of}
+use Rattle.register_extracts.specs.declared.digest.Digest.{Digest}
+use Rattle.register_extracts.specs.declared.digest_fault.DigestFault.TheVariants as digest
+use Rattle.register_extracts.specs.Digest.{digest_until}
+use Rattle.register_extracts.specs.Registers.{DigestsRegister, digested}
+use Rattle.register_extracts.specs.Views.{Digested, view_digest}
+use Rattle.register_extracts.specs.declared.facts.record.FactForm.{FactForm}
+use Rattle.register_extracts.specs.Exports.{ExportsFacts}
+use Rattle.register_extracts.specs.Exports.{UnlessOutput}
+use Rattle.register_extracts.specs.Records.{export_begun, export_text}
+use Rattle.register_extracts.specs.declared.fault.ExportFault.TheVariants as export
+use Rattle.register_extracts.specs.declared.fault.RecordsFault.{RecordsFault}
+use Rattle.register_extracts.specs.declared.fault.RecordsFault.TheVariants as records
 use Rattle.register_pages.specs.Site.{WritesPages}
 use Rattle.register_pages.specs.declared.fault.PagesFault.TheVariants as site
 use Rattle.register_pages.specs.declared.fault.WritingFault.{WritingFault}

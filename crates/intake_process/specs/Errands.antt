@@ -20,10 +20,10 @@ use Rattle.register_tables.specs.Migrating.{IsNotMigrated, MigratesTo}
 use Rattle.register_tables.specs.Opening.{IsRefused, IsReadAsRegister}
 use Rattle.register_tables.specs.Registers.{ForRows, IsRegisterOf}
 use Rattle.register_store.specs.Numbered.{facts_numbered}
-use Rattle.register_moments.specs.Moments.{moment_of}
-use Rattle.register_digest.specs.Digest.{digest_until}
-use Rattle.register_digest.specs.Registers.{digested}
-use Rattle.register_export.specs.Records.{export_begun, export_text}
+use Rattle.register_extracts.specs.Moments.{moment_of}
+use Rattle.register_extracts.specs.Digest.{digest_until}
+use Rattle.register_extracts.specs.Registers.{digested}
+use Rattle.register_extracts.specs.Records.{export_begun, export_text}
 use Rattle.register_pages.specs.Pages.{WritesSite}
 use Rattle.intake_process.specs.declared.tasks.errand.Errand.{Errand}
 use Rattle.intake_process.specs.declared.tasks.errand.Errand.TheVariants as asked

@@ -6,10 +6,10 @@ use Rattle.xbrl_report.specs.FactRecord.{FactRecord}
 use Rattle.filing_model.specs.Listing.{Listing, listings}
 use Rattle.filing_model.specs.Register.{Filing, Kept}
 use Rattle.filing_model.specs.Reply.{list_reply}
-use Rattle.intake_answers.specs.FactLine.{fact_line}
-use Rattle.register_moments.specs.Moments.{moment_of}
-use Rattle.register_moments.specs.Text.{moment_text}
-use Rattle.register_digest.specs.Views.{Digested}
+use Rattle.intake_core.specs.FactLine.{fact_line}
+use Rattle.register_extracts.specs.Moments.{moment_of}
+use Rattle.register_extracts.specs.Text.{moment_text}
+use Rattle.register_extracts.specs.Views.{Digested}
 use Rattle.terminal_text.specs.OneLine.{one_line}
 
 -- a text, and the end of its line

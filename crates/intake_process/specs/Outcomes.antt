@@ -6,8 +6,8 @@ use Rattle.intake_process.specs.declared.tasks.showing.ShowFault.{ShowFault}
 use Rattle.intake_process.specs.declared.tasks.showing.ShowFault.TheVariants as showing
 use Rattle.intake_process.specs.declared.tasks.text.TextFault.{TextFault}
 use Rattle.intake_process.specs.declared.tasks.text.TextFault.TheVariants as text
-use Rattle.register_export.specs.declared.fault.RecordsFault.{RecordsFault}
-use Rattle.register_export.specs.declared.fault.RecordsFault.TheVariants as records
+use Rattle.register_extracts.specs.declared.fault.RecordsFault.{RecordsFault}
+use Rattle.register_extracts.specs.declared.fault.RecordsFault.TheVariants as records
 use Rattle.register_pages.specs.declared.fault.WritingFault.{WritingFault}
 use Rattle.register_pages.specs.declared.fault.WritingFault.TheVariants as writing
 use Rattle.intake_process.specs.declared.errand.ErrandFault.{ErrandFault}

@@ -29,12 +29,12 @@ use Rattle.register_rows.specs.Schema.{IsDeclared}
 use Rattle.register_store.specs.Calls.{KeepsStore, MigratesOrGivesBack}
 use Rattle.register_store.specs.Moments.{ForMoments}
 use Rattle.register_store.specs.Store as store
-use Rattle.register_moments.specs.Dated.{ForDated, ForDatedRows}
-use Rattle.register_moments.specs.Moments.{moment_of}
-use Rattle.register_export.specs.declared.fault.RecordsFault.{RecordsFault}
-use Rattle.register_export.specs.declared.fault.RecordsFault.TheVariants as records
+use Rattle.register_extracts.specs.Dated.{ForDated, ForDatedRows}
+use Rattle.register_extracts.specs.Moments.{moment_of}
+use Rattle.register_extracts.specs.declared.fault.RecordsFault.{RecordsFault}
+use Rattle.register_extracts.specs.declared.fault.RecordsFault.TheVariants as records
 use Rattle.register_store.specs.Numbered.{facts_numbered}
-use Rattle.register_digest.specs.Digest.{digest_until}
+use Rattle.register_extracts.specs.Digest.{digest_until}
 use Rattle.intake_core.specs.declared.intake.Intake.{Intake}
 use Rattle.intake_core.specs.declared.intake.Unavailable.TheVariants.{Down, Store}
 use Rattle.intake_core.specs.Held.{has_stopped, HoldsRequests, ForRequests, KeepsSetting}

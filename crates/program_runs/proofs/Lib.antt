@@ -11,3 +11,8 @@ mod Together
 mod Services
 mod Looks
 mod Deployments
+mod Deciding
+mod Killing
+mod Outboxing
+mod Registering
+mod Grouping

@@ -1,7 +1,10 @@
 //! Runs of the programs, as the contracts of their commands say them, among the things that happen at the programs.
-//! What may live here: what a run did by its own contract, runs of both programs beside each other, and laws over every
-//! such deployment. There is no code.
+//! What may live here: what a run did by its own contract, what one leaves that ends before it closes its files
+//! (`stops`), runs of both programs beside each other, and laws over every such deployment. There is no code but one
+//! call, whose contract says what each connection keeps.
 #![tactic(auto)]
+
+pub mod stops;
 
 ghost use Rattle.std.specs.Prelude.{◌≡◌, ◌≢◌, ◌≤◌, ℕ, true, List, [], Option, Some, None, Result, Ok, IsSome};
 ghost use Rattle.std.specs.Borrow.{Bor};

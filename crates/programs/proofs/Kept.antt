@@ -9,8 +9,8 @@ use Rattle.filing_model.proofs.Lists.{take_all}
 use Rattle.filing_world.specs.World.{Sent, numbered}
 use Rattle.gateway_server.specs.InTurn.{ServeInTurn}
 use Rattle.gateway_server.specs.Ports.{Connection}
-use Rattle.whole_connections.specs.Cut.{at_first_arrival}
-use Rattle.whole_connections.proofs.Cutting.{served_in_pieces, stopped_in_pieces}
+use Rattle.programs.specs.Cut.{at_first_arrival}
+use Rattle.programs.proofs.Cutting.{served_in_pieces, stopped_in_pieces}
 use Rattle.programs.specs.Deliveries.{Delivery}
 use Rattle.programs.specs.Happenings.{Situation, Happening, Happen, IsServing, IsKilling}
 use Rattle.programs.specs.Kept.{by_pieces, nothing_behind, killed_behind, HappensByPieces, IsKilledByPieces}

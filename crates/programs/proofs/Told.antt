@@ -35,7 +35,7 @@ use Rattle.filing_model.proofs.Finals.{answer-readable, unavailable-readable}
 use Rattle.filing_model.proofs.Firsts.{firsts_more, same_key-refl, firsts_repeat}
 use Rattle.filing_model.proofs.Lists.{append_nil}
 use Rattle.filing_world.proofs.Posting.{IsPosted}
-use Rattle.whole_connections.proofs.Joining.{nothing, drop_whole}
+use Rattle.programs.proofs.Joining.{nothing, drop_whole}
 use Rattle.programs.specs.Fronts.{piece_end}
 use Rattle.programs.proofs.Interims.{interim_then, gives_one, silent, interim_silent}
 

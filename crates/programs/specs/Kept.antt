@@ -3,8 +3,8 @@ use Rattle.std.specs.Prelude.{◌≡◌, ℕ, suc, List, [], ◌∷◌, ◌++◌
 use Rattle.filing_model.specs.declared.served.Mark.{Mark}
 use Rattle.filing_model.specs.Stopping.{Crash}
 use Rattle.gateway_server.specs.Ports.{Connection}
-use Rattle.whole_connections.specs.Cut.{HaveOneEach, at_first_arrival}
-use Rattle.whole_connections.specs.Pieces.{joined_reads, joined_marks, joined_texts, ended_of}
+use Rattle.programs.specs.Cut.{HaveOneEach, at_first_arrival}
+use Rattle.programs.specs.Pieces.{joined_reads, joined_marks, joined_texts, ended_of}
 use Rattle.programs.specs.Happenings.{Situation, Happening, Stranger, Serving, Killing, Happen}
 
 -- Each piece is written by itself, as an item of this number and those behind it, and served by itself. What happens

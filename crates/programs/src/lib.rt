@@ -1,8 +1,12 @@
 //! What the programs do, as their contracts say it, and that the headline holds of what they keep. What may live here:
-//! what served connections are in the world, what may happen at the programs, also behind fronts, which may give back
-//! other bytes (`fronts`), and laws over every list of such things. There is no code.
+//! what served connections are in the world, also those of many that one thread serves at once (`connections`, and
+//! their texts in `connection_texts`); what may happen at the programs, also behind fronts, which may give back other
+//! bytes (`fronts`); and laws over every list of such things. There is no code but for functions whose contracts are
+//! laws.
 #![tactic(auto)]
 
+pub mod connection_texts;
+pub mod connections;
 pub mod fronts;
 
 ghost use Rattle.std.specs.Prelude.{◌≡◌, ◌≤◌, ◌^◌, ℕ, List, [], Option, Some, true};

@@ -10,7 +10,7 @@ use Rattle.register_rows.proofs.MoreRequests.{kept_length}
 use Rattle.register_tables.specs.declared.opening.Counts.{Counts}
 use Rattle.register_tables.specs.Opening.{ReadsRegister}
 use Rattle.register_store.specs.Store.{ForRegister}
-use Rattle.register_export.proofs.Walks.{found_then, kept_then, nothing_then, opened}
+use Rattle.register_extracts.proofs.Walks.{found_then, kept_then, nothing_then, opened}
 use Rattle.register_pages.specs.declared.fault.PagesFault.TheVariants as fault
 use Rattle.register_pages.specs.declared.fault.WritingFault.{WritingFault}
 use Rattle.register_pages.specs.Gathering.{AreCountsOf}

@@ -6,3 +6,6 @@ pub mod Elements
 pub mod OwnReads
 pub mod Senders
 pub mod Showing
+pub mod Characters
+pub mod ReadingLemmas
+pub mod VisibleLemmas

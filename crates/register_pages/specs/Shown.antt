@@ -2,10 +2,10 @@
 use Rattle.std.specs.Prelude.{◌≡◌, ◌⊎◌, ◌-◌, ℕ, zero, suc, List, [], ◌++◌, codes, min, nat_le, if◌then◌else◌}
 use Rattle.std.specs.Prelude.{Option, Some, None}
 use Rattle.std.specs.Fmt.{decimal}
-use Rattle.markup.specs.Reading.{AddsText}
-use Rattle.markup.specs.Short.{shortened}
-use Rattle.markup.specs.Visible.{visible}
-use Rattle.register_moments.specs.Text.{moment_text}
+use Rattle.register_pages.specs.Reading.{AddsText}
+use Rattle.register_pages.specs.Short.{shortened}
+use Rattle.register_pages.specs.Visible.{visible}
+use Rattle.register_extracts.specs.Text.{moment_text}
 
 -- a moment, or that it is not known
 abbrev pub shown_moment : Option ℕ → List ℕ

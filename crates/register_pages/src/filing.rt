@@ -8,12 +8,11 @@ use crate::folder::{Folder, put};
 use crate::frame::{
     begin, begin_table, end, end_table, filer_link, filing_link, moment, text_cell,
 };
-use crate::names;
+use crate::{Markup, names};
 use crate::parts::{MOST_ROWS, Part, behind, first, neighbours, pages_for};
 use json::Scratch;
 use json_tree::{Tree, Unread, read_tree};
-use markup::Markup;
-use register_export::WholeFiling;
+use register_extracts::WholeFiling;
 use std::alloc::{AllocError, Global};
 use xbrl_report::Fact;
 

@@ -4,7 +4,7 @@ ghost use Rattle.std.specs.Prelude.{◌≡◌, ◌≢◌, ◌∷◌, [], ℕ, Li
 ghost use Rattle.register_pages.specs.Pages.{Adds, Writes};
 
 use crate::fault::WritingFault;
-use markup::Markup;
+use crate::Markup;
 use std::alloc::AllocError;
 
 /// A page was not written. The folder knows why.

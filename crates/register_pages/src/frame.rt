@@ -1,14 +1,13 @@
 //! What every page has: its head, the links to the other pages, and its end.
 
 ghost use Rattle.std.specs.Prelude.{OnOk};
-ghost use Rattle.markup.specs.Reading.{AddsText};
-ghost use Rattle.markup.specs.Visible.{visible};
+ghost use Rattle.register_pages.specs.Reading.{AddsText};
+ghost use Rattle.register_pages.specs.Visible.{visible};
 ghost use Rattle.register_store.specs.Moments.{milliseconds_of};
 ghost use Rattle.register_pages.specs.Shown.{shown_moment};
 
-use crate::names;
-use markup::Markup;
-use register_moments::{Moment, moment_text};
+use crate::{Markup, names};
+use register_extracts::{Moment, moment_text};
 use std::alloc::{AllocError, Global};
 
 /// What a page has before its title. It loads nothing from elsewhere, and a browser runs no script and takes no style

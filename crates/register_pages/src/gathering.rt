@@ -11,7 +11,7 @@ use crate::fault::WritingFault;
 use crate::filers::Filers;
 use crate::found::Found;
 use crate::reads::findings_at;
-use register_export::sent_at;
+use register_extracts::sent_at;
 use register_rows::{Catalogue, Line};
 use register_store::{Counts, StoreFault};
 use sqlite::{Alter, Connection};

@@ -1,8 +1,10 @@
-//! A register as pages of HTML. What may live here: which pages there are, and what each shows. How a text becomes HTML
-//! is known by `markup`; no file and no words of a command line are known here.
+//! A register as pages of HTML. What may live here: which pages there are, what each shows, and how a text is written
+//! so that a browser reads that text and no tag (`escaping`, `short`, `piece`). No file and no words of a command line
+//! are known here.
 #![tactic(auto)]
 
 mod chart;
+mod escaping;
 mod fault;
 mod filer;
 mod filers;
@@ -15,10 +17,13 @@ mod names;
 mod others;
 mod own;
 mod parts;
+mod piece;
 mod reads;
 mod refused;
+mod short;
 mod site;
 
 pub use fault::{PagesFault, WritingFault};
 pub use folder::{Folder, NotWritten};
+pub use piece::Markup;
 pub use site::write_pages;

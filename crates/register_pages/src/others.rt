@@ -10,7 +10,7 @@ use crate::filers::{Filers, Tally};
 use crate::folder::{Folder, put};
 use crate::found::Found;
 use crate::frame::{begin, begin_table, end, end_table, filer_link, number_cell};
-use markup::Markup;
+use crate::Markup;
 use std::alloc::{AllocError, Global};
 
 /// The caption and the first row of the table of filers.

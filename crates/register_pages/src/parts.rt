@@ -3,7 +3,7 @@
 ghost use Rattle.std.specs.Prelude.{◌≡◌, ◌≤◌, ◌<◌, drop, length, take};
 ghost use Rattle.register_pages.specs.Pages.{pages_for as pages_for_lem};
 
-use markup::Markup;
+use crate::Markup;
 use std::alloc::{AllocError, Global};
 
 /// How many rows a page has at most, and how many refused reports.

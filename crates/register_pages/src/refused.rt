@@ -8,12 +8,11 @@ ghost use Rattle.register_pages.specs.Shown.{AddsFindings, AddsLine, AddsLines, 
 use crate::fault::WritingFault;
 use crate::folder::{Folder, put};
 use crate::frame::{begin_by, begin_table, end, end_table, filing_cell, number_cell, text_cell};
-use crate::names;
+use crate::{Markup, names};
 use crate::parts::{MOST_REPORTS, Part, behind, first, neighbours, pages_for};
 use crate::reads::{findings_at, target_at};
 use finding_lines::{Form, lines, one_line};
-use markup::Markup;
-use register_export::{KeptReport, sent_at};
+use register_extracts::{KeptReport, sent_at};
 use register_rows::Catalogue;
 use sqlite::{Alter, Connection};
 use std::alloc::{AllocError, Global};

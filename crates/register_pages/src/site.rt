@@ -24,7 +24,7 @@ use crate::folder::Folder;
 use crate::found::Found;
 use crate::gathering::gather;
 use crate::others::write_others;
-use register_export::filing_at;
+use register_extracts::filing_at;
 use register_rows::Catalogue;
 use register_store::{Counts, StoreFault, Unwatched, read_register};
 use sqlite::{Alter, Connection};

@@ -5,10 +5,10 @@ use Rattle.std.proofs.lemmas.List.{take-map}
 use Rattle.std.proofs.lemmas.Option.{slice_get-map, slice_get-get_or}
 use Rattle.filing_world.specs.World.{World, Event}
 use Rattle.filing_world.specs.Step.{Run, CannotPlay}
-use Rattle.world.specs.declared.fault.Fault.{Fault}
-use Rattle.world.specs.declared.fault.Fault.TheVariants.{NoSuch, Memory, Store, Reopen}
-use Rattle.world.specs.Played.{next_number, Tells}
-use Rattle.world.specs.Playing.{AsksOutbox, Closes}
+use Rattle.schedule.specs.declared.fault.Fault.{Fault}
+use Rattle.schedule.specs.declared.fault.Fault.TheVariants.{NoSuch, Memory, Store, Reopen}
+use Rattle.schedule.specs.Played.{next_number, Tells}
+use Rattle.schedule.specs.Playing.{AsksOutbox, Closes}
 use Rattle.schedule.specs.Ending.{Comes, EndsBy}
 
 -- no count that a u64 has stops the number of the next event

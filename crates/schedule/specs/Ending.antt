@@ -2,9 +2,9 @@
 use Rattle.std.specs.Prelude.{◌≡◌, ℕ, ◌-◌, ◌⊎◌, List, Some, take}
 use Rattle.filing_world.specs.World.{World, Event, numbered}
 use Rattle.filing_world.specs.Step.{Run, CannotPlay}
-use Rattle.world.specs.declared.fault.Fault.{Fault}
-use Rattle.world.specs.declared.fault.Fault.TheVariants.{NoSuch, Memory, Store, Reopen}
-use Rattle.world.specs.Playing.{AsksOutbox, Closes}
+use Rattle.schedule.specs.declared.fault.Fault.{Fault}
+use Rattle.schedule.specs.declared.fault.Fault.TheVariants.{NoSuch, Memory, Store, Reopen}
+use Rattle.schedule.specs.Playing.{AsksOutbox, Closes}
 
 -- the event of this number comes in this world, to which the events before it lead
 pub record Comes (first : World) (events : List Event) (number : ℕ) (world : World) (event : Event) : Type 0 where

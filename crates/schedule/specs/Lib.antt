@@ -1,1 +1,14 @@
 pub mod Ending
+pub mod Causes
+pub mod Delivery
+pub mod Durable
+pub mod Faults
+pub mod Filers
+pub mod Listed
+pub mod OutboxEnd
+pub mod OutboxListed
+pub mod Outboxes
+pub mod Played
+pub mod Playing
+pub mod Processes
+pub mod Served

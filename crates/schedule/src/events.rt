@@ -8,7 +8,7 @@ ghost use Rattle.schedule.specs.Ending.{EndsBy};
 
 use event_script::Event;
 use std::alloc::Global;
-use world::{Fault, Honest, World};
+use crate::{Fault, Honest, World};
 
 /// Plays the events on a new world, one after another, up to the first that has a fault.
 pub fn run<D: Honest>(

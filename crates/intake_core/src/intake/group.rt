@@ -13,7 +13,7 @@ ghost use Rattle.intake_core.specs.Held.{store_of, limit_of, shows, has_stopped,
 
 use super::{Intake, Unavailable};
 use filing_model::{Answer, Outcome, Style};
-use intake_answers::{Request, answer_by, name_of};
+use crate::{Request, answer_by, name_of};
 use register_store::{Moment, NewRow, StoreFault};
 use sqlite::Alter;
 use std::alloc::{AllocError, Global};

@@ -15,7 +15,7 @@ ghost use Rattle.intake_process.specs.declared.tasks.text.TextFault.TheVariants.
 use crate::tasks::showing::ShowFault;
 use crate::tasks::text::print;
 use key_string::{KeyText, is_key};
-use register_export::sent_at;
+use register_extracts::sent_at;
 use register_store::{Store, StoreFault};
 use sqlite::{Alter, Connection};
 use std::alloc::Global;

@@ -9,7 +9,7 @@ ghost use Rattle.table_rows.specs.Standing.{IsAtRest};
 
 use crate::tasks::errand::Published;
 use crate::tasks::text::{TextFault, print};
-use register_digest::first_digest;
+use register_extracts::first_digest;
 use register_store::{Counts, OpenFault, StoreFault, Watch, read_register};
 use sqlite::{Alter, Connection};
 use std::alloc::{AllocError, Global};

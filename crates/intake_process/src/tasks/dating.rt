@@ -3,15 +3,14 @@
 ghost use Rattle.std.specs.Prelude.{◌≡◌, string_bytes, IfOk, None};
 ghost use Rattle.filing_model.specs.Listing.{listings};
 ghost use Rattle.filing_model.specs.Register.{kept, register};
-ghost use Rattle.register_moments.specs.Moments.{moment_of};
+ghost use Rattle.register_extracts.specs.Moments.{moment_of};
 ghost use Rattle.register_store.specs.Calls.{KeepsStore};
 ghost use Rattle.register_store.specs.Moments.{ForMoments, milliseconds_of};
 ghost use Rattle.intake_process.specs.Lines.{moment_line, moment_lines};
 ghost use Rattle.intake_process.specs.Tasks.{ListsMoments};
 
 use crate::tasks::text::print;
-use register_export::RecordsFault;
-use register_moments::moment_text;
+use register_extracts::{RecordsFault, moment_text};
 use register_store::{Moment, Store, StoreFault};
 use sqlite::Alter;
 use std::alloc::{AllocError, Global};

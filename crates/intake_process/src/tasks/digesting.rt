@@ -2,13 +2,13 @@
 
 ghost use Rattle.std.specs.Prelude.{IfErr, IfOk, OnOk, ◌≡◌};
 ghost use Rattle.std.specs.Io.KnownBytes.{Appends};
-ghost use Rattle.register_digest.specs.Views.{view_digest};
+ghost use Rattle.register_extracts.specs.Views.{view_digest};
 ghost use Rattle.intake_process.specs.Lines.{digest_line};
 ghost use Rattle.intake_process.specs.Tasks.{PrintsNothing};
 ghost use Rattle.intake_process.specs.declared.tasks.text.TextFault.TheVariants.{Output};
 
 use crate::tasks::text::{TextFault, print};
-use register_digest::Digest;
+use register_extracts::Digest;
 use std::alloc::{AllocError, Global};
 use std::io::Write;
 

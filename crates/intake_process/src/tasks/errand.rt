@@ -1,6 +1,6 @@
 //! What is asked of a register that is there.
 
-use register_export::FactForm;
+use register_extracts::FactForm;
 
 /// A digest of the first requests, so many, that was published.
 #[derive(Clone, Copy)]

@@ -5,14 +5,14 @@ ghost use Rattle.intake_process.specs.Lines.{fact_lines, shown_lines};
 ghost use Rattle.register_store.specs.Calls.{KeepsStore};
 ghost use Rattle.register_store.specs.Moments.{ForMoments};
 ghost use Rattle.filing_model.specs.Register.{kept};
-ghost use Rattle.register_moments.specs.Moments.{moment_of};
+ghost use Rattle.register_extracts.specs.Moments.{moment_of};
 ghost use Rattle.intake_process.specs.Tasks.{IsReadingFault, ShowsFiling};
 ghost use Rattle.intake_process.specs.declared.tasks.showing.ShowFault.TheVariants as fault;
 ghost use Rattle.intake_process.specs.declared.tasks.text.TextFault.TheVariants as text;
 
 use crate::tasks::dating::{moment_line, received};
 use crate::tasks::text::{TextFault, print};
-use intake_answers::fact_line;
+use intake_core::fact_line;
 use register_store::{Store, StoreFault};
 use sqlite::Alter;
 use std::alloc::{AllocError, Global};

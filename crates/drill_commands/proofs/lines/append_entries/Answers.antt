@@ -2,7 +2,7 @@ use Rattle.std.proofs.Common.{◌++◌, ◌∙◌, ap, sym}
 use Rattle.std.specs.List.{flat_map}
 use Rattle.std.proofs.lemmas.List.{append-nil, take_all}
 use Rattle.std.proofs.lemmas.List.Folds.{flat_map-map}
-use Rattle.world.specs.Listed.{view_listed}
+use Rattle.schedule.specs.Listed.{view_listed}
 use Rattle.drill_commands.specs.Shown.{entry_shown}
 use Rattle.drill_commands.proofs.GoingThrough.{shown_next}
 use Rattle.drill_commands.proofs.lines.append_entries.Goals as goal

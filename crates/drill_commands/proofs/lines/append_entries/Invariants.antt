@@ -1,6 +1,6 @@
 use Rattle.std.proofs.Common.{◌≡◌, ◌++◌, take}
 use Rattle.std.specs.List.{flat_map}
-use Rattle.world.specs.Listed.{view_listed}
+use Rattle.schedule.specs.Listed.{view_listed}
 use Rattle.drill_commands.specs.Shown.{entry_shown}
 use Rattle.drill_commands.proofs.lines.append_entries.Given as goal
 

@@ -1,6 +1,6 @@
 use Rattle.std.proofs.Common.{◌≡◌, ◌+◌, ap, length, subst, ◌∙◌, arith}
 use Rattle.std.specs.Prelude.{IfOk, string_bytes}
-use Rattle.register_export.specs.Filings.{FilingParts}
+use Rattle.register_extracts.specs.Filings.{FilingParts}
 use Rattle.register_pages.specs.Pages.{Writes, filing_page, numbered, pages_for}
 use Rattle.register_pages.proofs.Adding.{page_added}
 use Rattle.register_pages.proofs.filing.write_filing.Goals as goal

@@ -1,6 +1,6 @@
 use Rattle.std.proofs.Common.{◌≡◌, ◌∷◌, ap, subst, ◌∙◌}
 use Rattle.table_rows.proofs.LeavingLemmas.{clean_before}
-use Rattle.register_export.specs.Sent.{SentParts}
+use Rattle.register_extracts.specs.Sent.{SentParts}
 use Rattle.register_pages.specs.Gathering.{HaveSame, codes_of}
 use Rattle.register_pages.proofs.gathering.gather_one.Goals as goal
 

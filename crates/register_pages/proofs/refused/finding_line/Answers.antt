@@ -1,9 +1,9 @@
 use Rattle.std.proofs.Common.{[], append-nil, inl, inr, subst, sym}
 use Rattle.std.proofs.lemmas.Result.{on_ok_weaker}
-use Rattle.markup.specs.Reading.{AddsText}
-use Rattle.markup.specs.Short.{shortened}
-use Rattle.markup.specs.Visible.{visible}
-use Rattle.markup.proofs.ReadingLemmas.{adds_more}
+use Rattle.register_pages.specs.Reading.{AddsText}
+use Rattle.register_pages.specs.Short.{shortened}
+use Rattle.register_pages.specs.Visible.{visible}
+use Rattle.register_pages.proofs.ReadingLemmas.{adds_more}
 use Rattle.register_pages.proofs.refused.finding_line.Goals as goal
 
 pub returns-in_ok-short_text-in-Some-2 : goal.returns-in_ok-short_text-in-Some-2

@@ -5,7 +5,7 @@ use Rattle.sqlite.specs.State.{HasCleanDisk}
 use Rattle.filing_model.specs.Register.{Filing, register}
 use Rattle.filing_model.proofs.Keeping.{register_numbered}
 use Rattle.register_tables.proofs.Calls.{refuses}
-use Rattle.register_export.proofs.Steps.{next_filing}
+use Rattle.register_extracts.proofs.Steps.{next_filing}
 use Rattle.table_rows.proofs.LeavingLemmas.{clean_before, none_yet, passed_then, stands}
 use Rattle.table_rows.specs.Leaving.Ending.{Passed}
 use Rattle.register_pages.specs.Pages.{Writes, filing_pages, pages_of_filing}

@@ -2,8 +2,8 @@ use Rattle.std.proofs.Common.{◌≡◌, Some, length, sym, ap, subst, ◌∙◌
 use Rattle.std.specs.Prelude.{option_map}
 use Rattle.sqlite.specs.Held.{state}
 use Rattle.filing_model.specs.Register.{kept}
-use Rattle.register_moments.proofs.Dating.{some_moments}
-use Rattle.register_export.specs.Filings.{FilingParts, whole}
+use Rattle.register_extracts.proofs.Dating.{some_moments}
+use Rattle.register_extracts.specs.Filings.{FilingParts, whole}
 use Rattle.register_pages.specs.Pages.{Writes, filing_page, numbered, pages_for}
 use Rattle.register_pages.proofs.site.write_numbered.Goals as goal
 

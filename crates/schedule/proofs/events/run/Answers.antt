@@ -8,7 +8,7 @@ use Rattle.filing_model.proofs.Lists.{length-map}
 use Rattle.filing_world.specs.Headline.{start}
 use Rattle.filing_world.specs.Step.{Run}
 use Rattle.filing_world.proofs.Keeping.{run_push, holds_after}
-use Rattle.world.specs.Played.{next_number, Tells}
+use Rattle.schedule.specs.Played.{next_number, Tells}
 use Rattle.schedule.specs.Ending.{Comes}
 use Rattle.schedule.proofs.Ending.{next_is, comes_next, ends_at, not_made}
 use Rattle.schedule.proofs.events.run.Goals as goal

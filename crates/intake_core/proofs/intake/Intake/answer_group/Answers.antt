@@ -7,7 +7,7 @@ use Rattle.filing_model.specs.declared.served.Style.TheVariants.{Problem}
 use Rattle.filing_model.specs.Request.{Request}
 use Rattle.filing_model.specs.Style.{style_of}
 use Rattle.filing_model.specs.Views.{view_outcome}
-use Rattle.intake_answers.specs.Cache.{IsKeptIn, IsNameIfAny}
+use Rattle.intake_core.specs.Cache.{IsKeptIn, IsNameIfAny}
 use Rattle.intake_core.specs.Held.{HoldsRequests, old_style_of}
 use Rattle.intake_core.proofs.Answering.{AnswersFirst, Tells, answers_all, answers_more}
 use Rattle.intake_core.proofs.Deciding.{IfSome-made}

@@ -14,7 +14,7 @@ use Rattle.register_store.proofs.StoreLemmas.{refused_so}
 use Rattle.register_store.specs.Store.{shows, HasRequests}
 use Rattle.register_rows.specs.declared.moment.Moment.{Moment}
 use Rattle.register_tables.specs.Registers.{LeavesReceived, LeavesRegister}
-use Rattle.intake_answers.specs.Answered.{IsAnswerTo}
+use Rattle.intake_core.specs.Answered.{IsAnswerTo}
 use Rattle.intake_core.specs.Held.{HoldsRequests, old_style_in, with_request}
 use Rattle.intake_core.specs.Moments.{HoldsMoments, with_moment}
 use Rattle.register_store.specs.Moments as register

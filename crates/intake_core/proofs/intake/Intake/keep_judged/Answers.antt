@@ -14,7 +14,7 @@ use Rattle.filing_model.proofs.Answers.{answer_new}
 use Rattle.register_tables.specs.Registers.{LeavesReceived, LeavesRegister}
 use Rattle.register_store.specs.Store.{shows}
 use Rattle.register_store.proofs.StoreLemmas.{refused_so}
-use Rattle.intake_answers.specs.Cache.{IsNameIfAny}
+use Rattle.intake_core.specs.Cache.{IsNameIfAny}
 use Rattle.register_rows.specs.declared.moment.Moment.{Moment}
 use Rattle.intake_core.specs.Held.{old_style_of, old_style_in}
 use Rattle.intake_core.specs.Moments.{HoldsMoments}

@@ -1,4 +1,4 @@
-use Rattle.intake_answers.specs.Cache.{Remembers}
+use Rattle.intake_core.specs.Cache.{Remembers}
 use Rattle.intake_core.specs.Held.{old_style_in}
 use Rattle.intake_core.proofs.Deciding.{IfSome-made}
 use Rattle.intake_core.proofs.intake.Intake.recall.Goals as goal

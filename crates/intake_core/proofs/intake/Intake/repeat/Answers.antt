@@ -3,7 +3,7 @@ use Rattle.filing_model.specs.Request.{Request}
 use Rattle.filing_model.specs.Style.{style_of}
 use Rattle.filing_model.specs.Views.{the_request, view_outcome}
 use Rattle.register_store.specs.Outcomes.{kept_as}
-use Rattle.intake_answers.specs.Cache.{IsKeptIn, IsNameIfAny}
+use Rattle.intake_core.specs.Cache.{IsKeptIn, IsNameIfAny}
 use Rattle.intake_core.specs.Held.{HoldsRequests, old_style_in}
 use Rattle.intake_core.proofs.intake.Intake.repeat.Given.{Over}
 use Rattle.intake_core.proofs.intake.Intake.repeat.Goals.{After-remember}

@@ -9,7 +9,7 @@ use Rattle.register_store.specs.Store.{shows}
 use Rattle.register_rows.specs.declared.moment.Moment.{Moment}
 use Rattle.register_tables.specs.Registers.{LeavesReceived, LeavesRegister}
 use Rattle.register_store.proofs.StoreLemmas.{leaves}
-use Rattle.intake_answers.specs.Cache.{IsNameIfAny}
+use Rattle.intake_core.specs.Cache.{IsNameIfAny}
 use Rattle.intake_core.specs.Held.{HoldsRequests, old_style_of, with_request}
 use Rattle.intake_core.specs.Moments.{HoldsMoments, with_moment}
 use Rattle.intake_core.proofs.Dating.{HoldsMoments-same, leaves_with, moment_repeat}

@@ -1,6 +1,6 @@
 use Rattle.std.proofs.Common.{ap, subst, ◌∙◌}
 use Rattle.std.specs.Io.KnownBytes.{Appends}
-use Rattle.register_export.specs.Sent.{SentParts}
+use Rattle.register_extracts.specs.Sent.{SentParts}
 use Rattle.intake_process.proofs.tasks.bodies.print_placed.Goals as goal
 
 pub returns-clause-printed : goal.returns-clause-printed

@@ -1,5 +1,0 @@
-mod Deciding
-mod Killing
-mod Outboxing
-mod Registering
-mod Grouping

@@ -1,4 +1,0 @@
-use Rattle.intake_answers.proofs.fact_lines.null.Goals as goal
-
-pub returns : goal.returns
-returns c = c.from_str.ensures.ok

@@ -1,5 +1,0 @@
-use Rattle.register_digest.proofs.Requests.{told_requests}
-use Rattle.register_digest.proofs.laws.a_digest_tells_the_requests.Goals as goal
-
-pub returns : goal.returns
-returns c = told_requests

@@ -1,5 +1,0 @@
-mod Columns
-pub mod Done
-mod SentTexts
-pub mod Steps
-pub mod Walks

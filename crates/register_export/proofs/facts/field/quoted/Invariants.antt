@@ -1,7 +1,0 @@
-use Rattle.std.proofs.Common.{◌≡◌, ◌++◌, take}
-use Rattle.std.specs.List.{flat_map}
-use Rattle.register_export.specs.Fields.{doubled}
-use Rattle.register_export.proofs.facts.field.quoted.Given as goal
-
-abbrev pub invariant-loop-byte : goal.invariant-loop-byte
-invariant-loop-byte l = l.field.items ≡ l.initial.field.items ++ flat_map doubled (take l.byte-index l.text)

@@ -1,0 +1,15 @@
+pub mod Dated
+pub mod Moments
+pub mod Reading
+pub mod Text
+pub mod Dimensions
+pub mod Exports
+pub mod Fields
+pub mod Filings
+pub mod Records
+pub mod Sent
+pub mod Digest
+pub mod Laws
+pub mod DigestReading
+pub mod Registers
+pub mod Views

@@ -1,0 +1,94 @@
+//! The records of one filing.
+
+ghost use Rattle.std.specs.Prelude.{◌≡◌, ◌⊎◌, option_map, IfOk, IfErr, OnOk};
+ghost use Rattle.std.specs.List.{flat_map};
+ghost use Rattle.std.specs.Io.KnownBytes.{Appends};
+ghost use Rattle.register_extracts.specs.Fields.{record_text, view_head};
+ghost use Rattle.register_extracts.specs.Records.{head_of, is_wanted, records, wanted_records};
+
+use crate::facts::record::{FactForm, FilingHead, record_text};
+use crate::fault::RecordsFault;
+use crate::walk::filing::WholeFiling;
+use command_line::show;
+use std::alloc::{AllocError, Global};
+use std::io::Write;
+use xbrl_report::Fact;
+
+/// Writes a text whole.
+pub(crate) fn print<O: Write>(output: &mut O, text: &[u8]) -> Result<(), RecordsFault>
+    ensures written { OnOk result (Appends (O.contents output.old) (O.contents output.new) text.now) }
+    ensures failed { IfErr result (λ fault. fault ≡ RecordsFault.Output) }
+{
+    match show(output, text) {
+        Ok(()) => Ok(()),
+        Err(_) => Err(RecordsFault::Output),
+    }
+}
+
+/// Whether the filings of this filer are written: all filers' are, or those of the one that is asked for.
+fn is_wanted(filer: Option<&str>, own: &str) -> bool
+    ensures { result ≡ is_wanted (option_map (λ s. s.now) filer.entry) own.now }
+{
+    match filer {
+        Some(filer) => own.as_bytes() == filer.as_bytes(),
+        None => true,
+    }
+}
+
+/// What the records say of the filing.
+fn head_of(filing: &WholeFiling) -> FilingHead<'_>
+    ensures { view_head result ≡ head_of filing.now }
+{
+    FilingHead {
+        number: filing.number,
+        filer: filing.filer.as_str(),
+        key: filing.key.as_str(),
+        replaced_by: filing.replaced_by,
+        received: filing.received,
+    }
+}
+
+/// A record for each of these facts.
+fn records_of(
+    alloc: Global,
+    form: FactForm,
+    head: &FilingHead<'_>,
+    facts: &[Fact],
+) -> Result<Vec<u8>, AllocError>
+    ensures { IfOk result (λ text. text.items ≡ flat_map (record_text form (view_head head.now)) facts.now) }
+{
+    let mut text = Vec::new(alloc);
+    for fact in facts {
+        let line = record_text(alloc, form, head, fact)?;
+        text.extend_from_slice(&line)?;
+    }
+    Ok(text)
+}
+
+/// A record for each fact of the filing.
+fn records(alloc: Global, form: FactForm, filing: &WholeFiling) -> Result<Vec<u8>, AllocError>
+    ensures { IfOk result (λ text. text.items ≡ records form filing.now) }
+{
+    let head = head_of(filing);
+    records_of(alloc, form, &head, filing.facts())
+}
+
+/// Writes the records of the filing, if its filer's are written.
+pub(crate) fn write_filing<O: Write>(
+    alloc: Global,
+    form: FactForm,
+    filer: Option<&str>,
+    filing: &WholeFiling,
+    output: &mut O,
+) -> Result<(), RecordsFault>
+    ensures quiet { IfErr result (λ fault.
+        (fault ≡ RecordsFault.Output) ⊎ (O.contents output.new ≡ O.contents output.old)) }
+    ensures written { OnOk result (Appends (O.contents output.old) (O.contents output.new)
+        (wanted_records form (option_map (λ s. s.now) filer.entry) filing.now)) }
+{
+    if !is_wanted(filer, filing.filer.as_str()) {
+        return Ok(());
+    }
+    let text = records(alloc, form, filing)?;
+    print(output, &text)
+}

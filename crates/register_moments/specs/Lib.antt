@@ -1,4 +1,0 @@
-pub mod Dated
-pub mod Moments
-pub mod Reading
-pub mod Text

@@ -1,7 +1,0 @@
--- What a file in memory has.
-use Rattle.std.specs.Prelude.{ℕ, List}
-use Rattle.world.specs.declared.ends.durable.Durable.{Durable}
-
--- the bytes that it shows
-abbrev pub bytes_of : Durable → List ℕ
-bytes_of d = d.bytes.items
