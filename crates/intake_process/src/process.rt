@@ -5,6 +5,7 @@ ghost use Rattle.std.specs.Borrow.{sem};
 ghost use Rattle.std.specs.Option.{option_copied_mut};
 ghost use Rattle.http_wire.specs.Wire.{wire};
 ghost use Rattle.database_places.specs.Opening.{is_found};
+ghost use Rattle.intake_process.specs.History.{LooksOnly};
 ghost use Rattle.intake_process.specs.Process.{ServesBy, CountsRefusal};
 
 use crate::beginning::{Totals, begin, parted};
@@ -182,7 +183,7 @@ impl<D: Disk + Drop, P: Place<D> + Drop> IntakeProcess<D, P> {
     /// Whether a piece asks to file a request that is the first of its filer and key, while the register is open.
     /// Nothing is decided.
     pub fn files_first(&mut self, alloc: Global, piece: &[u8]) -> bool
-        ensures { GoesAhead [] (parts P.lying self.old) (parts P.lying self.new) }
+        ensures { LooksOnly (parts P.lying self.old) (parts P.lying self.new) }
     {
         match &mut self.intake {
             Some(intake) => files_first(alloc, piece, intake),

@@ -18,7 +18,7 @@ use crate::fault::OpeningFault;
 use crate::observer::{Observer, Went};
 use crate::process::{AnsweredBy, IntakeProcess};
 use database_places::{Opening, PageCache, Place};
-use gateway_server::{Port, PortFault, files_first};
+use gateway_server::{Port, PortFault};
 use intake_core::Moment;
 use sqlite_disk::Disk;
 use std::alloc::Global;
@@ -169,24 +169,10 @@ fn next_in_turn<D: Disk + Drop, P: Place<D> + Drop, L: Port>(
     let Some((reader, writer)) = port.accept()? else {
         return Ok(None);
     };
-    if !has_to_be_kept(alloc, process, port.given()) {
+    if !process.files_first(alloc, port.given()) {
         return Ok(Some((reader, writer)));
     }
     Ok(port.put_back(reader, writer))
-}
-
-/// Whether a piece asks to file a request that is the first of its filer and key, while the register is open.
-fn has_to_be_kept<D: Disk + Drop, P: Place<D> + Drop>(
-    alloc: Global,
-    process: &mut IntakeProcess<D, P>,
-    piece: &[u8],
-) -> bool
-    ensures { LooksOnly (parts P.lying process.old) (parts P.lying process.new) }
-{
-    match process.intake_mut() {
-        Some(intake) => files_first(alloc, piece, intake),
-        None => false,
-    }
 }
 
 /// Decides requests that wait on the port ahead of the connections on which they come, if there are several, and the

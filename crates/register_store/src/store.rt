@@ -277,13 +277,6 @@ impl<S: Alter> Store<S> {
         Ok(self.filings)
     }
 
-    /// How many of the kept requests, from the first on, were kept before there were problem details.
-    pub fn old_style_count(&self) -> Result<u64, StoreFault>
-        ensures { result ≡ Ok self.now.old_style }
-    {
-        Ok(self.old_style)
-    }
-
     /// The place of the kept request that was registered under this number, where the first one is at 1, if there is
     /// such a filing.
     pub fn place_of(&self, number: u64) -> Option<u64>

@@ -12,7 +12,7 @@ returns-then-not-files_first g c = record {
     few = omega arith;
     short = omega arith;
   };
-  decides = c.files_first.ensures;
+  decides = c.files_first.ensures.decides;
 }
 
 pub returns : goal.returns
@@ -24,6 +24,6 @@ returns g c =
     record {
       pieces = pieces;
       hands = c.waiting-pieces.ensures;
-      decides = goes_on [] pieces old mid new c.files_first.ensures
+      decides = goes_on [] pieces old mid new c.files_first.ensures.decides
           (rw c.as_slice.ensures.value at c.decide_ahead.ensures);
     }
