@@ -20,8 +20,8 @@ ghost use Rattle.intake_core.specs.declared.intake.Unavailable.TheVariants.{Down
 
 mod group;
 
-use filing_model::{Answer, FilingRow, Outcome, Registered, Style};
 use crate::{Cache, Request, answer_by, name_of};
+use filing_model::{Answer, FilingRow, Outcome, Registered, Style};
 use key_string::KeyText;
 use register_store::{KeptRow, Moment, NewRow, Store, StoreFault};
 use sqlite::Alter;

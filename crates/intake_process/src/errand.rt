@@ -19,7 +19,9 @@ use crate::tasks::text::TextFault;
 use command_line::DatabaseFault;
 use database_places::{Holding, held_in};
 use intake_core::{Intake, Unavailable};
-use register_extracts::{DigestFault, ExportFault, FactForm, RecordsFault, digest_register, export};
+use register_extracts::{
+    DigestFault, ExportFault, FactForm, RecordsFault, digest_register, export,
+};
 use register_pages::{Folder, PagesFault, WritingFault, write_pages};
 use register_store::{OpenFault, Store, StoreFault};
 use sqlite::{Alter, Connection};

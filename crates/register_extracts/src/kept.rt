@@ -14,7 +14,7 @@ ghost use Rattle.register_extracts.specs.Views.{view_row};
 
 use crate::digest_reads::{rows_at, target_rows_at};
 use crate::row::Row;
-use register_extracts::{Moment, moment_at};
+use crate::{Moment, moment_at};
 use sqlite::{Alter, Connection};
 use std::marker::Model;
 use table_rows::StoreFault;

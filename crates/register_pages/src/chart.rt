@@ -1,7 +1,7 @@
 //! How often each code was found, as a chart and as a table.
 
-use crate::frame::{begin, begin_table, end, end_table, number_cell, text_cell};
 use crate::Markup;
+use crate::frame::{begin, begin_table, end, end_table, number_cell, text_cell};
 use std::alloc::{AllocError, Global};
 use xbrl_report::Code;
 

@@ -11,10 +11,10 @@ use crate::folder::{Folder, put};
 use crate::frame::{
     begin, begin_table, end, end_table, filing_cell, moment_cell, number_cell, text_cell,
 };
-use crate::{Markup, names};
 use crate::own::{Filed, Own, own_of};
 use crate::parts::{MOST_ROWS, Part, behind, first, neighbours, pages_for};
 use crate::refused::write_refused;
+use crate::{Markup, names};
 use register_extracts::{Moment, moment_at};
 use register_rows::Catalogue;
 use sqlite::{Alter, Connection};

@@ -8,8 +8,8 @@ use crate::folder::{Folder, put};
 use crate::frame::{
     begin, begin_table, end, end_table, filer_link, filing_link, moment, text_cell,
 };
-use crate::{Markup, names};
 use crate::parts::{MOST_ROWS, Part, behind, first, neighbours, pages_for};
+use crate::{Markup, names};
 use json::Scratch;
 use json_tree::{Tree, Unread, read_tree};
 use register_extracts::WholeFiling;

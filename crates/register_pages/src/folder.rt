@@ -3,8 +3,8 @@
 ghost use Rattle.std.specs.Prelude.{◌≡◌, ◌≢◌, ◌∷◌, [], ℕ, List, None, Option, string_bytes, IfOk, OnErr, OnOk};
 ghost use Rattle.register_pages.specs.Pages.{Adds, Writes};
 
-use crate::fault::WritingFault;
 use crate::Markup;
+use crate::fault::WritingFault;
 use std::alloc::AllocError;
 
 /// A page was not written. The folder knows why.

@@ -3,6 +3,7 @@
 ghost use Rattle.std.specs.Prelude.{◌∷◌, [], codes};
 ghost use Rattle.register_pages.specs.Pages.{Writes};
 
+use crate::Markup;
 use crate::chart::findings_page;
 use crate::fault::WritingFault;
 use crate::filer::refused_count;
@@ -10,7 +11,6 @@ use crate::filers::{Filers, Tally};
 use crate::folder::{Folder, put};
 use crate::found::Found;
 use crate::frame::{begin, begin_table, end, end_table, filer_link, number_cell};
-use crate::Markup;
 use std::alloc::{AllocError, Global};
 
 /// The caption and the first row of the table of filers.

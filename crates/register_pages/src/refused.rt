@@ -8,9 +8,9 @@ ghost use Rattle.register_pages.specs.Shown.{AddsFindings, AddsLine, AddsLines, 
 use crate::fault::WritingFault;
 use crate::folder::{Folder, put};
 use crate::frame::{begin_by, begin_table, end, end_table, filing_cell, number_cell, text_cell};
-use crate::{Markup, names};
 use crate::parts::{MOST_REPORTS, Part, behind, first, neighbours, pages_for};
 use crate::reads::{findings_at, target_at};
+use crate::{Markup, names};
 use finding_lines::{Form, lines, one_line};
 use register_extracts::{KeptReport, sent_at};
 use register_rows::Catalogue;

@@ -6,9 +6,9 @@ ghost use Rattle.filing_world.specs.Step.{Run};
 ghost use Rattle.filing_world.specs.Headline.{AreFilers, Holds, start};
 ghost use Rattle.schedule.specs.Ending.{EndsBy};
 
+use crate::{Fault, Honest, World};
 use event_script::Event;
 use std::alloc::Global;
-use crate::{Fault, Honest, World};
 
 /// Plays the events on a new world, one after another, up to the first that has a fault.
 pub fn run<D: Honest>(

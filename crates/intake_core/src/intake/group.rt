@@ -12,8 +12,8 @@ ghost use Rattle.intake_core.specs.Together.{IsJudgedAlone, KeepsFirst, LooksUp,
 ghost use Rattle.intake_core.specs.Held.{store_of, limit_of, shows, has_stopped, ForRequests};
 
 use super::{Intake, Unavailable};
-use filing_model::{Answer, Outcome, Style};
 use crate::{Request, answer_by, name_of};
+use filing_model::{Answer, Outcome, Style};
 use register_store::{Moment, NewRow, StoreFault};
 use sqlite::Alter;
 use std::alloc::{AllocError, Global};

@@ -9,7 +9,7 @@ ghost use Rattle.register_extracts.specs.Fields.{absent, doubled, field_or_absen
 ghost use Rattle.register_extracts.specs.Fields.{text_field};
 
 use crate::facts::record::FactForm;
-use register_extracts::{Moment, moment_text};
+use crate::{Moment, moment_text};
 use serde_json::json;
 use std::alloc::{AllocError, Global};
 

@@ -4,11 +4,11 @@ ghost use Rattle.std.specs.Prelude.{◌≡◌, ◌++◌, IfOk, OnOk};
 ghost use Rattle.register_extracts.specs.Fields.{csv_record, fields, first_line, json_line, record_text, view_fields};
 ghost use Rattle.register_extracts.specs.Fields.{view_head};
 
+use crate::Moment;
 use crate::facts::aspects::{Aspects, read_aspects};
 use crate::facts::field::{
     integer_or_absent, moment_or_absent, number, number_or_absent, text, text_or_absent,
 };
-use register_extracts::Moment;
 use std::alloc::{AllocError, Global};
 use xbrl_report::Fact;
 

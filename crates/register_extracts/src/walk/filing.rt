@@ -8,8 +8,8 @@ ghost use Rattle.register_store.specs.Numbered.{filing_numbered};
 ghost use Rattle.register_extracts.specs.Dated.{ForDated};
 ghost use Rattle.register_extracts.specs.Filings.{whole};
 
+use crate::Moment;
 use crate::walk::kept_report::{Dated, KeptReport, dated_at};
-use register_extracts::Moment;
 use register_rows::Catalogue;
 use sqlite::{Alter, Connection};
 use std::alloc::Global;

@@ -11,7 +11,7 @@ ghost use Rattle.register_extracts.specs.Dated.{ForDated};
 ghost use Rattle.register_extracts.specs.Sent.{sent_in, sent_of};
 
 use crate::walk::reads::sent_rows;
-use register_extracts::{Moment, moment_at};
+use crate::{Moment, moment_at};
 use sqlite::{Alter, Connection, Row};
 use std::marker::Model;
 use table_rows::StoreFault;
