@@ -18,6 +18,7 @@ use Rattle.finding_lines.specs.Linting.{LintsReports}
 use Rattle.database_places.specs.Verdicts.{verdict_text}
 use Rattle.database_places.specs.declared.flaw.DatabaseFlaw.{DatabaseFlaw}
 use Rattle.register_tables.specs.declared.fault.OpenFault.TheVariants as register
+use Rattle.register_pages.specs.Pages.{File}
 use Rattle.intake_process.specs.Tasks.{ServesAlone}
 use Rattle.intake_process.specs.declared.tasks.errand.Errand.{Errand}
 use Rattle.intake_process.specs.declared.tasks.errand.Errand.TheVariants as asked
@@ -42,12 +43,12 @@ use Rattle.intake_commands.specs.ReportedFault.{IsErrandTold, IsOpeningTold}
 pub record Means {D : Type 0} (g : Ghosts D) : Type 0 where
   pub wire : Wire
   pub out : Option (List ℕ)
-  pub pages : Option (List (List ℕ))
+  pub pages : Option (List File)
   pub port : Traffic
   pub process : Parts g
 
 -- these
-abbrev pub means : {D : Type 0} {g : Ghosts D} → Wire → Option (List ℕ) → Option (List (List ℕ)) → Traffic → Parts g
+abbrev pub means : {D : Type 0} {g : Ghosts D} → Wire → Option (List ℕ) → Option (List File) → Traffic → Parts g
     → Means g
 means wire out pages port process = record { wire = wire; out = out; pages = pages; port = port; process = process }
 

@@ -10,7 +10,7 @@ use std::io::{self, Write};
 use terminal_text::OneLine;
 use thiserror::Error;
 
-/// Why a page was not written.
+/// Why a file was not written.
 #[derive(Debug, Drop, Error)]
 pub enum PageFault {
     #[error("{file}: {error}", file = OneLine(.path.as_str()))]
@@ -25,14 +25,14 @@ impl From<AllocError> for PageFault {
     }
 }
 
-/// A folder that knows why the first page was not written that was not.
+/// A folder that knows why the first file was not written that was not.
 pub(crate) trait SiteFolder: Folder {
-    /// Hands out why the first page was not written of those that were not, if there is one.
+    /// Hands out why the first file was not written of those that were not, if there is one.
     fn take_fault(&mut self) -> PageFault
         ensures { Self.Folder.pages self.new ≡ Self.Folder.pages self.old };
 }
 
-/// A folder of the file system. A page is written under another name first, so that no part of one is left under its
+/// A folder of the file system. A file is written under another name first, so that no part of one is left under its
 /// own. Nobody can guess that name, and a link that has it is not followed.
 #[derive(Drop)]
 pub(crate) struct SystemFolder<'r, 'a> {
@@ -53,11 +53,24 @@ impl<'r, 'a> SystemFolder<'r, 'a> {
         }
     }
 
-    /// Writes a page.
-    fn put(&self, name: &str, page: &[u8]) -> Result<(), PageFault> {
+    /// Writes a file, or keeps why it was not written, if it is the first one that was not.
+    fn put(&mut self, name: &str, bytes: &[u8]) -> Result<(), NotWritten> {
+        match self.try_put(name, bytes) {
+            Ok(()) => Ok(()),
+            Err(fault) => {
+                if self.fault.is_none() {
+                    self.fault = Some(fault);
+                }
+                Err(NotWritten)
+            }
+        }
+    }
+
+    /// Writes a file.
+    fn try_put(&self, name: &str, bytes: &[u8]) -> Result<(), PageFault> {
         let folder = self.path;
         let path = format!(in self.rt.alloc(); "{folder}/{name}")?;
-        match write_whole(self.rt, folder, name, path.as_str(), page) {
+        match write_whole(self.rt, folder, name, path.as_str(), bytes) {
             Ok(()) => Ok(()),
             Err(error) => Err(PageFault::File { path, error }),
         }
@@ -68,15 +81,11 @@ impl Folder for SystemFolder<'_, '_> {
     ghost pages = { λ _. None };
 
     fn write(&mut self, name: &str, page: &Markup) -> Result<(), NotWritten> {
-        match self.put(name, page.as_bytes()) {
-            Ok(()) => Ok(()),
-            Err(fault) => {
-                if self.fault.is_none() {
-                    self.fault = Some(fault);
-                }
-                Err(NotWritten)
-            }
-        }
+        self.put(name, page.as_bytes())
+    }
+
+    fn write_report(&mut self, name: &str, report: &[u8]) -> Result<(), NotWritten> {
+        self.put(name, report)
     }
 }
 

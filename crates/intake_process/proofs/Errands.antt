@@ -44,6 +44,7 @@ use Rattle.register_extracts.specs.Records.{export_begun, export_text}
 use Rattle.register_extracts.specs.declared.fault.ExportFault.TheVariants as export
 use Rattle.register_extracts.specs.declared.fault.RecordsFault.{RecordsFault}
 use Rattle.register_extracts.specs.declared.fault.RecordsFault.TheVariants as records
+use Rattle.register_pages.specs.Pages.{File}
 use Rattle.register_pages.specs.Site.{WritesPages}
 use Rattle.register_pages.specs.declared.fault.PagesFault.TheVariants as site
 use Rattle.register_pages.specs.declared.fault.WritingFault.{WritingFault}
@@ -896,7 +897,7 @@ module _ (until : Option ℕ) where
 -- ---- pages
 
 -- an errand for no pages writes none
-pub no_pages : {S X : Type 0} (g : Ghosts S) (errand : Errand) (pages : Option (List (List ℕ))) (old new : Held S)
+pub no_pages : {S X : Type 0} (g : Ghosts S) (errand : Errand) (pages : Option (List File)) (old new : Held S)
     (result : Result X ErrandFault) → is_for_pages errand ≡ false
     → FillsFolder {S = S} {X = X} g errand pages pages old new result
 no_pages g errand pages old new result not =
@@ -929,7 +930,7 @@ module _ (path : Bor (List ℕ)) where
   is_no_refusal writing.Memory = refl
   is_no_refusal writing.Folder = refl
 
-  module _ {S X : Type 0} (g : Ghosts S) (pages pages' : Option (List (List ℕ))) (old new : Held S) where
+  module _ {S X : Type 0} (g : Ghosts S) (pages pages' : Option (List File)) (old new : Held S) where
     pub site_done : (x : X) → WritesPages {S = S} {X = X} g pages pages' old new (Ok x) → (out : Option (List ℕ))
         → RunsErrand {S = S} {X = X} g (asked.Pages path) out out old new (Ok x)
     site_done x writes out = record {

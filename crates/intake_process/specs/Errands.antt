@@ -24,7 +24,7 @@ use Rattle.register_extracts.specs.Moments.{moment_of}
 use Rattle.register_extracts.specs.Digest.{digest_until}
 use Rattle.register_extracts.specs.Registers.{digested}
 use Rattle.register_extracts.specs.Records.{export_begun, export_text}
-use Rattle.register_pages.specs.Pages.{WritesSite}
+use Rattle.register_pages.specs.Pages.{File, WritesSite}
 use Rattle.intake_process.specs.declared.tasks.errand.Errand.{Errand}
 use Rattle.intake_process.specs.declared.tasks.errand.Errand.TheVariants as asked
 use Rattle.intake_process.specs.declared.tasks.text.TextFault.TheVariants.{Memory, Output}
@@ -213,7 +213,7 @@ is_for_pages other = false
 
 -- Which pages an errand writes into a folder: those of the register, if it is for pages and is done; none, if it is
 -- refused or for others.
-pub record FillsFolder {S X : Type 0} (g : Ghosts S) (errand : Errand) (pages pages' : Option (List (List ℕ)))
+pub record FillsFolder {S X : Type 0} (g : Ghosts S) (errand : Errand) (pages pages' : Option (List File))
     (old new : Held S) (result : Result X ErrandFault) : Type 0 where
   pub filled : HasCleanDisk (state g new) → (old_style : ℕ) (requests : List Request) → firsts requests ≡ requests
       → IsRegisterFor errand old_style requests (state g old).now

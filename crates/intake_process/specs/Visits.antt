@@ -9,7 +9,7 @@ use Rattle.sqlite.specs.Effect.{Database}
 use Rattle.sqlite.specs.Files.{over_files}
 use Rattle.sqlite.specs.Held.{Held}
 use Rattle.filing_model.specs.Request.{Request, firsts}
-use Rattle.register_pages.specs.Pages.{WritesSite}
+use Rattle.register_pages.specs.Pages.{File, WritesSite}
 use Rattle.database_places.specs.Closing.{IsClosedIn, IsGivenUp, IsNotClosed}
 use Rattle.database_places.specs.Left.{HoldWithLog}
 use Rattle.database_places.specs.Opening.{OpensPlace}
@@ -29,9 +29,9 @@ use Rattle.intake_process.specs.Process.{Parts, HoldRegisterWithLog, KeepsBy, Le
 -- what an output has, and which pages were written into a folder, if that is known
 pub record Outputs : Type 0 where
   pub text : Option (List ℕ)
-  pub pages : Option (List (List ℕ))
+  pub pages : Option (List File)
 
-abbrev pub outputs : Option (List ℕ) → Option (List (List ℕ)) → Outputs
+abbrev pub outputs : Option (List ℕ) → Option (List File) → Outputs
 outputs text pages = record { text = text; pages = pages }
 
 -- the log and the database file together hold the register of these requests in the version that the errand is for

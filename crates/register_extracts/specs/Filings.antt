@@ -7,7 +7,7 @@ use Rattle.filing_model.specs.Register.{Filing, Kept, filings}
 use Rattle.register_extracts.specs.Moments.{moment_of}
 
 -- a filing's number, who filed it, under which key, which filing it replaces, which one replaces it, when it was
--- received, if that is known, in milliseconds since 1970-01-01T00:00:00Z, and its facts
+-- received, if that is known, in milliseconds since 1970-01-01T00:00:00Z, its report, and its facts
 pub record FilingParts : Type 0 where
   pub number : ℕ
   pub filer : List ℕ
@@ -15,6 +15,7 @@ pub record FilingParts : Type 0 where
   pub replaces : Option ℕ
   pub replaced_by : Option ℕ
   pub received : Option ℕ
+  pub body : List ℕ
   pub facts : List FactRecord
 
 -- a filing as it stands among these kept requests, each with its moment
@@ -26,5 +27,6 @@ whole ks moments f = record {
   replaces = f.request.target;
   replaced_by = replacing (filings ks) f.number;
   received = moment_of ks moments f.number;
+  body = f.request.body;
   facts = facts f.request.body;
 }

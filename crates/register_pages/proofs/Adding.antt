@@ -9,22 +9,22 @@ use Rattle.std.specs.List.Sorted.{IsStrictlySortedBy}
 use Rattle.filing_model.specs.Request.{Request}
 use Rattle.filing_model.specs.Register.{Kept, kept, register}
 use Rattle.register_pages.specs.declared.fault.WritingFault.{WritingFault}
-use Rattle.register_pages.specs.Pages.{Adds, Writes, WritesSite, filer_page, filing_pages, is_filed, is_refused}
+use Rattle.register_pages.specs.Pages.{Adds, File, Page, Writes, WritesSite, filer_page, filing_files, is_filed, is_refused}
 use Rattle.register_pages.specs.Pages.{numbered, other_pages, pages_for, pages_of_filer, refused_pages, sent_by}
 
-adds_none : (old : Option (List (List ℕ))) → Adds old old []
+adds_none : (old : Option (List File)) → Adds old old []
 adds_none None = tt
 adds_none (Some before) = sym (append-nil before)
 
-adds_then : (old mid new : Option (List (List ℕ))) (first then : List (List ℕ)) → Adds old mid first
+adds_then : (old mid new : Option (List File)) (first then : List File) → Adds old mid first
     → Adds mid new then → Adds old new (first ++ then)
 adds_then None mid new first then p q = tt
 adds_then (Some a) None new first then p q = absurd p
 adds_then (Some a) (Some b) None first then p q = absurd q
 adds_then (Some a) (Some b) (Some c) first then p q = q ∙ ap (λ l. l ++ then) p ∙ append_assoc a first then
 
-module _ (m m' m'' : Option WritingFault) (old mid new : Option (List (List ℕ))) where
-  pub writes_then : (first then : List (List ℕ)) → Writes m m' old mid first → Writes m' m'' mid new then
+module _ (m m' m'' : Option WritingFault) (old mid new : Option (List File)) where
+  pub writes_then : (first then : List File) → Writes m m' old mid first → Writes m' m'' mid new then
       → Writes m m'' old new (first ++ then)
   writes_then first then p q e =
       let last = q e in
@@ -32,15 +32,15 @@ module _ (m m' m'' : Option WritingFault) (old mid new : Option (List (List ℕ)
 
   -- one page more
   pub page_added : (page : ℕ → List ℕ) (n : ℕ) → Writes m m' old mid (numbered page n)
-      → Writes m' m'' mid new (page (n + 1) ∷ []) → Writes m m'' old new (numbered page (n + 1))
+      → Writes m' m'' mid new (Page (page (n + 1)) ∷ []) → Writes m m'' old new (numbered page (n + 1))
   page_added page n p q =
       let next : n + 1 ≡ suc n = omega arith in
-      let more : numbered page n ++ page (n + 1) ∷ [] ≡ numbered page (n + 1) =
-      subst (λ k. numbered page n ++ page k ∷ [] ≡ numbered page k) (sym next) refl in
-      subst (Writes m m'' old new) more (writes_then (numbered page n) (page (n + 1) ∷ []) p q)
+      let more : numbered page n ++ Page (page (n + 1)) ∷ [] ≡ numbered page (n + 1) =
+      subst (λ k. numbered page n ++ Page (page k) ∷ [] ≡ numbered page k) (sym next) refl in
+      subst (Writes m m'' old new) more (writes_then (numbered page n) (Page (page (n + 1)) ∷ []) p q)
 
   -- the pages of one more
-  pub pages_added : {X : Type 0} (pages : X → List (List ℕ)) (xs more : List X) (x : X) → more ≡ xs ++ x ∷ []
+  pub pages_added : {X : Type 0} (pages : X → List File) (xs more : List X) (x : X) → more ≡ xs ++ x ∷ []
       → Writes m m' old mid (flat_map pages xs) → Writes m' m'' mid new (pages x)
       → Writes m m'' old new (flat_map pages more)
   pages_added pages xs more x is p q =
@@ -55,20 +55,20 @@ module _ (m m' m'' : Option WritingFault) (old mid new : Option (List (List ℕ)
       → Writes m m' old mid (numbered (filer_page filer) (pages_for 1000 filed))
       → Writes m' m'' mid new (refused_pages filer refused) → Writes m m'' old new (pages_of_filer ks filer)
   filer_written ks filer filed refused e f p q =
-      let first : ℕ → List (List ℕ) = λ n. numbered (filer_page filer) (pages_for 1000 n) in
+      let first : ℕ → List File = λ n. numbered (filer_page filer) (pages_for 1000 n) in
       subst (λ n. Writes m m'' old new (first n ++ refused_pages filer (count_by is_refused (sent_by filer ks)))) e
       (subst (λ n. Writes m m'' old new (first filed ++ refused_pages filer n)) f
       (writes_then (first filed) (refused_pages filer refused) p q))
 
-pub writes_none : (m : Option WritingFault) (old : Option (List (List ℕ))) → Writes m m old old []
+pub writes_none : (m : Option WritingFault) (old : Option (List File)) → Writes m m old old []
 writes_none m old e = (e, adds_none old)
 
 -- the pages of the filings and of the filers are written, and then the others
-pub site_written : {X E : Type 0} (requests : List Request) (old new : Option (List (List ℕ)))
+pub site_written : {X E : Type 0} (requests : List Request) (old new : Option (List File))
     (filers : List (List ℕ)) (r : Result X E)
     → ((filer : List ℕ) → Contains filers filer ↔ Contains (map (λ k. k.request.filer) (kept requests)) filer)
     → OnOk r (IsStrictlySortedBy (slice_cmp nat_cmp) filers)
-    → OnOk r (Adds old new (filing_pages (register requests) ++ other_pages (kept requests) filers))
+    → OnOk r (Adds old new (filing_files (register requests) ++ other_pages (kept requests) filers))
     → OnOk r (WritesSite requests old new)
 site_written requests old new filers (Ok x) each ascend written =
     (filers, record { ascend = ascend; each = each }, written)

@@ -14,10 +14,10 @@ use Rattle.register_extracts.proofs.Walks.{found_then, kept_then, nothing_then, 
 use Rattle.register_pages.specs.declared.fault.PagesFault.TheVariants as fault
 use Rattle.register_pages.specs.declared.fault.WritingFault.{WritingFault}
 use Rattle.register_pages.specs.Gathering.{AreCountsOf}
-use Rattle.register_pages.specs.Pages.{WritesSite}
+use Rattle.register_pages.specs.Pages.{File, WritesSite}
 use Rattle.register_pages.specs.Site.{WritesPages}
 
-module _ {S X : Type 0} (g : Ghosts S) (pages pages' : Option (List (List ℕ))) (old mid new : Held S) (counts : Counts)
+module _ {S X : Type 0} (g : Ghosts S) (pages pages' : Option (List File)) (old mid new : Held S) (counts : Counts)
     (read : ReadsRegister g old mid (Ok counts)) where
   -- all pages are written
   pub done : Leaves Passed (state g mid) (state g new)

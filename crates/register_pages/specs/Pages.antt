@@ -1,4 +1,4 @@
--- Which pages a register has, by the names of their files; own rules.
+-- Which pages a register has, and which reports beside them, by the names of their files; own rules.
 use Rattle.std.specs.Prelude.{◌≡◌, ◌↔◌, ◌&&◌, ◌==◌, ◌-◌, ◌/◌, ℕ, zero, suc, Bool, not, List, [], ◌∷◌, ◌++◌, map, filter}
 use Rattle.std.specs.Prelude.{flat_map, count_by, codes, length, bytes_eq, nat_le, if◌then◌else◌, Contains, Option}
 use Rattle.std.specs.Prelude.{Some, None, is_some}
@@ -12,16 +12,21 @@ use Rattle.filing_model.specs.Register.{Filing, Kept, kept, register}
 use Rattle.register_rows.specs.Register.{number_of}
 use Rattle.register_pages.specs.declared.fault.WritingFault.{WritingFault}
 
--- these are written into a folder behind those that are known to be written
-abbrev pub Adds : Option (List (List ℕ)) → Option (List (List ℕ)) → List (List ℕ) → Type 0
-Adds None after names = Unit {0}
-Adds (Some before) None names = ⊥
-Adds (Some before) (Some after) names = after ≡ before ++ names
+-- what is written into a folder: a page of this name, or a report under this name, byte for byte
+pub data File : Type 0 where
+  Page : List ℕ → File
+  Report : List ℕ → List ℕ → File
 
--- If no page was missed at the end, none was before, and these are written.
-abbrev pub Writes : Option WritingFault → Option WritingFault → Option (List (List ℕ)) → Option (List (List ℕ))
-    → List (List ℕ) → Type 0
-Writes missed missed' old new names = missed' ≡ None → (missed ≡ None) × Adds old new names
+-- these are written into a folder behind those that are known to be written
+abbrev pub Adds : Option (List File) → Option (List File) → List File → Type 0
+Adds None after files = Unit {0}
+Adds (Some before) None files = ⊥
+Adds (Some before) (Some after) files = after ≡ before ++ files
+
+-- If no file was missed at the end, none was before, and these are written.
+abbrev pub Writes : Option WritingFault → Option WritingFault → Option (List File) → Option (List File) → List File
+    → Type 0
+Writes missed missed' old new files = missed' ≡ None → (missed ≡ None) × Adds old new files
 
 -- ---- names
 
@@ -48,12 +53,16 @@ filer_page filer number = codes "filer-" ++ file_code filer ++ page_number numbe
 abbrev pub refused_page : List ℕ → ℕ → List ℕ
 refused_page filer number = codes "refused-" ++ file_code filer ++ page_number number ++ codes ".html"
 
+-- the report of a filing
+abbrev pub report_file : ℕ → List ℕ
+report_file filing = codes "filing-" ++ decimal filing ++ codes ".json"
+
 -- ---- how many there are
 
 -- so many pages, from the first on
-abbrev pub numbered : (ℕ → List ℕ) → ℕ → List (List ℕ)
+abbrev pub numbered : (ℕ → List ℕ) → ℕ → List File
 numbered page zero = []
-numbered page (suc n) = numbered page n ++ page (suc n) ∷ []
+numbered page (suc n) = numbered page n ++ Page (page (suc n)) ∷ []
 
 -- How many pages so many rows take, at most `most` on each. There is one if there are no rows.
 abbrev pub pages_for : ℕ → ℕ → ℕ
@@ -69,26 +78,29 @@ is_filed k = is_some (number_of k.outcome)
 abbrev pub is_refused : Kept → Bool
 is_refused k = not (is_filed k)
 
--- the pages of a filing: at most 1,000 facts on each
-abbrev pub pages_of_filing : Filing → List (List ℕ)
-pages_of_filing f = numbered (filing_page f.number) (pages_for 1000 (length (facts f.request.body)))
+-- the files of a filing: its pages, with at most 1,000 facts on each, and its report
+abbrev pub files_of_filing : Filing → List File
+files_of_filing f =
+    numbered (filing_page f.number) (pages_for 1000 (length (facts f.request.body)))
+    ++ Report (report_file f.number) f.request.body ∷ []
 
-abbrev pub filing_pages : List Filing → List (List ℕ)
-filing_pages filings = flat_map pages_of_filing filings
+abbrev pub filing_files : List Filing → List File
+filing_files filings = flat_map files_of_filing filings
 
 -- the pages of a filer's refused reports, if there are some: at most 50 reports on each
-abbrev pub refused_pages : List ℕ → ℕ → List (List ℕ)
+abbrev pub refused_pages : List ℕ → ℕ → List File
 refused_pages filer reports = if reports == 0 then [] else numbered (refused_page filer) (pages_for 50 reports)
 
 -- the pages of a filer: of its filings, at most 1,000 on each, and of its refused reports
-abbrev pub pages_of_filer : List Kept → List ℕ → List (List ℕ)
+abbrev pub pages_of_filer : List Kept → List ℕ → List File
 pages_of_filer ks filer =
     numbered (filer_page filer) (pages_for 1000 (count_by is_filed (sent_by filer ks)))
     ++ refused_pages filer (count_by is_refused (sent_by filer ks))
 
 -- the pages of each filer, the one of the findings, and at last the one of all filers
-abbrev pub other_pages : List Kept → List (List ℕ) → List (List ℕ)
-other_pages ks filers = flat_map (pages_of_filer ks) filers ++ codes "findings.html" ∷ codes "index.html" ∷ []
+abbrev pub other_pages : List Kept → List (List ℕ) → List File
+other_pages ks filers =
+    flat_map (pages_of_filer ks) filers ++ Page (codes "findings.html") ∷ Page (codes "index.html") ∷ []
 
 -- The codes of the filers of the kept requests, whether they were registered or refused: each once, in the order of
 -- their bytes.
@@ -96,8 +108,8 @@ pub record AreFilers (requests : List Request) (filers : List (List ℕ)) : Type
   pub ascend : IsStrictlySortedBy (slice_cmp nat_cmp) filers
   pub each : (filer : List ℕ) → Contains filers filer ↔ Contains (map (λ k. k.request.filer) (kept requests)) filer
 
--- the pages of a register of these requests are written, in this order: of each filing, of each filer, and two more
-abbrev pub WritesSite : List Request → Option (List (List ℕ)) → Option (List (List ℕ)) → Type 0
+-- the files of a register of these requests are written, in this order: of each filing, of each filer, and two more
+abbrev pub WritesSite : List Request → Option (List File) → Option (List File) → Type 0
 WritesSite requests old new =
     (filers : List (List ℕ)) × AreFilers requests filers
-    × Adds old new (filing_pages (register requests) ++ other_pages (kept requests) filers)
+    × Adds old new (filing_files (register requests) ++ other_pages (kept requests) filers)

@@ -1,6 +1,6 @@
--- What the writing of a register's pages does. What is written is HTML, in which each text of a report was escaped: a
--- folder takes nothing else, and a text becomes HTML by `text` alone. `pages` and `pages'` are the pages that were
--- written into the folder before and after it, if these are known.
+-- What the writing of a register's pages does. A page is HTML, in which each text of a report was escaped: a folder takes
+-- no other page, and a text becomes HTML by `text` alone. Beside the pages of a filing stands its report, byte for byte.
+-- `pages` and `pages'` are the files that were written into the folder before and after it, if these are known.
 use Rattle.std.specs.Prelude.{◌≡◌, ℕ, false, List, Option, Result, Ok, Err, IfErr, OnOk}
 use Rattle.sqlite.specs.Store.{Ghosts}
 use Rattle.sqlite.specs.Held.{Held, state}
@@ -12,7 +12,7 @@ use Rattle.register_tables.specs.Opening.{IsRefused, IsReadAsRegister}
 use Rattle.register_tables.specs.Registers.{ForRows, IsRegisterOf}
 use Rattle.register_pages.specs.declared.fault.PagesFault.{PagesFault}
 use Rattle.register_pages.specs.declared.fault.PagesFault.TheVariants as fault
-use Rattle.register_pages.specs.Pages.{WritesSite}
+use Rattle.register_pages.specs.Pages.{File, WritesSite}
 
 -- this holds of the fault by which an opening was refused; nothing is said of the faults of a sound register
 abbrev pub IfOpen : (OpenFault → Type 0) → PagesFault → Type 0
@@ -26,7 +26,7 @@ UnlessRefused (Err (fault.Pages why)) Holds = Holds
 UnlessRefused (Err (fault.Open why)) Holds = Unit {0}
 
 -- What `write_pages` writes of the register that a database is, and that it writes nothing to the database.
-pub record WritesPages {S X : Type 0} (g : Ghosts S) (pages pages' : Option (List (List ℕ))) (old new : Held S)
+pub record WritesPages {S X : Type 0} (g : Ghosts S) (pages pages' : Option (List File)) (old new : Held S)
     (result : Result X PagesFault) : Type 0 where
   -- The rows stand for requests, and there is one such list at most.
   pub written : HasCleanDisk (state g new)

@@ -1,10 +1,11 @@
-//! The pages of a filing.
+//! The pages of a filing, and its report.
 
-ghost use Rattle.std.specs.Prelude.{◌≤◌, length};
-ghost use Rattle.register_pages.specs.Pages.{Writes, filing_page, numbered, pages_for as pages_for_lem};
+ghost use Rattle.std.specs.Prelude.{◌≤◌, ◌++◌, ◌∷◌, [], length};
+ghost use Rattle.register_pages.specs.Pages.{Report, Writes, filing_page, numbered, report_file};
+ghost use Rattle.register_pages.specs.Pages.{pages_for as pages_for_lem};
 
 use crate::fault::WritingFault;
-use crate::folder::{Folder, put};
+use crate::folder::{Folder, put, put_report};
 use crate::frame::{
     begin, begin_table, end, end_table, filer_link, filing_link, moment, text_cell,
 };
@@ -41,8 +42,24 @@ const WIDE_HEAD: &str = "<caption>Facts</caption>\n\
     <th scope=\"col\">Other dimensions</th>\
     </tr></thead>\n";
 
-/// Writes the pages of a filing.
+/// Writes the pages of a filing, and its report beside them.
 pub(crate) fn write_filing<F: Folder>(
+    alloc: Global,
+    filing: &WholeFiling,
+    folder: &mut F,
+    missed: &mut Option<WritingFault>,
+)
+    ensures { Writes missed.old missed.new (F.pages folder.old) (F.pages folder.new)
+        (numbered (filing_page filing.now.number) (pages_for_lem 1000 (length filing.now.facts))
+        ++ Report (report_file filing.now.number) filing.now.body ∷ []) }
+{
+    write_facts(alloc, filing, folder, missed);
+    let name = names::of_report(alloc, filing.number);
+    put_report(folder, missed, name, &filing.body);
+}
+
+/// Writes the pages of a filing.
+fn write_facts<F: Folder>(
     alloc: Global,
     filing: &WholeFiling,
     folder: &mut F,
@@ -105,6 +122,9 @@ fn describe(page: &mut Markup, alloc: Global, filing: &WholeFiling) -> Result<()
     page.constant("</dd>\n")?;
     describe_link(page, alloc, "<dt>Replaces</dt>", filing.replaces)?;
     describe_link(page, alloc, "<dt>Replaced by</dt>", filing.replaced_by)?;
+    page.constant("<dt>Report</dt><dd><a href=\"filing-")?;
+    page.number(alloc, filing.number)?;
+    page.constant(".json\">as it was filed</a></dd>\n")?;
     page.constant("</dl>\n")
 }
 

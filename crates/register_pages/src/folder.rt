@@ -1,24 +1,30 @@
-//! A folder in which pages are written.
+//! A folder in which pages and reports are written.
 
 ghost use Rattle.std.specs.Prelude.{◌≡◌, ◌≢◌, ◌∷◌, [], ℕ, List, None, Option, string_bytes, IfOk, OnErr, OnOk};
-ghost use Rattle.register_pages.specs.Pages.{Adds, Writes};
+ghost use Rattle.register_pages.specs.Pages.{Adds, File, Page, Report, Writes};
 
 use crate::Markup;
 use crate::fault::WritingFault;
 use std::alloc::AllocError;
 
-/// A page was not written. The folder knows why.
+/// A file was not written. The folder knows why.
 #[derive(Clone, Copy, Debug, PartialEq, Eq)]
 pub struct NotWritten;
 
-/// A folder. What is written into it is HTML: a text of a report becomes that by `Markup::text` alone.
+/// A folder. A page that is written into it is HTML: a text of a report becomes that by `Markup::text` alone. A report
+/// is written as it was sent.
 pub trait Folder {
-    // The names of the pages that were written into the folder, in that order, if they are known.
-    ghost pages: { Self → Option (List (List ℕ)) };
+    // The files that were written into the folder, in that order, if they are known.
+    ghost pages: { Self → Option (List File) };
 
     /// Writes a page whole, or leaves the file of this name as it was. The name has no slash.
     fn write(&mut self, name: &str, page: &Markup) -> Result<(), NotWritten>
-        ensures written { OnOk result (Adds (pages self.old) (pages self.new) (name.now ∷ [])) }
+        ensures written { OnOk result (Adds (pages self.old) (pages self.new) (Page name.now ∷ [])) }
+        ensures failed { OnErr result (pages self.new ≡ pages self.old) };
+
+    /// Writes the bytes of a report whole, or leaves the file of this name as it was. The name has no slash.
+    fn write_report(&mut self, name: &str, report: &[u8]) -> Result<(), NotWritten>
+        ensures written { OnOk result (Adds (pages self.old) (pages self.new) (Report name.now report.now ∷ [])) }
         ensures failed { OnErr result (pages self.new ≡ pages self.old) };
 }
 
@@ -29,7 +35,7 @@ fn write<F: Folder>(
     page: Result<Markup, AllocError>,
 ) -> Result<(), WritingFault>
     ensures { (wanted : List ℕ) → IfOk name (λ text. string_bytes text ≡ wanted)
-        → OnOk result (Adds (F.pages folder.old) (F.pages folder.new) (wanted ∷ [])) }
+        → OnOk result (Adds (F.pages folder.old) (F.pages folder.new) (Page wanted ∷ [])) }
 {
     let name = name?;
     let page = page?;
@@ -54,9 +60,38 @@ pub(crate) fn put<F: Folder>(
     page: Result<Markup, AllocError>,
 )
     ensures { (wanted : List ℕ) → IfOk name (λ text. string_bytes text ≡ wanted)
-        → Writes missed.old missed.new (F.pages folder.old) (F.pages folder.new) (wanted ∷ []) }
+        → Writes missed.old missed.new (F.pages folder.old) (F.pages folder.new) (Page wanted ∷ []) }
 {
     if let Err(fault) = write(folder, name, page) {
+        miss(missed, fault);
+    }
+}
+
+/// Writes a report under a name that was made.
+fn write_report<F: Folder>(
+    folder: &mut F,
+    name: Result<String, AllocError>,
+    report: &[u8],
+) -> Result<(), WritingFault>
+    ensures { (wanted : List ℕ) → IfOk name (λ text. string_bytes text ≡ wanted)
+        → OnOk result (Adds (F.pages folder.old) (F.pages folder.new) (Report wanted report.now ∷ [])) }
+{
+    let name = name?;
+    folder.write_report(name.as_str(), report)?;
+    Ok(())
+}
+
+/// Writes a report, or keeps why it was missed, if it is the first file that is.
+pub(crate) fn put_report<F: Folder>(
+    folder: &mut F,
+    missed: &mut Option<WritingFault>,
+    name: Result<String, AllocError>,
+    report: &[u8],
+)
+    ensures { (wanted : List ℕ) → IfOk name (λ text. string_bytes text ≡ wanted)
+        → Writes missed.old missed.new (F.pages folder.old) (F.pages folder.new) (Report wanted report.now ∷ []) }
+{
+    if let Err(fault) = write_report(folder, name, report) {
         miss(missed, fault);
     }
 }

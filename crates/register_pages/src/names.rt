@@ -2,7 +2,7 @@
 
 ghost use Rattle.std.specs.Prelude.{◌≡◌, ◌++◌, codes, string_bytes, IfOk, OnOk};
 ghost use Rattle.register_pages.specs.Pages.{file_code as file_code_lem, file_letter, filing_page};
-ghost use Rattle.register_pages.specs.Pages.{page_number as page_number_lem};
+ghost use Rattle.register_pages.specs.Pages.{page_number as page_number_lem, report_file};
 
 use std::alloc::{AllocError, Global};
 
@@ -80,4 +80,11 @@ pub(crate) fn of_filing(alloc: Global, filing: u64, number: usize) -> Result<Str
 {
     let digits = format!(in alloc; "{filing}")?;
     joined(alloc, "filing-", digits.as_bytes(), number)
+}
+
+/// The file of a filing's report.
+pub(crate) fn of_report(alloc: Global, filing: u64) -> Result<String, AllocError>
+    ensures { IfOk result (λ name. string_bytes name ≡ report_file filing) }
+{
+    format!(in alloc; "filing-{filing}.json")
 }

@@ -1,7 +1,7 @@
 //! The pages that are written behind those of filings and filers.
 
 ghost use Rattle.std.specs.Prelude.{◌∷◌, [], codes};
-ghost use Rattle.register_pages.specs.Pages.{Writes};
+ghost use Rattle.register_pages.specs.Pages.{Page, Writes};
 
 use crate::Markup;
 use crate::chart::findings_page;
@@ -71,7 +71,7 @@ pub(crate) fn write_others<F: Folder>(
     missed: &mut Option<WritingFault>,
 )
     ensures { Writes missed.old missed.new (F.pages folder.old) (F.pages folder.new)
-        (codes "findings.html" ∷ codes "index.html" ∷ []) }
+        (Page (codes "findings.html") ∷ Page (codes "index.html") ∷ []) }
 {
     let page = findings_page(alloc, &found.codes);
     put(

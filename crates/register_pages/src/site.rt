@@ -12,8 +12,8 @@ ghost use Rattle.register_rows.specs.Catalogue.{catalogue_of, view_lines};
 ghost use Rattle.register_store.specs.Numbered.{filing_numbered};
 ghost use Rattle.register_store.specs.Store.{ForRegister};
 ghost use Rattle.register_pages.specs.Gathering.{AreCountsOf, codes_of};
-ghost use Rattle.register_pages.specs.Pages.{Adds, Writes, WritesSite, filing_pages, other_pages, pages_of_filer};
-ghost use Rattle.register_pages.specs.Pages.{pages_of_filing};
+ghost use Rattle.register_pages.specs.Pages.{Adds, Writes, WritesSite, filing_files, other_pages, pages_of_filer};
+ghost use Rattle.register_pages.specs.Pages.{files_of_filing};
 ghost use Rattle.register_pages.specs.Site.{WritesPages};
 
 use crate::fault::{PagesFault, WritingFault};
@@ -31,8 +31,8 @@ use sqlite::{Alter, Connection};
 use std::alloc::Global;
 
 /// Writes the register that the database is as pages into a folder: `index.html` with all filers, `filer-CODE.html` of
-/// each, `refused-CODE.html` of each whose reports were refused, `filing-NUMBER.html` of each filing, and
-/// `findings.html`. A page has at most 1,000 rows, and one of refused reports at most 50 of these; what follows is on
+/// each, `refused-CODE.html` of each whose reports were refused, `filing-NUMBER.html` of each filing, its report as it was
+/// filed in `filing-NUMBER.json`, and `findings.html`. A page has at most 1,000 rows, and one of refused reports at most 50 of these; what follows is on
 /// pages whose names have `~2` and so on. If a page is missed, the others are written. The register is read and checked
 /// first, and nothing is written to the database.
 pub fn write_pages<S: Alter, F: Folder>(
@@ -79,7 +79,7 @@ fn write_site<S: Alter, F: Folder>(
     ensures written { ForRegister S.Store conn.old conn.new (λ _ requests.
         AreCountsOf requests counts.now
         → OnOk result (Adds (F.pages folder.old) (F.pages folder.new)
-        (filing_pages (register requests) ++ other_pages (kept requests) (codes_of filers.now)))) }
+        (filing_files (register requests) ++ other_pages (kept requests) (codes_of filers.now)))) }
     ensures leaves { MayRead S.Store conn.old conn.new result }
 {
     let mut missed = None;
@@ -105,14 +105,14 @@ fn write_reports<S: Alter, F: Folder>(
     ensures written { ForRegister S.Store conn.old conn.new (λ _ requests.
         AreCountsOf requests counts.now
         → OnOk result (Writes missed.old missed.new (F.pages folder.old) (F.pages folder.new)
-        (filing_pages (register requests) ++ flat_map (pages_of_filer (kept requests)) (codes_of filers.now)))) }
+        (filing_files (register requests) ++ flat_map (pages_of_filer (kept requests)) (codes_of filers.now)))) }
     ensures leaves { MayRead S.Store conn.old conn.new result }
 {
     write_filings(alloc, conn, counts, folder, missed)?;
     write_filers(alloc, conn, &counts.catalogue, filers, folder, missed)
 }
 
-/// Writes the pages of each filing.
+/// Writes the pages and the report of each filing.
 fn write_filings<S: Alter, F: Folder>(
     alloc: Global,
     conn: &mut Connection<S>,
@@ -123,7 +123,7 @@ fn write_filings<S: Alter, F: Folder>(
     ensures written { ForRegister S.Store conn.old conn.new (λ _ requests.
         AreCountsOf requests counts.now
         → OnOk result (Writes missed.old missed.new (F.pages folder.old) (F.pages folder.new)
-        (filing_pages (register requests)))) }
+        (filing_files (register requests)))) }
     ensures leaves { MayRead S.Store conn.old conn.new result }
 {
     for at in 0..counts.filings {
@@ -132,7 +132,7 @@ fn write_filings<S: Alter, F: Folder>(
     Ok(())
 }
 
-/// Writes the pages of the filing with this number.
+/// Writes the pages and the report of the filing with this number.
 fn write_numbered<S: Alter, F: Folder>(
     alloc: Global,
     conn: &mut Connection<S>,
@@ -144,7 +144,7 @@ fn write_numbered<S: Alter, F: Folder>(
     ensures written { ForRegister S.Store conn.old conn.new (λ _ requests.
         (f : Filing) → view_lines catalogue.now ≡ catalogue_of requests
         → filing_numbered number (register requests) ≡ Some f
-        → OnOk result (Writes missed.old missed.new (F.pages folder.old) (F.pages folder.new) (pages_of_filing f))) }
+        → OnOk result (Writes missed.old missed.new (F.pages folder.old) (F.pages folder.new) (files_of_filing f))) }
     ensures leaves { MayRead S.Store conn.old conn.new result }
 {
     match filing_at(alloc, conn, catalogue, number)? {

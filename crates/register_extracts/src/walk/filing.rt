@@ -18,7 +18,7 @@ use table_rows::StoreFault;
 use xbrl_report::{Fact, Judged, Report, judge};
 
 /// A filing with its facts: its number, who filed it, under which key, which filing it replaces, which one replaces it,
-/// and when it was received, if that is known.
+/// when it was received, if that is known, and the bytes of its report.
 #[derive(Drop)]
 pub struct WholeFiling {
     pub number: u64,
@@ -27,6 +27,7 @@ pub struct WholeFiling {
     pub replaces: Option<u64>,
     pub replaced_by: Option<u64>,
     pub received: Option<Moment>,
+    pub body: Vec<u8>,
     report: Report,
 }
 
@@ -45,6 +46,7 @@ impl Model for WholeFiling {
           f.replaces;
       replaced_by = f.replaced_by;
       received = milliseconds_of f.received;
+      body = f.body.items;
       facts = f.report.facts;
     } };
 }
@@ -86,6 +88,7 @@ pub fn filing_at<S: Alter>(
             replaces: line.replaces(),
             replaced_by: line.replaced_by(),
             received,
+            body,
             report,
         })),
         // A report of a filing is valid.

@@ -1,5 +1,6 @@
 use Rattle.std.proofs.Common.{◌≡◌, ℕ, List, Option, None, sym, subst}
 use Rattle.sqlite_disk.specs.declared.Disk.{Ghosts}
+use Rattle.register_pages.specs.Pages.{File}
 use Rattle.intake_process.specs.declared.tasks.errand.Errand.{Errand}
 use Rattle.intake_process.specs.declared.visiting.Visited.{Visited}
 use Rattle.intake_process.specs.Process.{Parts, parts}
@@ -9,7 +10,7 @@ use Rattle.intake_commands.specs.Tasks.{IsCurrentTold, IsFaultTold}
 use Rattle.intake_commands.proofs.visiting.visit_current.Goals as goal
 
 same_pages : {D : Type 0} {g : Ghosts D} (errand : Errand) (from to : Option (List ℕ))
-    (pages pages' pages'' : Option (List (List ℕ))) (old new : Parts g) (visited : Visited) → pages'' ≡ pages'
+    (pages pages' pages'' : Option (List File)) (old new : Parts g) (visited : Visited) → pages'' ≡ pages'
     → VisitsRegister errand (outputs from pages) (outputs to pages') old new visited
     → VisitsRegister errand (outputs from pages) (outputs to pages'') old new visited
 same_pages errand from to pages pages' pages'' old new visited same visits =

@@ -8,7 +8,7 @@ use Rattle.register_tables.proofs.Calls.{refuses}
 use Rattle.register_extracts.proofs.Steps.{next_filing}
 use Rattle.table_rows.proofs.LeavingLemmas.{clean_before, none_yet, passed_then, stands}
 use Rattle.table_rows.specs.Leaving.Ending.{Passed}
-use Rattle.register_pages.specs.Pages.{Writes, filing_pages, pages_of_filing}
+use Rattle.register_pages.specs.Pages.{Writes, filing_files, files_of_filing}
 use Rattle.register_pages.proofs.Adding.{pages_added, writes_none}
 use Rattle.register_pages.proofs.site.write_filings.Goals as goal
 
@@ -29,7 +29,7 @@ loop-at-preserved g c =
           let low : c.loop-at.at < length (register requests) = omega (arith, c.loop-at-test.true, are.filings_is) in
           let next = next_filing 1 c.loop-at.at (register requests) (register_numbered requests) low in
           let number : 1 + c.loop-at.at ≡ c.loop-at.at + 1 = omega arith in
-          pages_added _ _ _ _ _ _ pages_of_filing _ _ next.0 next.2 (had.written before old_style requests was are)
+          pages_added _ _ _ _ _ _ files_of_filing _ _ next.0 next.2 (had.written before old_style requests was are)
           (more.written clean old_style requests (stands had.leaves before was) next.0 are.catalogue_is
           (rw number at next.1));
     }
@@ -39,7 +39,7 @@ returns g c =
     let had = c.loop-at.invariant in record {
       written = λ clean old_style requests was are.
           subst (λ (fs : List Filing). Writes c.args.missed.now c.loop-at.missed (g.F.Folder.pages c.args.folder.now)
-          (g.F.Folder.pages c.loop-at.folder) (filing_pages fs))
+          (g.F.Folder.pages c.loop-at.folder) (filing_files fs))
           (take_all c.loop-at.at (register requests) (omega (arith, c.loop-at-test.false, are.filings_is)))
           (had.written clean old_style requests was are);
       leaves = had.leaves;

@@ -8,7 +8,7 @@ use Rattle.filing_model.specs.Request.{Request}
 use Rattle.filing_model.specs.Register.{register}
 use Rattle.register_tables.specs.Registers.{IsRegisterOf}
 use Rattle.register_pages.specs.Gathering.{AreCountsOf}
-use Rattle.register_pages.specs.Pages.{Writes, filing_pages}
+use Rattle.register_pages.specs.Pages.{Writes, filing_files}
 use Rattle.register_pages.proofs.site.write_filings.Given as goal
 
 abbrev pub invariant-loop-at : goal.invariant-loop-at
@@ -19,5 +19,5 @@ invariant-loop-at g l =
       written : HasCleanDisk now → (old_style : ℕ) (requests : List Request)
           → HasCommitted (IsRegisterOf old_style requests) old → AreCountsOf requests l.counts
           → Writes l.fn.missed l.missed (g.F.Folder.pages l.fn.folder) (g.F.Folder.pages l.folder)
-          (filing_pages (take l.at (register requests)));
+          (filing_files (take l.at (register requests)));
     }

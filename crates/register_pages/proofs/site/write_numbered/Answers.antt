@@ -1,10 +1,10 @@
-use Rattle.std.proofs.Common.{◌≡◌, Some, length, sym, ap, subst, ◌∙◌}
+use Rattle.std.proofs.Common.{◌≡◌, ◌++◌, ◌∷◌, [], Some, length, sym, ap, subst, ◌∙◌}
 use Rattle.std.specs.Prelude.{option_map}
 use Rattle.sqlite.specs.Held.{state}
 use Rattle.filing_model.specs.Register.{kept}
 use Rattle.register_extracts.proofs.Dating.{some_moments}
 use Rattle.register_extracts.specs.Filings.{FilingParts, whole}
-use Rattle.register_pages.specs.Pages.{Writes, filing_page, numbered, pages_for}
+use Rattle.register_pages.specs.Pages.{Report, Writes, filing_page, numbered, pages_for, report_file}
 use Rattle.register_pages.proofs.site.write_numbered.Goals as goal
 
 pub returns-in-Some-clause-written : goal.returns-in-Some-clause-written
@@ -16,7 +16,8 @@ returns-in-Some-clause-written g c clean old_style requests was f is there =
     let same : c.in-Some.filing ≡ whole (kept requests) its.moments f = cc both in
     subst (λ (filing : FilingParts). Writes c.args.missed.now c.write_filing.new.missed
     (g.F.Folder.pages c.args.folder.now) (g.F.Folder.pages c.write_filing.new.folder)
-    (numbered (filing_page filing.number) (pages_for 1000 (length filing.facts)))) same c.write_filing.ensures
+    (numbered (filing_page filing.number) (pages_for 1000 (length filing.facts))
+    ++ Report (report_file filing.number) filing.body ∷ [])) same c.write_filing.ensures
 
 pub returns-in-None-clause-written : goal.returns-in-None-clause-written
 returns-in-None-clause-written g c clean old_style requests was f is there =

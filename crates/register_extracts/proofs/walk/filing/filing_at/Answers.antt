@@ -45,6 +45,7 @@ returns-in-Valid-clause-found g c clean old_style F was moments one_each dated i
       replaces = e.replaces;
       replaced_by = e.replaced_by;
       received = m;
+      body = s.body;
       facts = fs;
     }) in
     let line = entry (register F) its.seq its.k n in

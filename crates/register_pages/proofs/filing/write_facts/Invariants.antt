@@ -1,5 +1,5 @@
 use Rattle.register_pages.specs.Pages.{Writes, numbered, filing_page}
-use Rattle.register_pages.proofs.filing.write_filing.Given as goal
+use Rattle.register_pages.proofs.filing.write_facts.Given as goal
 
 abbrev pub invariant-loop-at : goal.invariant-loop-at
 invariant-loop-at g l =
