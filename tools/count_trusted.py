@@ -24,7 +24,7 @@ ROOT = pathlib.Path(__file__).resolve().parent.parent
 PAGE = ROOT / "docs" / "TRUST.md"
 BEGIN, END = "<!-- counted by tools/count_trusted.py -->", "<!-- end of what is counted -->"
 RUN = "crates/schedule/src/events.rt"
-WORLD = "crates/world/src/world.rt"
+WORLD = "crates/schedule/src/world.rt"
 # The contract to believe, the calls that show the world that it answers, and the calls that lend the ends in it.
 HEADLINE = [(RUN, "run")] + [
     (WORLD, name) for name in ("register", "states", "confirmed", "done", "sent", "outputs", "World")
