@@ -159,9 +159,12 @@ def check_texts(folder):
     wanted = {f"filing-{at}.html" for at in range(1, len(valid) + 1)}
     wanted |= {f"filer-{code_in_names(sent[0])}.html" for sent in SENT}
     wanted |= {f"refused-{code_in_names(sent[0])}.html" for sent in refused}
+    wanted |= {f"filing-{at}.json" for at in range(1, len(valid) + 1)}
     hold("the files", {it.name for it in site.iterdir()}, wanted | {"index.html", "findings.html"})
-    read = {it.name: page(site, it.name) for it in site.iterdir()}
+    read = {it.name: page(site, it.name) for it in site.glob("*.html")}
     for number, (_, _, _, facts) in enumerate(valid, 1):
+        hold(f"filing {number}: its report", (site / f"filing-{number}.json").read_bytes(), report(facts))
+        hold(f"filing {number}: links its report", f"filing-{number}.json" in read[f"filing-{number}.html"].links, True)
         rows = read[f"filing-{number}.html"].rows[1:]
         names = sorted(facts, key=lambda it: it.encode())
         hold(f"filing {number}: facts", [row[0] for row in rows], [seen(name) for name in names])
@@ -192,13 +195,14 @@ def check_looks(folder):
     site = folder / "site"
     site.mkdir()
     pages_of(folder / "register.db", site)
-    read = {it.name: page(site, it.name) for it in site.iterdir()}
+    read = {it.name: page(site, it.name) for it in site.glob("*.html")}
     hold("names differ without capital letters", len({name.lower() for name in read}), len(read))
     hold("a page of each filer", {"filer-ACME.html", "filer-~a~c~m~e.html", "filer-A~c~m~e.html"} - set(read), set())
     for name, its in sorted(read.items()):
         hold(f"{name}: tags", its.tags - TAGS, set())
         hold(f"{name}: faults", its.faults, [])
-        hold(f"{name}: links", [link for link in its.links if link not in read and link not in ("#main", "data:,")], [])
+        hold(f"{name}: links", [link for link in its.links
+                                       if not (site / link).is_file() and link not in ("#main", "data:,")], [])
         words = re.split(r"[; ]+", its.policy)
         hold(f"{name}: the hash of its style", words[words.index("style-src") + 1], hash_of(its.texts["style"]))
         hold(f"{name}: the hash of its script", words[words.index("script-src") + 1], hash_of(its.texts["script"]))
@@ -268,7 +272,7 @@ def check_parts(folder):
         hold(f"{begins}: no more of them", len([*site.glob(f"{begins}~*")]), len(parts) - 1)
         hold(f"{begins}: rows", [[row[column] for row in it.rows[1:]] for it in pages.values()], parts)
         hold(f"{begins}: the ones before", [it.before for it in pages.values()], [None, *names[:-1]])
-    most = max(len(page(site, it.name).rows) - 1 for it in site.iterdir())
+    most = max(len(page(site, it.name).rows) - 1 for it in site.glob("*.html"))
     hold("rows of a page", most <= ROWS, True)
 
 
@@ -323,7 +327,7 @@ def check_folder(folder):
     hold("pages that cannot be written", done.returncode, 3)
     hold("the first of them is named", b"site/filing-2.html: " in done.stderr, True)
     hold("the others are written", {it.name for it in site.iterdir() if it.is_file()},
-         {*(f"filing-{at}.html" for at in (1, 3, 4, 5)), "filer-007.html", "filer-ACME.html", "filer-BETA.html",
+         {*(f"filing-{at}.html" for at in (1, 3, 4, 5)), *(f"filing-{at}.json" for at in range(1, 6)), "filer-007.html", "filer-ACME.html", "filer-BETA.html",
           "filer-~a.~b_~c-.html", "findings.html", "index.html"})
 
 
@@ -352,7 +356,7 @@ def check_browser(folder):
     pages_of(folder / "register.db", site)
     words = [browser, "--headless=new", "--no-sandbox", "--disable-gpu",
              "--enable-logging=stderr", "--v=0", f"--user-data-dir={folder}/profile"]
-    for name in sorted(it.name for it in site.iterdir()):
+    for name in sorted(it.name for it in site.glob("*.html")):
         done = subprocess.run([*words, "--dump-dom", f"file://{site}/{name}"],
                               capture_output=True, check=False, timeout=60)
         hold(f"{name}: nothing in the console", re.findall(r"CONSOLE.*", done.stderr.decode(errors="replace")), [])
@@ -380,6 +384,8 @@ TRIALS = [check_texts, check_looks, check_parts, check_hostile, check_folder, ch
 # Which trial sees what.
 FAULTS = [
     (check_texts, "filing-1.html", "it&#39;s &amp; ", "it&#39;s "),
+    (check_texts, "filing-1.html", 'href="filing-1.json"', 'href="filing-2.json"'),
+    (check_texts, "filing-1.json", "documentInfo", "documentinfo"),
     (check_texts, "filing-2.html", "unknown", "1970-01-01T00:00:00.000Z"),
     (check_texts, "filing-4.html", "23:59:59.999Z", "24:00:00.000Z"),
     (check_texts, "filer-ACME.html", "1970-01-01T00:00:00.000Z", "1970-01-01T00:00:00Z"),
