@@ -1,6 +1,8 @@
 //! Why a command is not done, in words and as a status.
 
+use crate::output::tell;
 use std::alloc::AllocError;
+use std::io::Write;
 use terminal_text::OneLine;
 use thiserror::Error;
 
@@ -160,5 +162,13 @@ impl CommandFault<'_> {
             CommandFault::NotText | CommandFault::NoTask | CommandFault::Filer => 2,
             CommandFault::Output | CommandFault::Memory => 3,
         }
+    }
+
+    /// Writes the text as a line of this program, and answers the status.
+    pub fn tell<E: Write>(&self, program: &str, errors: &mut E) -> u8
+        ensures { result ≡ status_of self.now }
+    {
+        tell(program, self, errors);
+        self.status()
     }
 }

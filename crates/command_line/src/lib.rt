@@ -17,9 +17,10 @@ pub use arguments::words;
 pub use bytes::{ReadFault, read_up_to, read_whole};
 pub use fault::{CommandFault, DatabaseFault, Restore};
 pub use options::{
-    VERSION, database_option, filer_option, option, path_option, port_option, report_files,
+    VERSION, database_option, filer_option, flag, number_option, option, path_option, port_option,
+    report_files, wait_option,
 };
-pub use output::{DONE, show, show_refusal};
+pub use output::{DONE, refuse, show, tell};
 pub use patience::{Deadline, Patient, Waits};
 pub use report_file::{ReportFault, report};
 pub use values::{

@@ -1,6 +1,6 @@
-//! The options of a command line that have a value.
+//! The options of a command line.
 
-ghost use Rattle.std.specs.Prelude.{◌≡◌, Some, pos, true, codes, IfSome};
+ghost use Rattle.std.specs.Prelude.{◌≡◌, Some, pos, true, false, codes, IfSome};
 ghost use Rattle.clap.specs.declared.builder.value_parser.ValueParser.TheVariants.{NonEmptyString, Signed};
 
 use clap::builder::ValueParser;
@@ -25,6 +25,37 @@ pub fn option<'a>(alloc: Global, name: &'a str, value: &'a str, help: &'a str) -
         .required(true)
         .action(ArgAction::Set)
         .allow_hyphen_values(true)
+}
+
+/// An option that may be left out, whose value is one of these numbers.
+pub fn number_option<'a>(
+    alloc: Global,
+    name: &'a str,
+    value: &'a str,
+    help: &'a str,
+    numbers: ValueParser<'a>,
+) -> Arg<'a>
+    ensures id { result.id ≡ name.entry }
+    ensures long { result.long ≡ Some name.entry }
+    ensures required { result.required ≡ false }
+    ensures set { result.action ≡ Some ArgAction.Set }
+    ensures numbers { result.value_parser ≡ Some numbers.entry }
+{
+    option(alloc, name, value, help)
+        .required(false)
+        .value_parser(numbers)
+}
+
+/// A flag, which is set if its name is given.
+pub fn flag<'a>(alloc: Global, name: &'a str, help: &'a str) -> Arg<'a>
+    ensures id { result.id ≡ name.entry }
+    ensures long { result.long ≡ Some name.entry }
+    ensures set { result.action ≡ Some ArgAction.SetTrue }
+{
+    Arg::new(alloc, name)
+        .long(name)
+        .help(help)
+        .action(ArgAction::SetTrue)
 }
 
 /// A required option whose value is the name of a file or a folder. An empty one is refused.
@@ -84,4 +115,20 @@ pub fn port_option<'a>(alloc: Global, help: &'a str) -> Arg<'a>
     ensures range { result.value_parser ≡ Some (Signed (pos 1) (pos 65535)) }
 {
     option(alloc, "port", "PORT", help).value_parser(value_parser!(u16).range(1..))
+}
+
+/// The option `--wait`, the seconds of at most a day.
+pub fn wait_option<'a>(alloc: Global) -> Arg<'a>
+    ensures id { result.id.now ≡ codes "wait" }
+    ensures long { IfSome result.long (λ name. name.now ≡ codes "wait") }
+    ensures required { result.required ≡ false }
+    ensures range { result.value_parser ≡ Some (Signed (pos 0) (pos 86400)) }
+{
+    number_option(
+        alloc,
+        "wait",
+        "SECONDS",
+        "The most seconds to wait while another program has the file open, 0 to 86400 [default: 0]",
+        value_parser!(u32).range(0..=86_400),
+    )
 }

@@ -1,15 +1,16 @@
 //! What a command shows.
 
-ghost use Rattle.std.specs.Prelude.{◌≡◌, ◌⊎◌, ◌≢◌, IfErr, OnOk, Ok, Err};
+ghost use Rattle.std.specs.Prelude.{◌≡◌, IfErr, OnOk};
 ghost use Rattle.std.specs.Io.KnownBytes.{Appends};
 ghost use Rattle.clap.specs.Values.{kind_of};
-ghost use Rattle.clap.specs.declared.error.kind.ErrorKind.TheVariants as kind;
-ghost use Rattle.command_line.specs.declared.fault.CommandFault.TheVariants.{Output, Memory};
+ghost use Rattle.command_line.specs.Status.{IsRefusalStatus};
+ghost use Rattle.command_line.specs.declared.fault.CommandFault.TheVariants.{Output};
 
 use crate::fault::CommandFault;
 use clap::Error;
 use clap::error::ErrorKind;
 use std::alloc::Global;
+use std::fmt;
 use std::io::Write;
 use terminal_text::OneLine;
 
@@ -27,8 +28,14 @@ pub fn show<'a, O: Write>(output: &mut O, text: &[u8]) -> Result<(), CommandFaul
     Ok(())
 }
 
+/// Writes why this program does not do what it was asked for, as a line.
+pub fn tell<F: fmt::Display, E: Write>(program: &str, fault: &F, errors: &mut E) {
+    // Nothing is left to be done if this text can't be written either.
+    let _ = writeln!(errors, "{program}: {fault}");
+}
+
 /// Writes what the reader says of wrong words. A word of it may be any text.
-fn tell<E: Write>(alloc: Global, error: &Error, errors: &mut E) {
+fn explain<E: Write>(alloc: Global, error: &Error, errors: &mut E) {
     // If memory is short, or this text can't be written either, nothing is left to do.
     if let Ok(text) = format!(in alloc; "{error}") {
         for line in text.lines() {
@@ -37,29 +44,26 @@ fn tell<E: Write>(alloc: Global, error: &Error, errors: &mut E) {
     }
 }
 
-/// Shows what the reader of the command line says, and answers the status: help and the version are what was asked for;
-/// anything else is a fault of the words or of memory.
-pub fn show_refusal<'a, O: Write, E: Write>(
+/// Shows what the reader of the command line says of the words of this program, and answers the status: help and the
+/// version are what was asked for; anything else is a fault of the words or of memory.
+pub fn refuse<O: Write, E: Write>(
     alloc: Global,
+    program: &str,
     error: &Error,
     output: &mut O,
     errors: &mut E,
-) -> Result<u8, CommandFault<'a>>
-    ensures memory { kind_of error.now ≡ kind.OutOfMemory → result ≡ Err Memory }
-    ensures asked { (kind_of error.now ≡ kind.DisplayHelp) ⊎ (kind_of error.now ≡ kind.DisplayVersion)
-        → (result ≡ Ok 0) ⊎ (result ≡ Err Output) }
-    ensures wrong { kind_of error.now ≢ kind.OutOfMemory → kind_of error.now ≢ kind.DisplayHelp
-        → kind_of error.now ≢ kind.DisplayVersion → result ≡ Ok 2 }
+) -> u8
+    ensures { IsRefusalStatus (kind_of error.now) result }
 {
     if error.kind() == ErrorKind::OutOfMemory {
-        return Err(CommandFault::Memory);
+        return CommandFault::Memory.tell(program, errors);
     }
     if error.use_stderr() {
-        tell(alloc, error, errors);
-        return Ok(CommandFault::NoTask.status());
+        explain(alloc, error, errors);
+        return CommandFault::NoTask.status();
     }
     if write!(output, "{error}").is_err() || output.flush().is_err() {
-        return Err(CommandFault::Output);
+        return CommandFault::Output.tell(program, errors);
     }
-    Ok(DONE)
+    DONE
 }

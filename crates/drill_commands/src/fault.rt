@@ -5,7 +5,7 @@ ghost use Rattle.command_line.specs.declared.fault.CommandFault.TheVariants.{Mem
 ghost use Rattle.drill_commands.specs.declared.fault.NotDone.TheVariants.{Command, Script, World, Register};
 ghost use Rattle.drill_commands.specs.declared.fault.NotDone.TheVariants.{Outbox, Key};
 
-use command_line::{CommandFault, ReadFault};
+use command_line::{CommandFault, ReadFault, tell};
 use event_script::ScriptFault;
 use intake_core::Unavailable;
 use key_string::KeyFault;
@@ -106,8 +106,7 @@ impl NotDone {
     pub fn tell<E: Write>(&self, errors: &mut E) -> u8
         ensures { result ≡ status_of self.now }
     {
-        // Nothing is left to be done if this text can't be written either.
-        let _ = writeln!(errors, "drill: {self}");
+        tell("drill", self, errors);
         self.status()
     }
 }

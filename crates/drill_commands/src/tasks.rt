@@ -1,9 +1,7 @@
 //! Reads a script, plays it, and shows what came of it.
 
 ghost use Rattle.std.specs.Prelude.{◌≡◌, IfOk, IfErr, OnOk, map, string_bytes};
-ghost use Rattle.clap.specs.Words.{kind_of};
 ghost use Rattle.command_line.specs.Reading.{IsWhole};
-ghost use Rattle.command_line.specs.Status.{IsRefusalStatus};
 ghost use Rattle.drill_commands.specs.Performing.{IsWritten, PlaysScript, PerformsScript, PerformsInput, Performs};
 ghost use Rattle.drill_commands.specs.Refusals.{IsNotDrilled, IsNotRead};
 ghost use Rattle.drill_commands.specs.Shown.{IsShownOf};
@@ -15,7 +13,7 @@ use crate::fault::NotDone;
 use crate::lines::shown;
 use crate::options;
 use crate::playing::played;
-use command_line::{DONE, read_whole, show, show_refusal, words};
+use command_line::{DONE, read_whole, refuse, show, words};
 use event_script::ScriptFault;
 use http_wire::{Device, Source};
 use schedule::{Durable, Honest, World};
@@ -131,21 +129,6 @@ fn perform_input<R: Read, O: Write, E: Write>(
     }
 }
 
-/// Shows what `clap` says of words that it does not take, and answers the status.
-fn refuse<O: Write, E: Write>(
-    alloc: Global,
-    error: &clap::Error,
-    output: &mut O,
-    errors: &mut E,
-) -> u8
-    ensures { IsRefusalStatus (kind_of error.now) result }
-{
-    match show_refusal(alloc, error, output, errors) {
-        Ok(status) => status,
-        Err(fault) => NotDone::Command(fault).tell(errors),
-    }
-}
-
 /// Performs what these words ask for, the program's name first, and answers the status. A fault's text
 /// goes to `errors`, and then nothing is written to `output`. If it `explains`, what is wrong with a line of the script
 /// follows the text that names it.
@@ -162,7 +145,7 @@ pub fn perform<R: Read, O: Write, E: Write>(
 {
     match options::read(alloc, words) {
         Ok(()) => perform_input(alloc, input, output, errors, explains),
-        Err(error) => refuse(alloc, &error, output, errors),
+        Err(error) => refuse(alloc, "drill", &error, output, errors),
     }
 }
 
@@ -179,6 +162,6 @@ pub fn main(rt: &HostRuntime) -> u8 {
             &mut rt.stderr(),
             explains,
         ),
-        Err(fault) => NotDone::Command(fault).tell(&mut rt.stderr()),
+        Err(fault) => fault.tell("drill", &mut rt.stderr()),
     }
 }
