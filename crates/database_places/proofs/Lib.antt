@@ -1,3 +1,4 @@
+pub mod Accesses
 pub mod Certainty
 pub mod Finding
 pub mod Laying

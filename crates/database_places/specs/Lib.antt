@@ -1,3 +1,4 @@
+pub mod Accesses
 pub mod Changes
 pub mod Closing
 pub mod Faults

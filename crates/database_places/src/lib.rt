@@ -4,6 +4,7 @@
 //! differ.
 #![tactic(auto)]
 
+mod access;
 mod closing;
 mod drawer;
 mod fault;
@@ -16,6 +17,7 @@ mod refused;
 mod system;
 mod waiting;
 
+pub use access::Access;
 pub use closing::{close, give_up};
 pub use drawer::{Blank, Drawer};
 pub use flaw::{DatabaseFlaw, show_verdict};
@@ -23,7 +25,7 @@ pub use holding::{Holding, held_in};
 pub use opening::{Opening, PageCache, Unopened, open, remove_new_log};
 pub use place::Place;
 pub use reading::ReadingFile;
-pub use reading::place::{ReadingPlace, has_writable_log};
+pub use reading::place::ReadingPlace;
 pub use reading::read_only::ReadOnlyFile;
 pub use refused::refusal;
 pub use system::{SystemFile, SystemPlace};

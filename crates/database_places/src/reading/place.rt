@@ -95,9 +95,8 @@ impl<'r> Place<ReadingFile<'r>> for ReadingPlace<'_, 'r> {
     }
 }
 
-/// Whether a log lies beside the database file of this name, and both may be written: then a command that changes
-/// nothing may copy the log into the file, as a command does that writes.
-pub fn has_writable_log(rt: &HostRuntime, name: &str) -> bool {
+/// Whether a log lies beside the database file of this name, and both may be written.
+pub(crate) fn has_writable_log(rt: &HostRuntime, name: &str) -> bool {
     match log_name(rt, name) {
         Ok(log) => may_be_written(rt, name) && may_be_written(rt, log.as_str()),
         Err(_) => false,
