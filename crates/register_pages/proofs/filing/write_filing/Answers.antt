@@ -1,4 +1,4 @@
-use Rattle.std.proofs.Common.{◌∷◌, [], ap, length, subst}
+use Rattle.std.proofs.Common.{◌≡◌, ◌∷◌, [], ap, length, subst, ◌∙◌}
 use Rattle.std.specs.Prelude.{IfOk, string_bytes}
 use Rattle.register_extracts.specs.Filings.{FilingParts}
 use Rattle.register_pages.specs.Pages.{Report, Writes, filing_page, numbered, pages_for, report_file}
@@ -9,7 +9,7 @@ pub returns : goal.returns
 returns g c =
     let parts = c.args.filing.now in
     let number = ap (λ (f : FilingParts). f.number) c.filing.view_is in
-    let body = ap (λ (f : FilingParts). f.body) c.filing.view_is in
+    let body = c.deref.ensures.value ∙ ap (λ (f : FilingParts). f.body) c.filing.view_is in
     let pages = numbered (filing_page parts.number) (pages_for 1000 (length parts.facts)) in
     let named =
     subst (λ n. IfOk c.of_report-name.result (λ text. string_bytes text ≡ report_file n)) number
