@@ -27,7 +27,6 @@ import re
 import shutil
 import signal
 import socket
-import sqlite3
 import subprocess
 import sys
 import tempfile
@@ -84,7 +83,7 @@ QUESTIONS = {
     "The clock is wrong": ("moments in the register", "log of nginx", "names of copies", "certificate", "receipts"),
     "The machine is lost": ("`register-takeover`", "is not surely down", "`mirror-health`", "nobody files twice"),
     "An entry stays open": ("75", "Never make a new key"),
-    "How do I restart an intake?": ("`systemctl restart berruzpil-intake`", "SIGTERM", "`register-new"),
+    "How do I restart an intake?": ("`systemctl restart berruzpil-intake`", "SIGTERM", "nginx answers 503"),
     "Does it serve?": ("`/health`", "`intake-health", "answered 503"),
     "How do I make a backup?": ("`register-snapshot register.db copy.db`", "Each hour", "another disk"),
     "How do I restore one?": ("register-restore", "lost-filings", "`outbox-restore"),
@@ -98,7 +97,7 @@ QUESTIONS = {
     "How do I delete old reports?": ("deleting a whole register", "a new outbox"),
     "How do I get the facts out?": ("intake export", "csv", "jsonl"),
     "How do I correct or withdraw a filing?": ("To correct a filing", "--amend 17", "Nothing withdraws a filing"),
-    "Why was my report refused?": ("outbox ask", "`outbox lint`", "PROTOCOL.md"),
+    "Why was my report refused?": ("outbox ask", "`outbox lint --filer", "PROTOCOL.md"),
     "Do I get a receipt?": ("`--receipts FOLDER`", "`sha256`", "not signed"),
 }
 # Commands that only root can use as they are written, and those of the kit.
@@ -377,17 +376,6 @@ def shows_a_digest(_, status, printed):
     return None if not status and [it.strip() for it in printed] == [wanted] else f"status {status}, {printed}"
 
 
-def make_copies(scratch):
-    """Two copies of a register, the later one with one request more."""
-    for name, count in [("earlier.db", 2), ("later.db", 3)]:
-        with sqlite3.connect(scratch.top / name) as database:
-            declared = re.search(r"kept \(seq.*?\)\)", text_of("docs/PROTOCOL.md"), re.S)[0]
-            database.execute(f"CREATE TABLE {declared} STRICT")
-            database.executemany("INSERT INTO kept VALUES (?, 'ACME', ?, x'', NULL)",
-                                 [(seq, f"k-{seq}") for seq in range(1, count + 1)])
-        database.close()
-
-
 def make_copy(scratch):
     """A register with one filing, which came at MOMENT and which nothing has open."""
     scratch.serve("--db", "copy.db", "--port", "8081", "--connections", "1", "--new")
@@ -423,7 +411,6 @@ class Example:
 
 EXAMPLES = [
     Example("conformance/README.md", "python3 conformance/run.py list", lists_cases),
-    Example("docs/OPERATIONS.md", "sqlite3 later.db", prints_nothing, scene=make_copies),
     Example("README.md", "export PATH=", port=8080),
     Example("docs/PROTOCOL.md", "example=$(mktemp -d)", port=8080),
     Example("docs/OPERATIONS.md", "intake export --db copy.db", prints_nothing, port=8081, scene=make_copy),
