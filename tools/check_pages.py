@@ -6,11 +6,18 @@
                                                 which are in FOLDER
 
 Links lead to files and headings that are there; nothing outside the repository is asked for. Each row of a table has as
-many cells as its head. Each page has at most a handful of the phrases in PHRASES, and all but CHANGELOG.md have at most
-WORDS words together. No line of README.md is longer than 400 characters, and none of the code and the scripts than 120,
-but for strings in the code. docs/ARCHITECTURE.md has the table that tools/crate_table.py makes. docs/PROOF.md says how
-many wrong bodies there are, and those that it names are there. The index of docs/OPERATIONS.md has the questions in
-QUESTIONS and no others, and each links to a section with the words there.
+many cells as its head, and a cell of README.md at most CELL words. Each page has at most a handful of the phrases in
+PHRASES, those FOR_USERS none of the words in COINED, and those at the top and in docs/ have at most WORDS words
+together. No line of README.md is longer than 400 characters, and none of the code and the scripts than 120, but for
+strings in the code. docs/ARCHITECTURE.md has the table that tools/crate_table.py makes. docs/PROOF.md says how many
+wrong bodies there are, and those that it names are there. The contracts that README.md names are there, and each word
+of docs/GLOSSARY.md is defined where that page says. docs/PROTOCOL.md has a heading for each word of an error, and an
+anchor for each code of a finding; its programs that repeat a request are tried on tools/intake_stand_in.py, after peers
+that fail.
+
+The index of docs/OPERATIONS.md has the questions in QUESTIONS and no others, and each links to a section with the words
+there. tools/questions.txt has what strangers ask, and which section answers it: it is two links from README.md at most,
+and has the words of the answer among its first FIRST words.
 
 Every block of commands in README.md, docs/FIRST_DAYS.md and docs/OPERATIONS.md is one that bash can read, and either
 runs here as it is written, or needs root, or needs the kit. Those that need root are played by
@@ -27,10 +34,10 @@ import re
 import shutil
 import signal
 import socket
-import sqlite3
 import subprocess
 import sys
 import tempfile
+import time
 from dataclasses import dataclass
 from typing import Callable
 
@@ -44,9 +51,12 @@ ROOT = pathlib.Path(__file__).resolve().parent.parent
 README_WIDTH = 400
 WIDTH = 120
 # Files whose lines may be as long as they are: pages and data, and formats that have no line that goes on.
-ANY_WIDTH = re.compile(r"\.(?:md|json|yaml|edit)$|^crates\.txt$|^conformance/cases/|^crates/\w+/(?:stdin|stdout|args)$")
+ANY_WIDTH = re.compile(r"\.(?:md|json|yaml|edit)$|^crates\.txt$|^tools/questions\.txt$|^conformance/cases/"
+                       r"|^crates/\w+/(?:stdin|stdout|args)$")
 HANDFUL = 5
-WORDS = 47_600
+WORDS = 43_000
+CELL = 35
+FIRST = 300
 # Between these two lines docs/PROOF.md has how many wrong bodies there are.
 COUNTED, COUNTED_END = "<!-- counted by tools/try_wrong_bodies.py --count -->", "<!-- end of what is counted -->"
 # When the one request of a copy came, in milliseconds since 1970.
@@ -67,6 +77,10 @@ PHRASES = {
     r"\b(?:is|are|was|were) to (?:be|come|replace|have|hold)\b": "has to, will, replaces",
     r"\b(?:take|takes|taken|taking) along\b": "converts, upgrades",
 }
+# Words of contracts, which pages for those who use the programs do without.
+COINED = r"\b(?:old-style|deeds?|hall|told|(?:a|the) front|fronts)\b"
+FOR_USERS = ("README.md", "CHANGELOG.md", "docs/FIRST_DAYS.md", "docs/OPERATIONS.md", "docs/OWN_CLIENT.md",
+             "docs/PROTOCOL.md", "docs/SPEED.md")  # fmt: skip
 # What an operator asks, as the index of docs/OPERATIONS.md has it, and the words of the answer.
 QUESTIONS = {
     "The disk is full": ("Make room", "No restart is needed", "503", "`outbox put`"),
@@ -84,7 +98,7 @@ QUESTIONS = {
     "The clock is wrong": ("moments in the register", "log of nginx", "names of copies", "certificate", "receipts"),
     "The machine is lost": ("`register-takeover`", "is not surely down", "`mirror-health`", "nobody files twice"),
     "An entry stays open": ("75", "Never make a new key"),
-    "How do I restart an intake?": ("`systemctl restart berruzpil-intake`", "SIGTERM", "`register-new"),
+    "How do I restart an intake?": ("`systemctl restart berruzpil-intake`", "SIGTERM", "nginx answers 503"),
     "Does it serve?": ("`/health`", "`intake-health", "answered 503"),
     "How do I make a backup?": ("`register-snapshot register.db copy.db`", "Each hour", "another disk"),
     "How do I restore one?": ("register-restore", "lost-filings", "`outbox-restore"),
@@ -98,7 +112,7 @@ QUESTIONS = {
     "How do I delete old reports?": ("deleting a whole register", "a new outbox"),
     "How do I get the facts out?": ("intake export", "csv", "jsonl"),
     "How do I correct or withdraw a filing?": ("To correct a filing", "--amend 17", "Nothing withdraws a filing"),
-    "Why was my report refused?": ("outbox ask", "`outbox lint`", "PROTOCOL.md"),
+    "Why was my report refused?": ("outbox ask", "`outbox lint --filer", "PROTOCOL.md"),
     "Do I get a receipt?": ("`--receipts FOLDER`", "`sha256`", "not signed"),
 }
 # Commands that only root can use as they are written, and those of the kit.
@@ -170,16 +184,26 @@ def anchors_of(page):
     return found
 
 
+def marks_of(page):
+    """What a link may name in a page beside its headings."""
+    return re.findall(r'<a id="([^"]+)"></a>', text_of(page))
+
+
+def links_of(page):
+    """Each link of a page to a file: as it is written, the file, and what it names there."""
+    for target in re.findall(r"\[(?:[^\[\]]|\[[^\]]*\])*\]\(([^)\s]+)\)", without_code(text_of(page))):
+        if not re.match(r"[a-z]+:", target):
+            name, _, anchor = target.partition("#")
+            file = (ROOT / page).parent / name if name else ROOT / page
+            yield target, pathlib.Path(os.path.relpath(file, ROOT)), anchor
+
+
 def check_links(page):
     faults = []
-    for target in re.findall(r"\[(?:[^\[\]]|\[[^\]]*\])*\]\(([^)\s]+)\)", without_code(text_of(page))):
-        if re.match(r"[a-z]+:", target):
-            continue
-        name, _, anchor = target.partition("#")
-        file = (ROOT / page).parent / name if name else ROOT / page
-        if not file.exists():
+    for target, file, anchor in links_of(page):
+        if not (ROOT / file).exists():
             faults.append(f"{target}: there is no such file")
-        elif anchor and anchor not in anchors_of(file.resolve().relative_to(ROOT)):
+        elif anchor and anchor not in [*anchors_of(file), *marks_of(file)]:
             faults.append(f"{target}: there is no such heading")
     trials.tell(f"{page}: links", "; ".join(faults))
 
@@ -214,6 +238,8 @@ def check_phrases(page):
                      for it, count in sorted(counts.items(), key=lambda one: -one[1])[:6])
     trials.tell(f"{page}: {len(found)} phrases that are hard to read, at most {HANDFUL}",
                 told if len(found) > HANDFUL else None)
+    if page in FOR_USERS:
+        trials.tell(f"{page}: words of contracts", ", ".join(re.findall(COINED, text)))
 
 
 def section_of(page, anchor):
@@ -238,10 +264,50 @@ def check_questions():
     trials.tell(f"{page}: the answers to {len(QUESTIONS)} questions", "; ".join(sorted(faults)))
 
 
+def asked():
+    """The rows of tools/questions.txt: who asks what, the page and the heading with the answer, and its words."""
+    for line in (ROOT / "tools/questions.txt").read_text(encoding="utf-8").splitlines():
+        if line and not line.startswith("#"):
+            who, question, answer, words = line.split(" | ")
+            page, _, anchor = answer.partition("#")
+            yield who, question, page, anchor, words.split("; ")
+
+
+def heads(page):
+    """The anchor of a page's first heading: a link to the page leads there."""
+    return next(iter(anchors_of(page)), None)
+
+
+def reached():
+    """The headings that are two links from README.md at most: of README.md itself, and of what its links lead to and
+    the links of those pages."""
+    found = {("README.md", anchor) for anchor in anchors_of("README.md")}
+    for page in {"README.md", *(str(file) for _, file, _ in links_of("README.md") if file.suffix == ".md")}:
+        found.update((str(file), anchor or heads(file)) for _, file, anchor in links_of(page) if file.suffix == ".md")
+    return found
+
+
+def check_strangers():
+    """Each question of tools/questions.txt finds its answer."""
+    faults, known, count = [], reached(), 0
+    for who, question, page, anchor, answer in asked():
+        count += 1
+        section = section_of(page, anchor)
+        if not section:
+            faults.append(f"{who}: {question!r}: there is no {page}#{anchor}")
+            continue
+        if (page, anchor) not in known:
+            faults.append(f"{who}: {question!r}: {page}#{anchor} is more than two links from README.md")
+        begun = " ".join(section.split()[:FIRST])
+        faults += [f"{who}: {question!r}: the first {FIRST} words of {page}#{anchor} do not have {words!r}"
+                   for words in answer if words not in begun]  # fmt: skip
+    trials.tell(f"tools/questions.txt: the answers to {count} questions", "; ".join(faults))
+
+
 def check_words():
-    """The pages but CHANGELOG.md can be read: words are what is between spaces, as `wc -w` counts them."""
-    count = sum(len(text_of(page).split()) for page in pages() if page != "CHANGELOG.md")
-    trials.tell(f"{count:,} words on all pages but CHANGELOG.md, at most {WORDS:,}",
+    """The pages can be read: words are what is between spaces, as `cat *.md docs/*.md | wc -w` counts them."""
+    count = sum(len(text_of(page).split()) for page in pages() if re.fullmatch(r"(?:docs/)?[^/]+", page))
+    trials.tell(f"{count:,} words on the pages at the top and in docs/, at most {WORDS:,}",
                 None if count <= WORDS else "shorten some")
 
 
@@ -249,6 +315,43 @@ def check_readme():
     long = [f"line {at}: {len(line)} characters"
             for at, line in enumerate(text_of("README.md").split("\n"), 1) if len(line) > README_WIDTH]
     trials.tell(f"README.md: no line is longer than {README_WIDTH} characters", "; ".join(long))
+    cells = [cell for line in text_of("README.md").split("\n") if line.startswith("|") for cell in line.split("|")]
+    trials.tell(f"README.md: no cell of a table has more than {CELL} words",
+                "; ".join(cell for cell in cells if len(cell.split()) > CELL))
+
+
+def check_contracts():
+    """Each contract that the guarantees of README.md name is that of something in the code."""
+    guarantees = re.search(r"(?ms)^## What is guaranteed\n(.*?)^## ", text_of("README.md"))[1]
+    names = re.findall(r"`([\w:]+)`", " ".join(re.findall(r"(?m)^\|.*\|([^|\n]*)\|$", guarantees)))
+    gone = []
+    for name in names:
+        crate, item = name.split("::")[0], name.split("::")[-1]
+        files = (ROOT / "crates").glob(f"{crate if (ROOT / 'crates' / crate).is_dir() else '*'}/src/**/*.rt")
+        declared = re.compile(rf"\b(?:fn|mod|struct) {item}\b")
+        if not any(declared.search(file.read_text(encoding="utf-8")) for file in files):
+            gone.append(name)
+    trials.tell(f"README.md: {len(names)} contracts of guarantees", ", ".join(gone) if names else "none is named")
+
+
+def check_glossary():
+    """Each file that docs/GLOSSARY.md names is there, and has the name that is beside it."""
+    words = re.findall(r"`(\w+)/(\w+)`", text_of("docs/GLOSSARY.md"))
+    trials.tell(f"docs/GLOSSARY.md: {len(words)} places of definitions",
+                ", ".join(f"{crate}/{name}" for crate, name in words
+                          if not (ROOT / "crates" / crate / "specs" / f"{name}.antt").is_file()))
+
+
+def check_errors():
+    """docs/PROTOCOL.md explains each word of an error, of the intake's table and of nginx, and each code of a finding,
+    under an address of its own."""
+    page = "docs/PROTOCOL.md"
+    words = set(re.findall(r"(?m)^\| [^|]+ \| [45]\d\d(?:, closes)? \| `([\w-]+)`", text_of(page)))
+    words.update(re.findall(r'"reason":"([\w-]+)"', (ROOT / "deploy/nginx-intake.conf").read_text(encoding="utf-8")))
+    codes = set(re.findall(r"(?m)^\| \d+ \| ([\w-]+) \|", text_of(page)))
+    gone = sorted(words - set(anchors_of(page))) + sorted(codes ^ set(marks_of(page)))
+    trials.tell(f"{page}: an address for each of {len(words)} errors and {len(codes)} findings",
+                ", ".join(gone) if words and codes else "none is found")
 
 
 def check_widths():
@@ -377,17 +480,6 @@ def shows_a_digest(_, status, printed):
     return None if not status and [it.strip() for it in printed] == [wanted] else f"status {status}, {printed}"
 
 
-def make_copies(scratch):
-    """Two copies of a register, the later one with one request more."""
-    for name, count in [("earlier.db", 2), ("later.db", 3)]:
-        with sqlite3.connect(scratch.top / name) as database:
-            declared = re.search(r"kept \(seq.*?\)\)", text_of("docs/PROTOCOL.md"), re.S)[0]
-            database.execute(f"CREATE TABLE {declared} STRICT")
-            database.executemany("INSERT INTO kept VALUES (?, 'ACME', ?, x'', NULL)",
-                                 [(seq, f"k-{seq}") for seq in range(1, count + 1)])
-        database.close()
-
-
 def make_copy(scratch):
     """A register with one filing, which came at MOMENT and which nothing has open."""
     scratch.serve("--db", "copy.db", "--port", "8081", "--connections", "1", "--new")
@@ -423,7 +515,6 @@ class Example:
 
 EXAMPLES = [
     Example("conformance/README.md", "python3 conformance/run.py list", lists_cases),
-    Example("docs/OPERATIONS.md", "sqlite3 later.db", prints_nothing, scene=make_copies),
     Example("README.md", "export PATH=", port=8080),
     Example("docs/PROTOCOL.md", "example=$(mktemp -d)", port=8080),
     Example("docs/OPERATIONS.md", "intake export --db copy.db", prints_nothing, port=8081, scene=make_copy),
@@ -461,6 +552,50 @@ def play(example, programs=None):
 def play_walk(programs):
     """Runs the walk of README.md with these programs."""
     play(next(it for it in EXAMPLES if it.page == "README.md"), programs)
+
+
+# The programs of docs/PROTOCOL.md that repeat a request: how each begins, and what runs it.
+REPEATS = [("url=http", ["bash"]), ("import http.client", [sys.executable])]
+AWAY = b"HTTP/1.1 503 Service Unavailable\r\nContent-Length: 24\r\n\r\n" + b'{"reason":"unavailable"}'
+CUT = b'HTTP/1.1 201 Created\r\nContent-Length: 34\r\n\r\n{"number":7,"status":"registered"'
+
+
+def try_repeat(first, runner):
+    """Runs one: its first requests meet a reset, a 503 and a reply that is cut, the next one an intake. A second run
+    gets the same answer, and a run with another report is not filed."""
+    block = next((it for it in blocks_of(text_of("docs/PROTOCOL.md")) if it.startswith(first)), None)
+    what = f"docs/PROTOCOL.md: {first} .."
+    if block is None:
+        return trials.tell(what, "there is no such block")
+    with tempfile.TemporaryDirectory() as folder:
+        peer = trials.Peer(trials.breaks, trials.answers(AWAY), trials.answers(CUT))
+        block = block.replace("8080", str(peer.port))
+        report = pathlib.Path(folder, "report.json")
+        report.write_bytes(trials.REPORT)
+        program = subprocess.Popen([*runner, "-c", block], cwd=folder, stdout=subprocess.PIPE, text=True)
+        while len(peer.taken) < 3 and program.poll() is None:
+            time.sleep(0.05)
+        intake = subprocess.Popen([sys.executable, ROOT / "tools/intake_stand_in.py", "serve", "--db", "register",
+                                   "--port", str(peer.port), "--connections", "9", "--new"],
+                                  cwd=folder, stderr=subprocess.DEVNULL)  # fmt: skip
+        try:
+            said = [program.communicate(timeout=60)[0]]
+            for body in (trials.REPORT, trials.REPORT + b" "):
+                report.write_bytes(body)
+                said.append(subprocess.run([*runner, "-c", block], cwd=folder, capture_output=True, text=True,
+                                           timeout=60, check=False).stdout)
+        except subprocess.TimeoutExpired:
+            said = ["it goes on for a minute"]
+        finally:
+            program.kill()
+            intake.kill()
+            intake.wait()
+    sent = {request for request in peer.taken}
+    right = (
+        len(said) == 3 and len(sent) == 1 and "registered" in said[0] and said[0] == said[1]
+        and re.search(r"number.{2}1\b", said[0].replace(" ", "")) and "key-reused" in said[2]
+    )
+    trials.tell(what, None if right else f"{said} after {len(sent)} different requests")
 
 
 def check_commands(page):
@@ -504,7 +639,8 @@ def check_options(programs):
 
 def examples_of_findings():
     """Each code of which docs/PROTOCOL.md shows an example, and the body of that example."""
-    report, *items = re.split(r" - (?=`[a-z-]+`: )", section_of("docs/PROTOCOL.md", "what-to-do-about-a-finding"))
+    section = re.sub(r' <a id="[^"]*"></a>', "", section_of("docs/PROTOCOL.md", "what-to-do-about-a-finding"))
+    report, *items = re.split(r" - (?=`[a-z-]+`: )", section)
     kind, dimensions = re.search(r"short for `([^`]+)` and `\.\.` for `([^`]+)`", report).groups()
     report, is_fact = report.rpartition("`..` for")[2].partition(": ")[2], False
     for code, said in (re.match(r"`([a-z-]+)`: (.*)", item).groups() for item in items):
@@ -551,7 +687,13 @@ def main(words):
     check_widths()
     check_lengths()
     check_wrong_bodies()
+    check_contracts()
+    check_glossary()
+    check_errors()
     check_questions()
+    check_strangers()
+    for first, runner in REPEATS:
+        try_repeat(first, runner)
     for page in ("README.md", "docs/FIRST_DAYS.md", "docs/OPERATIONS.md"):
         check_commands(page)
     for example in EXAMPLES:
