@@ -327,7 +327,8 @@ def check_folder(folder):
     hold("pages that cannot be written", done.returncode, 3)
     hold("the first of them is named", b"site/filing-2.html: " in done.stderr, True)
     hold("the others are written", {it.name for it in site.iterdir() if it.is_file()},
-         {*(f"filing-{at}.html" for at in (1, 3, 4, 5)), *(f"filing-{at}.json" for at in range(1, 6)), "filer-007.html", "filer-ACME.html", "filer-BETA.html",
+         {*(f"filing-{at}.html" for at in (1, 3, 4, 5)), *(f"filing-{at}.json" for at in range(1, 6)),
+          "filer-007.html", "filer-ACME.html", "filer-BETA.html",
           "filer-~a.~b_~c-.html", "findings.html", "index.html"})
 
 

@@ -7,7 +7,8 @@ use Rattle.std.proofs.lemmas.List.{length-append, nil_from_length}
 use Rattle.sha2.proofs.Facts256.{length-sha256}
 use Rattle.register_extracts.specs.Digest.{Row, line, lines, fields, row_text, first_digest, next_digest, digest_after}
 use Rattle.register_extracts.specs.Digest.{digest_of}
-use Rattle.register_extracts.specs.Laws.{Collide, IsOneOf, bodies, hashed, hashed_after, IsSound, texts_from, joined_from}
+use Rattle.register_extracts.specs.Laws.{Collide, IsOneOf, IsSound, bodies, hashed, hashed_after, joined_from}
+use Rattle.register_extracts.specs.Laws.{texts_from}
 use Rattle.register_extracts.proofs.Adding.{digest_more}
 use Rattle.register_extracts.proofs.Telling.{row_same, same_or_collide}
 

@@ -9,7 +9,8 @@ use Rattle.std.specs.List.Sorted.{IsStrictlySortedBy}
 use Rattle.filing_model.specs.Request.{Request}
 use Rattle.filing_model.specs.Register.{Kept, kept, register}
 use Rattle.register_pages.specs.declared.fault.WritingFault.{WritingFault}
-use Rattle.register_pages.specs.Pages.{Adds, File, Page, Writes, WritesSite, filer_page, filing_files, is_filed, is_refused}
+use Rattle.register_pages.specs.Pages.{Adds, File, Page, Writes, WritesSite, filer_page, filing_files, is_filed}
+use Rattle.register_pages.specs.Pages.{is_refused}
 use Rattle.register_pages.specs.Pages.{numbered, other_pages, pages_for, pages_of_filer, refused_pages, sent_by}
 
 adds_none : (old : Option (List File)) → Adds old old []

@@ -1,6 +1,7 @@
--- What the writing of a register's pages does. A page is HTML, in which each text of a report was escaped: a folder takes
--- no other page, and a text becomes HTML by `text` alone. Beside the pages of a filing stands its report, byte for byte.
--- `pages` and `pages'` are the files that were written into the folder before and after it, if these are known.
+-- What the writing of a register's pages does. A page is HTML, in which each text of a report was escaped: a folder
+-- takes no other page, and a text becomes HTML by `text` alone. Beside the pages of a filing stands its report, byte
+-- for byte. `pages` and `pages'` are the files that were written into the folder before and after it, if these are
+-- known.
 use Rattle.std.specs.Prelude.{◌≡◌, ℕ, false, List, Option, Result, Ok, Err, IfErr, OnOk}
 use Rattle.sqlite.specs.Store.{Ghosts}
 use Rattle.sqlite.specs.Held.{Held, state}

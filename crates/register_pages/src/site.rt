@@ -31,10 +31,10 @@ use sqlite::{Alter, Connection};
 use std::alloc::Global;
 
 /// Writes the register that the database is as pages into a folder: `index.html` with all filers, `filer-CODE.html` of
-/// each, `refused-CODE.html` of each whose reports were refused, `filing-NUMBER.html` of each filing, its report as it was
-/// filed in `filing-NUMBER.json`, and `findings.html`. A page has at most 1,000 rows, and one of refused reports at most 50 of these; what follows is on
-/// pages whose names have `~2` and so on. If a page is missed, the others are written. The register is read and checked
-/// first, and nothing is written to the database.
+/// each, `refused-CODE.html` of each whose reports were refused, `filing-NUMBER.html` of each filing, its report as it
+/// was filed in `filing-NUMBER.json`, and `findings.html`. A page has at most 1,000 rows, and one of refused reports at
+/// most 50 of these; what follows is on pages whose names have `~2` and so on. If a file is missed, the others are
+/// written. The register is read and checked first, and nothing is written to the database.
 pub fn write_pages<S: Alter, F: Folder>(
     alloc: Global,
     conn: &mut Connection<S>,

@@ -1,8 +1,8 @@
-//! The headline: a list of events, played on a new world (`events`). What may live here: the intake, the outboxes of its
-//! filers and the network between them, each end up or down, with what it completed and kept; how their processes are
-//! made, asked, closed and opened again (`ends`, `opening`); what one event does to the world; the run of a list, and
-//! why one ended. What an event may do is defined in `filing_world`; that the world does nothing else is the contract
-//! of `World::play`.
+//! The headline: a list of events, played on a new world (`events`). What may live here: the intake, the outboxes of
+//! its filers and the network between them, each end up or down, with what it completed and kept; how their processes
+//! are made, asked, closed and opened again (`ends`, `opening`); what one event does to the world; the run of a list,
+//! and why one ended. What an event may do is defined in `filing_world`; that the world does nothing else is the
+//! contract of `World::play`.
 #![tactic(auto)]
 
 mod deliver;
