@@ -19,11 +19,15 @@ use Rattle.table_rows.proofs.QueryLemmas.{Asks}
 use Rattle.table_rows.proofs.TextLemmas.{IsQueryText}
 use Rattle.outbox_tables.specs.Schema.{outbox_tables, IsDeclared}
 use Rattle.outbox_tables.proofs.Texts.{equals, by_id, entry_query, names}
-use Rattle.outbox_core.specs.declared.rows.TheConstants.{ALL_STATES, ENTRIES_IN_STATE, ID_OF_KEY, INSERT_ENTRY}
-use Rattle.outbox_core.specs.declared.rows.TheConstants.{INSERT_TARGET, SET_STATE, STATE_WITH_ID, TARGET_WITH_ID}
+use Rattle.outbox_core.specs.declared.rows.TheConstants.{ALL_STATES, ENTRIES_IN_STATE, ENTRY_WITH_ID, ID_OF_KEY}
+use Rattle.outbox_core.specs.declared.rows.TheConstants.{INSERT_ENTRY, INSERT_TARGET, SET_STATE, STATE_WITH_ID}
+use Rattle.outbox_core.specs.declared.rows.TheConstants.{TARGET_WITH_ID}
 
 abbrev pub by_key_text : List ℕ
 by_key_text = ID_OF_KEY.now
+
+abbrev pub by_id_text : List ℕ
+by_id_text = ENTRY_WITH_ID.now
 
 abbrev pub state_text : List ℕ
 state_text = STATE_WITH_ID.now
@@ -93,6 +97,10 @@ pub by_key_reads : IsQueryText by_key_text
 unfolding understood everything
 by_key_reads = refl
 
+pub by_id_reads : IsQueryText by_id_text
+unfolding understood everything
+by_id_reads = refl
+
 pub state_reads : IsQueryText state_text
 unfolding understood everything
 state_reads = refl
@@ -116,6 +124,10 @@ module _ (tables : List Table) (indexes : List Index) (views : List View) where
   asks_by_key : Asks schema by_key_text key_query
   unfolding understood everything
   asks_by_key = record { names = codes "id" ∷ []; is = refl; plain = (refl, refl); listing = refl }
+
+  asks_by_id : Asks schema by_id_text (entry_query (equals 0))
+  unfolding understood everything
+  asks_by_id = record { names = names; is = refl; plain = (refl, refl); listing = refl }
 
   asks_state : Asks schema state_text state_query
   unfolding understood everything
@@ -169,6 +181,11 @@ module _ (schema : Schema) (d : IsDeclared schema) where
   by_key_asks =
       subst (λ s. Asks s by_key_text key_query) (sym d.begins.is)
       (asks_by_key d.begins.tables d.begins.indexes d.begins.views)
+
+  pub by_id_asks : Asks schema by_id_text (entry_query (equals 0))
+  by_id_asks =
+      subst (λ s. Asks s by_id_text (entry_query (equals 0))) (sym d.begins.is)
+      (asks_by_id d.begins.tables d.begins.indexes d.begins.views)
 
   pub state_asks : Asks schema state_text state_query
   state_asks =

@@ -1,10 +1,9 @@
 -- The audit of the rows that an opening finds.
 use Rattle.std.proofs.Common.{◌≡◌, ◌<◌, ◌≤◌, ◌^◌, ◌+◌, ℕ, suc, pos, negsuc, Bool, true, false, not, cond, List, [], ◌∷◌}
-use Rattle.std.proofs.Common.{map, filter, length, drop, get_or, nat_eq, le_refl, IsPermutation, nat_le, nat_lt, Option}
+use Rattle.std.proofs.Common.{map, filter, length, nat_eq, le_refl, IsPermutation, nat_le, nat_lt, Option}
 use Rattle.std.proofs.Common.{Some, None, refl, sym, ap, ap₂, subst, ◌∙◌, arith, true≢false}
 use Rattle.std.specs.Prelude.{◌&&◌, ◌||◌, codes}
 use Rattle.std.specs.List.{AllByRecursion}
-use Rattle.std.proofs.Math.Seq.{drop-cons}
 use Rattle.std.proofs.lemmas.Bool.{and_parts, not-true}
 use Rattle.std.proofs.lemmas.Bool.Decides.{nat_tests}
 use Rattle.std.proofs.lemmas.Slice.Eq.{bytes_eq-Decides}
@@ -34,13 +33,6 @@ use Rattle.outbox_tables.specs.Audit.{filer_text, filer_in, is_entry, is_sound, 
 use Rattle.outbox_tables.specs.Audit.{is_left_over, or_left_over, first_damaged, damaged_row, IsKept, IsPair}
 use Rattle.outbox_tables.proofs.SelectLemmas.{same_ids}
 use Rattle.outbox_tables.proofs.TargetLemmas.{other_id}
-
--- one row more
-pub one_on : (targets rows : List Row) (i : ℕ) (row : Row) (b : Bool) → i < length rows → get_or rows i row ≡ row
-    → is_sound targets (suc i) row ≡ b
-    → first_damaged targets (suc i) (drop i rows)
-    ≡ cond b (first_damaged targets (suc (suc i)) (drop (suc i) rows)) (Some (suc i))
-one_on targets rows i row b low at is = rw (drop-cons rows i row low, at, is) refl
 
 -- ---- what a test says of a value
 

@@ -11,6 +11,6 @@ pub mod SoundLemmas
 pub mod RefusalLemmas
 pub mod MigrateTexts
 pub mod EarlierLemmas
-pub mod StopLemmas
 pub mod SaidLemmas
-pub mod WalkLemmas
+pub mod TallyLemmas
+pub mod StreamLemmas

@@ -1,7 +1,6 @@
 -- What the texts that read tables mean under the declared tables.
 use Rattle.std.proofs.Common.{ℕ, List, [], ◌∷◌, codes, false, refl, subst, sym, le_refl}
 use Rattle.sqlite_tied.specs.Compute.{everything}
-use Rattle.sqlite_tied.specs.Listing.{counting}
 use Rattle.sqlite.specs.Table.{Table}
 use Rattle.sqlite.specs.Schema.{Schema}
 use Rattle.sqlite_schema.specs.declared.schema.Index.{Index}
@@ -18,15 +17,8 @@ use Rattle.table_rows.proofs.SelectLemmas.{one_table}
 use Rattle.table_rows.proofs.QueryLemmas.{Asks}
 use Rattle.table_rows.proofs.FailLemmas.{IsWhole}
 use Rattle.table_rows.proofs.TextLemmas.{IsQueryText}
-use Rattle.outbox_tables.specs.declared.opening.picks.TheConstants.{COUNT_ENTRIES, ENTRY_WITH_ID}
 use Rattle.outbox_tables.specs.Schema.{common_tables, outbox_tables, HasCommon, IsDeclared}
 use Rattle.outbox_tables.specs.Audit.{meta_text, targets_text, entries_text}
-
-abbrev pub by_id_text : List ℕ
-by_id_text = ENTRY_WITH_ID.now
-
-abbrev pub count_text : List ℕ
-count_text = COUNT_ENTRIES.now
 
 -- the column equals the parameter
 abbrev pub equals : ℕ → List Term
@@ -43,9 +35,6 @@ by_id = (col 1 0, record { collation = Binary; descending = false }) ∷ []
 abbrev pub entry_query : List Term → Query
 entry_query test = one_table 1 test entry_columns by_id
 
-abbrev pub count_query : Query
-count_query = counting (one_table 1 [] [] [])
-
 abbrev pub meta_terms : List Term
 meta_terms = col 1 0 ∷ col 1 2 ∷ col 1 3 ∷ col 1 4 ∷ []
 
@@ -60,14 +49,6 @@ abbrev pub targets_query : Query
 targets_query = one_table 3 [] target_terms []
 
 -- ---- under no schema do the queries write
-
-pub by_id_reads : IsQueryText by_id_text
-unfolding understood everything
-by_id_reads = refl
-
-pub count_reads : IsQueryText count_text
-unfolding understood everything
-count_reads = refl
 
 pub meta_reads : IsQueryText meta_text
 unfolding understood everything
@@ -103,14 +84,6 @@ module _ (tables : List Table) (indexes : List Index) (views : List View) where
   unfolding understood everything
   asks_entries = record { names = names; is = refl; plain = (refl, refl); listing = refl }
 
-  asks_by_id : Asks common by_id_text (entry_query (equals 0))
-  unfolding understood everything
-  asks_by_id = record { names = names; is = refl; plain = (refl, refl); listing = refl }
-
-  asks_count : Asks common count_text count_query
-  unfolding understood everything
-  asks_count = record { names = codes "count(*)" ∷ []; is = refl; plain = (refl, refl); listing = refl }
-
   whole_meta : IsWhole common meta_text meta_query
   unfolding understood everything
   whole_meta = record { tail = le_refl _; unnamed = refl; typed = refl }
@@ -137,13 +110,6 @@ module _ (schema : Schema) (c : HasCommon schema) where
 
   pub entries_asks : Asks schema entries_text (entry_query [])
   entries_asks = subst (λ s. Asks s entries_text (entry_query [])) (sym c.is) (asks_entries c.tables c.indexes c.views)
-
-  pub by_id_asks : Asks schema by_id_text (entry_query (equals 0))
-  by_id_asks =
-      subst (λ s. Asks s by_id_text (entry_query (equals 0))) (sym c.is) (asks_by_id c.tables c.indexes c.views)
-
-  pub count_asks : Asks schema count_text count_query
-  count_asks = subst (λ s. Asks s count_text count_query) (sym c.is) (asks_count c.tables c.indexes c.views)
 
   pub meta_whole : IsWhole schema meta_text meta_query
   meta_whole = subst (λ s. IsWhole s meta_text meta_query) (sym c.is) (whole_meta c.tables c.indexes c.views)

@@ -6,7 +6,7 @@ pub mod Promises
 pub mod Audit
 pub mod Making
 pub mod Targets
+pub mod Tally
 pub mod Earlier
-pub mod Walk
 pub mod Opening
 pub mod Migrating

@@ -12,6 +12,6 @@ mod schema;
 
 pub use fault::OutboxFault;
 pub use migrate::migrate_outbox;
-pub use opening::walk::MAX_ENTRIES;
 pub use opening::{FoundOutbox, read_outbox};
+pub use rows::MAX_ENTRIES;
 pub use schema::create::make_outbox;

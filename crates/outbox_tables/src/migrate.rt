@@ -16,7 +16,7 @@ ghost use Rattle.outbox_tables.specs.Faults.{IsFailure};
 ghost use Rattle.outbox_tables.specs.Migrating.{MigratesOutbox};
 
 use crate::fault::OutboxFault;
-use crate::opening::{FoundOutbox, count_whole, filer_of};
+use crate::opening::{FoundOutbox, count_entries, filer_of};
 use crate::schema::create::CREATE_TARGET;
 use sqlite::{Alter, Connection};
 use sqlite_catalog::layout::is_used;
@@ -46,7 +46,7 @@ fn read_earlier<S: Alter>(
     ensures leaves { OnlyReads S.Store conn.old conn.new result }
 {
     let filer = filer_of(conn, alloc, 1)?;
-    let count = count_whole(alloc, conn, &[])?;
+    let count = count_entries(alloc, conn, &[])?;
     Ok(FoundOutbox { filer, count })
 }
 

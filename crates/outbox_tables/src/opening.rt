@@ -1,7 +1,7 @@
 //! What an opening finds in a database.
 
 ghost use Rattle.std.specs.Prelude.{◌≡◌, ◌<◌, ◌≤◌, ◌^◌, ◌⊎◌, ◌∷◌, [], ℕ, List, length, IsPermutation, true, None, Err};
-ghost use Rattle.std.specs.Prelude.{IfOk, IfErr, IfSome, string_bytes};
+ghost use Rattle.std.specs.Prelude.{IfOk, IfErr, string_bytes};
 ghost use Rattle.std.specs.List.{AllByRecursion};
 ghost use Rattle.key_string.specs.Filer.{is_filer};
 ghost use Rattle.filing_model.specs.Outbox.{Entry as Item};
@@ -15,20 +15,16 @@ ghost use Rattle.outbox_tables.specs.Rows.{form_row, entry_rows, target_rows};
 ghost use Rattle.outbox_tables.specs.Faults.{meta_fault, entry_fault, IsFailure, IsDamageOrFailure};
 ghost use Rattle.outbox_tables.specs.Audit.{meta_text, targets_text, entries_text, damaged_row, IsKept, IsPair};
 ghost use Rattle.outbox_tables.specs.Audit.{StopsFor, IsNoOutbox, FindsFiler, IsDamagedAt, AreDamaged, AreStopped};
-ghost use Rattle.outbox_tables.specs.Walk.{AreCounted};
 ghost use Rattle.table_rows.specs.declared.cause.Cause.TheVariants as cause;
 ghost use Rattle.outbox_tables.specs.Promises.{ForOutbox};
 ghost use Rattle.outbox_tables.specs.Opening.{ReadsOutbox};
 ghost use Rattle.table_rows.specs.Standing.{IsAtRest};
 
 pub(crate) mod audit;
-pub(crate) mod picks;
 pub(crate) mod targets;
-pub(crate) mod walk;
 
 use crate::fault::OutboxFault;
 use crate::opening::audit::{damaged_row, filer_in};
-use crate::opening::walk::count_by_walk;
 use crate::rows;
 use sqlite::{Alter, Connection, Error, Row};
 use std::alloc::Global;
@@ -108,8 +104,9 @@ fn read_targets<S: Alter>(conn: &mut Connection<S>) -> Result<Vec<Row>, OutboxFa
     }
 }
 
-/// How many entries the outbox has that the database is, with the targets of these rows. All are in memory at once.
-pub(crate) fn count_whole<S: Alter>(
+/// How many entries the outbox has that the database is, with the targets of these rows. One of them is in memory at a
+/// time.
+pub(crate) fn count_entries<S: Alter>(
     alloc: Global,
     conn: &mut Connection<S>,
     targets: &[Row],
@@ -137,69 +134,14 @@ pub(crate) fn count_whole<S: Alter>(
         → (state S.Store conn.old).step_limit ≡ None → IfErr result IsFailure }
     ensures leaves { OnlyReads S.Store conn.old conn.new result }
 {
-    match rows::all_rows(conn) {
-        Ok(rows) => match damaged_row(alloc, targets, rows.as_slice())? {
-            None => Ok(rows.len() as u64),
+    match rows::tally_entries(conn) {
+        Ok(Some(tally)) => match damaged_row(alloc, targets, tally)? {
+            None => Ok(tally.count),
             Some(row) => Err(OutboxFault::Damaged { row }),
         },
+        // No memory would hold what `target` says of each.
+        Ok(None) => Err(OutboxFault::Memory),
         Err(error) => Err(entry_fault(error)),
-    }
-}
-
-/// Counts the entries, with one of them in memory at a time. `None` says nothing of the rows: they are then read whole,
-/// and decide what is refused.
-fn count_one_by_one<S: Alter>(
-    alloc: Global,
-    conn: &mut Connection<S>,
-    targets: &[Row],
-) -> Result<Option<u64>, OutboxFault>
-    ensures counted { HasCleanDisk (state S.Store conn.new) → HasCommon (state S.Store conn.old).now.schema
-        → IfOk result (λ found. IfSome found (λ count. AreCounted targets.now count (state S.Store conn.old).now)) }
-    ensures few { IfOk result (λ found. IfSome found (λ count. count ≤ 2 ^ 62)) }
-    ensures disk { HasCleanDisk (state S.Store conn.new) → result ≡ Err OutboxFault.Disk
-        → StopsFor cause.Disk entries_text (state S.Store conn.old) (state S.Store conn.new) }
-    ensures others { IfErr result IsFailure }
-    ensures leaves { OnlyReads S.Store conn.old conn.new result }
-{
-    match count_by_walk(alloc, conn, targets) {
-        Ok(found) => Ok(found),
-        Err(error) => match Cause::from(error) {
-            Cause::Memory => Err(OutboxFault::Memory),
-            Cause::Disk => Err(OutboxFault::Disk),
-            Cause::Other => Ok(None),
-        },
-    }
-}
-
-/// How many entries the outbox has that the database is, with the targets of these rows. If they are sound, one of them
-/// is in memory at a time.
-fn count_entries<S: Alter>(
-    alloc: Global,
-    conn: &mut Connection<S>,
-    targets: &[Row],
-) -> Result<u64, OutboxFault>
-    ensures counted { HasCleanDisk (state S.Store conn.new) → HasCommon (state S.Store conn.old).now.schema
-        → AllByRecursion IsPair targets.now
-        → IfOk result (λ count.
-        (entries : List Item) × TableHas (state S.Store conn.old).now entry_table (entry_rows entries)
-        × IsPermutation (target_rows entries) targets.now × AllByRecursion IsKept entries
-        × (count ≡ length entries)) }
-    ensures damaged { HasCleanDisk (state S.Store conn.new) → (row : _) → result ≡ Err (OutboxFault.Damaged row)
-        → IsDamagedAt targets.now row (state S.Store conn.old) (state S.Store conn.new) }
-    ensures disk { HasCleanDisk (state S.Store conn.new) → result ≡ Err OutboxFault.Disk
-        → StopsFor cause.Disk entries_text (state S.Store conn.old) (state S.Store conn.new) }
-    ensures others { IfErr result IsDamageOrFailure }
-    ensures few { IfOk result (λ count. count ≤ 2 ^ 62) }
-    ensures whole { HasCleanDisk (state S.Store conn.new)
-        → (entries : List Item) → HasCommon (state S.Store conn.old).now.schema
-        → TableHas (state S.Store conn.old).now entry_table (entry_rows entries)
-        → AllByRecursion IsKept entries → IsPermutation (target_rows entries) targets.now
-        → (state S.Store conn.old).step_limit ≡ None → IfErr result IsFailure }
-    ensures leaves { OnlyReads S.Store conn.old conn.new result }
-{
-    match count_one_by_one(alloc, conn, targets)? {
-        Some(count) => Ok(count),
-        None => count_whole(alloc, conn, targets),
     }
 }
 

@@ -1,11 +1,12 @@
 //! Whether the rows of a database are those of an outbox.
 
-ghost use Rattle.std.specs.Prelude.{◌≡◌, ◌<◌, ◌^◌, ℕ, List, suc, get_or, length, option_map, IfOk};
+ghost use Rattle.std.specs.Prelude.{◌≡◌, ◌<◌, ◌^◌, ◌++◌, ◌∷◌, [], ℕ, List, suc, get_or, length, option_map, IfOk};
 ghost use Rattle.sqlite.specs.Order.{column, Row as Stored};
 ghost use Rattle.sqlite_value.specs.Value.{owned};
 ghost use Rattle.outbox_tables.specs.Audit.{is_int, is_absent, is_key_text, is_body, is_number, is_state, is_outbox};
-ghost use Rattle.outbox_tables.specs.Audit.{filer_text, filer_in, is_entry, is_sound, with_id, first_damaged};
+ghost use Rattle.outbox_tables.specs.Audit.{filer_text, filer_in, is_entry, is_target, with_id, first_damaged};
 ghost use Rattle.outbox_tables.specs.Audit.{damaged_row};
+ghost use Rattle.outbox_tables.specs.Tally.{sound_from, tally_of};
 ghost use Rattle.outbox_tables.specs.Targets.{said_by};
 
 use crate::columns::{entry, meta};
@@ -128,27 +129,45 @@ pub(crate) fn filer_in<'a>(rows: &'a [Row], form: u64) -> Option<&'a str>
     }
 }
 
-/// Whether the row of the entry with this id is sound, and so are the rows of its target.
-pub(crate) fn is_sound(id: u64, row: &Row, said: Said) -> bool
-    requires { id < 2 ^ 63 }
-    ensures { (targets : List Stored) → said ≡ said_by (with_id id targets) → result ≡ is_sound targets id row.now }
+/// How many rows `entry` has, and how many of them, from the first on and in the order of the ids, are those of entries
+/// with the ids 1, 2, 3, ..
+#[derive(Clone, Copy)]
+pub(crate) struct Tally {
+    pub count: u64,
+    pub sound: u64,
+}
+
+/// How many rows, from the first on, are those of entries, if this one comes after so many, of which so many are.
+pub(crate) fn sound_after(count: u64, sound: u64, row: &Row) -> u64
+    requires { count < 2 ^ 62 }
+    ensures { (rows : List Stored) → count ≡ length rows → sound ≡ sound_from 1 rows
+        → result ≡ sound_from 1 (rows ++ row.now ∷ []) }
 {
-    is_entry(id, row) && said != Said::Unsound
+    if sound == count && is_entry(count + 1, row) {
+        count + 1
+    } else {
+        sound
+    }
+}
+
+/// Whether the rows of an entry's target are sound.
+fn is_fit(said: Said) -> bool
+    ensures { (rows : List Stored) → said ≡ said_by rows → result ≡ is_target rows }
+{
+    said != Said::Unsound
 }
 
 /// The id, from 1, of the first row that is not sound as that of the entry with this id.
-fn first_damaged(rows: &[Row], said: &[Said]) -> Option<u64>
-    requires { length said.now ≡ length rows.now }
-    ensures { (targets : List Stored)
-        → ((place : ℕ) (d : Said) → place < length rows.now
+fn first_damaged(tally: Tally, said: &[Said]) -> Option<u64>
+    requires { tally.count ≡ length said.now }
+    ensures { (targets rows : List Stored) → tally ≡ tally_of rows
+        → ((place : ℕ) (d : Said) → place < length rows
         → get_or said.now place d ≡ said_by (with_id (suc place) targets))
-        → result ≡ first_damaged targets 1 rows.now }
+        → result ≡ first_damaged targets 1 rows }
 {
-    let mut id = 0;
-    for at in 0..rows.len() {
-        id += 1;
-        if !is_sound(id, &rows[at], said[at]) {
-            return Some(id);
+    for at in 0..said.len() {
+        if at as u64 == tally.sound || !is_fit(said[at]) {
+            return Some(at as u64 + 1);
         }
     }
     None
@@ -159,15 +178,17 @@ fn first_damaged(rows: &[Row], said: &[Said]) -> Option<u64>
 pub(crate) fn damaged_row(
     alloc: Global,
     targets: &[Row],
-    rows: &[Row],
+    tally: Tally,
 ) -> Result<Option<u64>, AllocError>
-    ensures { IfOk result (λ row. row ≡ damaged_row targets.now rows.now) }
+    requires { tally.count < 2 ^ 63 }
+    ensures { IfOk result (λ row. (rows : List Stored) → tally ≡ tally_of rows → row ≡ damaged_row targets.now rows) }
 {
-    let said = said_of(alloc, targets, rows.len())?;
-    match first_damaged(rows, said.as_slice()) {
+    let count = tally.count as usize;
+    let said = said_of(alloc, targets, count)?;
+    match first_damaged(tally, said.as_slice()) {
         Some(id) => Ok(Some(id)),
         None => {
-            if is_left_over(targets, rows.len()) {
+            if is_left_over(targets, count) {
                 Ok(Some(0))
             } else {
                 Ok(None)

@@ -17,7 +17,7 @@ use Rattle.outbox_tables.proofs.migrate.read_earlier.Goals as goal
 pub returns-clause-found : goal.returns-clause-found
 returns-clause-found g c clean common live =
     let old = state g.S.Store c.args.conn.now in
-    let was_clean = clean_before c.count_whole.ensures.leaves clean in
+    let was_clean = clean_before c.count_entries.ensures.leaves clean in
     let one = c.in_ok-filer.ensures.found was_clean common in
     let same : IsUnchanged old (state g.S.Store c.filer_of.new.conn) = c.in_ok-filer.ensures.leaves.left was_clean in
     let code = c.in_ok-filer.ensures.code in
@@ -41,16 +41,16 @@ returns-clause-found g c clean common live =
 
 pub returns-clause-read : goal.returns-clause-read
 returns-clause-read g c clean =
-    let was_clean = clean_before c.count_whole.ensures.leaves clean in
+    let was_clean = clean_before c.count_entries.ensures.leaves clean in
     let two = c.in_ok-count.ensures.read clean in
     (c.filer_of.new.conn, c.in_ok-filer.ensures.read was_clean, two.0, two.1, two.2, two.3)
 
 pub returns-in_err-count-clause-refused : goal.returns-in_err-count-clause-refused
 returns-in_err-count-clause-refused g c clean =
     let told = err_from_is_err_and c.from_residual-in_err-count.result c.from_residual-in_err-count.ensures.1 in
-    let was_clean = clean_before c.count_whole.ensures.leaves clean in
+    let was_clean = clean_before c.count_entries.ensures.leaves clean in
     rw (told.1, told.2)
-    (not_found_later g.S.Store c.in_err-count.field-0.0 c.args.conn.now c.filer_of.new.conn c.count_whole.new.conn
+    (not_found_later g.S.Store c.in_err-count.field-0.0 c.args.conn.now c.filer_of.new.conn c.count_entries.new.conn
     (_, c.in_ok-filer.ensures.read was_clean) c.in_err-count.ensures.others
     (λ row is. c.in_err-count.ensures.damaged clean row (ap Err is))
     (λ is. c.in_err-count.ensures.disk clean (ap Err is)))
@@ -58,7 +58,7 @@ returns-in_err-count-clause-refused g c clean =
 pub returns-in_err-count-clause-sound : goal.returns-in_err-count-clause-sound
 returns-in_err-count-clause-sound g c clean it is unlimited =
     let told = err_from_is_err_and c.from_residual-in_err-count.result c.from_residual-in_err-count.ensures.1 in
-    let was_clean = clean_before c.count_whole.ensures.leaves clean in
+    let was_clean = clean_before c.count_entries.ensures.leaves clean in
     let same = (c.in_ok-filer.ensures.leaves.left was_clean).0.now_is in
     let still : HasCommon (state g.S.Store c.filer_of.new.conn).now.schema =
     subst (λ (d : Database). HasCommon d.schema) (sym same) is.declared in
