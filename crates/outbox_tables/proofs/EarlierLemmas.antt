@@ -1,5 +1,5 @@
 -- The outbox that a migration makes of one in the form before.
-use Rattle.std.proofs.Common.{◌≡◌, ◌⊎◌, inl, inr, ℕ, suc, List, [], ◌∷◌, Option, Some, None, false, refl, sym, subst}
+use Rattle.std.proofs.Common.{◌≡◌, ℕ, suc, List, [], ◌∷◌, Option, Some, None, false, refl, sym, subst}
 use Rattle.std.proofs.Common.{arith, IsPermutation}
 use Rattle.std.specs.List.{AllByRecursion}
 use Rattle.std.proofs.lemmas.List.Sorted.{length_permutation}
@@ -11,20 +11,16 @@ use Rattle.sqlite.proofs.StateLemmas.{survives_then}
 use Rattle.table_rows.specs.Standing.{CommitsNothing}
 use Rattle.filing_model.specs.Outbox.{Entry}
 use Rattle.table_rows.specs.Statements.{begun, AreDone, AreTreesOf}
-use Rattle.table_rows.specs.declared.cause.Cause.TheVariants.{Disk as Stopped}
 use Rattle.sqlite.specs.Schema.{Schema}
 use Rattle.sqlite.specs.Tree.{Trees}
 use Rattle.sqlite.specs.Effect.{Database}
 use Rattle.table_rows.proofs.CreateLemmas.{none_held, creates_beside}
 use Rattle.table_rows.proofs.GainLemmas.{same_rows}
-use Rattle.outbox_tables.specs.declared.fault.OutboxFault.{OutboxFault}
-use Rattle.outbox_tables.specs.declared.fault.OutboxFault.TheVariants.{NotOurs, Damaged, Memory, Disk}
 use Rattle.outbox_tables.specs.Schema.{HasCommon, meta_table, entry_table, target_table}
 use Rattle.outbox_tables.specs.Entries.{Contents}
 use Rattle.outbox_tables.specs.Rows.{IsOutboxOf, target_rows_from, target_rows}
 use Rattle.outbox_tables.specs.Making.{create_target}
-use Rattle.outbox_tables.specs.Audit.{meta_text, entries_text, StopsFor, IsNoOutbox, ReadsFiler, IsDamagedAt}
-use Rattle.outbox_tables.specs.Earlier.{IsAlone, IsEarlierOf, IsFound, IsNotFound, raising, is_blocked}
+use Rattle.outbox_tables.specs.Earlier.{IsAlone, IsEarlierOf, IsFound, raising, is_blocked}
 use Rattle.outbox_tables.specs.Earlier.{LeavesMigrated}
 use Rattle.outbox_tables.proofs.MakeLemmas.{second_schema, own_indexes, creates_target, declared}
 use Rattle.outbox_tables.proofs.MigrateTexts.{raises}
@@ -111,29 +107,6 @@ module _ {S : Type 0} (g : Ghosts S) (filer : List ℕ) (count : ℕ) (old mid n
       (λ clean trees made.
       let was_clean : HasCleanDisk (state g mid) = omega (arith, wrote.clean) in
       leaves_migrated (found was_clean).0 (found was_clean).1 trees made) read wrote
-
--- why none was found, as the filer was looked for
-pub not_found_first : {S : Type 0} (g : Ghosts S) (fault : OutboxFault) (old new : Held S)
-    → (fault ≡ NotOurs) ⊎ ((fault ≡ Memory) ⊎ (fault ≡ Disk))
-    → (fault ≡ NotOurs → IsNoOutbox 1 (state g old) (state g new))
-    → (fault ≡ Disk → StopsFor Stopped meta_text (state g old) (state g new)) → IsNotFound g fault old new
-not_found_first g fault old new (inl none) ours disk = subst (λ f. IsNotFound g f old new) (sym none) (ours none)
-not_found_first g fault old new (inr (inl memory)) ours disk = subst (λ f. IsNotFound g f old new) (sym memory) tt
-not_found_first g fault old new (inr (inr stopped)) ours disk =
-    subst (λ f. IsNotFound g f old new) (sym stopped) (inl (disk stopped))
-
--- why none was found, once the filer was
-pub not_found_later : {S : Type 0} (g : Ghosts S) (fault : OutboxFault) (old mid new : Held S)
-    → ReadsFiler 1 (state g old) (state g mid)
-    → ((row : ℕ) × (fault ≡ Damaged row)) ⊎ ((fault ≡ Memory) ⊎ (fault ≡ Disk))
-    → ((row : ℕ) → fault ≡ Damaged row → IsDamagedAt [] row (state g mid) (state g new))
-    → (fault ≡ Disk → StopsFor Stopped entries_text (state g mid) (state g new)) → IsNotFound g fault old new
-not_found_later g fault old mid new read (inl damaged) at disk =
-    subst (λ f. IsNotFound g f old new) (sym damaged.1) (mid, read, at damaged.0 damaged.1)
-not_found_later g fault old mid new read (inr (inl memory)) at disk =
-    subst (λ f. IsNotFound g f old new) (sym memory) tt
-not_found_later g fault old mid new read (inr (inr stopped)) at disk =
-    subst (λ f. IsNotFound g f old new) (sym stopped) (inr (mid, read, disk stopped))
 
 -- the two tables alone are those of every form
 pub alone_common : (schema : Schema) → IsAlone schema → HasCommon schema

@@ -172,10 +172,6 @@ AreDamaged {S} g row old new =
     ⊎ ((mid : Held S) × (targets : List Row) × Shown targets_text [] (state g old) (state g mid) targets
     × IsDamagedAt targets row (state g mid) (state g new))
 
--- the filer was found, and then this row is damaged
-abbrev pub IsDamaged : {S : Type 0} → Ghosts S → ℕ → Held S → Held S → Type 0
-IsDamaged {S} g row old new = (mid : Held S) × ReadsFiler 2 (state g old) (state g mid) × AreDamaged g row mid new
-
 -- the disk failed under the query of `target`, or under that of `entry` after `target` was read
 abbrev pub AreStopped : {S : Type 0} → Ghosts S → Held S → Held S → Type 0
 AreStopped {S} g old new =
@@ -183,17 +179,20 @@ AreStopped {S} g old new =
     ⊎ ((mid : Held S) × (targets : List Row) × Shown targets_text [] (state g old) (state g mid) targets
     × StopsFor Disk entries_text (state g mid) (state g new))
 
--- the disk failed under the query of `outbox_meta`, or under one of the others after the filer was found
-abbrev pub IsStopped : {S : Type 0} → Ghosts S → Held S → Held S → Type 0
-IsStopped {S} g old new =
+-- What a refusal says of a database that was looked at for an outbox in this form; there are no other refusals. The
+-- filer was found before a row was damaged in that way, or before the disk failed so under the other queries.
+abbrev pub IsRefusedIn : {S : Type 0} → Ghosts S → ℕ → (ℕ → Held S → Held S → Type 0) → (Held S → Held S → Type 0)
+    → OutboxFault → Held S → Held S → Type 0
+IsRefusedIn g form Damages Stops fault.BadFiler old new = ⊥
+IsRefusedIn g form Damages Stops fault.Taken old new = ⊥
+IsRefusedIn g form Damages Stops fault.NotOurs old new = IsNoOutbox form (state g old) (state g new)
+IsRefusedIn {S} g form Damages Stops (fault.Damaged row) old new =
+    (mid : Held S) × ReadsFiler form (state g old) (state g mid) × Damages row mid new
+IsRefusedIn g form Damages Stops fault.Memory old new = ⊤
+IsRefusedIn {S} g form Damages Stops fault.Disk old new =
     StopsFor Disk meta_text (state g old) (state g new)
-    ⊎ ((mid : Held S) × ReadsFiler 2 (state g old) (state g mid) × AreStopped g mid new)
+    ⊎ ((mid : Held S) × ReadsFiler form (state g old) (state g mid) × Stops mid new)
 
--- what a refusal says of the database; an opening has no other refusals
+-- what a refusal of an opening says of the database
 abbrev pub IsRefused : {S : Type 0} → Ghosts S → OutboxFault → Held S → Held S → Type 0
-IsRefused g fault.BadFiler old new = ⊥
-IsRefused g fault.Taken old new = ⊥
-IsRefused g fault.NotOurs old new = IsNoOutbox 2 (state g old) (state g new)
-IsRefused g (fault.Damaged row) old new = IsDamaged g row old new
-IsRefused g fault.Memory old new = ⊤
-IsRefused g fault.Disk old new = IsStopped g old new
+IsRefused g = IsRefusedIn g 2 (AreDamaged g) (AreStopped g)

@@ -1,5 +1,5 @@
 -- Outboxes in the earlier form, which had no targets.
-use Rattle.std.specs.Prelude.{◌≡◌, ◌⊎◌, ⊤, ℕ, Bool, false, List, [], ◌∷◌, length, codes, None, IsTrue}
+use Rattle.std.specs.Prelude.{◌≡◌, ◌⊎◌, ℕ, Bool, false, List, [], ◌∷◌, length, codes, None, IsTrue}
 use Rattle.std.specs.List.{AllByRecursion}
 use Rattle.sqlite.specs.Order.{Row}
 use Rattle.sqlite.specs.Schema.{Schema}
@@ -22,8 +22,7 @@ use Rattle.outbox_tables.specs.Schema.{HasCommon, meta_table, entry_table}
 use Rattle.outbox_tables.specs.Entries.{Contents, IsOutbox}
 use Rattle.outbox_tables.specs.Rows.{form_row, entry_rows, LeavesOutbox}
 use Rattle.outbox_tables.specs.Making.{create_target}
-use Rattle.outbox_tables.specs.Audit.{meta_text, entries_text, damaged_row, StopsFor, IsNoOutbox, FindsFiler}
-use Rattle.outbox_tables.specs.Audit.{ReadsFiler, IsDamagedAt}
+use Rattle.outbox_tables.specs.Audit.{entries_text, damaged_row, StopsFor, FindsFiler, IsDamagedAt, IsRefusedIn}
 use Rattle.outbox_tables.specs.Faults.{outbox_fault}
 
 -- the two tables and their index alone are declared, as they were made in a database that had none
@@ -53,16 +52,9 @@ IsFound {S} g filer count old new =
 
 -- why no sound outbox in that form was found
 abbrev pub IsNotFound : {S : Type 0} → Ghosts S → OutboxFault → Held S → Held S → Type 0
-IsNotFound g fault.BadFiler old new = ⊥
-IsNotFound g fault.Taken old new = ⊥
-IsNotFound g fault.NotOurs old new = IsNoOutbox 1 (state g old) (state g new)
-IsNotFound {S} g (fault.Damaged row) old new =
-    (mid : Held S) × ReadsFiler 1 (state g old) (state g mid) × IsDamagedAt [] row (state g mid) (state g new)
-IsNotFound g fault.Memory old new = ⊤
-IsNotFound {S} g fault.Disk old new =
-    StopsFor cause.Disk meta_text (state g old) (state g new)
-    ⊎ ((mid : Held S) × ReadsFiler 1 (state g old) (state g mid)
-    × StopsFor cause.Disk entries_text (state g mid) (state g new))
+IsNotFound g =
+    IsRefusedIn g 1 (λ row old new. IsDamagedAt [] row (state g old) (state g new))
+    (λ old new. StopsFor cause.Disk entries_text (state g old) (state g new))
 
 -- ---- what is written
 

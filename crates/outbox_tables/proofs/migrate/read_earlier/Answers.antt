@@ -11,7 +11,8 @@ use Rattle.outbox_tables.specs.Rows.{entry_rows}
 use Rattle.outbox_tables.proofs.ListLemmas.{kept_list}
 use Rattle.outbox_tables.proofs.DistinctLemmas.{distinct_held}
 use Rattle.outbox_tables.proofs.SoundLemmas.{kept_entries}
-use Rattle.outbox_tables.proofs.EarlierLemmas.{untargeted, no_targets, not_found_first, not_found_later}
+use Rattle.outbox_tables.proofs.EarlierLemmas.{untargeted, no_targets}
+use Rattle.outbox_tables.proofs.RefusalLemmas.{refused_first, refused_later}
 use Rattle.outbox_tables.proofs.migrate.read_earlier.Goals as goal
 
 pub returns-clause-found : goal.returns-clause-found
@@ -50,7 +51,7 @@ returns-in_err-count-clause-refused g c clean =
     let told = err_from_is_err_and c.from_residual-in_err-count.result c.from_residual-in_err-count.ensures.1 in
     let was_clean = clean_before c.count_entries.ensures.leaves clean in
     rw (told.1, told.2)
-    (not_found_later g.S.Store c.in_err-count.field-0.0 c.args.conn.now c.filer_of.new.conn c.count_entries.new.conn
+    (refused_later g.S.Store 1 _ _ c.in_err-count.field-0.0 c.args.conn.now c.filer_of.new.conn c.count_entries.new.conn
     (_, c.in_ok-filer.ensures.read was_clean) c.in_err-count.ensures.others
     (λ row is. c.in_err-count.ensures.damaged clean row (ap Err is))
     (λ is. c.in_err-count.ensures.disk clean (ap Err is)))
@@ -79,6 +80,6 @@ pub returns-in_err-filer-clause-refused : goal.returns-in_err-filer-clause-refus
 returns-in_err-filer-clause-refused g c clean =
     let told = err_from_is_err_and c.from_residual.result c.from_residual.ensures.1 in
     rw (told.1, told.2)
-    (not_found_first g.S.Store c.in_err-filer.field-0.0 c.args.conn.now c.filer_of.new.conn
+    (refused_first g.S.Store 1 _ _ c.in_err-filer.field-0.0 c.args.conn.now c.filer_of.new.conn
     c.in_err-filer.ensures.others (λ is. c.in_err-filer.ensures.not_ours clean (ap Err is))
     (λ is. c.in_err-filer.ensures.disk clean (ap Err is)))

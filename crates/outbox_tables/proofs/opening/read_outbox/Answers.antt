@@ -9,6 +9,7 @@ use Rattle.table_rows.proofs.LeavingLemmas.{asked_then, clean_before, keeps_comm
 use Rattle.outbox_tables.specs.Schema.{IsDeclared, entry_table, target_table}
 use Rattle.outbox_tables.specs.Entries.{contents_of}
 use Rattle.outbox_tables.specs.Rows.{IsOutboxOf, entry_rows, target_rows}
+use Rattle.outbox_tables.specs.Audit.{AreDamaged, AreStopped}
 use Rattle.outbox_tables.proofs.ListLemmas.{kept_list}
 use Rattle.outbox_tables.proofs.DistinctLemmas.{distinct_held}
 use Rattle.outbox_tables.proofs.HeldLemmas.{has_common}
@@ -72,7 +73,7 @@ returns-in_err-count g c =
       few = search rules;
       refused = λ clean.
           let was_clean = clean_before c.count_all.ensures.leaves clean in
-          refused_later g.S.Store c.in_err-count.field-0.0 c.args.conn.now c.filer_of.new.conn c.count_all.new.conn
+          refused_later g.S.Store 2 (AreDamaged g.S.Store) (AreStopped g.S.Store) c.in_err-count.field-0.0 c.args.conn.now c.filer_of.new.conn c.count_all.new.conn
           (_, c.in_ok-filer.ensures.read was_clean) c.in_err-count.ensures.others
           (λ row is. c.in_err-count.ensures.damaged clean row (ap Err is))
           (λ is. c.in_err-count.ensures.disk clean (ap Err is));
@@ -98,7 +99,7 @@ returns-in_err-filer g c =
       code = search rules;
       few = search rules;
       refused = λ clean.
-          refused_first g.S.Store c.in_err-filer.field-0.0 c.args.conn.now c.filer_of.new.conn
+          refused_first g.S.Store 2 (AreDamaged g.S.Store) (AreStopped g.S.Store) c.in_err-filer.field-0.0 c.args.conn.now c.filer_of.new.conn
           c.in_err-filer.ensures.others (λ is. c.in_err-filer.ensures.not_ours clean (ap Err is))
           (λ is. c.in_err-filer.ensures.disk clean (ap Err is));
       sound = λ clean it is. c.in_err-filer.ensures.ours clean it.filer (has_common _ is.rows.declared) is.rows.meta_is
