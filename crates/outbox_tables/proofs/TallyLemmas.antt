@@ -28,7 +28,8 @@ sound_on id (r ∷ rows) row b all is =
     let place : id + length (r ∷ rows) ≡ suc id + length rows = omega arith in
     rw p.0 (ap suc (sound_on (suc id) rows row b p.1 (subst (λ n. is_entry n row ≡ b) place is)) ∙ last b)
   where
-    last : (b : Bool) → suc (cond b (suc (length rows)) (length rows)) ≡ cond b (suc (suc (length rows))) (suc (length rows))
+    last : (b : Bool) → suc (cond b (suc (length rows)) (length rows))
+        ≡ cond b (suc (suc (length rows))) (suc (length rows))
     last true = refl
     last false = refl
 
@@ -100,7 +101,8 @@ module _ (targets : List Row) where
           ⊎ (is_target (with_id (id + suc place) targets) ≡ false)
           → (place ≤ sound_from (suc id) rows → IsUnsound targets (suc id) rows place
           → first_damaged targets (suc id) rows ≡ Some (suc id + place))
-          → ◌≡◌ {A = Option ℕ} (cond (b && is_target (with_id id targets)) (first_damaged targets (suc id) rows) (Some id))
+          → ◌≡◌ {A = Option ℕ}
+          (cond (b && is_target (with_id id targets)) (first_damaged targets (suc id) rows) (Some id))
           (Some (id + suc place))
       go true so (inl end) more =
           rw (first_fit id place fit) (more (omega (arith, so)) (inl (omega (arith, end))) ∙ ap Some (sym next))
@@ -118,7 +120,7 @@ module _ (targets : List Row) where
     where
       go : (b : Bool) → suc (length rows) ≤ cond b (suc (sound_from (suc id) rows)) 0
           → (length rows ≤ sound_from (suc id) rows → first_damaged targets (suc id) rows ≡ None)
-          → ◌≡◌ {A = Option ℕ} (cond (b && is_target (with_id id targets)) (first_damaged targets (suc id) rows) (Some id))
-          None
+          → ◌≡◌ {A = Option ℕ}
+          (cond (b && is_target (with_id id targets)) (first_damaged targets (suc id) rows) (Some id)) None
       go true so more = rw (first_fit id (length rows) fit) (more (omega (arith, so)))
       go false so more = absurd (omega (arith, so))

@@ -31,8 +31,8 @@ pub const MAX_ENTRIES: u64 = 1 << 62;
 
 const ALL_ENTRIES: &str = "SELECT id, idem, body, state, number FROM entry ORDER BY id";
 
-/// Goes through the rows of all entries, in the order of the ids, with one of them in memory at a time. `None` says that
-/// there are too many.
+/// Goes through the rows of all entries, in the order of the ids, with one of them in memory at a time. `None` says
+/// that there are too many.
 pub(crate) fn tally_entries<S: Alter>(conn: &mut Connection<S>) -> Result<Option<Tally>, Error>
     ensures shown { HasCleanDisk (held.state S.Store conn.new)
         → IfOk result (λ found.

@@ -73,8 +73,9 @@ returns-in_err-count g c =
       few = search rules;
       refused = λ clean.
           let was_clean = clean_before c.count_all.ensures.leaves clean in
-          refused_later g.S.Store 2 (AreDamaged g.S.Store) (AreStopped g.S.Store) c.in_err-count.field-0.0 c.args.conn.now c.filer_of.new.conn c.count_all.new.conn
-          (_, c.in_ok-filer.ensures.read was_clean) c.in_err-count.ensures.others
+          refused_later g.S.Store 2 (AreDamaged g.S.Store) (AreStopped g.S.Store) c.in_err-count.field-0.0
+          c.args.conn.now c.filer_of.new.conn c.count_all.new.conn (_, c.in_ok-filer.ensures.read was_clean)
+          c.in_err-count.ensures.others
           (λ row is. c.in_err-count.ensures.damaged clean row (ap Err is))
           (λ is. c.in_err-count.ensures.disk clean (ap Err is));
       sound = λ clean it is.
@@ -99,8 +100,9 @@ returns-in_err-filer g c =
       code = search rules;
       few = search rules;
       refused = λ clean.
-          refused_first g.S.Store 2 (AreDamaged g.S.Store) (AreStopped g.S.Store) c.in_err-filer.field-0.0 c.args.conn.now c.filer_of.new.conn
-          c.in_err-filer.ensures.others (λ is. c.in_err-filer.ensures.not_ours clean (ap Err is))
+          refused_first g.S.Store 2 (AreDamaged g.S.Store) (AreStopped g.S.Store) c.in_err-filer.field-0.0
+          c.args.conn.now c.filer_of.new.conn c.in_err-filer.ensures.others
+          (λ is. c.in_err-filer.ensures.not_ours clean (ap Err is))
           (λ is. c.in_err-filer.ensures.disk clean (ap Err is));
       sound = λ clean it is. c.in_err-filer.ensures.ours clean it.filer (has_common _ is.rows.declared) is.rows.meta_is
           is.list.filer c.requires.unlimited;
