@@ -1,13 +1,16 @@
 -- A database that is no outbox of this version was only read.
-use Rattle.std.proofs.Common.{◌≡◌, ℕ, [], Option, Some, None, Result, Ok, Err, IfOk, IfErr, inl, inr, sym, subst}
+use Rattle.std.proofs.Common.{◌≡◌, ℕ, [], Option, Some, None, Result, Ok, Err, IfOk, IfErr, inl, inr, sym, ap, subst, ◌∙◌}
 use Rattle.sqlite.specs.Clock.{timed}
-use Rattle.sqlite.specs.State.{State, FailsToQuery, FailsToShow, IsNotRun, IsUnchanged}
+use Rattle.sqlite.specs.State.{State, FailsToQuery, FailsToShow, HasCause, IsNotRun, IsUnchanged, store_error}
 use Rattle.sqlite.specs.declared.error.Error.{Error}
 use Rattle.sqlite_schema.specs.declared.command.Returning.{Returning}
+use Rattle.sqlite_trees.specs.declared.error.StoreError.{StoreError}
+use Rattle.sqlite_trees.specs.declared.error.StoreError.TheVariants.{OutOfMemory, Io, Corrupt, Full, Broken, Unstorable}
 use Rattle.sqlite.specs.Effect.{Database}
 use Rattle.sqlite.specs.Held.{Held, state}
 use Rattle.sqlite.specs.Store.{Ghosts}
 use Rattle.table_rows.specs.Causes.{cause_of}
+use Rattle.table_rows.specs.Picking.{IsStopped}
 use Rattle.table_rows.specs.declared.cause.Cause.TheVariants.{Other}
 use Rattle.table_rows.proofs.TextLemmas.{no_returning, query_same}
 use Rattle.outbox_tables.specs.Audit.{meta_text, IsNoOutbox}
@@ -20,8 +23,20 @@ use Rattle.outbox_process.specs.Beginning.{MigratesEarlier, MigratesOutbox}
 use Rattle.outbox_process.specs.Refusals.{IsNotEarlier, RefusesMigrating}
 use Rattle.outbox_process.specs.declared.fault.OpeningFault.{OpeningFault}
 use Rattle.outbox_process.specs.declared.fault.OpeningFault.TheVariants.{Files, Taken, Create, Open, IsCurrent, Migrate}
-use Rattle.outbox_tables.proofs.StopLemmas.{unchanged_other}
 use Rattle.outbox_tables.proofs.Texts.{meta_reads}
+
+-- if it failed for another cause than memory and the disk, nothing was written
+unchanged_other : (old new : State) (e : Error) → cause_of e ≡ Other → IsStopped old new e → IsUnchanged old new
+unchanged_other old new e other (inl not_run) = not_run.0
+unchanged_other old new e other (inr failed) = go failed.0 (sym (ap cause_of failed.1) ∙ other) failed.2
+  where
+    go : (kind : StoreError) → cause_of (store_error kind) ≡ Other → HasCause old new ⊥ kind → IsUnchanged old new
+    go OutOfMemory is h = absurd cc
+    go Io is h = absurd cc
+    go Corrupt is h = absurd cc
+    go Full is h = absurd cc
+    go Broken is h = absurd cc
+    go Unstorable is h = absurd h
 
 not_run_kept : (old new : State) (e : Error) → cause_of e ≡ Other → IsNotRun old new meta_text [] e
     → IsUnchanged old new
