@@ -14,8 +14,8 @@ import threading
 import time
 
 from odd_register import date_register
-from trials import (INTAKE, NOT_A_REGISTER, NO_OUTBOX, OUTBOX, REPORT, Peer, Serving, exchange, hold, is_silent,
-                    make_by_sql)
+from trials import (INTAKE, NOT_A_REGISTER, NO_OUTBOX, OUTBOX, PATIENCE, REPORT, Peer, Serving, exchange, hold,
+                    is_silent, make_by_sql)
 from trials import make_earlier, make_earlier_outbox, make_register, run, said, try_all
 
 FACT = (
@@ -486,7 +486,7 @@ def check_waiting_for_a_register(folder):
     hold("intake check --wait 60, while it is served", waiting.poll(), None)
     exchange(serving.port, b"GET / HTTP/1.1\r\nHost: h\r\n\r\n")
     serving.end()
-    found = (*waiting.communicate(timeout=60), waiting.returncode)
+    found = (*waiting.communicate(timeout=PATIENCE), waiting.returncode)
     hold("intake check --wait 60, once it is free", found, ("sound: 0 kept, 0 filings\n", "", 0))
 
 

@@ -18,6 +18,8 @@ import sys
 import tempfile
 import time
 
+from trials import PATIENCE
+
 try:
     import yaml
 except ImportError:
@@ -341,10 +343,10 @@ FULL = [
 
 def ask(port, data):
     """All that is answered to these bytes; the first time it waits until the program listens."""
-    until = time.monotonic() + 60
+    until = time.monotonic() + PATIENCE
     while True:
         try:
-            peer = socket.create_connection(("127.0.0.1", port), timeout=30)
+            peer = socket.create_connection(("127.0.0.1", port), timeout=PATIENCE)
             break
         except ConnectionRefusedError:
             if time.monotonic() > until:
@@ -373,7 +375,7 @@ def check_program(document, program, requests, *options):
                     if status != wanted:
                         fault = f"status {status} in place of {wanted}"
                     tell(f"{what}: {status}", fault or (f"{rest!r} behind the reply" if rest else None))
-                status = server.wait(timeout=60)
+                status = server.wait(timeout=PATIENCE)
                 tell("the program ends", None if status == 0 else f"with status {status}")
             finally:
                 server.kill()

@@ -22,8 +22,8 @@ import sqlite3
 import subprocess
 import time
 
-from trials import (INTAKE, NOT_A_REGISTER, OUTBOX, REPORT, SMALLEST, Peer, Serving, answers, breaks, exchange,
-                    free_port, hold, is_silent)
+from trials import (INTAKE, NOT_A_REGISTER, OUTBOX, PATIENCE, REPORT, SMALLEST, Peer, Serving, answers, breaks,
+                    exchange, free_port, hold, is_silent)
 from trials import make_by_sql, make_register, request, run, said, statuses, tell, try_all
 
 
@@ -55,7 +55,7 @@ def check_serving(folder):
 
 def send_slowly(port, given, seconds):
     """Sends a byte of these every half second, for so long or until the peer is gone. Whether it is."""
-    with socket.create_connection(("127.0.0.1", port), timeout=60) as peer:
+    with socket.create_connection(("127.0.0.1", port), timeout=PATIENCE) as peer:
         for at in range(2 * seconds):
             time.sleep(0.5)
             try:
@@ -518,7 +518,7 @@ def make_both(folder):
     sent = [request(f"k-{at}", body) for at, body in enumerate((REPORT, REPORT.replace(b"100", b"200"), b"{}"))]
     hold("three reports", [statuses(exchange(serving.port, it)) for it in sent], [[201], [201], [422]])
     serving.process.kill()
-    serving.process.communicate(timeout=60)
+    serving.process.communicate(timeout=PATIENCE)
     report = folder / "report.json"
     report.write_bytes(REPORT)
     run(OUTBOX, "init", "--db", folder / "outbox.db", "--filer", "ACME")

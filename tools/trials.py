@@ -12,6 +12,8 @@ ROOT = pathlib.Path(__file__).resolve().parent.parent
 INTAKE = ROOT / "crates/intake/out/intake"
 OUTBOX = ROOT / "crates/outbox/out/outbox"
 DRILL = ROOT / "crates/drill/out/drill"
+# How many seconds a program may take, also on a machine that has much else to do.
+PATIENCE = 900
 SMALLEST = b'{"documentInfo":{"documentType":"https://xbrl.org/2021/xbrl-json","taxonomy":["t"]}}'
 # A report of one fact.
 REPORT = (
@@ -87,7 +89,7 @@ def hold(what, found, wanted):
 
 def run(program, *words, given=b"", **options):
     return subprocess.run(
-        [program, *map(str, words)], input=given, capture_output=True, check=False, timeout=120, **options
+        [program, *map(str, words)], input=given, capture_output=True, check=False, timeout=PATIENCE, **options
     )
 
 
@@ -117,7 +119,7 @@ def free_port():
 
 def exchange(port, given):
     """What comes back for these bytes, on a connection of their own."""
-    with socket.create_connection(("127.0.0.1", port), timeout=60) as peer:
+    with socket.create_connection(("127.0.0.1", port), timeout=PATIENCE) as peer:
         peer.sendall(given)
         peer.shutdown(socket.SHUT_WR)
         found = b""
@@ -151,7 +153,7 @@ class Serving:
 
     def end(self):
         """The status, what was printed, and what was told behind the first line, once all connections were served."""
-        output, errors = self.process.communicate(timeout=60)
+        output, errors = self.process.communicate(timeout=PATIENCE)
         return self.process.returncode, output.decode(), errors.decode()
 
 
