@@ -12,32 +12,21 @@ import hashlib
 import pathlib
 import re
 import shutil
-import socket
 import subprocess
 import sys
 import tempfile
 
 from allocations import count, library, run
-from trials import make_earlier, make_earlier_outbox
+from trials import DRILL, INTAKE, OUTBOX, REPORT, ROOT, Serving, exchange, failures, make_earlier
+from trials import make_earlier_outbox, tell
 
-ROOT = pathlib.Path(__file__).resolve().parent.parent
-INTAKE, OUTBOX, DRILL = (ROOT / "crates" / name / "out" / name for name in ("intake", "outbox", "drill"))
 EXAMPLE = (ROOT / "crates/intake/stdin").read_bytes()
-REPORT = EXAMPLE[-393:]
 UNAVAILABLE = b'{"reason":"unavailable","status":503,"title":"Service Unavailable","type":"about:blank"}'
 KEY_REUSED = b'{"reason":"key-reused","status":422,"title":"Unprocessable Content","type":"about:blank"}'
 REFUSED = (
     b'{"findings":[{"code":"not-json","place":""}],'
     b'"reason":"refused","status":400,"title":"Bad Request","type":"about:blank"}'
 )
-failures = []
-
-
-def tell(what, fault=None):
-    """Says that something was tried, and what was wrong with it."""
-    print(f"{'failed' if fault else 'ok'}: {what}" + (f": {fault}" if fault else ""))
-    if fault:
-        failures.append(what)
 
 
 def each(what, counts, words, judge, given=b"", before=None):
@@ -265,6 +254,28 @@ def try_outbox(counts, folder):
     )
 
 
+def try_ask(counts, folder):
+    """Questions about entries that an intake has answered: it is looked there first, and nothing is filed."""
+    database, report = folder / "outbox.db", folder / "report.json"
+    serving = Serving(folder.parent / "register.db", 4_294_967_295, "--new")
+    subprocess.run(words_of(OUTBOX, "init", "--db", database, "--filer", "ACME"), check=True)
+    for key, body in [("k-1", REPORT), ("k-2", b"{}")]:
+        report.write_bytes(body)
+        put = words_of(OUTBOX, "put", "--db", database, "--body", report, "--key", key)
+        subprocess.run(put, check=True, capture_output=True)
+    send = words_of(OUTBOX, "send", "--db", database, "--port", serving.port, "--all")
+    subprocess.run(send, check=True, capture_output=True)
+    status = words_of(OUTBOX, "status", "--db", database)
+    for entry, state in [(1, "confirmed"), (2, "refused")]:
+        ask = words_of(OUTBOX, "ask", "--db", database, "--entry", entry, "--port", serving.port)
+        try_command(counts, folder, f"outbox ask, {state}", ask, status,
+                    stands_as(b"entry 1 confirmed 1\nentry 2 refused\n"))  # fmt: skip
+    serving.process.terminate()
+    serving.process.communicate()
+    check = subprocess.run(words_of(INTAKE, "check", "--db", folder.parent / "register.db"), capture_output=True)
+    tell("nothing was filed", None if check.stdout == b"sound: 2 kept, 1 filings\n" else repr(check.stdout))
+
+
 def try_outbox_migration(counts, folder):
     database = folder / "outbox.db"
     make_earlier_outbox(database)
@@ -277,18 +288,9 @@ def try_outbox_migration(counts, folder):
 def make_register(folder):
     """A register with the example."""
     database = folder / "register.db"
-    with socket.socket() as it:
-        it.bind(("127.0.0.1", 0))
-        port = it.getsockname()[1]
-    words = words_of(INTAKE, "serve", "--db", database, "--port", port, "--connections", 1, "--new")
-    with subprocess.Popen(words, stderr=subprocess.PIPE) as process:
-        process.stderr.readline()
-        with socket.create_connection(("127.0.0.1", port)) as peer:
-            peer.sendall(EXAMPLE)
-            peer.shutdown(socket.SHUT_WR)
-            while peer.recv(4096):
-                pass
-        process.communicate()
+    serving = Serving(database, 1, "--new")
+    exchange(serving.port, EXAMPLE)
+    serving.end()
     return database
 
 
@@ -337,7 +339,8 @@ def try_lint(counts, folder):
 
 def main():
     word = sys.argv[1] if len(sys.argv) > 1 else ""
-    for trial in (try_connection, try_script, try_outbox, try_outbox_migration, try_register, try_migration, try_lint):
+    for trial in (try_connection, try_script, try_outbox, try_ask, try_outbox_migration, try_register, try_migration,
+                  try_lint):
         if word in trial.__name__:
             with tempfile.TemporaryDirectory() as outer:
                 folder = pathlib.Path(outer) / "files"
