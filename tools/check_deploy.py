@@ -26,12 +26,12 @@ import tempfile
 import threading
 import time
 
-from trials import failures, hold, tell
+from trials import PATIENCE, failures, hold, tell
 
 ROOT = pathlib.Path(__file__).resolve().parent.parent
 DEPLOY = ROOT / "deploy"
-SCRIPTS = ["register-new", "register-snapshot", "register-copies", "intake-health", "outbox-round", "nginx-follow",
-           "certificates-last"]  # fmt: skip
+SCRIPTS = ["register-new", "register-snapshot", "register-copies", "register-pages", "intake-health", "outbox-round",
+           "nginx-follow", "certificates-last"]  # fmt: skip
 SECOND_HOST = "2025.example"
 
 
@@ -44,7 +44,7 @@ def find(program):
 
 
 def run(*words, **options):
-    return subprocess.run(words, capture_output=True, text=True, check=False, timeout=120, **options)
+    return subprocess.run(words, capture_output=True, text=True, check=False, timeout=PATIENCE, **options)
 
 
 def tell_run(what, done):
@@ -170,6 +170,8 @@ EMPTY = [
     ("register-snapshot", "--for-reading", "register.db", ""),
     ("register-copies", "", "copies", "30"),
     ("register-copies", "register.db", "", "30"),
+    ("register-pages", "", "register", "site"),
+    ("register-pages", "copies", "register", ""),
     ("register-restore", "", "new.db"),
     ("register-restore", "copy.db", ""),
     ("register-restore", "--replace", "", "register.db"),
@@ -495,6 +497,7 @@ def make_certificates(openssl, folder):
     run(openssl, "req", "-x509", "-newkey", "ec", "-pkeyopt", "ec_paramgen_curve:P-256", "-nodes",
         "-subj", "/CN=authority", "-keyout", folder / "ca.key", "-out", folder / "ca.pem", "-days", "2")
     subjects = {"server": "/CN=intake.example", "acme": "/O=ACME/CN=acme-filing",
+                "officer": "/O=Supervisor/CN=officer-1",
                 "other": "/O=x,CN=acme-filing,O=ACME/CN=other", **ODD_SUBJECTS}
     for name, subject in subjects.items():
         run(openssl, "req", "-utf8", "-newkey", "ec", "-pkeyopt", "ec_paramgen_curve:P-256", "-nodes", "-subj", subject,
@@ -531,7 +534,7 @@ def nginx_file(folder, port, intakes, outbox_port):
         fronts = fronts.replace(written, f"127.0.0.1:{own}")
     fronts = fronts.replace("listen 443", f"listen 127.0.0.1:{port}")
     fronts = fronts.replace("/etc/nginx/tls/filers-ca.pem", f"{folder}/ca.pem").replace("/etc/nginx/tls", str(folder))
-    fronts = fronts.replace("/var/log/berruzpil/", f"{folder}/")
+    fronts = fronts.replace("/var/log/berruzpil/", f"{folder}/").replace("/srv/pages/", f"{folder}/pages/")
     behind = (DEPLOY / "nginx-outbox.conf").read_text()
     behind = (
         behind.replace("127.0.0.1:8081", f"127.0.0.1:{outbox_port}")
@@ -573,7 +576,7 @@ def connect(folder, port, user, host):
     context = ssl.create_default_context(cafile=folder / "ca.pem")
     if user:
         context.load_cert_chain(folder / f"{user}.pem", folder / f"{user}.key")
-    return context.wrap_socket(socket.create_connection(("127.0.0.1", port), timeout=120), server_hostname=host)
+    return context.wrap_socket(socket.create_connection(("127.0.0.1", port), timeout=PATIENCE), server_hostname=host)
 
 
 def ask_bytes(folder, port, given):
@@ -597,6 +600,28 @@ def ask_kind(folder, port, user, filer, method="POST", body=b"{}", host="intake.
     connection.request(method, f"/filings/{filer}", body, fields, encode_chunked="Transfer-Encoding" in fields)
     reply = connection.getresponse()
     return reply.status, reply.getheader("Content-Type"), reply.read()
+
+
+def log_lines(folder, count=0):
+    """The lines of the log, once there are so many: nginx writes a line after its reply."""
+    deadline = time.monotonic() + PATIENCE
+    while len(lines := (folder / "filings.log").read_bytes().splitlines()) < count and time.monotonic() < deadline:
+        time.sleep(0.05)
+    return [json.loads(line) for line in lines]
+
+
+@contextlib.contextmanager
+def running(nginx, folder, file, port):
+    """nginx with a file, in a folder, from when it listens."""
+    with subprocess.Popen([nginx, "-p", folder, "-c", file], stderr=subprocess.DEVNULL) as server:
+        try:
+            while server.poll() is None:
+                with contextlib.suppress(ConnectionRefusedError), socket.create_connection(("127.0.0.1", port)):
+                    break
+                time.sleep(0.1)
+            yield
+        finally:
+            server.terminate()
 
 
 def odd_requests():
@@ -638,12 +663,12 @@ def try_second_register(folder, intake, second, port):
 
 def try_users(folder, port):
     """The users that nginx-filer wrote may file for their filers, and for no other."""
+    before = len(log_lines(folder))
     for user in ODD_SUBJECTS:
         found = [ask(folder, port, user, filer)[0] for filer in ("ACME", f"{user}.x", f"{user}-x", "BETA")]
         hold(f"the filers of {user}", found, [201, 201, 403, 403])
-    # nginx writes the line after the reply.
-    time.sleep(0.5)
-    hold("none of them is another", json.loads((folder / "filings.log").read_text().splitlines()[-1])["user"], "odd-3")
+    hold("none of them is another", [line["user"] for line in log_lines(folder, before + 12)[before:]],
+         [user for user in ODD_SUBJECTS for _ in range(4)])
 
 
 def try_removed_lines(folder):
@@ -679,8 +704,9 @@ FILER_USAGE = """usage: nginx-filer FILE CERTIFICATE USER FILER ..
 
 def try_filer_lines(folder):
     """What nginx-filer refuses, and that it leaves the file as it is then."""
-    file, acme = folder / "fronts.conf", folder / "acme.pem"
+    file, acme, officer = folder / "fronts.conf", folder / "acme.pem", folder / "officer.pem"
     before = file.read_text()
+    both = f"nginx-filer: {file}: {{}} would be an officer and file: give the officer another user, and a certificate\n"
     for what, words, wanted in [
         ("lines that are there", (file, acme, "acme", "ACME"),
          (0, '"~^CN=acme-filing,O=ACME$" acme;\n"~^acme ACME$" 1;\n', "")),
@@ -690,6 +716,11 @@ def try_filer_lines(folder):
          (1, "", f"nginx-filer: {acme}: there is no map of who may file for which filer\n")),
         ("a filer code that is none", (file, acme, "acme", "a/b"), (2, "", "nginx-filer: 'a/b' is no filer code\n")),
         ("a user that is none", (file, acme, "acme; }", "ACME"), (2, "", "nginx-filer: 'acme; }' is no user\n")),
+        ("an officer", (file, officer, "officer", "/pages"),
+         (0, '"~^CN=officer-1,O=Supervisor$" officer;\n"~^officer /pages$" 1;\n', "")),
+        ("an officer who would file", (file, officer, "officer", "ACME"), (1, "", both.format("officer"))),
+        ("a filer who would be an officer", (file, acme, "acme", "/pages"), (1, "", both.format("acme"))),
+        ("both at once", (file, acme, "new", "ACME", "/pages"), (1, "", both.format("new"))),
         ("too few words", (file, acme, "acme"), (2, "", FILER_USAGE)),
         ("an empty name", ("", acme, "acme", "ACME"), (2, "", FILER_USAGE)),
         ("nothing to remove", ("--remove", file), (2, "", FILER_USAGE)),
@@ -732,7 +763,7 @@ def try_kept_open(folder, intake, port):
         reply.read()
         return reply.status
 
-    before = len(intake.peers)
+    before, written = len(intake.peers), len(log_lines(folder))
     found = [post() for _ in range(5)]
     hold("requests share a connection to the intake", (found, len(intake.peers) - before <= 1), ([201] * 5, True))
     asked, intake.resets = len(intake.requests), 1
@@ -743,17 +774,15 @@ def try_kept_open(folder, intake, port):
     hold("a request whose new connection breaks", (post(), 2 <= len(intake.requests) - asked <= 5), (503, True))
     intake.resets = 0
     hold("the next request", post(), 201)
-    # nginx writes the line after the reply.
-    time.sleep(0.5)
-    lines = [json.loads(line) for line in (folder / "filings.log").read_text().splitlines()[-3:]]
-    hold("their lines of the log", [(line["status"], line["intake_status"]) for line in lines],
-         [(201, "201"), (503, "502"), (201, "201")])
+    hold("their lines of the log",
+         [(line["status"], line["intake_status"]) for line in log_lines(folder, written + 8)[written:]],
+         [(201, "201")] * 6 + [(503, "502"), (201, "201")])
 
 
 def try_health(folder, intake, port):
     """The location of the health check: a GET of one list, whatever is asked, for any certificate of the authority,
     without a line in the log."""
-    lines, before = (folder / "filings.log").read_bytes(), len(intake.requests)
+    written, before = len(log_lines(folder)), len(intake.requests)
     for what, user, given in [
         ("GET", "acme", b"GET /health"),
         ("a POST with a body", "other", b"POST /health"),
@@ -771,9 +800,55 @@ def try_health(folder, intake, port):
          ask_bytes_of(folder, port, None, b"GET /health HTTP/1.1\r\nHost: intake.example\r\n\r\n"),
          problem(403, "no-certificate", "Forbidden"))
     hold("each reached the intake, but the last", len(intake.requests) - before, 3)
-    time.sleep(0.5)
-    logged = (folder / "filings.log").read_bytes()[len(lines) :].splitlines()
-    hold("only the refused one is logged", [json.loads(line)["status"] for line in logged], [403])
+    hold("only the refused one is logged", [line["status"] for line in log_lines(folder, written + 1)[written:]], [403])
+
+
+def get(folder, port, user, path, host="intake.example"):
+    """The status, media type and content of what nginx gives a user for this path."""
+    connection = http.client.HTTPConnection(host)
+    connection.sock = connect(folder, port, user, host)
+    connection.putrequest("GET", path)
+    connection.endheaders()
+    reply = connection.getresponse()
+    return reply.status, reply.getheader("Content-Type"), reply.read()
+
+
+def try_pages(folder, intake, port):
+    """The pages of each register, for officers alone, who may not file."""
+    for name in ("register", "2025"):
+        site = folder / "pages" / name
+        site.mkdir(parents=True)
+        (site / "index.html").write_text(f"the pages of {name}")
+    (folder / "pages" / "secret").write_text("secret")
+    (folder / "pages").chmod(0o755)
+    page = (200, "text/html; charset=utf-8", b"the pages of register")
+    no_path, none = problem(404, "no-path", "Not Found"), problem(403, "no-certificate", "Forbidden")
+    written, before = len(log_lines(folder)), len(intake.requests)
+    for what, user, path, wanted in [
+        ("an officer", "officer", "/pages/index.html", page),
+        ("an officer, the folder", "officer", "/pages/", page),
+        ("a filer", "acme", "/pages/index.html", NOT_YOURS),
+        ("a filer, the folder", "acme", "/pages/", NOT_YOURS),
+        ("a filer, by a path through its own", "acme", "/filings/ACME/../../pages/index.html", NOT_YOURS),
+        ("a filer, by a path in other letters", "acme", "/%70ages/index.html", NOT_YOURS),
+        ("a filer, by a path that is no file", "acme", "/pages/none.html", NOT_YOURS),
+        ("somebody without a line", "other", "/pages/index.html", NOT_YOURS),
+        ("nobody", None, "/pages/index.html", none),
+        ("an officer, out of the folder", "officer", "/pages/../secret", no_path),
+        ("an officer, beside the folder", "officer", "/pages../secret", no_path),
+    ]:
+        hold(f"the pages: {what}", get(folder, port, user, path), wanted)
+    hold("the pages: an officer, without the slash", get(folder, port, "officer", "/pages")[0], 308)
+    hold("the pages: no such page", get(folder, port, "officer", "/pages/none.html")[0], 404)
+    hold("the pages of the second register are others'",
+         get(folder, port, "officer", "/pages/index.html", SECOND_HOST),
+         (200, "text/html; charset=utf-8", b"the pages of 2025"))
+    for filer in ("ACME", "pages", "officer"):
+        hold(f"an officer who files for {filer}", ask_kind(folder, port, "officer", filer), NOT_YOURS)
+    hold("none of these reached the intake", len(intake.requests), before)
+    hold("the log says who read the pages",
+         [line["user"] for line in log_lines(folder, written + 17)[written:]
+          if line["uri"].startswith("/pages/") and line["status"] == 200], ["officer"] * 3)  # fmt: skip
 
 
 def try_requests(folder, intake, port, outbox_port):
@@ -793,6 +868,7 @@ def try_requests(folder, intake, port, outbox_port):
         ("a number that is none", ("acme", "ACME/0"), problem(404, "no-path", "Not Found")),
         ("a number with a leading zero", ("acme", "ACME/01"), problem(404, "no-path", "Not Found")),
         ("the same code in lower case", ("acme", "acme"), NOT_YOURS),
+        ("a code that is like a file's name", ("acme", "a.html"), NOT_YOURS),
         ("a subject that has another's inside", ("other", "ACME"), NOT_YOURS),
         ("no certificate", (None, "ACME"), problem(403, "no-certificate", "Forbidden")),
         ("a path that is no filer's", ("acme", "a/b"), problem(404, "no-path", "Not Found")),
@@ -810,7 +886,7 @@ def try_requests(folder, intake, port, outbox_port):
     hold("a silent filer keeps nobody waiting", ask(folder, port, "acme", "ACME")[0], 201)
     slow.sendall(b"}")
     hold("through the filer's own nginx", b"201" in read_message(slow).split(b"\r\n")[0], True)
-    line = json.loads((folder / "filings.log").read_text().splitlines()[0])
+    line = log_lines(folder, 1)[0]
     logged = (line["user"], line["key"], line["status"], line["intake_status"])
     hold("the line of the log", logged, ("acme", '"k-1"', 201, "201"))
 
@@ -855,21 +931,18 @@ def try_nginx(folder):
         tell_run("nginx -t", tested)
         if tested.returncode:
             return
-        with subprocess.Popen([nginx, "-p", folder, "-c", file], stderr=subprocess.DEVNULL) as server:
-            try:
-                time.sleep(1)
-                try_requests(folder, intake, port, outbox_port)
-                try_kept_open(folder, intake, port)
-                try_users(folder, port)
-                try_filer_lines(folder)
-                try_health(folder, intake, port)
-                try_second_register(folder, intake, second, port)
-                try_rotation(folder, port)
-                intake.leave()
-                away = problem(503, "unavailable", "Service Unavailable")
-                hold("an intake that is away", ask_kind(folder, port, "acme", "ACME"), away)
-            finally:
-                server.terminate()
+        with running(nginx, folder, file, port):
+            try_requests(folder, intake, port, outbox_port)
+            try_kept_open(folder, intake, port)
+            try_users(folder, port)
+            try_filer_lines(folder)
+            try_health(folder, intake, port)
+            try_pages(folder, intake, port)
+            try_second_register(folder, intake, second, port)
+            try_rotation(folder, port)
+            intake.leave()
+            away = problem(503, "unavailable", "Service Unavailable")
+            hold("an intake that is away", ask_kind(folder, port, "acme", "ACME"), away)
 
 
 def main():

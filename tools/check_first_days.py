@@ -469,7 +469,8 @@ def certificates(page, supervisor, filer):
 
 
 def restore(page, supervisor, filer):
-    """The copy of the first day is restored, by the commands of the page: the filings after it are lost, and named."""
+    """The copy of the first day is restored, by the commands of the page: the filings after it are lost, and named. The
+    filer files them again."""
     commands = page.block("How do I restore a copy?", "register-restore")
     hold("a second report", filed(page, filer, "2024-annual-2"), "confirmed N")
     play(supervisor, "a restore", commands, [(COPY_OF_PAGE, copies(supervisor)[0])], [("lost-filings", 1)])
@@ -479,6 +480,24 @@ def restore(page, supervisor, filer):
     hold("what was there is kept",
          supervisor.paste("runuser -u berruzpil -- sh -c 'intake check --db /var/lib/berruzpil/away-*/register.db'"),
          (0, "sound: 2 kept, 2 filings\n"))
+    file_again(page, filer)
+
+
+def file_again(page, filer):
+    """The filer files again what the restore lost, by the commands of the page."""
+    commands = page.block("How do I file again what a register lost?", "cd ")
+    entries = filer.paste(STATUS.replace("status", "show"))[1]
+    entry = re.search(r"(?m)^entry (\d+) confirmed (\d+), .* key 2024-annual-2$", entries)
+    hold("the entry that was lost", bool(entry), True)
+    number = len(json.loads(filer.paste(LIST)[1])["filings"]) + 1
+    with Shell(filer) as shell:
+        for command, lines in commands:
+            wanted = "".join(f"{line}\n" for line in lines).replace("entry 2", f"entry {entry[1]}")
+            wanted = wanted.replace(f"entry {entry[1]} confirmed 2", f"entry {entry[1]} confirmed {entry[2]}")
+            wanted = wanted.replace("entry 1 confirmed 2", f"entry 1 confirmed {number}")
+            command = re.sub(r"(--entry|again\.db) 2$", rf"\g<1> {entry[1]}", command)
+            hold(f"filed again: {command}", shell.paste(command), (0, wanted))
+    hold("it is filed once more", len(json.loads(filer.paste(LIST)[1])["filings"]), number)
 
 
 def disk(page, supervisor, filer):
@@ -511,23 +530,6 @@ def disk(page, supervisor, filer):
         shell.paste(f"systemctl stop berruzpil-intake; cp -a {home}/register.db /srv/; umount {home}; "
                     f"rm {home}/register.db*; mv /srv/register.db {home}/; rm -r /srv/home /srv/copies /srv/damaged.db")
     start_intake(page, supervisor)
-
-
-def again(page, supervisor, filer):
-    """The filer files again what the restore lost, by the commands of the page."""
-    commands = page.block("How do I file again what a register lost?", "cd ")
-    entries = filer.paste(STATUS.replace("status", "show"))[1]
-    entry = re.search(r"(?m)^entry (\d+) confirmed (\d+), .* key 2024-annual-2$", entries)
-    hold("the entry that was lost", bool(entry), True)
-    number = len(json.loads(filer.paste(LIST)[1])["filings"]) + 1
-    with Shell(filer) as shell:
-        for command, lines in commands:
-            wanted = "".join(f"{line}\n" for line in lines).replace("entry 2", f"entry {entry[1]}")
-            wanted = wanted.replace(f"entry {entry[1]} confirmed 2", f"entry {entry[1]} confirmed {entry[2]}")
-            wanted = wanted.replace("entry 1 confirmed 2", f"entry 1 confirmed {number}")
-            command = re.sub(r"(--entry|again\.db) 2$", rf"\g<1> {entry[1]}", command)
-            hold(f"filed again: {command}", shell.paste(command), (0, wanted))
-    hold("it is filed once more", len(json.loads(filer.paste(LIST)[1])["filings"]), number)
 
 
 # In the place of `date`, of a machine whose clock is years ahead. A container has the clock of its host.
@@ -648,6 +650,48 @@ def readers(page, supervisor, filer):
     hold("and may not write beside it", supervisor.paste("runuser -u analyst -- touch /srv/copies/new")[0], 1)
     hold("nothing is written beside it", supervisor.paste("ls -AlR /srv/copies"), before)
     supervisor.paste("rm -r /srv/copies; userdel analyst; userdel stranger; groupdel analysts")
+
+
+def officers(page, supervisor, filer):
+    """Pages for officers, by the commands of the page: an officer reads them and files for nobody, and a filer does not
+    read them. They are those of the last copy that can be restored, as a whole."""
+    hold("a copy", supervisor.paste("systemctl start berruzpil-snapshot@register"), (0, ""))
+    play(supervisor, "pages for officers", page.block("How do I publish pages of a register?", "openssl req"))
+    for name in ("officer.key", "officer.pem"):
+        shutil.copyfile(supervisor.file(f"/root/berruzpil/{name}"), filer.file(f"/root/{name}"))
+    ask = "curl -s -m 60 --cacert /etc/berruzpil/intake-ca.pem --cert {0}.pem --key {0}.key -w ' %{{http_code}}' {1}"
+    front, officer, own = "https://intake.example", "/root/officer", "/etc/berruzpil/filer"
+
+    def pages_of(who):
+        return filer.paste(ask.format(who, f"{front}/pages/"))[1]
+
+    first, number = pages_of(officer), len(json.loads(filer.paste(LIST)[1])["filings"])
+    hold("an officer reads the pages", (first.endswith(" 200"), ">ACME<" in first), (True, True))
+    hold("a filer doesn't", pages_of(own), f"{NOT_YOURS} 403")
+    send = f"-H 'Idempotency-Key: \"officer-1\"' --data-binary @/var/lib/berruzpil/report.json {front}/filings/ACME"
+    hold("an officer files for nobody", filer.paste(ask.format(officer, send)), (0, f"{NOT_YOURS} 403"))
+    hold("nothing is filed", len(json.loads(filer.paste(LIST)[1])["filings"]), number)
+    for user, right in [("officer", "ACME"), ("acme", "/pages")]:
+        hold(f"nobody does both: {user} {right}",
+             supervisor.paste(f"nginx-filer {FRONT} {user}.pem {user} {right}")[0], 1)
+    hold("nobody else on the machine reads them",
+         supervisor.paste("runuser -u nobody -- cat /srv/pages/register/index.html")[0], 1)
+    hold("a report comes", filed(page, filer, "pages-1"), "confirmed N")
+    # The name of a copy has whole seconds.
+    time.sleep(1)
+    renewed = "systemctl start berruzpil-snapshot@register && systemctl start berruzpil-pages@register"
+    hold("the pages after the next copy", supervisor.paste(renewed), (0, ""))
+    second = pages_of(officer)
+    hold("have it", (second.endswith(" 200"), second != first), (True, True))
+    hold("those before are gone", without_moments(supervisor.paste("ls /srv/pages")[1]), "register\nregister-MOMENT\n")
+    supervisor.paste("sed -i 's/ 0 / 1 /' /var/lib/berruzpil/copies/register.tried")
+    unit = "berruzpil-pages@register.service"
+    hold("a copy that can't be restored gets no pages",
+         supervisor.paste(f"systemctl start {unit}"), (1, JOB.format(unit)))
+    hold("those before stay", pages_of(officer), second)
+    supervisor.paste(f"systemctl disable --quiet --now berruzpil-pages@register.timer; systemctl reset-failed {unit}; "
+                     f"nginx-filer --remove {FRONT} officer; systemctl reload nginx; rm -r /srv/pages; "
+                     "sed -i 's/ 1 / 0 /' /var/lib/berruzpil/copies/register.tried")
 
 
 # ---- versions
@@ -809,6 +853,7 @@ def stunnel(page, supervisor, filer):
 # ---- rights, connections, names and certificates
 
 FRONT = "/etc/nginx/conf.d/nginx-intake.conf"
+NOT_YOURS = '{"reason":"not-yours","status":403,"title":"Forbidden","type":"about:blank"}'
 
 
 def taken(page, supervisor, filer):
@@ -1029,8 +1074,9 @@ def man_pages(page, supervisor, filer):
 
 # The parts, in the order in which they are played. Each after the first can be played on its own after the days.
 PARTS = {it.__name__: it for it in [
-    days, units, restore, again, disk, clock, hang, timers, metrics, readers, slow, abort, certificates, stunnel,
-    damaged, upgrade, outbox_upgrade, health, power, taken, many, lines, names, expiry, own_client, several, man_pages,
+    days, units, restore, disk, clock, hang, timers, metrics, readers, officers, slow, abort, certificates,
+    stunnel, damaged, upgrade, outbox_upgrade, health, power, taken, many, lines, names, expiry, own_client, several,
+    man_pages,
 ]}  # fmt: skip
 
 
