@@ -2,11 +2,15 @@
 """Tries with the built programs what docs/OPERATIONS.md promises an operator: copies, restores, logs, receipts,
 numbers, rounds, and a full disk.
 
-    tools/check_operations.py [WORD]        each trial, or those with this word in their name
+    tools/check_operations.py [WORD]                each trial, or those with this word in their name
+    tools/check_operations.py --planted [WORD]      with faults in deploy/: each has to make a trial fail
 
 It takes the programs that `rt run` builds in their folders, as crates/intake/out/intake, and the scripts of deploy/. It
 listens on 127.0.0.1 alone and works in folders of its own, which it removes. What needs a program that is not installed
 is said, and is no failure. The last line says how many trials passed and failed. Status 1 if one failed.
+
+The faults are those in tools/planted_faults.txt whose part is `operations_` and the name of a trial. A WORD takes those
+that have it in their line.
 
 A further trial is a function in TRIALS, which gets a folder. A further kind of copy is a row in COPIES, a further reply
 that a round may meet a row in ROUNDS, a further request to nginx a row in FRONT, and one to a full disk a row in FULL.
@@ -31,9 +35,11 @@ import threading
 import time
 
 import check_deploy
+import check_first_days as first_days
 import trials
 from check_programs import SmallDisk, listing
-from trials import INTAKE, OUTBOX, REPORT, ROOT, SMALLEST, Serving, exchange, free_port, request, run, statuses
+from trials import (INTAKE, OUTBOX, PATIENCE, REPORT, ROOT, SMALLEST, Serving, exchange, free_port, request, run,
+                    statuses)
 
 DEPLOY = ROOT / "deploy"
 PATHS = {**os.environ, "PATH": f"{INTAKE.parent}:{OUTBOX.parent}:{os.environ['PATH']}"}
@@ -48,7 +54,7 @@ def hold(what, found, wanted):
 def script(name, *words, **options):
     """The status, the output and the errors of a script of deploy/."""
     words = [str(DEPLOY / name), *map(str, words)]
-    done = subprocess.run(words, capture_output=True, text=True, check=False, timeout=120, env=PATHS, **options)
+    done = subprocess.run(words, capture_output=True, text=True, check=False, timeout=PATIENCE, env=PATHS, **options)
     return done.returncode, done.stdout, done.stderr
 
 
@@ -106,7 +112,7 @@ def make_outbox(database):
 
 def shell(database, command):
     return subprocess.run(["sqlite3", "-batch", str(database), command],
-                          capture_output=True, text=True, check=False, timeout=60)
+                          capture_output=True, text=True, check=False, timeout=PATIENCE)
 
 
 def python_backup(database, copy):
@@ -280,7 +286,7 @@ def as_user(name, *words, groups=(), cwd=None):
     given = f"--groups={','.join(map(str, groups))}" if groups else "--clear-groups"
     who = ["setpriv", f"--reuid={NOBODY}", f"--regid={NOBODY}", given, "--"]
     done = subprocess.run([*who, name, *map(str, words)], capture_output=True, text=True, check=False,
-                          timeout=120, env=PATHS, cwd=cwd)
+                          timeout=PATIENCE, env=PATHS, cwd=cwd)
     return done.returncode, done.stdout, done.stderr
 
 
@@ -352,7 +358,7 @@ def check_read_only_copies(folder):
 
     def strict(name, *words):
         done = subprocess.run([*sandbox, str(DEPLOY / name), *map(str, words)], capture_output=True, text=True,
-                              check=False, timeout=120, env=PATHS)
+                              check=False, timeout=PATIENCE, env=PATHS)
         return done.returncode, done.stdout, done.stderr
 
     try_readers("ProtectSystem=strict", copies, out, strict)
@@ -384,7 +390,7 @@ def try_metrics_unit(folder, copies, out, sandbox):
                          ("/var/lib/prometheus/node-exporter", out), ("/var/log/berruzpil", folder)]:
         command = command.replace(written, str(own))
     done = subprocess.run([*sandbox, "sh", "-c", command], capture_output=True, text=True, check=False,
-                          timeout=120, env=PATHS)
+                          timeout=PATIENCE, env=PATHS)
     hold("the command of berruzpil-metrics.service", (done.returncode, done.stdout, done.stderr, names(out)),
          (0, "", "", ["berruzpil.prom"]))
     (out / "berruzpil.prom").unlink()
@@ -527,7 +533,7 @@ def check_rush(folder):
     before = names(folder)
     paths = {**PATHS, "PATH": f"{programs}:{PATHS['PATH']}"}
     words = [DEPLOY / "register-snapshot", "register.db", "copy.db"]
-    done = subprocess.run(words, capture_output=True, text=True, check=False, cwd=folder, env=paths, timeout=60)
+    done = subprocess.run(words, capture_output=True, text=True, check=False, cwd=folder, env=paths, timeout=PATIENCE)
     hold("register-snapshot in a rush gives up",
          (done.returncode, done.stdout, "let the intake pause" in done.stderr), (3, "", True))
     hold("nothing is left of the copy", names(folder), before)
@@ -571,7 +577,7 @@ DIGESTED = "; as its digest says"
 def digest_of(copy):
     """The line of a copy's digest, by the script that asks no program."""
     words = [sys.executable, ROOT / "tools" / "register_digest.py", copy]
-    return subprocess.run(words, capture_output=True, text=True, check=True, timeout=60).stdout
+    return subprocess.run(words, capture_output=True, text=True, check=True, timeout=PATIENCE).stdout
 
 
 def check_digests(folder):
@@ -667,7 +673,7 @@ def try_clock(folder, kept, wrong_by):
     check_deploy.write_program(programs / "date", WRONG_DATE)
     env = {**PATHS, "PATH": f"{programs}:{PATHS['PATH']}", "WRONG_BY": wrong_by}
     done = subprocess.run([DEPLOY / "register-copies", folder / "register.db", kept, "30"], capture_output=True,
-                          text=True, check=False, env=env, timeout=120)
+                          text=True, check=False, env=env, timeout=PATIENCE)
     hold(f"register-copies, by a clock that is wrong by {wrong_by}", done.returncode, 0)
     (made,) = {it for it in names(kept) if it.endswith(".db")} - before
     return sorted(before - set(names(kept))), made, done.stderr
@@ -745,7 +751,7 @@ def check_failed_copies(folder):
         for it in set(names(kept)) - {"register-20240101T000000Z.db"}:
             (kept / it).unlink()
         done = subprocess.run([scripts / "register-copies", database, kept, "30"],
-                              capture_output=True, text=True, check=False, env=PATHS, timeout=60)
+                              capture_output=True, text=True, check=False, env=PATHS, timeout=PATIENCE)
         old, copy, _, tried = names(kept)
         found = (done.returncode, done.stderr)
         hold(what, found, (wanted[0], f"register-copies: {kept / copy}: a restore failed: {wanted[1]}\n"))
@@ -857,7 +863,7 @@ def check_receipts(folder):
     hold("only its owner may read it", rights(reading), "0o600")
     asked = ["sqlite3", "-batch", "-init", str(DEPLOY / "reading.sql"), str(reading)]
     question = "SELECT number, key, received, user FROM senders ORDER BY number"
-    done = subprocess.run([*asked, question], capture_output=True, text=True, check=False, timeout=60)
+    done = subprocess.run([*asked, question], capture_output=True, text=True, check=False, timeout=PATIENCE)
     wanted = (
         "1|k-1|2024-03-31T01:30:00+01:00|acme\n"
         "2|a\"b|2024-03-31T00:34:00.000Z|agent\n"
@@ -866,7 +872,7 @@ def check_receipts(folder):
     )
     hold("the view `senders`", (done.stdout, done.stderr), (wanted, ""))
     done = subprocess.run([*asked, "SELECT number FROM current ORDER BY number"],
-                          capture_output=True, text=True, check=False, timeout=60)
+                          capture_output=True, text=True, check=False, timeout=PATIENCE)
     hold("the view `current`", (done.stdout, done.stderr), ("2\n3\n4\n", ""))
     hold("it is no register", ask_register(shutil.copy(reading, folder / "tried.db"))[0], 1)
     hold("the copy is as it was",
@@ -893,7 +899,7 @@ def check_refused_receipts(folder, copy, log):
         hold(f"register-receipts: {what}", (found, said, cause in errors), (status, "", True))
     with open("/dev/full", "wb") as full:
         done = subprocess.run([DEPLOY / "register-receipts", copy, log], stdout=full,
-                              stderr=subprocess.PIPE, check=False, timeout=60)
+                              stderr=subprocess.PIPE, check=False, timeout=PATIENCE)
     hold("register-receipts: an output that takes nothing", (done.returncode, b"Traceback" in done.stderr), (3, False))
     serving = Serving(folder / "served.db", 1, "--new")
     found = script("register-receipts", "--into", new, folder / "served.db", log)
@@ -1069,7 +1075,7 @@ def try_replace(folder, copy, loaded="loaded", starts=0, register="lib/register.
     (folder / "asked").unlink(missing_ok=True)
     env = {**PATHS, "PATH": f"{folder}:{PATHS['PATH']}", "LOADED": loaded, "STARTS": str(starts)}
     words = [DEPLOY / "register-restore", "--replace", copy, folder / register]
-    done = subprocess.run(words, capture_output=True, text=True, check=False, env=env, timeout=120)
+    done = subprocess.run(words, capture_output=True, text=True, check=False, env=env, timeout=PATIENCE)
     asked = (folder / "asked").read_text().splitlines() if (folder / "asked").exists() else []
     return done.returncode, done.stdout, done.stderr, [it for it in asked if not it.startswith("show")]
 
@@ -1294,30 +1300,31 @@ def check_slow_round(folder):
 
 
 def check_lost(folder):
-    """A restored copy lacks the filing after it, and lost-filings names it from the logs: one packed, one with odd
-    lines and a cut end."""
+    """A restored copy lacks the filing after it, and lost-filings names it, its number and what it replaces, from the
+    logs: one packed, one with odd lines and a cut end."""
     if missing("gzip"):
         return
     database, log = folder / "register.db", folder / "filings.log"
     serving = Serving(database, 3, "--new")
     exchange(serving.port, request("k-1", REPORT))
     script("register-snapshot", database, folder / "copy.db")
-    exchange(serving.port, request("k-2", REPORT))
+    exchange(serving.port, request("k-2", REPORT, replaces=1))
     exchange(serving.port, request("k-3", b"{}"))
     serving.end()
     line = (
-        '{"time":"T%s","host":"intake.example","uri":"/filings/ACME","key":"\\"%s\\"",'
+        '{"time":"T%s","host":"intake.example","uri":"/filings/ACME%s","key":"\\"%s\\"",'
         '"status":%s,"intake_status":"%s"}\n'
     )
-    log.write_text(line % (1, "k-1", 201, 201) + line % (2, "k-2", 201, 201) + line % (3, "k-3", 422, 422))
+    log.write_text(line % (1, "", "k-1", 201, 201) + line % (2, "/1", "k-2", 201, 201)
+                   + line % (3, "", "k-3", 422, 422))  # fmt: skip
     subprocess.run(["gzip", "-k", log], check=True)
     hold("lost-filings of the register", script("lost-filings", database, log, f"{log}.gz"), (0, "", ""))
-    wanted = (1, 'T2 ACME "k-2" 2\n', "")
+    wanted = (1, 'T2 ACME "k-2" 2 replaces 1\n', "")
     hold("lost-filings of the copy", script("lost-filings", folder / "copy.db", f"{log}.gz", log), wanted)
     script("register-restore", folder / "copy.db", folder / "new.db")
     hold("lost-filings of what was restored", script("lost-filings", folder / "new.db", log), wanted)
     odd = b'{"time":"T4","uri":"/\xff","intake_status":""}\n'
-    others = (line % (5, "k-5", 201, 201)).replace("intake.example", "other.example").encode()
+    others = (line % (5, "", "k-5", 201, 201)).replace("intake.example", "other.example").encode()
     log.write_bytes(odd + others + log.read_bytes() + b'{"time":"T6","ur')
     unread = f"lost-filings: {log}: 1 lines can't be read, the first is line 6\n"
     found = script("lost-filings", "--host", "intake.example", folder / "copy.db", log)
@@ -1437,16 +1444,12 @@ def check_front(folder):
     serving = Serving(database, 4_294_967_295, "--new", "--log")
     port = free_port()
     file = check_deploy.nginx_file(folder, port, (serving.port, serving.port), free_port())
-    with subprocess.Popen([check_deploy.find("nginx"), "-p", folder, "-c", file], stderr=subprocess.DEVNULL) as front:
-        try:
-            time.sleep(1)
-            for what, given, wanted, _ in FRONT:
-                found = check_deploy.ask_bytes(folder, port, given.replace(b"Host: h\r\n", b"Host: intake.example\r\n"))
-                hold(f"{what}, through nginx", found[: len(wanted)], wanted)
-                if not copy.exists():
-                    script("register-snapshot", database, copy)
-        finally:
-            front.terminate()
+    with check_deploy.running(check_deploy.find("nginx"), folder, file, port):
+        for what, given, wanted, _ in FRONT:
+            found = check_deploy.ask_bytes(folder, port, given.replace(b"Host: h\r\n", b"Host: intake.example\r\n"))
+            hold(f"{what}, through nginx", found[: len(wanted)], wanted)
+            if not copy.exists():
+                script("register-snapshot", database, copy)
     # Each connection that nginx kept open has a line once it is over.
     time.sleep(1)
     serving.process.terminate()
@@ -1523,18 +1526,47 @@ TRIALS = [
 ]
 
 
+def play(trial):
+    with tempfile.TemporaryDirectory() as folder:
+        try:
+            trial(pathlib.Path(folder).resolve())
+        except (OSError, subprocess.SubprocessError, LookupError, ValueError, sqlite3.Error) as fault:
+            trials.tell(trial.__name__, repr(fault))
+
+
+def play_with(fault, trial):
+    """The first check of a trial that fails with a fault in deploy/; nothing if none fails."""
+    global DEPLOY
+    with first_days.repository_with(fault) as top, contextlib.redirect_stdout(None):
+        DEPLOY = top / "deploy"
+        play(trial)
+    DEPLOY = ROOT / "deploy"
+    seen = trials.failures[:1]
+    trials.failures.clear()
+    return "".join(seen)
+
+
+def try_faults(words):
+    named = {f"operations_{it.__name__.removeprefix('check_')}": it for it in TRIALS}
+    unseen = []
+    for fault in first_days.faults(" ".join(words)):
+        if fault.part in named:
+            seen = play_with(fault, named[fault.part])
+            print(f"{fault.line}: {f'seen by: {seen}' if seen else 'no check fails'}", flush=True)
+            unseen += [] if seen else [fault.line]
+    print(f"{len(unseen)} not seen")
+    return 1 if unseen else 0
+
+
 def main(words):
     for program in (INTAKE, OUTBOX):
         if not program.exists():
             sys.exit(f"build the program first: (cd crates/{program.name} && rt run -- --version)")
+    if words[:1] == ["--planted"]:
+        return try_faults(words[1:])
     for trial in TRIALS:
-        if not all(word in trial.__name__ for word in words):
-            continue
-        with tempfile.TemporaryDirectory() as folder:
-            try:
-                trial(pathlib.Path(folder).resolve())
-            except (OSError, subprocess.SubprocessError, ValueError, sqlite3.Error) as fault:
-                trials.tell(trial.__name__, repr(fault))
+        if all(word in trial.__name__ for word in words):
+            play(trial)
     print(f"{len(passed)} passed, {len(trials.failures)} failed")
     return 1 if trials.failures else 0
 
