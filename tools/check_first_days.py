@@ -20,6 +20,7 @@ With --planted the faults in tools/planted_faults.txt are planted, one after the
 to make a check of its part fail, and each part has to pass without a fault. A WORD takes the faults that have it in
 their line. It needs a real systemd, and takes three quarters of an hour for 35 faults.
 
+On a machine that has other things to do, the variable BERRUZPIL_PATIENCE says how many times longer anything may take.
 The last line says how many trials passed and failed, and under what. Status 1 if one failed, 77 if nothing could be
 tried.
 """
@@ -205,7 +206,7 @@ def filed(page, filer, key):
 
 def alert_comes(machine, unit, before):
     """Whether a unit has more alerts than before, within a minute, and each says what to look at."""
-    deadline = time.monotonic() + 60
+    deadline = time.monotonic() + 60 * machines.PATIENCE
     while len(found := machine.alerts(unit)) <= before and time.monotonic() < deadline:
         time.sleep(0.3)
     return set(found[before:]) == {f"{unit} failed: see journalctl -u {unit}"}

@@ -31,6 +31,8 @@ CACHE = pathlib.Path(os.environ.get("XDG_CACHE_HOME") or "~/.cache").expanduser(
 RELEASE = "bookworm"
 GROUPS = pathlib.Path("/sys/fs/cgroup")
 APART = "BERRUZPIL_APART"
+# How many times longer anything may take, on a machine that has other things to do.
+PATIENCE = float(os.environ.get("BERRUZPIL_PATIENCE", "1"))
 ADDRESSES = {"supervisor": "198.51.100.1", "filer": "198.51.100.2"}
 HOSTS = "127.0.0.1 localhost\n198.51.100.1 intake.example 2025.example\n"
 # Half an hour is over as soon as the check says so.
@@ -110,7 +112,7 @@ class Shell:
         """The status of a command, and what it prints."""
         self.process.stdin.write(f"{{ {command}\n}} </dev/null >{self.output} 2>&1; echo $?\n".encode())
         self.process.stdin.flush()
-        if not select.select([self.process.stdout], [], [], 900)[0]:
+        if not select.select([self.process.stdout], [], [], 900 * PATIENCE)[0]:
             raise TimeoutError(f"{self.machine.name}: {command}")
         status = int(self.process.stdout.readline())
         return status, self.machine.file(self.output).read_text(encoding="utf-8", errors="replace")
@@ -173,7 +175,7 @@ class Machine:
 
     def until(self, command, is_there=lambda status, printed: status == 0, seconds=60):
         """Pastes a command again and again, for so long at most, and gives its status and what it prints at the end."""
-        deadline = time.monotonic() + seconds
+        deadline = time.monotonic() + seconds * PATIENCE
         with Shell(self) as shell:
             while not is_there(*(found := shell.paste(command))) and time.monotonic() < deadline:
                 time.sleep(0.3)
@@ -228,7 +230,7 @@ class Booted(Machine):
                 stdin=subprocess.DEVNULL, stdout=out, stderr=out, env=ENVIRONMENT,
             )  # fmt: skip
         children = pathlib.Path(f"/proc/{self.process.pid}/task/{self.process.pid}/children")
-        deadline = time.monotonic() + 60
+        deadline = time.monotonic() + 60 * PATIENCE
         while not self.first:
             if self.process.poll() is not None or time.monotonic() > deadline:
                 said = console.read_text(errors="replace").strip().splitlines()
@@ -237,7 +239,7 @@ class Booted(Machine):
             child = (children.read_text().split() or [""])[0] if children.exists() else ""
             if child and pathlib.Path(f"/proc/{child}/root/run/systemd/private").exists():
                 self.first = child
-        self.paste("timeout 60 systemctl is-system-running --wait")
+        self.paste(f"timeout {60 * PATIENCE:.0f} systemctl is-system-running --wait")
 
     def end(self):
         """Ends the machine as a power cut does: all its processes at once."""
@@ -251,7 +253,7 @@ class Booted(Machine):
         """Ends the machine in order, and gives the files that it wrote."""
         self.process.terminate()
         try:
-            self.process.wait(timeout=60)
+            self.process.wait(timeout=60 * PATIENCE)
         finally:
             self.end()
         run("umount", self.folder / "root")

@@ -25,7 +25,7 @@ import threading
 import time
 
 import machines
-from machines import NotPossible, run
+from machines import PATIENCE, NotPossible, run
 
 ROOT = machines.ROOT
 ADDRESS, SWITCH = "192.0.2.10", "192.0.2.254"
@@ -34,8 +34,6 @@ PACKAGES = """nginx-light drbd-utils systemd systemd-sysv kmod iproute2 iputils-
     curl e2fsprogs procps netbase python3 user-mode-linux base-files base-passwd bash bsdutils coreutils dash
     debianutils diffutils findutils grep gzip hostname libc-bin login mawk ncurses-base sed tar util-linux""".split()
 MEGABYTE = 1 << 20
-# How many times longer than on a quiet machine anything may take here.
-PATIENCE = float(os.environ.get("BERRUZPIL_PATIENCE", "1"))
 # What a machine does at its start, before ssh: its networks, as the kernel's words have its number.
 BEGIN = """#!/bin/sh
 number=$(sed 's/.*number=\\([12]\\).*/\\1/' /proc/cmdline)
