@@ -987,7 +987,8 @@ def names(page, supervisor, filer):
         return "filings" in printed
 
     def move(old, new):
-        supervisor.paste(f"ip addr add {new}/24 dev cable-a; ip addr del {old}/24 dev cable-a")
+        # With the first address of a network Linux removes the others of it, too.
+        supervisor.paste(f"ip addr del {old}/24 dev cable-a; ip addr add {new}/24 dev cable-a")
         filer.paste(f"sed -i 's/^{old} /{new} /' /etc/hosts")
 
     move(machines.ADDRESSES["supervisor"], other)

@@ -731,6 +731,43 @@ def check_least_copies(folder):
     hold("those that stay are the last", left[:-1], sorted(made[:47]))
 
 
+def check_site(folder):
+    """The pages of the last copy that could be restored take the place of those before, as a whole, and nothing else
+    goes."""
+    database, copies, site = folder / "register.db", folder / "copies", folder / "site"
+    for it in (copies, site, site / "register-2025-20241231T000000Z"):
+        it.mkdir()
+    make_register(database)
+    words = "register-pages", copies, "register", site
+    hold("pages without a copy", script(*words)[0], 3)
+    found = []
+    for key in ("k-5", "k-6"):
+        script("register-copies", database, copies, 30)
+        found.append(max(it.stem for it in copies.glob("register-*.db")))
+        said = f"{site}/register: the pages of {found[-1]}.db\n"
+        hold("pages of a copy", [script(*words) for _ in range(2)], [(0, said, "")] * 2)
+        hold("they are where they are shown", os.readlink(site / "register"), found[-1])
+        serving = Serving(database, 1)
+        exchange(serving.port, request(key, REPORT))
+        serving.end()
+        # The name of a copy has whole seconds.
+        time.sleep(1)
+    hold("those before are gone, and no others", names(site), ["register", "register-2025-20241231T000000Z", found[1]])
+    before = {it.name: it.read_bytes() for it in (site / "register").iterdir()}
+    hold("there is a page of each filing", sum(b"k-5" in it for it in before.values()) > 0, True)
+    script("register-copies", database, copies, 30)
+    tried, copy = copies / "register.tried", max(copies.glob("register-*.db"))
+    text = tried.read_text()
+    tried.write_text(text.replace(" 0 ", " 1 ", 1))
+    hold("no pages of a copy that can't be restored", script(*words),
+         (1, "", f"register-pages: {copy}: a restore failed\n"))
+    tried.write_text(text)
+    with_changed_byte(copy)
+    hold("nor of one that was damaged since", script(*words)[0], 1)
+    hold("then those before stay", (names(site), {it.name: it.read_bytes() for it in (site / "register").iterdir()}),
+         (["register", "register-2025-20241231T000000Z", found[1]], before))
+
+
 def check_failed_copies(folder):
     """Restores that fail or give another register, a register that is damaged, names that are wrong, and a full
     disk."""
@@ -1509,6 +1546,7 @@ TRIALS = [
     check_kept_copies,
     check_wrong_clock,
     check_least_copies,
+    check_site,
     check_failed_copies,
     check_receipts,
     check_digests,
