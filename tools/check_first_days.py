@@ -490,6 +490,8 @@ def file_again(page, filer):
     entries = filer.paste(STATUS.replace("status", "show"))[1]
     entry = re.search(r"(?m)^entry (\d+) confirmed (\d+), .* key 2024-annual-2$", entries)
     hold("the entry that was lost", bool(entry), True)
+    if not entry:
+        return
     number = len(json.loads(filer.paste(LIST)[1])["filings"]) + 1
     with Shell(filer) as shell:
         for command, lines in commands:

@@ -47,6 +47,8 @@ passed = []
 
 
 def hold(what, found, wanted):
+    if found != wanted and first_days.planted:
+        raise first_days.Seen(what)
     trials.hold(what, found, wanted)
     passed.extend([what] if found == wanted else [])
 
@@ -1565,35 +1567,33 @@ TRIALS = [
 
 
 def play(trial):
+    """What ended a trial, if that isn't its own end."""
     with tempfile.TemporaryDirectory() as folder:
         try:
             trial(pathlib.Path(folder).resolve())
+        except first_days.Seen as seen:
+            return str(seen)
         except (OSError, subprocess.SubprocessError, LookupError, ValueError, sqlite3.Error) as fault:
-            trials.tell(trial.__name__, repr(fault))
-
-
-def play_with(fault, trial):
-    """The first check of a trial that fails with a fault in deploy/; nothing if none fails."""
-    global DEPLOY
-    with first_days.repository_with(fault) as top, contextlib.redirect_stdout(None):
-        DEPLOY = top / "deploy"
-        play(trial)
-    DEPLOY = ROOT / "deploy"
-    seen = trials.failures[:1]
-    trials.failures.clear()
-    return "".join(seen)
+            return repr(fault)
+        finally:
+            for process in Serving.begun:
+                process.kill()
+    return None
 
 
 def try_faults(words):
+    """Plants each fault in deploy/: whether a check of its trial fails."""
+    global DEPLOY
+    first_days.planted.append(True)
     named = {f"operations_{it.__name__.removeprefix('check_')}": it for it in TRIALS}
-    unseen = []
     for fault in first_days.faults(" ".join(words)):
         if fault.part in named:
-            seen = play_with(fault, named[fault.part])
-            print(f"{fault.line}: {f'seen by: {seen}' if seen else 'no check fails'}", flush=True)
-            unseen += [] if seen else [fault.line]
-    print(f"{len(unseen)} not seen")
-    return 1 if unseen else 0
+            with first_days.repository_with(fault) as top, contextlib.redirect_stdout(None):
+                DEPLOY = top / "deploy"
+                seen = play(named[fault.part])
+            trials.tell(f"{fault.line}: seen by: {seen}", None if seen else "no check fails")
+    print(f"{len(trials.failures)} not seen", flush=True)
+    return 1 if trials.failures else 0
 
 
 def main(words):
@@ -1603,8 +1603,8 @@ def main(words):
     if words[:1] == ["--planted"]:
         return try_faults(words[1:])
     for trial in TRIALS:
-        if all(word in trial.__name__ for word in words):
-            play(trial)
+        if all(word in trial.__name__ for word in words) and (fault := play(trial)):
+            trials.tell(trial.__name__, fault)
     print(f"{len(passed)} passed, {len(trials.failures)} failed")
     return 1 if trials.failures else 0
 

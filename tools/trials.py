@@ -135,7 +135,10 @@ def statuses(replies):
 
 class Serving:
     """An intake that serves a register, for so many connections. `under` are the words of a program that runs it, and
-    what valgrind prints before the program's own first line, `ready`, is passed over. `program` is another build."""
+    what valgrind prints before the program's own first line, `ready`, is passed over. `program` is another build.
+    `begun` has all that were begun."""
+
+    begun = []
 
     def __init__(self, database, connections, *words, under=(), env=None, program=None):
         self.port = free_port()
@@ -148,6 +151,7 @@ class Serving:
             stderr=subprocess.PIPE,
             env=env,
         )
+        self.begun.append(self.process)
         lines = map(bytes.decode, self.process.stderr)
         self.ready = next((line for line in lines if not line.startswith("==")), "")
 
