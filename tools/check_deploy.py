@@ -82,7 +82,8 @@ exit "$LEFT_STATUS"
     for said, status, stays, left_status, wanted, errors in [
         (settled, 0, settled, 0, 0, look),
         ("nothing open\\n", 0, settled, 0, 0, ""),
-        (settled + "entry 5 open\\n", 0, settled + "entry 5 open\\n", 0, 75, f"{look}{left}1\n"),
+        (settled + "entry 5 open\\n", 0, "", 0, 75, f"{look}{left}1\n"),
+        (settled, 0, settled + "entry 6 open\\n", 0, 0, look),
         ("entry 1 open\\n", 3, "entry 1 open\\nentry 2 open\\n", 0, 75, f"{left}2\n"),
         ("", 124, "entry 1 open\\n", 0, 75, f"{left}1\n"),
         ("", 3, "", 3, 3, ""),
@@ -99,7 +100,7 @@ exit "$LEFT_STATUS"
              (wanted, said.replace("\\n", "\n"), errors))
         asked = (
             "send --db outbox.db --port 1 --all --patience 120 --wait 60\n"
-            + ("" if status == 1 else "status --db outbox.db --wait 60\n")
+            + ("" if status < 2 else "status --db outbox.db --wait 60\n")
         )
         hold("and what it asks", (folder / "asked").read_text(), asked)
     # How many seconds a round has the outbox open at most, and how long a command of a page waits for it.

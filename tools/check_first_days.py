@@ -137,6 +137,8 @@ def play(machine, what, commands, names=(), statuses=()):
             for old, new in names:
                 command = command.replace(old, new)
             before = set(shell.paste(WORKERS)[1].split()) if command.endswith("reload nginx") else set()
+            if command == "systemctl start berruzpil-outbox":
+                until_no_round(machine)
             status, printed = shell.paste(command)
             # A reload returns before the new processes of nginx answer.
             if before:
@@ -176,9 +178,14 @@ def start_intake(page, supervisor):
     return supervisor.until(ask_health(page, supervisor), seconds=patience())[0]
 
 
-def round_of(filer, unit="berruzpil-outbox.service"):
-    """A round from now on: one that the timer started before, and which a start would only wait for, has ended."""
+def until_no_round(filer, unit="berruzpil-outbox.service"):
+    """Waits for the end of a round that the timer started, and which a start would only wait for."""
     filer.until(f"systemctl is-active {unit}", lambda _, printed: "activating" not in printed, seconds=patience())
+
+
+def round_of(filer, unit="berruzpil-outbox.service"):
+    """A round from now on."""
+    until_no_round(filer, unit)
     return filer.paste(f"systemctl start {unit}")
 
 

@@ -389,6 +389,8 @@ def package_setup(page, package, supervisor, filer):
     hold("what is set reaches the intake",
          supervisor.until("tr '\\0' ' ' < /proc/$(systemctl show --value -p MainPID berruzpil-intake)/cmdline | "
                           "grep -o -- '--limit 7000'", seconds=20), (0, "--limit 7000\n"))  # fmt: skip
+    # It writes to its log once more until it serves.
+    supervisor.until(HEALTH, seconds=first_days.patience())
     before = files_of(supervisor)
     status, printed = supervisor.paste(SETUP)
     hold("berruzpil-setup after an administrator", (status, "was disabled, and stays so" in printed), (0, True))
