@@ -19,8 +19,8 @@ use Rattle.filing_model.specs.Request.{Request, firsts}
 use Rattle.filing_model.specs.Listing.{listings}
 use Rattle.filing_model.specs.Register.{kept, register}
 use Rattle.register_rows.specs.Received.{Received}
-use Rattle.register_tables.specs.declared.migrate.earlier.Earlier.{Earlier}
-use Rattle.register_tables.specs.declared.migrate.earlier.Earlier.TheVariants.{Second, Third, Fourth}
+use Rattle.register_tables.specs.declared.opening.form.Earlier.{Earlier}
+use Rattle.register_tables.specs.declared.opening.form.Earlier.TheVariants.{Second, Third, Fourth}
 use Rattle.register_tables.specs.declared.fault.OpenFault.{OpenFault}
 use Rattle.register_tables.specs.Earlier.{IsAlone, is_blocked}
 use Rattle.register_tables.specs.Refusals.{GivesBackOpening}

@@ -13,7 +13,7 @@ use Rattle.filing_model.specs.Request.{Request, firsts}
 use Rattle.filing_model.specs.Listing.{listings}
 use Rattle.filing_model.specs.Register.{kept, register}
 use Rattle.register_rows.specs.Received.{Received}
-use Rattle.register_tables.specs.declared.migrate.earlier.Earlier.{Earlier}
+use Rattle.register_tables.specs.declared.opening.form.Earlier.{Earlier}
 use Rattle.register_tables.specs.Earlier.{IsAlone, IsEarlierOf}
 use Rattle.register_tables.specs.Faults.{IsFailure}
 use Rattle.register_tables.specs.Migrating.{IsNotMigrated, MigratesTo}

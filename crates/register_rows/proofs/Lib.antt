@@ -1,17 +1,10 @@
-pub mod AuditLemmas
-pub mod AuditRefutes
-pub mod AuditSteps
 pub mod CatalogueLemmas
-pub mod DamageLemmas
 pub mod FactRows
 pub mod FiledLemmas
 pub mod Filings
 pub mod HeldLemmas
 pub mod MomentLemmas
 pub mod MoreRequests
-pub mod NextLemmas
 pub mod OneList
-pub mod SeenLemmas
 pub mod SegmentLemmas
-pub mod SpanLemmas
 pub mod StepsOfTargets

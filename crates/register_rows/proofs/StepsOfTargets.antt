@@ -1,17 +1,15 @@
 -- The rows of `amends` beside those of kept requests, one request after another.
-use Rattle.std.proofs.Common.{◌≡◌, ◌<◌, ℕ, ◌+◌, zero, suc, pos, Bool, true, false, List, [], ◌∷◌, ◌++◌, ◌≤◌, map, take}
+use Rattle.std.proofs.Common.{◌≡◌, ◌<◌, ℕ, ◌+◌, zero, suc, pos, true, false, List, [], ◌∷◌, ◌++◌, ◌≤◌, map, take}
 use Rattle.std.proofs.Common.{drop, get_or, length, Option, None, Some, int_eq, refl, sym, ap, ap₂, ◌∙◌, arith}
-use Rattle.std.specs.Prelude.{◌||◌}
 use Rattle.std.proofs.lemmas.Int.{ints}
 use Rattle.std.proofs.lemmas.List.{map-append}
 use Rattle.sqlite.specs.declared.types.Value.TheVariants.{Int}
 use Rattle.sqlite.specs.Order.{Row}
 use Rattle.filing_model.specs.Request.{Request, firsts}
-use Rattle.filing_model.specs.Register.{Outcome, Kept, kept}
+use Rattle.filing_model.specs.Register.{Kept, kept}
 use Rattle.filing_model.proofs.Keeping.{requests_of_kept}
 use Rattle.table_rows.specs.Rows.{counted_from}
-use Rattle.register_rows.specs.Audit.{OtherRows, begins_with, has_more, has_more_facts}
-use Rattle.register_rows.specs.Columns.{request_in}
+use Rattle.register_rows.specs.Columns.{begins_with, request_in}
 use Rattle.register_rows.specs.Register.{kept_row, amends_rows, amends_rows_by, joined_from}
 
 pub other : (n m : ℕ) → n < m → int_eq (pos m) (pos n) ≡ false
@@ -42,19 +40,6 @@ only_target n (Some a) (Some b) l m p q is =
     let row : Int (pos n) ∷ Int (pos a) ∷ [] ≡ Int (pos n) ∷ Int (pos b) ∷ [] = cc in
     let same : a ≡ b = cc in
     (ap Some same, cc)
-
-last_false : (a b c d : Bool) → (a || (b || (c || d))) ≡ false → d ≡ false
-last_false false false false d h = h
-last_false false false true d h = absurd cc
-last_false false true c d h = absurd cc
-last_false true b c d h = absurd cc
-
--- what is left behind a request says nothing more of what it is to replace
-pub no_more_targets : (seq : ℕ) (o : Outcome) (tail : OtherRows) → has_more seq o tail ≡ false
-    → begins_with 0 seq tail.amends ≡ false
-no_more_targets seq o tail ends =
-    last_false (begins_with 0 seq tail.finding) (begins_with 1 seq tail.filing) (has_more_facts o tail.fact)
-    (begins_with 0 seq tail.amends) ends
 
 -- kept rows with those of `amends` say one list of requests alone
 requests_alike : (m : ℕ) (ks ls : List Kept) → counted_from kept_row m ks ≡ counted_from kept_row m ls

@@ -1,5 +1,6 @@
 -- What the columns of a row say.
-use Rattle.std.specs.Prelude.{ℕ, ℤ, pos, List, [], Option, Some, None}
+use Rattle.std.specs.Prelude.{ℕ, ℤ, pos, Bool, false, List, [], ◌∷◌, Option, Some, None}
+use Rattle.std.specs.Ordering.{int_eq}
 use Rattle.sqlite.specs.declared.types.Value.{Value}
 use Rattle.sqlite.specs.declared.types.Value.TheVariants.{Int, Text, Blob}
 use Rattle.sqlite.specs.Order.{Row, column}
@@ -51,3 +52,13 @@ fact_in row = record {
   value = maybe_bytes_in (column row 3);
   decimals = integer_in (column row 4);
 }
+
+-- the column is this number
+abbrev pub is_number : ℕ → Value → Bool
+is_number n (Int k) = int_eq k (pos n)
+is_number n _ = false
+
+-- the first of the rows has this number in the column
+abbrev pub begins_with : ℕ → ℕ → List Row → Bool
+begins_with at n [] = false
+begins_with at n (row ∷ rows) = is_number n (column row at)

@@ -1,4 +1,3 @@
-pub mod Audit
 pub mod Catalogue
 pub mod Cells
 pub mod Columns
@@ -9,4 +8,3 @@ pub mod Outcomes
 pub mod Received
 pub mod Register
 pub mod Schema
-pub mod Spans

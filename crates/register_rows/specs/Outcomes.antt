@@ -1,6 +1,7 @@
 -- What becomes of a report that was judged.
 use Rattle.std.specs.Prelude.{ℕ}
-use Rattle.filing_model.specs.Register.{Outcome}
+use Rattle.filing_model.specs.Request.{Request}
+use Rattle.filing_model.specs.Register.{Outcome, Kept}
 use Rattle.xbrl_report.specs.declared.judging.Judged.{Judged}
 use Rattle.xbrl_report.specs.declared.judging.Judged.TheVariants.{Valid, Refused}
 
@@ -13,3 +14,7 @@ outcome_of number (Refused findings) = Outcome.Refused findings
 abbrev pub filings_by : Outcome → ℕ
 filings_by (Outcome.Registered number) = 1
 filings_by (Outcome.Refused findings) = 0
+
+-- the request with this outcome
+abbrev pub request_outcome : Request → Outcome → Kept
+request_outcome r outcome = record { request = r; outcome = outcome }

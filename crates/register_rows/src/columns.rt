@@ -11,21 +11,6 @@ pub mod kept {
     pub const NUMBER: usize = 4;
 }
 
-/// Those of `finding`.
-pub(crate) mod finding {
-    pub(crate) const SEQ: usize = 0;
-}
-
-/// Those of `filing`.
-pub(crate) mod filing {
-    pub(crate) const SEQ: usize = 1;
-}
-
-/// Those of `fact`.
-pub(crate) mod fact {
-    pub(crate) const NUMBER: usize = 0;
-}
-
 /// Those of `amends`.
 pub(crate) mod amends {
     pub(crate) const SEQ: usize = 0;

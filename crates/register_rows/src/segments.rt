@@ -6,13 +6,14 @@ ghost use Rattle.sqlite.specs.Order.{Row};
 ghost use Rattle.sqlite.specs.declared.types.Value.TheVariants.{Int};
 ghost use Rattle.table_rows.specs.Rows.{counted_from};
 ghost use Rattle.register_rows.specs.Register.{amends_rows_by};
-ghost use Rattle.register_rows.specs.Audit.{begins_with};
+ghost use Rattle.register_rows.specs.Columns.{begins_with};
 
 use crate::cells::{Cell, is_row};
 use crate::columns::amends;
 use crate::items::RowItem;
 use crate::values::number_at;
 use sqlite::Row;
+use sqlite::types::ValueRef;
 
 /// The rows behind those of the items, if the rows begin with these.
 pub fn after_items<'a, T: RowItem>(rows: &'a [Row], number: u64, items: &[T]) -> Option<&'a [Row]>
@@ -30,23 +31,6 @@ pub fn after_items<'a, T: RowItem>(rows: &'a [Row], number: u64, items: &[T]) ->
         }
     }
     Some(&rows[items.len()..])
-}
-
-/// The rows behind that of the filing, if they begin with it.
-pub fn after_filing<'a>(rows: &'a [Row], number: u64, seq: u64) -> Option<&'a [Row]>
-    requires number { number < 2 ^ 63 }
-    requires seq { seq < 2 ^ 63 }
-    ensures { MatchOption result ((tail : List Row) → rows.now ≡ (Int (pos number) ∷ Int (pos seq) ∷ []) ∷ tail → ⊥)
-        (λ tail. rows.now ≡ (Int (pos number) ∷ Int (pos seq) ∷ []) ∷ tail.now) }
-{
-    let [first, rest @ ..] = rows else {
-        return None;
-    };
-    if is_row(first, &[Cell::Int(number as i64), Cell::Int(seq as i64)]) {
-        Some(rest)
-    } else {
-        None
-    }
 }
 
 /// The number of the filing that the request at this place is to replace, if the row says one.
@@ -79,5 +63,19 @@ pub fn target_of<'a>(rows: &'a [Row], seq: u64) -> (Option<u64>, &'a [Row])
             None => (None, rows),
         },
         [] => (None, rows),
+    }
+}
+
+/// Whether the first of the rows is one of the request at this place.
+pub fn has_target(rows: &[Row], seq: u64) -> bool
+    requires { seq < 2 ^ 63 }
+    ensures { result ≡ begins_with 0 seq rows.now }
+{
+    match rows {
+        [row, ..] => match row.get_ref(amends::SEQ) {
+            Ok(ValueRef::Int(found)) => found == seq as i64,
+            _ => false,
+        },
+        [] => false,
     }
 }

@@ -43,7 +43,7 @@ use Rattle.register_store.specs.Found.{code_in, IsPlaced, IsReading, IsLookUp}
 use Rattle.register_store.specs.Outcomes.{style_at}
 use Rattle.register_store.specs.declared.select.found.FoundRow.{FoundRow}
 use Rattle.register_tables.specs.Registers.{IsRegisterOf}
-use Rattle.register_tables.proofs.WalkLemmas.{has_its}
+use Rattle.register_tables.proofs.WalkRows.{has_its}
 
 -- ---- the row of a filer and key
 

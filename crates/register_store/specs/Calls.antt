@@ -18,7 +18,7 @@ use Rattle.register_tables.specs.declared.fault.CreateFault.{CreateFault}
 use Rattle.register_tables.specs.declared.fault.CreateFault.TheVariants.{Taken}
 use Rattle.register_tables.specs.declared.fault.OpenFault.{OpenFault}
 use Rattle.table_rows.specs.declared.fault.StoreFault.{StoreFault}
-use Rattle.register_tables.specs.declared.migrate.earlier.Earlier.{Earlier}
+use Rattle.register_tables.specs.declared.opening.form.Earlier.{Earlier}
 use Rattle.register_store.specs.declared.outcome.KeptRow.{KeptRow}
 use Rattle.register_store.specs.declared.outcome.NewRow.{NewRow}
 use Rattle.filing_model.specs.declared.outcome.Outcome.{Outcome}

@@ -9,8 +9,8 @@ use Rattle.filing_model.specs.Request.{Request}
 use Rattle.table_rows.specs.Rows.{TableHas, Gains}
 use Rattle.table_rows.proofs.CreateLemmas.{none_held, IsBeside, creates_beside}
 use Rattle.table_rows.proofs.GainLemmas.{same_rows}
-use Rattle.register_tables.specs.declared.migrate.earlier.Earlier.{Earlier}
-use Rattle.register_tables.specs.declared.migrate.earlier.Earlier.TheVariants.{Second, Third, Fourth}
+use Rattle.register_tables.specs.declared.opening.form.Earlier.{Earlier}
+use Rattle.register_tables.specs.declared.opening.form.Earlier.TheVariants.{Second, Third, Fourth}
 use Rattle.register_tables.specs.Earlier.{IsAlone, IsEarlierOf}
 use Rattle.register_tables.specs.Making.{create_migrated, create_amends, create_received}
 use Rattle.register_tables.specs.Migrating.{migrating}

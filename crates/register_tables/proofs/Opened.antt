@@ -1,300 +1,240 @@
--- Why an opening refuses, that it does not refuse a register, and what it finds.
-use Rattle.std.proofs.Common.{◌≡◌, ◌⊎◌, inl, inr, ℕ, false, List, [], ◌∷◌, ◌++◌, length, None, IsTrue, refl, sym, ap}
-use Rattle.std.proofs.Common.{subst, ◌∙◌}
-use Rattle.sqlite.specs.Order.{Row}
-use Rattle.sqlite.specs.Effect.{Database}
+-- What an opening finds, and why it refuses.
+use Rattle.std.proofs.Common.{◌≡◌, ◌≢◌, ◌⊎◌, inl, inr, ℕ, false, List, [], ◌∷◌, length, Option, Some, None, IsTrue}
+use Rattle.std.proofs.Common.{Result, Ok, Err, IfOk, IfErr, refl, sym, subst, arith}
 use Rattle.sqlite.specs.Store.{Ghosts}
 use Rattle.sqlite.specs.Held.{Held, state}
-use Rattle.sqlite.specs.State.{IsLive, IsUnchanged}
-use Rattle.sqlite.proofs.Callers.{unchanged_then}
-use Rattle.sqlite.specs.declared.error.Error.{Error}
+use Rattle.sqlite.specs.State.{HasCleanDisk, IsLive, IsUnchanged}
 use Rattle.filing_model.specs.Request.{Request}
-use Rattle.filing_model.specs.Register.{register}
+use Rattle.table_rows.specs.Leaving.{Leaves, OnlyReads}
+use Rattle.table_rows.specs.Leaving.Ending.{Asked, Ended}
+use Rattle.table_rows.specs.Rows.{TableHas}
 use Rattle.table_rows.specs.Standing.{HasCommitted}
-use Rattle.table_rows.specs.Causes.{cause_of}
-use Rattle.table_rows.specs.declared.cause.Cause.{Cause}
-use Rattle.table_rows.specs.declared.cause.Cause.TheVariants as cause
+use Rattle.table_rows.proofs.LeavingLemmas.{asked_then, clean_before, keeps_commit}
 use Rattle.table_rows.proofs.StandLemmas.{stands_on}
-use Rattle.table_rows.proofs.TextLemmas.{query_same}
-use Rattle.register_rows.specs.Audit.{OtherRows}
-use Rattle.register_rows.specs.Catalogue.{catalogue_of, view_lines}
+use Rattle.register_rows.specs.Register.{form_row, meta_row}
+use Rattle.register_rows.specs.Schema.{IsDeclared, HasCommon, meta_table, register_tables}
 use Rattle.register_tables.specs.declared.fault.OpenFault.{OpenFault}
 use Rattle.register_tables.specs.declared.fault.OpenFault.TheVariants as fault
 use Rattle.register_tables.specs.declared.opening.Counts.{Counts}
-use Rattle.register_tables.specs.Faults.{table_fault, table_fault_by}
-use Rattle.register_tables.specs.Opening.{all_meta, row_texts, new_texts, table_texts, Later, SaysOldStyle, AreDamaged}
-use Rattle.register_tables.specs.Opening.{IsRead, AreRead, StopsFor, IsRefused, IsRefusedAfter}
-use Rattle.register_tables.specs.Reads.{by_first}
-use Rattle.register_rows.specs.Dates.{SaysMoments}
-use Rattle.register_rows.specs.Register.{meta_row}
-use Rattle.register_rows.specs.Schema.{IsDeclared, HasCommon, meta_table}
-use Rattle.register_tables.specs.Registers.{IsRegisterOf}
-use Rattle.register_tables.specs.Walk.{AreCounted}
+use Rattle.register_tables.specs.declared.opening.form.Earlier.{Earlier}
+use Rattle.register_tables.specs.declared.opening.form.Earlier.TheVariants.{Second, Third, Fourth}
+use Rattle.register_tables.specs.Earlier.{number_of_form, tables_in, IsDamaged}
+use Rattle.register_tables.specs.Faults.{IsFailure}
+use Rattle.filing_model.specs.Register.{register}
+use Rattle.register_rows.specs.Catalogue.{catalogue_of, view_lines}
+use Rattle.register_tables.specs.Opening.{all_meta, HasNoForm, IsCounted, IsHeldIn, IsRead, IsRefused, ReadsIn}
+use Rattle.register_tables.specs.Opening.{ReadsRegister, SaysForm}
+use Rattle.register_tables.specs.Reads.{IsOurs}
+use Rattle.register_tables.specs.Registers.{ForRows, IsRegisterOf}
+use Rattle.register_tables.proofs.Calls.{kept_on_err, same_on_ok, then_ok}
 use Rattle.register_tables.proofs.CommonLemmas.{has_common}
-use Rattle.register_tables.proofs.FailLemmas.{meta_fails, kept_fails, findings_fail, filings_fail, facts_fail}
-use Rattle.register_tables.proofs.FailLemmas.{migrated_fails, amends_fail, received_fail}
-use Rattle.register_tables.proofs.OpenLemmas.{Gets, Four, Three, got_meta, got_migrated, got_amends, got_received}
-use Rattle.register_tables.proofs.OpenLemmas.{got_three, got_four, says_moments}
-use Rattle.register_tables.proofs.OpenLemmas.{one_meta, are_amends, are_rows, rows_many, says_old_style, still_ours}
-use Rattle.register_tables.proofs.OpenLemmas.{next_kept, next_findings, next_filings, reads_on}
-use Rattle.register_tables.proofs.ReadTexts.{query_meta, query_migrated, query_amends, query_received}
-use Rattle.register_tables.proofs.WalkOpens.{counted_register, counted_only}
+use Rattle.register_tables.proofs.FailLemmas.{meta_fails}
+use Rattle.register_tables.proofs.Holding.{holds_register, register_of}
+use Rattle.register_tables.proofs.Ours.{ours_then}
+use Rattle.register_tables.proofs.OpenLemmas.{got_meta}
 
--- the rows of the tables that an earlier form did not have
-abbrev rows_read : Later → List (List Row)
-rows_read later = later.migrated ∷ later.amends ∷ later.received ∷ []
+pub same_number : (m n : ℕ) → form_row m ∷ [] ≡ form_row n ∷ [] → m ≡ n
+same_number m n rows = cc
 
--- ---- some queries, and then others
+pub same_form : (f h : Option Earlier) → number_of_form f ≡ number_of_form h → f ≡ h
+same_form (Some Second) (Some Second) e = refl
+same_form (Some Second) (Some Third) e = absurd (omega (arith, e))
+same_form (Some Second) (Some Fourth) e = absurd (omega (arith, e))
+same_form (Some Second) None e = absurd (omega (arith, e))
+same_form (Some Third) (Some Second) e = absurd (omega (arith, e))
+same_form (Some Third) (Some Third) e = refl
+same_form (Some Third) (Some Fourth) e = absurd (omega (arith, e))
+same_form (Some Third) None e = absurd (omega (arith, e))
+same_form (Some Fourth) (Some Second) e = absurd (omega (arith, e))
+same_form (Some Fourth) (Some Third) e = absurd (omega (arith, e))
+same_form (Some Fourth) (Some Fourth) e = refl
+same_form (Some Fourth) None e = absurd (omega (arith, e))
+same_form None (Some Second) e = absurd (omega (arith, e))
+same_form None (Some Third) e = absurd (omega (arith, e))
+same_form None (Some Fourth) e = absurd (omega (arith, e))
+same_form None None e = refl
 
-module _ {S : Type 0} (g : Ghosts S) where
-  pub read_then : (texts more : List (List ℕ)) (a b c : Held S) (rs ss : List (List Row)) → AreRead g texts a b rs
-      → AreRead g more b c ss → AreRead g (texts ++ more) a c (rs ++ ss)
-  read_then [] more a b c [] ss same h = subst (λ x. AreRead g more x c ss) (sym same) h
-  read_then [] more a b c (r ∷ rs) ss h k = absurd h
-  read_then (t ∷ texts) more a b c [] ss h k = absurd h
-  read_then (t ∷ texts) more a b c (r ∷ rs) ss h k = (h.0, h.1, read_then texts more h.0 b c rs ss h.2 k)
+-- ---- in which form
 
-  pub stops_first : (why : Cause) (texts more : List (List ℕ)) (a b : Held S) → StopsFor g why texts a b
-      → StopsFor g why (texts ++ more) a b
-  stops_first why [] more a b h = absurd h
-  stops_first why (t ∷ texts) more a b (inl h) = inl h
-  stops_first why (t ∷ texts) more a b (inr h) = inr (h.0, h.1, h.2, stops_first why texts more h.0 b h.3)
+module _ {S : Type 0} (g : Ghosts S) (a : Held S) (d : HasCommon (state g a).now.schema) where
+  -- the database says the form that its row of `intake_meta` has
+  pub form_said : (form f : Option Earlier) → SaysForm g form a
+      → TableHas (state g a).now meta_table (form_row (number_of_form f) ∷ []) → form ≡ f
+  form_said form f says meta =
+      same_form form f (same_number (number_of_form form) (number_of_form f)
+      ((got_meta (state g a) (state g says.0) (form_row (number_of_form form) ∷ []) d says.1.shown).ordered
+      (form_row (number_of_form f) ∷ []) meta (tt, tt)))
 
-  pub stops_later : (why : Cause) (texts more : List (List ℕ)) (a b c : Held S) (rs : List (List Row))
-      → AreRead g texts a b rs → StopsFor g why more b c → StopsFor g why (texts ++ more) a c
-  stops_later why [] more a b c [] same h = subst (λ x. StopsFor g why more x c) (sym same) h
-  stops_later why [] more a b c (r ∷ rs) h k = absurd h
-  stops_later why (t ∷ texts) more a b c [] h k = absurd h
-  stops_later why (t ∷ texts) more a b c (r ∷ rs) h k = inr (h.0, r, h.1, stops_later why texts more h.0 b c rs h.2 k)
+  pub meta_held : (form : Option Earlier) → SaysForm g form a
+      → TableHas (state g a).now meta_table (form_row (number_of_form form) ∷ [])
+  meta_held form says =
+      (got_meta (state g a) (state g says.0) (form_row (number_of_form form) ∷ []) d says.1.shown).held
+
+  -- one that has such a row is not refused for the form
+  pub form_sound : (b : Held S) (f : Option Earlier) → a.step_limit ≡ None
+      → TableHas (state g a).now meta_table (form_row (number_of_form f) ∷ []) → (why : OpenFault)
+      → HasNoForm g why a b → IsFailure why
+  form_sound b f unlimited meta fault.NotOurs (inl h) =
+      absurd (meta_fails (state g a) (state g b) d unlimited h.0 h.1 h.2)
+  form_sound b f unlimited meta fault.NotOurs (inr h) =
+      absurd (h.2 f ((got_meta (state g a) (state g b) h.0 d h.1.shown).ordered (form_row (number_of_form f) ∷ []) meta
+      (tt, tt)))
+  form_sound b f unlimited meta (fault.Damaged row) h = absurd h
+  form_sound b f unlimited meta fault.Memory h = inl refl
+  form_sound b f unlimited meta fault.Disk h = inr refl
 
 -- ---- why it refuses
 
-module _ {S : Type 0} (g : Ghosts S) (a b : Held S) (one : IsRead g all_meta a b (meta_row ∷ [])) where
-  -- where `migrated`, `amends` or `received` cannot be read
-  pub unread : (e : Held S) (error : Error) → StopsFor g (cause_of error) new_texts b e
-      → IsRefused g (table_fault error) a e
-  unread e error stops = go (cause_of error) (stops_first g (cause_of error) new_texts row_texts b e stops)
+module _ {S : Type 0} (g : Ghosts S) (a last : Held S) (unlimited : a.step_limit ≡ None) where
+  pub refusal_sound : (why : OpenFault) → IsRefused g why a last → ForRows g a (λ _ _. IsFailure why)
+  refusal_sound fault.NotOurs (inl none) old_style F is =
+      form_sound g a (has_common (state g a).now.schema is.rows.rows.declared) last None unlimited
+      is.rows.rows.meta_is fault.NotOurs none
+  refusal_sound fault.NotOurs (inr other) old_style F is =
+      absurd (let same : Some other.0 ≡ None = form_said g a
+      (has_common (state g a).now.schema is.rows.rows.declared) (Some other.0) None other.1 is.rows.rows.meta_is in cc)
+  refusal_sound (fault.Damaged row) bad old_style F is =
+      absurd ((bad.1 is.rows.rows.declared).none old_style F (holds_register old_style F (state g a).now is))
+  refusal_sound fault.Memory bad old_style F is = inl refl
+  refusal_sound fault.Disk bad old_style F is = inr refl
+
+  -- ---- after the form was read
+
+  pub no_form : (why : OpenFault) → HasNoForm g why a last → IsRefused g why a last
+  no_form fault.NotOurs h = inl h
+  no_form (fault.Damaged row) h = absurd h
+  no_form fault.Memory h = tt
+  no_form fault.Disk h = tt
+
+module _ {S : Type 0} (g : Ghosts S) (a b e : Held S) (live : IsLive (state g a)) (idle : a.in_transaction ≡ false)
+    (unlimited : a.step_limit ≡ None) (settled : IsTrue (state g a).is_open
+    → (state g a).now ≡ (state g a).committed)
+    (one : HasCleanDisk (state g b) → IsRead g all_meta a b (meta_row ∷ []))
+    (first : Leaves Asked (state g a) (state g b)) (result : Result Counts OpenFault)
+    (r : ReadsIn g None b e result) where
+  mid_clean : HasCleanDisk (state g e) → HasCleanDisk (state g b)
+  mid_clean clean = clean_before r.leaves clean
+
+  mid_same : HasCleanDisk (state g e) → IsUnchanged (state g a) (state g b)
+  mid_same clean = first.left (mid_clean clean)
+
+  says : HasCleanDisk (state g e) → SaysForm g None a
+  says clean = (b, one (mid_clean clean))
+
+  ours : HasCleanDisk (state g e) → IsDeclared (state g a).now.schema → IsOurs (tables_in None) (state g b)
+  ours clean d =
+      let same = mid_same clean in
+      ours_then {tables = register_tables} {a = state g a} same first.survives.limit (record {
+        alive = same.0.was_open;
+        declared = d;
+        unlimited = unlimited;
+      })
+
+  all_leaves : OnlyReads g a e result
+  all_leaves = asked_then first r.leaves
+
+  -- what is counted is held, and is committed then
+  stood : HasCleanDisk (state g e) → IsUnchanged (state g a) (state g e) → (old_style : ℕ) (F : List Request)
+      → IsRegisterOf old_style F (state g a).now → HasCommitted (IsRegisterOf old_style F) (state g e)
+  stood clean same old_style F here =
+      stands_on (IsRegisterOf old_style F) (state g a) (state g e) (inl same)
+      (record { autocommit = idle; now = λ _. here; committed = λ alive. sym (settled alive) })
+
+  refused_then : HasCleanDisk (state g e) → (why : OpenFault) → why ≢ fault.NotOurs
+      → (IsDeclared (state g a).now.schema → IsFailure why ⊎ ((row : ℕ) × (why ≡ fault.Damaged row)
+      × IsDamaged None (state g a).now row)) → IsRefused g why a e
+  refused_then clean fault.NotOurs named h = absurd (named refl)
+  refused_then clean (fault.Damaged row) named h = (says clean, λ d. go (h d))
     where
-      go : (why : Cause) → StopsFor g why table_texts b e → IsRefused g (table_fault_by why) a e
-      go cause.Memory h = inl (inr (b, meta_row ∷ [], one, h))
-      go cause.Disk h = inr (b, meta_row ∷ [], one, h)
-      go cause.Other h = (b, one, inl (refl, h))
+      go : IsFailure (fault.Damaged row) ⊎ ((at : ℕ) × (fault.Damaged row ≡ fault.Damaged at)
+          × IsDamaged None (state g a).now at) → IsDamaged None (state g a).now row
+      go (inl (inl is)) = cc
+      go (inl (inr is)) = cc
+      go (inr bad) = let same : row ≡ bad.0 = cc in subst (IsDamaged None (state g a).now) (sym same) bad.2
+  refused_then clean fault.Memory named h = tt
+  refused_then clean fault.Disk named h = tt
 
-  -- and where they were read
-  pub refused_after : (c e : Held S) (later : Later) → AreRead g new_texts b c (rows_read later)
-      → (why : OpenFault) → IsRefusedAfter g later why c e → IsRefused g why a e
-  refused_after c e later three fault.NotOurs h = absurd h
-  refused_after c e later three (fault.Damaged row) (inl stops) = (
-    b,
-    one,
-    inl (
-      stops.0,
-      stops_later g cause.Other new_texts row_texts b c e (rows_read later)
-          three stops.1,
-    ),
-  )
-  refused_after c e later three (fault.Damaged row) (inr found) = (
-    b,
-    one,
-    inr (
-      later,
-      found.0,
-      found.1,
-      read_then g new_texts row_texts b c e (rows_read later)
-          (found.0 ∷ found.1.finding ∷ found.1.filing ∷ found.1.fact ∷ []) three found.2,
-      found.3,
-      found.4,
-    ),
-  )
-  refused_after c e later three fault.Memory (inl stops) =
-      inl (inr (
-        b,
-        meta_row ∷ [],
-        one,
-        stops_later g cause.Memory new_texts row_texts b c e (rows_read later) three stops,
-      ))
-  refused_after c e later three fault.Memory (inr read) =
-      inr (
-        (meta_row ∷ []) ∷ (rows_read later) ++ read.0,
-        (b, one, read_then g new_texts row_texts b c e (rows_read later) read.0 three read.1),
-      )
-  refused_after c e later three fault.Disk stops =
-      inr (
-        b,
-        meta_row ∷ [],
-        one,
-        stops_later g cause.Disk new_texts row_texts b c e (rows_read later) three stops,
-      )
-
--- ---- refusals of a database that stands
-
-module _ {S : Type 0} (g : Ghosts S) where
-  pub four_stop : (a last : Held S) → HasCommon (state g a).now.schema → a.step_limit ≡ None
-      → StopsFor g cause.Other row_texts a last → ⊥
-  four_stop a last d unlimited (inl h) = kept_fails (state g a) (state g last) d unlimited h.0 h.1 h.2
-  four_stop a last d unlimited (inr p) =
-      let b = p.0 in
-      let d_b = next_kept (state g a) (state g b) p.1 p.2.shown d in
-      let limit_b : b.step_limit ≡ None = p.2.limit ∙ unlimited in
-      elim p.3 [
-        | inl h ↦ findings_fail (state g b) (state g last) d_b limit_b h.0 h.1 h.2
-        | inr q ↦ (
-            let c = q.0 in
-            let d_c = next_findings (state g b) (state g c) q.1 q.2.shown d_b in
-            let limit_c : c.step_limit ≡ None = q.2.limit ∙ limit_b in
-            elim q.3 [
-              | inl h ↦ filings_fail (state g c) (state g last) d_c limit_c h.0 h.1 h.2
-              | inr r ↦ (
-                  let e = r.0 in
-                  let d_e = next_filings (state g c) (state g e) r.1 r.2.shown d_c in
-                  elim r.3 [
-                    | inl h ↦ facts_fail (state g e) (state g last) d_e (r.2.limit
-                        ∙ limit_c) h.0 h.1 h.2
-                    | inr s ↦ s.3
-                  ])
-            ])
-      ]
-
-  seven_stop : (a last : Held S) → IsDeclared (state g a).now.schema → a.step_limit ≡ None
-      → StopsFor g cause.Other table_texts a last → ⊥
-  seven_stop a last d unlimited (inl h) = migrated_fails (state g a) (state g last) d unlimited h.0 h.1 h.2
-  seven_stop a last d unlimited (inr p) =
-      let b = p.0 in
-      let d_b = still_ours (state g a) (state g b) (got_migrated (state g a) (state g b) p.1 d p.2.shown).0 d in
-      let limit_b : b.step_limit ≡ None = p.2.limit ∙ unlimited in
-      elim p.3 [
-        | inl h ↦ amends_fail (state g b) (state g last) d_b limit_b h.0 h.1 h.2
-        | inr q ↦ (
-            let c = q.0 in
-            let d_c = still_ours (state g b) (state g c) (got_amends (state g b) (state g c) q.1 d_b q.2.shown).0 d_b in
-            let limit_c : c.step_limit ≡ None = q.2.limit ∙ limit_b in
-            elim q.3 [
-              | inl h ↦ received_fail (state g c) (state g last) d_c limit_c h.0 h.1 h.2
-              | inr r ↦ (
-                  let e = r.0 in
-                  let d_e = still_ours (state g c) (state g e)
-                  (got_received (state g c) (state g e) r.1 d_c r.2.shown).0 d_c in
-                  four_stop e last (has_common (state g e).now.schema d_e) (r.2.limit ∙ limit_c) r.3)
-            ])
-      ]
-
-  not_damaged : (old_style : ℕ) (F : List Request) (db : Database) → IsRegisterOf old_style F db
-      → (later : Later) (kept_are : List Row) (others : OtherRows) → others.amends ≡ later.amends → Three later db
-      → Four kept_are others db
-      → (row : ℕ) → AreDamaged kept_are others later row → ⊥
-  not_damaged old_style F db is later kept_are others same three four row (inl unsound) =
-      unsound.0 F (are_rows old_style F db is kept_are others four (same ∙ are_amends old_style F db is later three))
-  not_damaged old_style F db is later kept_are others same three four row (inr h) =
-      let are = are_rows old_style F db is kept_are others four (same ∙ are_amends old_style F db is later three) in
-      let many : length F ≡ length kept_are = sym (rows_many kept_are F are.distinct are.kept_is) in
-      elim h.1 [
-        | inl unsaid ↦ unsaid.1 old_style (subst (λ n. SaysOldStyle n old_style later.migrated) many
-            (says_old_style old_style F db is later three))
-        | inr undated ↦ undated.1 is.rows.moments (subst (λ n. SaysMoments n later.received is.rows.moments) many
-            (says_moments old_style F db is later three))
-      ]
-
-  -- its rows are neither those of something else nor damaged
-  pub by_memory_or_disk : (why : OpenFault) (a last : Held S) → a.step_limit ≡ None → IsRefused g why a last
-      → (old_style : ℕ) (F : List Request) → IsRegisterOf old_style F (state g a).now
-      → (why ≡ fault.Memory) ⊎ (why ≡ fault.Disk)
-  by_memory_or_disk fault.NotOurs a last unlimited (inl (inl h)) old_style F is =
-      absurd (meta_fails (state g a) (state g last) (has_common (state g a).now.schema is.rows.rows.declared) unlimited
-      h.0 h.1 h.2)
-  by_memory_or_disk fault.NotOurs a last unlimited (inl (inr h)) old_style F is = absurd h.3
-  by_memory_or_disk fault.NotOurs a last unlimited (inr h) old_style F is =
-      absurd (h.2 (one_meta old_style F (state g a).now is h.0
-      (got_meta (state g a) (state g last) h.0 (has_common (state g a).now.schema is.rows.rows.declared)
-      h.1.shown).1))
-  by_memory_or_disk (fault.Damaged row) a last unlimited h old_style F is =
-      absurd (elim h.2 [
-        | inl stops ↦ seven_stop mid last d (h.1.limit
-            ∙ unlimited) stops.1
-        | inr found ↦ whole found.0 found.1 found.2 found.3 found.4 found.5
-      ])
+  refused_all : HasCleanDisk (state g e) → IfErr result (λ why. IsRefused g why a e)
+  refused_all clean = go result r.reads.refused r.reads.ours
     where
-      mid : Held S
-      mid = h.0
+      go : (result : Result Counts OpenFault)
+          → (HasCleanDisk (state g e) → IsOurs (tables_in None) (state g b)
+          → IfErr result (λ why. IsFailure why ⊎ ((row : ℕ) × (why ≡ fault.Damaged row)
+          × IsDamaged None (state g b).now row)))
+          → IfErr result (λ why. why ≢ fault.NotOurs) → IfErr result (λ why. IsRefused g why a e)
+      go (Ok counts) bad named = tt
+      go (Err why) bad named =
+          refused_then clean why named (λ d. subst (λ db. IsFailure why ⊎ ((row : ℕ) × (why ≡ fault.Damaged row)
+          × IsDamaged None db row)) (mid_same clean).0.now_is (bad clean (ours clean d)))
 
-      same : IsUnchanged (state g a) (state g mid)
-      same = (got_meta (state g a) (state g mid) (meta_row ∷ [])
-          (has_common (state g a).now.schema is.rows.rows.declared) h.1.shown).0
+  held : HasCleanDisk (state g e) → IsDeclared (state g a).now.schema
+      → IfOk result (λ counts. IsHeldIn None counts (state g a).now)
+  held clean d =
+      subst (λ db. IfOk result (λ counts. IsHeldIn None counts db)) (mid_same clean).0.now_is
+      (r.reads.told clean (ours clean d))
 
-      d : IsDeclared (state g mid).now.schema
-      d = still_ours (state g a) (state g mid) same is.rows.rows.declared
+  meta : HasCleanDisk (state g e) → IsDeclared (state g a).now.schema
+      → TableHas (state g a).now meta_table (meta_row ∷ [])
+  meta clean d = meta_held g a (has_common (state g a).now.schema d) None (says clean)
 
-      here : IsRegisterOf old_style F (state g mid).now
-      here = subst (IsRegisterOf old_style F) (sym same.0.now_is) is
+  pub reads_register : ReadsRegister g a e result
+  reads_register = record {
+    found = λ clean d. found_ok clean d result all_leaves (held clean d);
+    only = λ clean. only_ok clean result all_leaves (λ d. held clean d);
+    says = λ clean. then_ok result (says clean);
+    few = r.few;
+    refused = refused_all;
+    sound = λ clean. sound_all result (refused_all clean);
+    same = same_on_ok result all_leaves;
+    keeps = kept_on_err result all_leaves;
+    mode = all_leaves.mode idle;
+    survives = all_leaves.survives;
+  }
+    where
+      found_ok : HasCleanDisk (state g e) → IsDeclared (state g a).now.schema → (result : Result Counts OpenFault)
+          → OnlyReads g a e result → IfOk result (λ counts. IsHeldIn None counts (state g a).now)
+          → IfOk result (λ counts. (F : List Request) × IsRegisterOf counts.old_style F (state g a).now
+          × HasCommitted (IsRegisterOf counts.old_style F) (state g e) × (counts.kept ≡ length F)
+          × (counts.filings ≡ length (register F)) × (view_lines counts.catalogue ≡ catalogue_of F))
+      found_ok clean d (Ok counts) leaves h =
+          let same = leaves.left clean in
+          let here =
+          register_of counts.old_style h.requests (state g a).now (live same.0.was_open).0 d (meta clean d) h.holds in (
+            h.requests,
+            here,
+            stood clean same counts.old_style h.requests here,
+            h.counts_are.0,
+            h.counts_are.1,
+            h.counts_are.2,
+          )
+      found_ok clean d (Err why) leaves h = tt
 
-      whole : (later : Later) (kept_are : List Row) (others : OtherRows)
-          → AreRead g table_texts mid last (later.migrated ∷ later.amends ∷ later.received ∷ kept_are ∷ others.finding
-          ∷ others.filing ∷ others.fact ∷ []) → others.amends ≡ later.amends → AreDamaged kept_are others later row → ⊥
-      whole later kept_are others read agree damaged =
-          let c = read.2.2.0 in
-          let three =
-          got_three g mid c later d (read.0, read.1, (read.2.0, read.2.1, (c, read.2.2.1, refl))) in
-          let d_c = still_ours (state g mid) (state g c) three.0 d in
-          let four = got_four g c last kept_are others (has_common (state g c).now.schema d_c) read.2.2.2 in
-          not_damaged old_style F (state g mid).now here later kept_are others agree three.1
-          (subst (Four kept_are others) three.0.0.now_is four.1) row damaged
-  by_memory_or_disk fault.Memory a last unlimited h old_style F is = inl refl
-  by_memory_or_disk fault.Disk a last unlimited h old_style F is = inr refl
+      only_ok : HasCleanDisk (state g e) → (result : Result Counts OpenFault) → OnlyReads g a e result
+          → (IsDeclared (state g a).now.schema → IfOk result (λ counts. IsHeldIn None counts (state g a).now))
+          → IfOk result (λ counts. ForRows g a (IsCounted g e counts))
+      only_ok clean (Ok counts) leaves h = λ old_style F is.
+          let told = (h is.rows.rows.declared).only old_style F (holds_register old_style F (state g a).now is) in
+          (told.0, stood clean (leaves.left clean) old_style F is, told.1.0, told.1.1, told.1.2)
+      only_ok clean (Err why) leaves h = tt
 
--- ---- what is found
+      sound_all : (result : Result Counts OpenFault) → IfErr result (λ why. IsRefused g why a e)
+          → IfErr result (λ why. ForRows g a (λ _ _. IsFailure why))
+      sound_all (Ok counts) bad = tt
+      sound_all (Err why) bad = refusal_sound g a e unlimited why bad
 
-module _ {S : Type 0} (g : Ghosts S) (a b c e : Held S) (later : Later) (one : IsRead g all_meta a b (meta_row ∷ []))
-    (three : AreRead g new_texts b c (rows_read later))
-    (after : IsUnchanged (state g c) (state g e)) where
-  pub same_all : IsUnchanged (state g a) (state g e)
-  same_all =
-      let first = query_same all_meta query_meta [] (state g a) (state g b) (meta_row ∷ []) one.shown in
-      unchanged_then (state g a) (state g c) (state g e)
-      (reads_on g new_texts (query_migrated, (query_amends, (query_received, tt))) a b c first (rows_read later)
-      three) after
-
-  module _ (d : IsDeclared (state g a).now.schema) (live : IsLive (state g a)) (idle : a.in_transaction ≡ false)
-      (settled : IsTrue (state g a).is_open → (state g a).now ≡ (state g a).committed)
-      (counts : Counts) (counted : HasCommon (state g c).now.schema → AreCounted counts later (state g c).now) where
-    got_one : IsUnchanged (state g a) (state g b) × Gets meta_table by_first (meta_row ∷ []) (state g a).now
-    got_one = got_meta (state g a) (state g b) (meta_row ∷ []) (has_common (state g a).now.schema d) one.shown
-
-    got_others : IsUnchanged (state g b) (state g c) × Three later (state g b).now
-    got_others = got_three g b c later (still_ours (state g a) (state g b) got_one.0 d) three
-
-    to_c : IsUnchanged (state g a) (state g c)
-    to_c = unchanged_then (state g a) (state g b) (state g c) got_one.0 got_others.0
-
-    both : Three later (state g a).now
-    both = subst (Three later) got_one.0.0.now_is got_others.1
-
-    it : AreCounted counts later (state g a).now
-    it = subst (AreCounted counts later) to_c.0.now_is
-        (counted (has_common (state g c).now.schema (still_ours (state g a) (state g c) to_c d)))
-
-    stood : (old_style : ℕ) (F : List Request) → IsRegisterOf old_style F (state g a).now
-        → HasCommitted (IsRegisterOf old_style F) (state g e)
-    stood old_style F here =
-        stands_on (IsRegisterOf old_style F) (state g a) (state g e) (inl same_all)
-        (record { autocommit = idle; now = λ _. here; committed = λ alive. sym (settled alive) })
-
-    pub finds : (F : List Request) × IsRegisterOf counts.old_style F (state g a).now
-        × HasCommitted (IsRegisterOf counts.old_style F) (state g e) × (counts.kept ≡ length F)
-        × (counts.filings ≡ length (register F)) × (view_lines counts.catalogue ≡ catalogue_of F)
-    finds =
-        let here = counted_register (state g a).now counts later it (live got_one.0.0.was_open).0 d got_one.1 both in
-        (it.requests, here, stood counts.old_style it.requests here, it.kept_is, it.filings_is, it.catalogue_is)
-
-    -- it stands for no others
-    pub counts_them : (old_style : ℕ) (F : List Request) → IsRegisterOf old_style F (state g a).now
-        → (counts.old_style ≡ old_style) × HasCommitted (IsRegisterOf old_style F) (state g e)
-        × (counts.kept ≡ length F) × (counts.filings ≡ length (register F))
-        × (view_lines counts.catalogue ≡ catalogue_of F)
-    counts_them old_style F here =
-        let same = counted_only (state g a).now counts later it both old_style F here in (
-          same.0,
-          stood old_style F here,
-          it.kept_is ∙ ap length same.1,
-          it.filings_is
-              ∙ ap (λ H. length (register H)) same.1,
-          it.catalogue_is ∙ ap (λ H. catalogue_of H) same.1,
-        )
+-- a refusal before the tables were read
+pub not_opened : {S : Type 0} (g : Ghosts S) (a last : Held S) → a.step_limit ≡ None → a.in_transaction ≡ false
+    → (why : OpenFault) → (HasCleanDisk (state g last) → IsRefused g why a last)
+    → Leaves Ended (state g a) (state g last) → ReadsRegister g a last (Err why)
+not_opened g a last unlimited idle why refused leaves = record {
+  found = λ clean d. tt;
+  only = λ clean. tt;
+  says = λ clean. tt;
+  few = tt;
+  refused = refused;
+  sound = λ clean. refusal_sound g a last unlimited why (refused clean);
+  same = λ clean. tt;
+  keeps = λ clean. keeps_commit leaves clean;
+  mode = leaves.mode idle;
+  survives = leaves.survives;
+}

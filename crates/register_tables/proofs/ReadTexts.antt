@@ -16,8 +16,7 @@ use Rattle.table_rows.proofs.SelectLemmas.{one_table}
 use Rattle.table_rows.proofs.ReadingLemmas.{by_each}
 use Rattle.table_rows.proofs.QueryLemmas.{Asks}
 use Rattle.table_rows.proofs.TextLemmas.{IsQueryText}
-use Rattle.register_tables.specs.Opening.{all_meta, all_kept, all_findings, all_filings, all_facts, all_migrated}
-use Rattle.register_tables.specs.Opening.{all_amends, all_received}
+use Rattle.register_tables.specs.Opening.{all_meta, all_kept, all_migrated, all_amends, all_received}
 use Rattle.register_rows.specs.Schema.{common_tables, register_tables, HasCommon, IsDeclared}
 
 -- each is a SELECT
@@ -29,18 +28,6 @@ query_meta = refl
 pub query_kept : IsQueryText all_kept
 unfolding everything
 query_kept = refl
-
-pub query_findings : IsQueryText all_findings
-unfolding everything
-query_findings = refl
-
-pub query_filings : IsQueryText all_filings
-unfolding everything
-query_filings = refl
-
-pub query_facts : IsQueryText all_facts
-unfolding everything
-query_facts = refl
 
 pub query_migrated : IsQueryText all_migrated
 unfolding everything
@@ -83,40 +70,9 @@ module _ (tables : List Table) (indexes : List Index) (views : List View) where
         listing = refl;
       }
 
-  findings_text : Asks schema all_findings (one_table 3 [] (columns (1 ∷ 2 ∷ 3 ∷ 4 ∷ []))
-      (by_each (col 1 1 ∷ col 1 2 ∷ [])))
-  unfolding understood everything
-  findings_text =
-      record {
-        names = codes "seq" ∷ codes "pos" ∷ codes "code" ∷ codes "place" ∷ [];
-        is = refl;
-        plain =
-            (refl, refl);
-        listing = refl;
-      }
-
-  filings_text : Asks schema all_filings (one_table 5 [] (columns (0 ∷ 2 ∷ [])) (by_each (col 1 0 ∷ [])))
-  unfolding understood everything
-  filings_text = record { names = codes "number" ∷ codes "seq" ∷ []; is = refl; plain = (refl, refl); listing = refl }
-
-  facts_text : Asks schema all_facts (one_table 7 [] (columns (1 ∷ 2 ∷ 3 ∷ 4 ∷ 5 ∷ 6 ∷ 7 ∷ []))
-      (by_each (col 1 1 ∷ col 1 2 ∷ [])))
-  unfolding understood everything
-  facts_text = record {
-    names = codes "number" ∷ codes "pos" ∷ codes "id" ∷ codes "concept" ∷ codes "dimensions" ∷ codes "value"
-        ∷ codes "decimals" ∷ [];
-    is = refl;
-    plain = (refl, refl);
-    listing = refl;
-  }
-
 module _ (tables : List Table) (indexes : List Index) (views : List View) where
   abbrev whole_schema : Schema
   whole_schema = schema_with register_tables tables indexes views
-
-  migrated_text : Asks whole_schema all_migrated (one_table 9 [] (columns (0 ∷ 2 ∷ [])) (by_each (col 1 0 ∷ [])))
-  unfolding understood everything
-  migrated_text = record { names = codes "id" ∷ codes "last" ∷ []; is = refl; plain = (refl, refl); listing = refl }
 
   amends_text : Asks whole_schema all_amends (one_table 10 [] (columns (0 ∷ 2 ∷ [])) (by_each (col 1 0 ∷ [])))
   unfolding understood everything
@@ -125,12 +81,6 @@ module _ (tables : List Table) (indexes : List Index) (views : List View) where
   received_text : Asks whole_schema all_received (one_table 11 [] (columns (0 ∷ 2 ∷ [])) (by_each (col 1 0 ∷ [])))
   unfolding understood everything
   received_text = record { names = codes "seq" ∷ codes "moment" ∷ []; is = refl; plain = (refl, refl); listing = refl }
-
-pub asks_migrated : (s : Schema) → IsDeclared s
-    → Asks s all_migrated (one_table 9 [] (columns (0 ∷ 2 ∷ [])) (by_each (col 1 0 ∷ [])))
-asks_migrated s d =
-    subst (λ t. Asks t all_migrated (one_table 9 [] (columns (0 ∷ 2 ∷ [])) (by_each (col 1 0 ∷ [])))) (sym d.is)
-    (migrated_text d.tables d.indexes d.views)
 
 pub asks_amends : (s : Schema) → IsDeclared s
     → Asks s all_amends (one_table 10 [] (columns (0 ∷ 2 ∷ [])) (by_each (col 1 0 ∷ [])))
@@ -156,15 +106,3 @@ asks_meta = on_ours _ _ meta_text
 pub asks_kept : (s : Schema) → HasCommon s
     → Asks s all_kept (one_table 1 [] (columns (0 ∷ 2 ∷ 3 ∷ 4 ∷ 5 ∷ [])) (by_each (col 1 0 ∷ [])))
 asks_kept = on_ours _ _ kept_text
-
-pub asks_findings : (s : Schema) → HasCommon s
-    → Asks s all_findings (one_table 3 [] (columns (1 ∷ 2 ∷ 3 ∷ 4 ∷ [])) (by_each (col 1 1 ∷ col 1 2 ∷ [])))
-asks_findings = on_ours _ _ findings_text
-
-pub asks_filings : (s : Schema) → HasCommon s
-    → Asks s all_filings (one_table 5 [] (columns (0 ∷ 2 ∷ [])) (by_each (col 1 0 ∷ [])))
-asks_filings = on_ours _ _ filings_text
-
-pub asks_facts : (s : Schema) → HasCommon s
-    → Asks s all_facts (one_table 7 [] (columns (1 ∷ 2 ∷ 3 ∷ 4 ∷ 5 ∷ 6 ∷ 7 ∷ [])) (by_each (col 1 1 ∷ col 1 2 ∷ [])))
-asks_facts = on_ours _ _ facts_text

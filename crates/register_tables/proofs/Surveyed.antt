@@ -1,172 +1,63 @@
 -- What is known of a database in which a register in an earlier form was found.
-use Rattle.std.proofs.Common.{◌≡◌, inl, inr, ◌≤◌, ℕ, Bool, true, false, List, [], ◌∷◌, length, Result, Ok, Err, refl}
-use Rattle.std.proofs.Common.{sym, ap, subst, ◌∙◌, true≢false, arith, codes, le_refl, IsTrue, replicate}
+use Rattle.std.proofs.Common.{◌≡◌, ◌≢◌, ◌⊎◌, inl, inr, ◌≤◌, ℕ, Bool, true, false, List, [], ◌∷◌, length, Result, Ok}
+use Rattle.std.proofs.Common.{Err}
+use Rattle.std.proofs.Common.{refl, Some, None}
+use Rattle.std.proofs.Common.{sym, ap, subst, ◌∙◌, true≢false, arith, IsTrue, replicate}
 use Rattle.std.proofs.lemmas.List.{length-replicate}
-use Rattle.std.specs.Prelude.{None}
-use Rattle.sqlite.specs.Order.{Row}
-use Rattle.sqlite.specs.Table.{Table}
 use Rattle.sqlite.specs.Schema.{Schema}
-use Rattle.sqlite_schema.specs.declared.schema.Index.{Index}
-use Rattle.sqlite_schema.specs.declared.schema.View.{View}
-use Rattle.sqlite.specs.Term.{col}
 use Rattle.sqlite.specs.Effect.{Database, IsDatabase}
 use Rattle.sqlite.specs.Store.{Ghosts}
 use Rattle.sqlite.specs.Held.{Held, state}
 use Rattle.sqlite.specs.Listing.{understood, listing_schema}
-use Rattle.sqlite.specs.State.{State, IsLive, IsUnchanged, Shown, FailsToQuery, HasCleanDisk}
-use Rattle.sqlite.specs.declared.error.Error.{Error}
-use Rattle.sqlite.proofs.Callers.{unchanged_then}
+use Rattle.sqlite.specs.State.{State, IsLive, IsUnchanged, HasCleanDisk}
 use Rattle.sqlite_resolve.specs.declared.compiled.Compiled.{Compiled}
 use Rattle.sqlite_resolve.specs.declared.error.CompileError.{CompileError}
 use Rattle.sqlite_schema.specs.Names.{same_name}
 use Rattle.sqlite_tied.specs.Compute.{everything}
 use Rattle.filing_model.specs.Request.{Request}
-use Rattle.filing_model.specs.Register.{kept, register}
-use Rattle.table_rows.specs.Causes.{cause_of}
-use Rattle.table_rows.specs.declared.cause.Cause.TheVariants.{Other}
+use Rattle.filing_model.specs.Register.{register}
 use Rattle.table_rows.specs.Leaving.{Ending, IsLeft, Leaves}
-use Rattle.table_rows.specs.Leaving.Ending.{Ended}
-use Rattle.table_rows.proofs.LeavingLemmas.{ended}
-use Rattle.table_rows.specs.Rows.{TableHas}
-use Rattle.table_rows.specs.Standing.{HasCommitted}
-use Rattle.table_rows.specs.Tables.{BeginsWith, schema_with}
-use Rattle.table_rows.proofs.FailLemmas.{IsWhole, failure_cause}
-use Rattle.table_rows.proofs.QueryLemmas.{Asks}
-use Rattle.table_rows.proofs.ReadingLemmas.{by_each, reads_rows}
-use Rattle.table_rows.proofs.SelectLemmas.{one_table}
-use Rattle.table_rows.proofs.TextLemmas.{query_same}
-use Rattle.register_tables.specs.declared.migrate.earlier.Earlier.{Earlier}
-use Rattle.register_tables.specs.declared.migrate.earlier.Earlier.TheVariants.{Second, Third, Fourth}
-use Rattle.register_tables.specs.declared.opening.Counts.{Counts}
-use Rattle.register_tables.specs.Earlier.{form_number, tables_of, is_blocked, IsAlone, HasOldStyle, HasTargets}
-use Rattle.register_tables.specs.Earlier.{IsEarlierOf}
-use Rattle.register_tables.specs.Migrating.{ReadsBeside, IsSurveyed, IsMigrated, Migrates, MigratesTo}
-use Rattle.register_tables.specs.Migrating.{migrating, beside_texts}
-use Rattle.table_rows.specs.Standing.{AddsNothing}
+use Rattle.table_rows.specs.Leaving.Ending.{Asked, Ended}
+use Rattle.table_rows.proofs.LeavingLemmas.{asked_then, clean_before, ended}
+use Rattle.table_rows.specs.Standing.{AddsNothing, HasCommitted}
 use Rattle.table_rows.specs.Statements.{begun, AreDone, AreTreesOf}
-use Rattle.register_tables.specs.Opening.{all_meta, all_migrated, all_amends, IsRead, AreRead}
-use Rattle.register_tables.specs.Reads.{every, whole, by_first}
+use Rattle.table_rows.specs.Tables.{BeginsWith}
+use Rattle.register_tables.specs.declared.opening.form.Earlier.{Earlier}
+use Rattle.register_tables.specs.declared.opening.form.Earlier.TheVariants.{Second, Third, Fourth}
+use Rattle.register_tables.specs.declared.opening.Counts.{Counts}
+use Rattle.register_tables.specs.declared.fault.OpenFault.{OpenFault}
+use Rattle.register_tables.specs.declared.fault.OpenFault.TheVariants as fault
+use Rattle.register_tables.specs.Earlier.{form_number, tables_of, is_blocked, IsAlone, IsDamaged, HasOldStyle, HoldsIn}
+use Rattle.register_tables.specs.Earlier.{IsEarlierOf}
+use Rattle.register_tables.specs.Faults.{IsFailure}
+use Rattle.register_tables.specs.Migrating.{IsNotSurveyed, IsSurveyed, IsMigrated, Migrates, MigratesTo, migrating}
+use Rattle.register_tables.specs.Opening.{all_meta, all_migrated, all_amends, AreCountsOf, HasBeside, HasNoForm}
+use Rattle.register_tables.specs.Opening.{IsHeldIn, IsKnown}
+use Rattle.register_tables.specs.Opening.{IsRead, ReadsIn}
+use Rattle.register_tables.specs.Reads.{IsOurs}
+use Rattle.register_rows.specs.Register.{form_row}
+use Rattle.register_tables.proofs.Ours.{ours_then}
 use Rattle.register_rows.specs.Catalogue.{catalogue_of, view_lines}
 use Rattle.register_rows.specs.Received.{Received}
-use Rattle.register_rows.specs.Register.{form_row, meta_row, migrated_row, amends_rows, joined_from}
-use Rattle.register_rows.specs.Schema.{HasCommon, meta_table, migrated_table, amends_table}
 use Rattle.register_tables.specs.Registers.{IsRegisterOf, LeavesRegister, LeavesReceived}
-use Rattle.register_tables.specs.Walk.{Amounts}
 use Rattle.sqlite.specs.Tree.{Trees}
 use Rattle.register_tables.proofs.CommonLemmas.{has_common}
 use Rattle.register_tables.proofs.CreateTexts.{fifth_schema, sixth_schema, seventh_schema, own_indexes}
-use Rattle.register_tables.proofs.ListLemmas.{amends_rise}
+use Rattle.register_tables.proofs.Holding.{earlier_of, holds_earlier}
 use Rattle.register_tables.proofs.Migrates.{IsCurrent, makes_current}
-use Rattle.register_tables.proofs.OpenLemmas.{Gets, gets, got_meta, reads_on}
-use Rattle.register_tables.proofs.ReadTexts.{columns, query_meta, query_migrated, query_amends}
-use Rattle.register_tables.proofs.WalkOpens.{only_these}
-
-pub common_in : (form : Earlier) (s : Schema) → BeginsWith (tables_of form) s → HasCommon s
-common_in Second s d = d
-common_in Third s d = record { tables = migrated_table ∷ d.tables; indexes = d.indexes; views = d.views; is = d.is }
-common_in Fourth s d =
-    record { tables = migrated_table ∷ amends_table ∷ d.tables; indexes = d.indexes; views = d.views; is = d.is }
-
--- the fourth form has the tables of the third
-pub third_in : (s : Schema) → BeginsWith (tables_of Fourth) s → BeginsWith (tables_of Third) s
-third_in s d = record { tables = amends_table ∷ d.tables; indexes = d.indexes; views = d.views; is = d.is }
+use Rattle.register_tables.proofs.Opened.{form_said, form_sound, meta_held}
+use Rattle.register_tables.proofs.OpenLemmas.{common_in}
 
 pub alone_begins : (form : Earlier) (s : Schema) → IsAlone form s → BeginsWith (tables_of form) s
 alone_begins Second s alone = record { tables = []; indexes = own_indexes; views = []; is = alone }
 alone_begins Third s alone = record { tables = []; indexes = own_indexes; views = []; is = alone }
 alone_begins Fourth s alone = record { tables = []; indexes = own_indexes; views = []; is = alone }
 
-pub same_number : (m n : ℕ) → form_row m ∷ [] ≡ form_row n ∷ [] → m ≡ n
-same_number m n rows = cc
-
-pub same_form : (f h : Earlier) → form_number f ≡ form_number h → f ≡ h
-same_form Second Second e = refl
-same_form Second Third e = absurd (omega (arith, e))
-same_form Second Fourth e = absurd (omega (arith, e))
-same_form Third Second e = absurd (omega (arith, e))
-same_form Third Third e = refl
-same_form Third Fourth e = absurd (omega (arith, e))
-same_form Fourth Second e = absurd (omega (arith, e))
-same_form Fourth Third e = absurd (omega (arith, e))
-same_form Fourth Fourth e = refl
-
--- no earlier form has the number of the present one
-earlier_number : (form : Earlier) → form_number form ≡ 5 → ⊥
-earlier_number Second is = omega (arith, is)
-earlier_number Third is = omega (arith, is)
-earlier_number Fourth is = omega (arith, is)
-
 pub old_style_within : (form : Earlier) (db : Database) (old_style kept : ℕ) → HasOldStyle form db old_style kept
     → old_style ≤ kept
 old_style_within Second db old_style kept is = omega (arith, is)
 old_style_within Third db old_style kept has = has.1
 old_style_within Fourth db old_style kept has = has.1
-
--- ---- the table `migrated`, from the third form on
-
-module _ (tables : List Table) (indexes : List Index) (views : List View) where
-  abbrev third : Schema
-  third = schema_with (tables_of Third) tables indexes views
-
-  migrated_text : Asks third all_migrated (one_table 9 [] (columns (0 ∷ 2 ∷ [])) (by_each (col 1 0 ∷ [])))
-  unfolding understood everything
-  migrated_text = record { names = codes "id" ∷ codes "last" ∷ []; is = refl; plain = (refl, refl); listing = refl }
-
-  migrated_whole : IsWhole third all_migrated (one_table 9 [] (columns (0 ∷ 2 ∷ [])) (by_each (col 1 0 ∷ [])))
-  unfolding understood everything
-  migrated_whole = record { tail = le_refl _; unnamed = refl; typed = refl }
-
-asks_third : (s : Schema) → BeginsWith (tables_of Third) s
-    → Asks s all_migrated (one_table 9 [] (columns (0 ∷ 2 ∷ [])) (by_each (col 1 0 ∷ [])))
-asks_third s d =
-    subst (λ t. Asks t all_migrated (one_table 9 [] (columns (0 ∷ 2 ∷ [])) (by_each (col 1 0 ∷ [])))) (sym d.is)
-    (migrated_text d.tables d.indexes d.views)
-
-module _ (old new : State) (d : BeginsWith (tables_of Third) old.now.schema) where
-  pub got_third : (rows : List Row) → Shown all_migrated [] old new rows → Gets migrated_table by_first rows old.now
-  got_third rows h =
-      let r = reads_rows (tables_of Third) migrated_table all_migrated [] (columns (0 ∷ 2 ∷ [])) (col 1 0 ∷ [])
-      asks_third [] old new (λ _. d) every (λ _. refl) by_first (λ _. refl) whole (λ _. refl) (λ _. refl) rows h in
-      gets _ _ rows old new r
-
-  pub third_fails : old.step_limit ≡ None → (e : Error) → FailsToQuery all_migrated [] old new e → cause_of e ≡ Other
-      → ⊥
-  third_fails unlimited e = failure_cause all_migrated 9 [] _ _ old new (asks_third old.now.schema d)
-      (subst (λ t. IsWhole t all_migrated (one_table 9 [] (columns (0 ∷ 2 ∷ [])) (by_each (col 1 0 ∷ [])))) (sym d.is)
-      (migrated_whole d.tables d.indexes d.views)) unlimited e
-
--- ---- the table `amends` in the fourth form
-
-module _ (tables : List Table) (indexes : List Index) (views : List View) where
-  abbrev fourth : Schema
-  fourth = schema_with (tables_of Fourth) tables indexes views
-
-  amends_text : Asks fourth all_amends (one_table 10 [] (columns (0 ∷ 2 ∷ [])) (by_each (col 1 0 ∷ [])))
-  unfolding understood everything
-  amends_text = record { names = codes "seq" ∷ codes "target" ∷ []; is = refl; plain = (refl, refl); listing = refl }
-
-  amends_whole : IsWhole fourth all_amends (one_table 10 [] (columns (0 ∷ 2 ∷ [])) (by_each (col 1 0 ∷ [])))
-  unfolding understood everything
-  amends_whole = record { tail = le_refl _; unnamed = refl; typed = refl }
-
-asks_fourth : (s : Schema) → BeginsWith (tables_of Fourth) s
-    → Asks s all_amends (one_table 10 [] (columns (0 ∷ 2 ∷ [])) (by_each (col 1 0 ∷ [])))
-asks_fourth s d =
-    subst (λ t. Asks t all_amends (one_table 10 [] (columns (0 ∷ 2 ∷ [])) (by_each (col 1 0 ∷ [])))) (sym d.is)
-    (amends_text d.tables d.indexes d.views)
-
-module _ (old new : State) (d : BeginsWith (tables_of Fourth) old.now.schema) where
-  pub got_fourth : (rows : List Row) → Shown all_amends [] old new rows → Gets amends_table by_first rows old.now
-  got_fourth rows h =
-      let r = reads_rows (tables_of Fourth) amends_table all_amends [] (columns (0 ∷ 2 ∷ [])) (col 1 0 ∷ [])
-      asks_fourth [] old new (λ _. d) every (λ _. refl) by_first (λ _. refl) whole (λ _. refl) (λ _. refl) rows h in
-      gets _ _ rows old new r
-
-  pub fourth_fails : old.step_limit ≡ None → (e : Error) → FailsToQuery all_amends [] old new e → cause_of e ≡ Other
-      → ⊥
-  fourth_fails unlimited e = failure_cause all_amends 10 [] _ _ old new (asks_fourth old.now.schema d)
-      (subst (λ t. IsWhole t all_amends (one_table 10 [] (columns (0 ∷ 2 ∷ [])) (by_each (col 1 0 ∷ [])))) (sym d.is)
-      (amends_whole d.tables d.indexes d.views)) unlimited e
 
 -- ---- in a form without it a table cannot be read
 
@@ -182,11 +73,10 @@ no_amends : is_text (understood sixth_schema all_amends) ≡ false
 unfolding understood listing_schema everything
 no_amends = refl
 
-none_shown : (schema : Schema) (text : List ℕ) → is_text (understood schema text) ≡ false → (old new : State)
-    (rows : List Row) → old.now.schema ≡ schema → Shown text [] old new rows → ⊥
-unfolding Shown
-none_shown schema text none old new rows alone h =
-    true≢false (sym (ap is_text (ap (λ s. understood s text) (sym alone) ∙ h.1.is)) ∙ none)
+none_known : (schema known : Schema) (text : List ℕ) → is_text (understood schema text) ≡ false → known ≡ schema
+    → IsKnown known text → ⊥
+none_known schema known text none same h =
+    true≢false (sym (ap is_text (ap (λ s. understood s text) (sym same) ∙ h.1)) ∙ none)
 
 -- and in a form with it the name is in use of a table that an earlier one has not
 
@@ -202,212 +92,152 @@ fourth_blocks_third : is_blocked seventh_schema Third ≡ true
 unfolding same_name
 fourth_blocks_third = refl
 
+-- ---- after the form was read
+
+module _ {S : Type 0} (g : Ghosts S) (a b e : Held S) (form : Earlier) (unlimited : a.step_limit ≡ None)
+    (one : HasCleanDisk (state g b) → IsRead g all_meta a b (form_row (form_number form) ∷ []))
+    (first : Leaves Asked (state g a) (state g b)) where
+  ours : (clean : HasCleanDisk (state g b)) → BeginsWith (tables_of form) (state g a).now.schema
+      → IsOurs (tables_of form) (state g b)
+  ours clean d =
+      let same = first.left clean in
+      ours_then {tables = tables_of form} {a = state g a} same first.survives.limit (record {
+        alive = same.0.was_open;
+        declared = d;
+        unlimited = unlimited;
+      })
+
+  pub surveyed : (counts : Counts) → ReadsIn g (Some form) b e (Ok counts) → HasCleanDisk (state g e)
+      → IsSurveyed g form counts a e
+  surveyed counts r clean =
+      let mid : HasCleanDisk (state g b) = clean_before r.leaves clean in
+      let now = (first.left mid).0.now_is in
+      record {
+        same = (asked_then first r.leaves).left clean;
+        says = (b, one mid);
+        has = subst (λ (db : Database). HasBeside (Some form) db.schema) now (r.has clean);
+        counted = λ d. subst (IsHeldIn (Some form) counts) now (r.reads.told clean (ours mid d));
+      }
+
+  pub not_surveyed : (why : OpenFault) → ReadsIn g (Some form) b e (Err why) → HasCleanDisk (state g e)
+      → IsNotSurveyed g why a e
+  not_surveyed why r clean = go why r.reads.ours (λ d. r.reads.refused clean (ours mid d))
+    where
+      mid : HasCleanDisk (state g b)
+      mid = clean_before r.leaves clean
+
+      go : (why : OpenFault) → why ≢ fault.NotOurs → (BeginsWith (tables_of form) (state g a).now.schema
+          → IsFailure why ⊎ ((row : ℕ) × (why ≡ fault.Damaged row) × IsDamaged (Some form) (state g b).now row))
+          → IsNotSurveyed g why a e
+      go fault.NotOurs named h = absurd (named refl)
+      go (fault.Damaged row) named h = (form, (b, one mid), λ d. told (h d))
+        where
+          told : IsFailure (fault.Damaged row) ⊎ ((at : ℕ) × (fault.Damaged row ≡ fault.Damaged at)
+              × IsDamaged (Some form) (state g b).now at) → IsDamaged (Some form) (state g a).now row
+          told (inl (inl is)) = cc
+          told (inl (inr is)) = cc
+          told (inr bad) =
+              let same : row ≡ bad.0 = cc in
+              subst (λ n. IsDamaged (Some form) (state g a).now n) (sym same)
+              (subst (λ db. IsDamaged (Some form) db bad.0) (first.left mid).0.now_is bad.2)
+      go fault.Memory named h = tt
+      go fault.Disk named h = tt
+
+-- and where none was read
+pub without_form : {S : Type 0} (g : Ghosts S) (a b : Held S) (why : OpenFault) → HasNoForm g why a b
+    → IsNotSurveyed g why a b
+without_form g a b fault.NotOurs h = inl h
+without_form g a b (fault.Damaged row) h = absurd h
+without_form g a b fault.Memory h = tt
+without_form g a b fault.Disk h = tt
+
+-- ---- a register in an earlier form
+
 module _ {S : Type 0} (g : Ghosts S) (a : Held S) where
-  beside_same : (form : Earlier) (old_style kept : ℕ) (amends : List Row) (x y : Held S)
-      → ReadsBeside g form old_style kept amends x y
-      → IsUnchanged (state g a) (state g x) → IsUnchanged (state g a) (state g y)
-  beside_same Second old_style kept amends x y h same = subst (λ k. IsUnchanged (state g a) (state g k)) h.0 same
-  beside_same Third old_style kept amends x y h same =
-      unchanged_then (state g a) (state g x) (state g y) same
-      (query_same all_migrated query_migrated [] (state g x) (state g y) (migrated_row old_style ∷ []) h.0.shown)
-  beside_same Fourth old_style kept amends x y h same =
-      reads_on g beside_texts (query_migrated, (query_amends, tt)) a x y same
-      ((migrated_row old_style ∷ []) ∷ amends ∷ []) h.0
-
-  third_gets : (old_style : ℕ) (x y : Held S) → BeginsWith (tables_of Third) (state g a).now.schema
-      → IsUnchanged (state g a) (state g x) → IsRead g all_migrated x y (migrated_row old_style ∷ [])
-      → Gets migrated_table by_first (migrated_row old_style ∷ []) (state g a).now
-  third_gets old_style x y d same h =
-      subst (Gets migrated_table by_first (migrated_row old_style ∷ [])) same.0.now_is
-      (got_third (state g x) (state g y) (subst (λ (db : Database). BeginsWith (tables_of Third) db.schema)
-      (sym same.0.now_is) d) (migrated_row old_style ∷ []) h.shown)
-
-  fourth_gets : (amends : List Row) (x y : Held S) → BeginsWith (tables_of Fourth) (state g a).now.schema
-      → IsUnchanged (state g a) (state g x) → IsRead g all_amends x y amends
-      → Gets amends_table by_first amends (state g a).now
-  fourth_gets amends x y d same h =
-      subst (Gets amends_table by_first amends) same.0.now_is
-      (got_fourth (state g x) (state g y) (subst (λ (db : Database). BeginsWith (tables_of Fourth) db.schema)
-      (sym same.0.now_is) d) amends h.shown)
-
-  -- the tables that the fourth form has beside those of every form
-  module _ (old_style : ℕ) (amends : List Row) (x y : Held S) (d : BeginsWith (tables_of Fourth) (state g a).now.schema)
-      (same : IsUnchanged (state g a) (state g x))
-      (h : AreRead g beside_texts x y ((migrated_row old_style ∷ []) ∷ amends ∷ [])) where
-    gets_migrated : Gets migrated_table by_first (migrated_row old_style ∷ []) (state g a).now
-    gets_migrated = third_gets old_style x h.0 (third_in (state g a).now.schema d) same h.1
-
-    gets_amends : Gets amends_table by_first amends (state g a).now
-    gets_amends =
-        fourth_gets amends h.0 h.2.0 d (unchanged_then (state g a) (state g x) (state g h.0) same
-        (query_same all_migrated query_migrated [] (state g x) (state g h.0) (migrated_row old_style ∷ []) h.1.shown))
-        h.2.1
-
-  old_style_holds : (form : Earlier) (old_style kept many : ℕ) (amends : List Row) (x y : Held S)
-      → BeginsWith (tables_of form) (state g a).now.schema → IsUnchanged (state g a) (state g x) → kept ≡ many
-      → ReadsBeside g form old_style kept amends x y → HasOldStyle form (state g a).now old_style many
-  old_style_holds Second old_style kept many amends x y d same is h = h.1 ∙ is
-  old_style_holds Third old_style kept many amends x y d same is h =
-      ((third_gets old_style x y d same h.0).held, subst (λ n. old_style ≤ n) is h.1)
-  old_style_holds Fourth old_style kept many amends x y d same is h =
-      ((gets_migrated old_style amends x y d same h.0).held, subst (λ n. old_style ≤ n) is h.1)
-
-  targets_hold : (form : Earlier) (old_style kept : ℕ) (amends : List Row) (x y : Held S)
-      → BeginsWith (tables_of form) (state g a).now.schema → IsUnchanged (state g a) (state g x)
-      → ReadsBeside g form old_style kept amends x y → HasTargets form (state g a).now amends
-  targets_hold Second old_style kept amends x y d same h = h.2
-  targets_hold Third old_style kept amends x y d same h = h.2
-  targets_hold Fourth old_style kept amends x y d same h = (gets_amends old_style amends x y d same h.0).held
-
-  same_row : (m n : ℕ) → migrated_row m ∷ [] ≡ migrated_row n ∷ [] → m ≡ n
-  same_row m n rows = cc
-
-  old_style_only : (form : Earlier) (was old_style kept : ℕ) (amends : List Row) (F : List Request) (x y : Held S)
-      → IsEarlierOf form old_style F (state g a).now → IsUnchanged (state g a) (state g x) → kept ≡ length F
-      → ReadsBeside g form was kept amends x y → was ≡ old_style
-  old_style_only Second was old_style kept amends F x y is same many h = h.1 ∙ many ∙ sym is.rows.old_style_is
-  old_style_only Third was old_style kept amends F x y is same many h =
-      same_row was old_style ((third_gets was x y is.rows.declared same h.0).ordered (migrated_row old_style ∷ [])
-      is.rows.old_style_is.0 (tt, tt))
-  old_style_only Fourth was old_style kept amends F x y is same many h =
-      same_row was old_style ((gets_migrated was amends x y is.rows.declared same h.0).ordered
-      (migrated_row old_style ∷ []) is.rows.old_style_is.0 (tt, tt))
-
-  -- the rows of `amends` are those of the requests
-  targets_only : (form : Earlier) (was old_style kept_are : ℕ) (amends : List Row) (F : List Request) (x y : Held S)
-      → IsEarlierOf form old_style F (state g a).now → IsUnchanged (state g a) (state g x)
-      → ReadsBeside g form was kept_are amends x y → amends ≡ joined_from amends_rows 1 (kept F)
-  targets_only Second was old_style kept_are amends F x y is same h =
-      h.2 ∙ sym is.rows.targets ∙ is.rows.are.amends_is
-  targets_only Third was old_style kept_are amends F x y is same h = h.2 ∙ sym is.rows.targets ∙ is.rows.are.amends_is
-  targets_only Fourth was old_style kept_are amends F x y is same h =
-      (gets_amends was amends x y is.rows.declared same h.0).ordered (joined_from amends_rows 1 (kept F))
-      (subst (TableHas (state g a).now amends_table) is.rows.are.amends_is is.rows.targets) (amends_rise 1 (kept F))
-
   module _ (e : Held S) (form : Earlier) (counts : Counts) (s : IsSurveyed g form counts a e) where
-    to_first : IsUnchanged (state g a) (state g s.mid)
-    to_first =
-        query_same all_meta query_meta [] (state g a) (state g s.mid) (form_row (form_number form) ∷ []) s.form_is.shown
-
-    to_second : IsUnchanged (state g a) (state g s.counted.mid)
-    to_second =
-        beside_same form counts.old_style counts.kept s.counted.amends s.mid s.counted.mid s.counted.beside_are to_first
-
     pub to_end : IsUnchanged (state g a) (state g e)
-    to_end = unchanged_then (state g a) (state g s.counted.mid) (state g e) to_second s.counted.totals_are.same
-
-    amounts : HasCommon (state g a).now.schema
-        → Amounts (record { kept = counts.kept; filings = counts.filings; catalogue = counts.catalogue })
-        s.counted.amends (state g a).now
-    amounts d =
-        subst (Amounts (record { kept = counts.kept; filings = counts.filings; catalogue = counts.catalogue })
-        s.counted.amends) to_second.0.now_is
-        (s.counted.totals_are.amounts (subst (λ (db : Database). HasCommon db.schema) (sym to_second.0.now_is) d))
-
-    meta_gets : HasCommon (state g a).now.schema
-        → Gets meta_table by_first (form_row (form_number form) ∷ []) (state g a).now
-    meta_gets d = (got_meta (state g a) (state g s.mid) (form_row (form_number form) ∷ []) d s.form_is.shown).1
+    to_end = s.same
 
     -- it is a register in that form
     pub survey_finds : BeginsWith (tables_of form) (state g a).now.schema → IsDatabase (state g a).now
-        → (F : List Request) × IsEarlierOf form counts.old_style F (state g a).now × (counts.kept ≡ length F)
-        × (counts.filings ≡ length (register F)) × (view_lines counts.catalogue ≡ catalogue_of F)
+        → (F : List Request) × IsEarlierOf form counts.old_style F (state g a).now × AreCountsOf counts F
     survey_finds d sound =
-        let common = common_in form (state g a).now.schema d in
-        let it = amounts common in (
+        let it = s.counted d in
+        let meta = meta_held g a (common_in (Some form) (state g a).now.schema d) (Some form) s.says in (
           it.requests,
           record {
             sound = sound;
-            rows = record {
-              declared = d;
-              meta_is = (meta_gets common).held;
-              amends = s.counted.amends;
-              targets =
-                  targets_hold form counts.old_style counts.kept s.counted.amends s.mid s.counted.mid d to_first
-                  s.counted.beside_are;
-              are = it.are;
-              old_style_is =
-                  old_style_holds form counts.old_style counts.kept (length it.requests) s.counted.amends s.mid
-                  s.counted.mid d to_first it.kept_is s.counted.beside_are;
-            };
+            rows = earlier_of counts.old_style it.requests (state g a).now form d meta it.holds;
           },
-          it.kept_is,
-          it.filings_is,
-          it.catalogue_is,
+          it.counts_are,
         )
 
     -- and no other
     pub form_only : (f : Earlier) (old_style : ℕ) (F : List Request) → IsEarlierOf f old_style F (state g a).now
         → form ≡ f
     form_only f old_style F is =
-        same_form form f (same_number (form_number form) (form_number f)
-        ((meta_gets (common_in f (state g a).now.schema is.rows.declared)).ordered (form_row (form_number f) ∷ [])
-        is.rows.meta_is (tt, tt)))
+        let same =
+        form_said g a (common_in (Some f) (state g a).now.schema is.rows.declared) (Some form) (Some f) s.says
+        is.rows.meta_is in cc
 
     -- one in the present form is none
     pub not_current : (old_style : ℕ) (F : List Request) → IsRegisterOf old_style F (state g a).now → ⊥
     not_current old_style F is =
-        earlier_number form (same_number (form_number form) 5
-        ((meta_gets (has_common (state g a).now.schema is.rows.rows.declared)).ordered (meta_row ∷ [])
-        is.rows.rows.meta_is (tt, tt)))
+        let same =
+        form_said g a (has_common (state g a).now.schema is.rows.rows.declared) (Some form) None s.says
+        is.rows.rows.meta_is in cc
 
     pub survey_only : (old_style : ℕ) (F : List Request) → IsEarlierOf form old_style F (state g a).now
-        → (counts.old_style ≡ old_style) × (counts.kept ≡ length F) × (counts.filings ≡ length (register F))
-        × (view_lines counts.catalogue ≡ catalogue_of F)
+        → (counts.old_style ≡ old_style) × AreCountsOf counts F
     survey_only old_style F is =
-        let it = amounts (common_in form (state g a).now.schema is.rows.declared) in
-        let same =
-        only_these it.requests s.counted.amends (state g a).now it.are F is.rows.are.distinct is.rows.are.kept_is
-        (targets_only form counts.old_style old_style counts.kept s.counted.amends F s.mid s.counted.mid is to_first
-        s.counted.beside_are) in
-        let many : counts.kept ≡ length F = it.kept_is ∙ ap length same in (
-          old_style_only form counts.old_style old_style counts.kept s.counted.amends F s.mid s.counted.mid is
-              to_first many s.counted.beside_are,
-          many,
-          it.filings_is ∙ ap (λ H. length (register H)) same,
-          it.catalogue_is
-              ∙ ap (λ H. catalogue_of H) same,
-        )
+        (s.counted is.rows.declared).only old_style F (holds_earlier old_style F (state g a).now form is.rows)
 
     -- the tables are those of the form that it tells
     pub form_alone : (f : Earlier) → IsAlone f (state g a).now.schema → is_blocked (state g e).now.schema form ≡ false
         → form ≡ f
     form_alone f alone free =
-        go form f s.counted.beside_are alone (subst (λ (db : Database). is_blocked db.schema form ≡ false)
-        to_end.0.now_is free)
+        go form f s.has alone (subst (λ (db : Database). is_blocked db.schema form ≡ false) to_end.0.now_is free)
       where
         blocked : (form : Earlier) (schema : Schema) → is_blocked schema form ≡ true → (state g a).now.schema ≡ schema
             → is_blocked (state g a).now.schema form ≡ false → ⊥
         blocked form schema blocks alone free =
             true≢false (sym blocks ∙ ap (λ t. is_blocked t form) (sym alone) ∙ free)
 
-        unread : (schema : Schema) (text : List ℕ) → is_text (understood schema text) ≡ false → (x y : Held S)
-            (rows : List Row) → IsUnchanged (state g a) (state g x) → (state g a).now.schema ≡ schema
-            → IsRead g text x y rows → ⊥
-        unread schema text none x y rows same alone h =
-            none_shown schema text none (state g x) (state g y) rows
-            (ap (λ (db : Database). db.schema) same.0.now_is ∙ alone) h.shown
-
-        go : (form f : Earlier)
-            → ReadsBeside g form counts.old_style counts.kept s.counted.amends s.mid s.counted.mid
+        go : (form f : Earlier) → HasBeside (Some form) (state g a).now.schema
             → IsAlone f (state g a).now.schema → is_blocked (state g a).now.schema form ≡ false → form ≡ f
-        go Second Second beside alone free = refl
-        go Second Third beside alone free = absurd (blocked Second sixth_schema third_blocks alone free)
-        go Second Fourth beside alone free = absurd (blocked Second seventh_schema fourth_blocks alone free)
-        go Third Second beside alone free =
-            absurd (unread fifth_schema all_migrated no_migrated s.mid s.counted.mid
-            (migrated_row counts.old_style ∷ []) to_first alone beside.0)
-        go Third Third beside alone free = refl
-        go Third Fourth beside alone free = absurd (blocked Third seventh_schema fourth_blocks_third alone free)
-        go Fourth Second beside alone free =
-            absurd (unread fifth_schema all_migrated no_migrated s.mid beside.0.0 (migrated_row counts.old_style ∷ [])
-            to_first alone beside.0.1)
-        go Fourth Third beside alone free =
-            absurd (unread sixth_schema all_amends no_amends beside.0.0 beside.0.2.0 s.counted.amends
-            (unchanged_then (state g a) (state g s.mid) (state g beside.0.0) to_first
-            (query_same all_migrated query_migrated [] (state g s.mid) (state g beside.0.0)
-            (migrated_row counts.old_style ∷ []) beside.0.1.shown)) alone beside.0.2.1)
-        go Fourth Fourth beside alone free = refl
+        go Second Second has alone free = refl
+        go Second Third has alone free = absurd (blocked Second sixth_schema third_blocks alone free)
+        go Second Fourth has alone free = absurd (blocked Second seventh_schema fourth_blocks alone free)
+        go Third Second has alone free =
+            absurd (none_known fifth_schema (state g a).now.schema all_migrated no_migrated alone has.0)
+        go Third Third has alone free = refl
+        go Third Fourth has alone free = absurd (blocked Third seventh_schema fourth_blocks_third alone free)
+        go Fourth Second has alone free =
+            absurd (none_known fifth_schema (state g a).now.schema all_migrated no_migrated alone has.0)
+        go Fourth Third has alone free =
+            absurd (none_known sixth_schema (state g a).now.schema all_amends no_amends alone has.1)
+        go Fourth Fourth has alone free = refl
+
+  -- where the rows stand for requests, a refusal is by memory or disk
+  pub survey_sound : (last : Held S) → a.step_limit ≡ None → (why : OpenFault) → IsNotSurveyed g why a last
+      → (f : Earlier) (old_style : ℕ) (F : List Request) → IsEarlierOf f old_style F (state g a).now → IsFailure why
+  survey_sound last unlimited fault.NotOurs (inl none) f old_style F is =
+      form_sound g a (common_in (Some f) (state g a).now.schema is.rows.declared) last (Some f) unlimited
+      is.rows.meta_is fault.NotOurs none
+  survey_sound last unlimited fault.NotOurs (inr current) f old_style F is =
+      absurd (let same : None ≡ Some f = form_said g a
+      (common_in (Some f) (state g a).now.schema is.rows.declared) None (Some f) current is.rows.meta_is in cc)
+  survey_sound last unlimited (fault.Damaged row) bad f old_style F is =
+      let same : Some bad.0 ≡ Some f =
+      form_said g a (common_in (Some f) (state g a).now.schema is.rows.declared) (Some bad.0) (Some f) bad.1
+      is.rows.meta_is in
+      let form : f ≡ bad.0 = cc in
+      absurd ((bad.2 (subst (λ k. BeginsWith (tables_of k) (state g a).now.schema) form is.rows.declared)).none
+      old_style
+      F (subst (λ k. HoldsIn (Some k) (state g a).now old_style F) form
+      (holds_earlier old_style F (state g a).now f is.rows)))
+  survey_sound last unlimited fault.Memory bad f old_style F is = inl refl
+  survey_sound last unlimited fault.Disk bad f old_style F is = inr refl
 
   -- ---- after the statements
 
@@ -463,9 +293,9 @@ module _ {S : Type 0} (g : Ghosts S) (a : Held S) where
             were = found.1;
             are = the_register counts.old_style found.0 (state g z) stands;
             undated = the_moments counts.old_style found.0 (state g z) stands;
-            kept_is = found.2;
-            filings_is = found.3;
-            catalogue_is = found.4;
+            kept_is = found.2.0;
+            filings_is = found.2.1;
+            catalogue_is = found.2.2;
           }
 
   module _ (z : Held S) (form f : Earlier) (counts : Counts) (m : IsMigrated g form counts a z)
@@ -484,7 +314,7 @@ module _ {S : Type 0} (g : Ghosts S) (a : Held S) where
         × (counts.filings ≡ length (register F)) × (view_lines counts.catalogue ≡ catalogue_of F)
     migrates_only =
         let only = survey_only it_was.mid f counts it_was.surveyed old_style F is in
-        (only.0, the_register old_style F (state g z) current_only, only.1, only.2, only.3)
+        (only.0, the_register old_style F (state g z) current_only, only.1.0, only.1.1, only.1.2)
 
   -- what a crash leaves of them
   module _ (trees : Trees) (m : MigratesTo g a trees) (f : Earlier) (old_style : ℕ) (F : List Request)

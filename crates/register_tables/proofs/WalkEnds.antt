@@ -1,36 +1,59 @@
--- What a walk comes to where nothing is left of the tables.
-use Rattle.std.proofs.Common.{◌≡◌, ℕ, ◌+◌, ◌++◌, List, [], Option, Some, None, IfSome, subst, sym, ap, ◌∙◌, append-nil}
-use Rattle.std.proofs.Common.{arith}
+-- What a walk comes to, and that it comes to the end of a register that stands.
+use Rattle.std.proofs.Common.{◌≡◌, ◌<◌, inl, inr, ℕ, ◌+◌, ◌++◌, suc, false, List, [], ◌∷◌, Some, length, subst}
+use Rattle.std.proofs.Common.{sym, ap, ◌∙◌, append-nil, length-append, arith, refl, pos, Bool, true, int_cmp, filter}
+use Rattle.std.specs.Ordering.{is_lt}
+use Rattle.std.proofs.lemmas.Int.{ints}
+use Rattle.sqlite.specs.Ops.{binary, is_true, from_truth}
+use Rattle.sqlite_value.proofs.OrderLemmas.{value_cmp-Int}
+use Rattle.table_rows.proofs.OrderLemmas.{and_true}
+use Rattle.std.proofs.lemmas.List.{append_cancel_left}
+use Rattle.std.proofs.lemmas.List.Sorted.{length_permutation}
 use Rattle.sqlite.specs.Order.{Row}
 use Rattle.sqlite.specs.Table.{Table}
 use Rattle.sqlite.specs.Effect.{Database}
+use Rattle.sqlite_keyed.proofs.ListLemmas.{IsPermutation-filter}
 use Rattle.filing_model.specs.Request.{Request}
-use Rattle.filing_model.specs.Register.{kept}
-use Rattle.table_rows.specs.Picking.{HasLeft}
-use Rattle.table_rows.specs.Rows.{TableHas}
+use Rattle.filing_model.specs.Register.{Kept, kept, judged}
+use Rattle.table_rows.specs.Picking.{HasLeft, rows_in}
+use Rattle.table_rows.specs.Rows.{TableHas, counted_from}
 use Rattle.table_rows.proofs.TakeLemmas.{all_taken}
 use Rattle.register_rows.specs.Catalogue.{catalogue_of, view_lines}
 use Rattle.register_rows.specs.declared.catalogue.Catalogue.{Catalogue}
-use Rattle.register_rows.specs.Register.{amends_rows, joined_from}
+use Rattle.register_rows.specs.Outcomes.{filings_by}
+use Rattle.register_rows.specs.Register.{amends_rows, finding_rows, filing_rows, fact_rows, joined_from, kept_row}
 use Rattle.register_rows.specs.Schema.{kept_table, finding_table, filing_table, fact_table}
+use Rattle.register_rows.proofs.MoreRequests.{kept_length}
+use Rattle.register_rows.proofs.SegmentLemmas.{length_counted}
+use Rattle.register_rows.proofs.StepsOfTargets.{no_amends}
 use Rattle.register_tables.specs.declared.opening.walk.Left.{Left}
 use Rattle.register_tables.specs.declared.opening.walk.Totals.{Totals}
-use Rattle.register_tables.specs.Walk.{Amounts, Walked}
+use Rattle.register_tables.specs.Reads.{is_early, HasEarly}
+use Rattle.register_tables.specs.Walk.{AreAllOf, Amounts, HasFactRows, IsFirstUnsound, IsUnsound, NonePasses, Passes}
+use Rattle.register_tables.specs.Walk.{Walked}
+use Rattle.register_tables.proofs.Leading.{alone_is, amends_left, behind, completed_is, facts_picked, filing_picked}
+use Rattle.register_tables.proofs.Leading.{findings_picked, kept_picked, rows_left}
 
 module _ (db : Database) (table : Table) (rows : List Row) where
   -- the table has these rows and no others
   none_left : (n : ℕ) → n ≡ 0 → HasLeft table rows n db → TableHas db table rows
   none_left n none has = all_taken table db rows (subst (λ m. HasLeft table rows m db) none has)
 
+  -- where it has them all, none is left
+  pub nothing_left : (n : ℕ) → HasLeft table rows n db → TableHas db table rows → n ≡ 0
+  nothing_left n has whole =
+      let all = length_permutation _ _ whole in
+      let had = length_permutation _ _ has.all in
+      let parts = length-append rows has.rest in
+      let many = has.many in
+      omega (arith, all, had, parts, many)
+
 -- the requests that were walked past are all, and the counts are theirs
 pub all_walked : (amends_are : List Row) (total : ℕ) (left : Left) (db : Database) (F : List Request)
     → Walked amends_are total total left db F → (catalogue : Catalogue) → view_lines catalogue ≡ catalogue_of F
-    → (found : Option Totals)
-    → IfSome found (λ counts. (counts.kept ≡ total) × (left.findings ≡ 0) × (left.filings ≡ 0) × (left.facts ≡ 0)
-    × (left.number ≡ counts.filings + 1) × (left.amends.now ≡ []) × (counts.catalogue ≡ catalogue))
-    → IfSome found (λ counts. Amounts counts amends_are db)
-all_walked amends_are total left db F w catalogue lines None says = tt
-all_walked amends_are total left db F w catalogue lines (Some counts) says =
+    → (counts : Totals) → (counts.kept ≡ total) × (left.findings ≡ 0) × (left.filings ≡ 0) × (left.facts ≡ 0)
+    × (left.number ≡ counts.filings + 1) × (left.amends.now ≡ []) × (counts.catalogue ≡ catalogue)
+    → Amounts counts amends_are db
+all_walked amends_are total left db F w catalogue lines counts says =
     let had = w.number_is in
     let next = says.4 in
     let all = w.in_all in
@@ -49,3 +72,156 @@ all_walked amends_are total left db F w catalogue lines (Some counts) says =
       filings_is = omega (arith, had, next);
       catalogue_is = ap (λ c. view_lines c) says.6 ∙ lines;
     }
+
+module _ (amends_are : List Row) (total count : ℕ) (left : Left) (db : Database) (F : List Request)
+    (w : Walked amends_are total count left db F) (all : List Request) (are : AreAllOf all amends_are db) where
+  -- as many are to be walked past as the requests are of which the tables have all rows
+  as_many : total ≡ length all
+  as_many =
+      let whole = length_permutation _ _ are.kept_is in
+      let had = length_permutation _ _ w.kept_is.all in
+      let parts = length-append (counted_from kept_row 1 (kept F)) w.kept_is.rest in
+      let many = w.kept_is.many in
+      let mine = length_counted kept_row 1 (kept F) in
+      let theirs = length_counted kept_row 1 (kept all) in
+      let my_kept = kept_length F w.distinct in
+      let their_kept = kept_length all are.distinct in
+      let counted = w.many in
+      let sum = w.in_all in
+      omega (arith, whole, had, parts, many, mine, theirs, my_kept, their_kept, counted, sum)
+
+  -- and none of these is unsound
+  pub goes_on : count < total → NonePasses F (suc count) left db → ⊥
+  goes_on within none = go (w.leads all are).0 (w.leads all are).1
+    where
+      go : (later : List Request) → all ≡ F ++ later → ⊥
+      go [] is =
+          let long = ap length is in
+          let parts = length-append F [] in
+          let many = as_many in
+          let counted = w.many in
+          omega (arith, long, parts, many, counted, within)
+      go (r ∷ later) is =
+          let held = subst (λ G. AreAllOf G amends_are db) is are in
+          let long = kept_length F w.distinct in
+          let counted = w.many in
+          let seq : suc (length (kept F)) ≡ suc count = omega (arith, long, counted) in
+          let once = w.distinct in
+          let whole = held.distinct in
+          let n = suc (length (kept F)) in
+          let k = judged (kept F) r in
+          let ks = behind F later r once whole in
+          let rest = joined_from amends_rows (n + 1) ks in
+          let tail : Left = record left {
+            amends = record left.amends { now = rest };
+            findings = length (joined_from finding_rows (n + 1) ks);
+            filings = length (joined_from filing_rows (n + 1) ks);
+            facts = length (joined_from fact_rows (n + 1) ks);
+            number = left.number + filings_by k.outcome;
+          } in
+          let passes : Passes F n left tail db r = record {
+            completed = completed_is F later r once whole amends_are db held;
+            kept_is = kept_picked F later r once whole amends_are db held;
+            alone = alone_is F later r once whole amends_are db held;
+            beyond = record {
+              finding_is = findings_picked F later r once whole amends_are db held;
+              filing_is = filing_picked F later r once whole amends_are db held;
+              fact_is =
+                  subst (λ m. HasFactRows k.outcome m (fact_rows n k) db) (sym w.number_is)
+                  (facts_picked F later r once whole amends_are db held);
+              findings_left =
+                  rows_left F later r once whole amends_are db held finding_table finding_rows left.findings
+                  held.finding_is w.finding_is;
+              filings_left =
+                  rows_left F later r once whole amends_are db held filing_table filing_rows left.filings
+                  held.filing_is w.filing_is;
+              facts_left =
+                  rows_left F later r once whole amends_are db held fact_table fact_rows left.facts held.fact_is
+                  w.fact_is;
+              number_is = refl;
+            };
+            amends_is = amends_left F later r once whole amends_are db held left.amends.now w.amends_is;
+            ends = no_amends n (n + 1) ks (omega arith);
+          } in
+          none r tail (subst (λ m. Passes F m left tail db r) seq passes)
+
+  -- nothing is left behind the last
+  pub ends_so : count ≡ total → (left.findings ≡ 0) × (left.filings ≡ 0) × (left.facts ≡ 0) × (left.amends.now ≡ [])
+  ends_so end = go (w.leads all are).0 (w.leads all are).1
+    where
+      same : all ≡ F → (left.findings ≡ 0) × (left.filings ≡ 0) × (left.facts ≡ 0) × (left.amends.now ≡ [])
+      same is =
+          let held = subst (λ G. AreAllOf G amends_are db) is are in (
+            nothing_left db finding_table _ left.findings w.finding_is held.finding_is,
+            nothing_left db filing_table _ left.filings w.filing_is held.filing_is,
+            nothing_left db fact_table _ left.facts w.fact_is held.fact_is,
+            append_cancel_left (joined_from amends_rows 1 (kept F)) _ _
+                (sym w.amends_is ∙ held.amends_is ∙ sym (append-nil _)),
+          )
+
+      go : (later : List Request) → all ≡ F ++ later
+          → (left.findings ≡ 0) × (left.filings ≡ 0) × (left.facts ≡ 0) × (left.amends.now ≡ [])
+      go [] is = same (is ∙ append-nil F)
+      go (r ∷ later) is =
+          let long = ap length is in
+          let parts = length-append F (r ∷ later) in
+          let many = as_many in
+          let counted = w.many in
+          absurd (omega (arith, long, parts, many, counted, end))
+
+-- where one is unsound, the tables have the rows of no requests
+pub none_stand : (amends_are : List Row) (row : ℕ) (db : Database) → IsFirstUnsound amends_are row db
+    → (all : List Request) → AreAllOf all amends_are db → ⊥
+none_stand amends_are row db first all are =
+    goes_on amends_are first.total (length first.before) first.left db first.before first.walked all are first.within
+    (subst (λ n. NonePasses first.before n first.left db) first.place first.unsound)
+
+-- a register that stands has no kept row before the first place
+truth_of : (b : Bool) → is_true (from_truth (Some b)) ≡ b
+truth_of true = refl
+truth_of false = refl
+
+not_early : (at : ℕ) (k : Kept) → 0 < at → is_early (kept_row at k) ≡ false
+unfolding binary
+not_early at k low = and_true _ ∙ truth_of _ ∙ ap is_lt (value_cmp-Int (pos at) (pos 1)) ∙ by_numbers
+  where
+    by_numbers : is_lt (int_cmp (pos at) (pos 1)) ≡ false
+    by_numbers = grind (arith, ints)
+
+none_early : (at : ℕ) (ks : List Kept) → 0 < at → filter is_early (counted_from kept_row at ks) ≡ []
+none_early at [] low = refl
+none_early at (k ∷ ks) low = rw (not_early at k low) (none_early (at + 1) ks (omega arith))
+
+pub early_stands_not : (amends_are : List Row) (db : Database) → HasEarly db → (all : List Request)
+    → AreAllOf all amends_are db → ⊥
+early_stands_not amends_are db early all are =
+    let same = length_permutation _ _ (IsPermutation-filter is_early _ (rows_in db kept_table) are.kept_is) in
+    let none = ap length (none_early 1 (kept all) (omega arith)) in
+    omega (arith, early, same, none)
+
+-- ---- why no amounts are found
+
+pub unsound_first : (amends_are : List Row) (row : ℕ) (db : Database) → IsFirstUnsound amends_are row db
+    → IsUnsound amends_are row db
+unsound_first amends_are row db first = record { none = none_stand amends_are row db first; told = inr (inr first) }
+
+pub unsound_early : (amends_are : List Row) (db : Database) → HasEarly db → IsUnsound amends_are 1 db
+unsound_early amends_are db early =
+    record { none = early_stands_not amends_are db early; told = inr (inl (refl, early)) }
+
+-- rows are left over behind the last
+pub unsound_left : (amends_are : List Row) (total : ℕ) (left : Left) (db : Database) (F : List Request)
+    → Walked amends_are total total left db F
+    → (left.findings ≡ 0 → left.filings ≡ 0 → left.facts ≡ 0 → left.amends.now ≡ [] → left.number ≡ 0)
+    → IsUnsound amends_are 0 db
+unsound_left amends_are total left db F w over = record {
+  none = λ all are.
+      let end = ends_so amends_are total total left db F w all are refl in
+      let none = over end.0 end.1 end.2 end.3 in
+      let next = w.number_is in
+      omega (arith, none, next);
+  told = inl (
+    refl,
+    record { requests = F; left = left; walked = subst (λ n. Walked amends_are n n left db F) (sym w.many) w },
+  );
+}

@@ -1,8 +1,12 @@
 -- A walk over a register's tables, from one kept request to the next.
-use Rattle.std.proofs.Common.{◌≡◌, inl, inr, ◌<◌, ◌≤◌, ℕ, ◌+◌, suc, pos, true, false, List, [], ◌∷◌, ◌++◌, map, filter}
-use Rattle.std.proofs.Common.{length, Option, Some, None, refl, sym, ap, ap₂, subst, ◌∙◌, IsPermutation, nat_eq, arith}
-use Rattle.std.proofs.Common.{append-nil, ⊎_elim, Bool, append_assoc, length-append, IfSome, Result, Ok, Err, IfOk}
-use Rattle.std.specs.Prelude.{bytes_eq}
+use Rattle.std.proofs.Common.{◌≡◌, ◌<◌, ◌≤◌, ◌⊎◌, inl, inr, ℕ, ◌+◌, suc, pos, true, false, List, [], ◌∷◌, ◌++◌, map}
+use Rattle.std.proofs.Common.{filter}
+use Rattle.std.proofs.Common.{length, Option, Some, None, refl, sym, ap, subst, ◌∙◌, IsPermutation, arith, MatchOption}
+use Rattle.sqlite.proofs.Callers.{one_permutation}
+use Rattle.std.proofs.lemmas.List.Sorted.{IsPermutation-sym, IsPermutation-trans}
+use Rattle.table_rows.proofs.OrderLemmas.{counted_rise}
+use Rattle.std.specs.Prelude.{OnSome}
+use Rattle.std.proofs.Common.{append-nil, ⊎_elim, true≢false, Bool, append_assoc, length-append, IfSome, IsTrue, ◌↔◌}
 use Rattle.std.proofs.lemmas.Bool.{cases_Bool}
 use Rattle.std.proofs.lemmas.List.Sorted.{length_permutation}
 use Rattle.std.proofs.lemmas.List.Elements.{filter-append}
@@ -10,19 +14,16 @@ use Rattle.sqlite.specs.declared.types.Value.TheVariants.{Int}
 use Rattle.sqlite.specs.Order.{Row}
 use Rattle.xbrl_report.specs.Pair.{Pair}
 use Rattle.filing_model.specs.Request.{Request, same_key, has_key, firsts}
-use Rattle.filing_model.specs.Register.{Kept, kept, Outcome, Filing, filings, kept_after, judged, register}
-use Rattle.filing_model.specs.Views.{the_request}
+use Rattle.filing_model.specs.Register.{Kept, kept, Outcome, filings, kept_after, judged, register}
 use Rattle.filing_model.proofs.Firsts.{firsts_new, same_key-refl}
-use Rattle.filing_model.proofs.Keeping.{requests_of_kept, kept_new, register_numbered, all_push}
+use Rattle.filing_model.proofs.Keeping.{requests_of_kept, kept_new, all_push}
 use Rattle.table_rows.specs.Rows.{counted_from}
-use Rattle.table_rows.proofs.OrderLemmas.{same_text, same_number, and_true, lower_apart}
-use Rattle.register_rows.specs.Schema.{kept_table, finding_table, HasCommon, filing_table, fact_table}
-use Rattle.register_rows.specs.Outcomes.{filings_by, outcome_of}
+use Rattle.register_rows.specs.Schema.{kept_table, finding_table, filing_table, fact_table}
+use Rattle.register_rows.specs.Outcomes.{filings_by, outcome_of, request_outcome}
 use Rattle.register_rows.specs.Register.{kept_row, finding_row, finding_rows, findings_of, amends_rows, amends_rows_by}
 use Rattle.register_rows.specs.Register.{joined_from, IsCompleted, filing_rows, filing_rows_by, fact_row, fact_rows}
 use Rattle.register_rows.specs.Register.{fact_rows_by}
-use Rattle.register_tables.specs.Reads.{has_texts}
-use Rattle.std.specs.List.{AllByRecursion, range_with_len}
+use Rattle.std.specs.List.{AllByRecursion}
 use Rattle.sqlite.specs.Table.{Table}
 use Rattle.sqlite.specs.Effect.{Database}
 use Rattle.sqlite_keyed.proofs.ListLemmas.{IsPermutation-filter}
@@ -34,103 +35,16 @@ use Rattle.xbrl_report.specs.declared.judging.Judged.{Judged}
 use Rattle.register_rows.specs.declared.filed.Filed.{Filed}
 use Rattle.register_tables.specs.declared.opening.walk.Left.{Left}
 use Rattle.register_tables.specs.declared.opening.walk.Sizes.{Sizes}
-use Rattle.sqlite.specs.declared.error.Error.{Error}
-use Rattle.register_rows.specs.Audit.{request_outcome}
-use Rattle.register_rows.specs.Columns.{request_in}
+use Rattle.register_rows.specs.Columns.{begins_with, request_in}
 use Rattle.register_rows.specs.Filed.{AreFiled}
 use Rattle.table_rows.specs.Picking.{has_number, rows_in, Picks, CountsTo, Finds, HasLeft}
-use Rattle.register_tables.specs.Walk.{Beyond, Passes, Walked}
-use Rattle.register_rows.proofs.AuditSteps.{joined_append, counted_append, one_filing}
-use Rattle.register_rows.proofs.MoreRequests.{kept_length, registered_more}
+use Rattle.register_tables.specs.Reads.{by_second, has_second, has_texts, PicksInOrder}
+use Rattle.register_tables.specs.Walk.{AreAllOf, Beyond, HasFactRows, IsBeyond, IsNext, IsPast, NonePasses, Passes}
+use Rattle.register_tables.specs.Walk.{Walked}
+use Rattle.register_rows.proofs.MoreRequests.{joined_append, counted_append, one_filing, kept_length, registered_more}
 use Rattle.register_rows.proofs.SegmentLemmas.{length_counted}
-
--- ---- the row of a filer and key
-
-module _ (filer key : List ℕ) (target : Option ℕ) (body : List ℕ) where
-  abbrev r : Request
-  r = the_request filer key target body
-
-  pub has_its : (at : ℕ) (k : Kept) → has_texts filer key (kept_row at k) ≡ same_key k.request r
-  has_its at k =
-      rw (same_text k.request.filer filer, same_text k.request.key key, and_true (bytes_eq k.request.key key)) refl
-
--- ---- rows of requests before
-
-kept_number : (n at : ℕ) (k : Kept) → has_number n (kept_row at k) ≡ nat_eq at n
-kept_number n at k = and_true _ ∙ same_number at n
-
-filing_number : (n m at : ℕ) → has_number n (Int (pos m) ∷ Int (pos at) ∷ []) ≡ nat_eq m n
-filing_number n m at = and_true _ ∙ same_number m n
-
-no_kept : (n at : ℕ) (ks : List Kept) → at + length ks ≤ n → filter (has_number n) (counted_from kept_row at ks) ≡ []
-no_kept n at [] low = refl
-no_kept n at (k ∷ ks) low =
-    rw (kept_number n at k ∙ lower_apart n at (omega (arith, low))) (no_kept n (at + 1) ks (omega (arith, low)))
-
-none_counted : {X : Type 0} (n m : ℕ) (made : ℕ → X → Row) → ((i : ℕ) (x : X) → has_number n (made i x) ≡ nat_eq m n)
-    → m < n → (at : ℕ) (xs : List X) → filter (has_number n) (counted_from made at xs) ≡ []
-none_counted n m made is low at [] = refl
-none_counted n m made is low at (x ∷ xs) = rw (is at x ∙ lower_apart n m low) (none_counted n m made is low (at + 1) xs)
-
-no_finding : (n at : ℕ) (ks : List Kept) → at + length ks ≤ n
-    → filter (has_number n) (joined_from finding_rows at ks) ≡ []
-no_finding n at [] low = refl
-no_finding n at (k ∷ ks) low =
-    filter-append (has_number n) (finding_rows at k) (joined_from finding_rows (at + 1) ks)
-    ∙ ap₂ ◌++◌ (none_counted n at (finding_row at) (λ i f. and_true _
-    ∙ same_number at n) (omega (arith, low)) 1 (findings_of k.outcome))
-    (no_finding n (at + 1) ks (omega (arith, low)))
-
--- the number, if it is a filing, is lower
-abbrev Below : ℕ → Outcome → Type 0
-Below n (Registered m) = m < n
-Below n (Refused found) = Unit {0}
-
-no_filing : (n at : ℕ) (ks : List Kept) → AllByRecursion (λ k. Below n k.outcome) ks
-    → filter (has_number n) (joined_from filing_rows at ks) ≡ []
-no_filing n at [] low = refl
-no_filing n at (k ∷ ks) low =
-    filter-append (has_number n) (filing_rows at k) (joined_from filing_rows (at + 1) ks)
-    ∙ ap₂ ◌++◌ (one k.outcome low.0) (no_filing n (at + 1) ks low.1)
-  where
-    one : (o : Outcome) → Below n o → filter (has_number n) (filing_rows_by at o) ≡ []
-    one (Registered m) below = rw (filing_number n m at ∙ lower_apart n m below) refl
-    one (Refused found) below = refl
-
-no_fact : (n at : ℕ) (ks : List Kept) → AllByRecursion (λ k. Below n k.outcome) ks
-    → filter (has_number n) (joined_from fact_rows at ks) ≡ []
-no_fact n at [] low = refl
-no_fact n at (k ∷ ks) low =
-    filter-append (has_number n) (fact_rows at k) (joined_from fact_rows (at + 1) ks)
-    ∙ ap₂ ◌++◌ (one (facts k.request.body) k.outcome low.0) (no_fact n (at + 1) ks low.1)
-  where
-    one : (all : List FactRecord) (o : Outcome) → Below n o → filter (has_number n) (fact_rows_by all o) ≡ []
-    one all (Registered m) below = none_counted n m (fact_row m) (λ i f. and_true _ ∙ same_number m n) below 1 all
-    one all (Refused found) below = refl
-
-abbrev Counted : ℕ → List Filing → Type 0
-Counted m fs = map (λ (f : Filing). f.number) fs ≡ range_with_len m (length fs)
-
-numbers_below : (m n : ℕ) (ks : List Kept) → Counted m (filings ks) → m + length (filings ks) ≤ n
-    → AllByRecursion (λ (k : Kept). Below n k.outcome) ks
-unfolding filings
-numbers_below m n [] counted low = tt
-numbers_below m n (k ∷ ks) counted low = go k.outcome (numbers_below (m + 1) n ks) (numbers_below m n ks) counted low
-  where
-    go : (o : Outcome) → (Counted (m + 1) (filings ks) → (m + 1) + length (filings ks) ≤ n
-        → AllByRecursion (λ (k : Kept). Below n k.outcome) ks)
-        → (Counted m (filings ks) → m + length (filings ks) ≤ n → AllByRecursion (λ (k : Kept). Below n k.outcome) ks)
-        → Counted m (filings (record { request = k.request; outcome = o } ∷ ks))
-        → m + length (filings (record { request = k.request; outcome = o } ∷ ks)) ≤ n
-        → Below n o × AllByRecursion (λ (k : Kept). Below n k.outcome) ks
-    go (Registered number) more same c l =
-        let first : number ≡ m = cc in
-        let rest : Counted (m + 1) (filings ks) = cc in
-        (omega (arith, first, l), more rest (omega (arith, l)))
-    go (Refused found) more same c l = (tt, same c l)
-
-all_below : (F : List Request) → AllByRecursion (λ (k : Kept). Below (suc (length (register F))) k.outcome) (kept F)
-all_below F = numbers_below 1 (suc (length (register F))) (kept F) (register_numbered F) (omega arith)
+use Rattle.register_tables.proofs.Leading.{picks_of, same_request_as}
+use Rattle.register_tables.proofs.WalkRows.{IsApart, all_apart, has_its, no_fact, no_filing, no_finding, no_kept}
 
 -- ---- the filer and key
 
@@ -205,14 +119,44 @@ module _ (amends_are : List Row) (total count : ℕ) (left tail : Left) (db : Da
 
   left_of : (table : Table) (p : Row → Bool) (rows : ℕ → Kept → List Row) (n m : ℕ)
       → HasLeft table (joined_from rows 1 (kept F)) n db → filter p (joined_from rows 1 (kept F)) ≡ []
-      → Finds table p (rows (count + 1) k) db
-      → n ≡ m + length (rows (count + 1) k) → HasLeft table (joined_from rows 1 (kept (F ++ r ∷ []))) m db
+      → Finds table p (rows (count + 1) k) db → n ≡ m + length (rows (count + 1) k) → HasLeft table
+      (joined_from rows 1 (kept (F ++ r ∷ []))) m db
   left_of table p rows n m had none finds fits =
       subst (λ l. HasLeft table l m db) (sym (joined_is rows))
       (left_after table db p (joined_from rows 1 (kept F)) (rows (count + 1) k) n m had none finds fits)
 
-  lower : AllByRecursion (λ (x : Kept). Below left.number x.outcome) (kept F)
-  lower = subst (λ n. AllByRecursion (λ (x : Kept). Below n x.outcome) (kept F)) (sym was.number_is) (all_below F)
+  apart : AllByRecursion (λ (x : Kept). IsApart left.number x.outcome) (kept F)
+  apart = subst (λ n. AllByRecursion (λ (x : Kept). IsApart n x.outcome) (kept F)) (sym was.number_is) (all_apart F)
+
+  facts_found : (o : Outcome) (rows : List Row) → HasFactRows o left.number rows db
+      → Finds fact_table (has_number left.number) rows db
+  facts_found (Registered n) rows found = inr found
+  facts_found (Refused found) rows none = inl none
+
+  -- requests of which the tables have all rows go on with this one
+  leads : (all : List Request) → AreAllOf all amends_are db → (later : List Request) × (all ≡ (F ++ r ∷ []) ++ later)
+  leads all are = go (was.leads all are).0 (was.leads all are).1
+    where
+      go : (later : List Request) → all ≡ F ++ later → (more : List Request) × (all ≡ (F ++ r ∷ []) ++ more)
+      go [] is =
+          let m = many_kept in
+          let held = subst (λ G. AreAllOf G amends_are db) (is ∙ append-nil F) are in
+          let none : Picks kept_table (has_number (count + 1)) [] db =
+          picks_of kept_table (has_number (count + 1)) _ [] db held.kept_is
+          (no_kept (count + 1) 1 (kept F) (omega (arith, m))) in
+          let one = length_permutation _ _ now.kept_is in
+          let zero = length_permutation _ _ none in
+          absurd (omega (arith, one, zero))
+      go (s ∷ later) is =
+          let m = many_kept in
+          let seq : count + 1 ≡ suc (length (kept F)) = omega (arith, m) in
+          let held = subst (λ G. AreAllOf G amends_are db) is are in
+          let same : s ≡ r =
+          same_request_as F later s was.distinct held.distinct amends_are db held r left.amends.now tail.amends.now
+          was.amends_is (subst (λ n. Picks kept_table (has_number n) (kept_row n k ∷ []) db) seq now.kept_is)
+          (now.amends_is ∙ ap (λ n. amends_rows_by n r.target ++ tail.amends.now) seq)
+          (ap (λ n. begins_with 0 n tail.amends.now) (sym seq) ∙ now.ends) in
+          (later, is ∙ ap (λ q. F ++ q ∷ later) same ∙ sym (append_assoc F (r ∷ []) later))
 
   filings_more : length (register (F ++ r ∷ [])) ≡ length (register F) + filings_by k.outcome
   filings_more = registered_more F r new
@@ -247,16 +191,19 @@ module _ (amends_are : List Row) (total count : ℕ) (left tail : Left) (db : Da
         };
         finding_is =
             left_of finding_table (has_number (count + 1)) finding_rows left.findings tail.findings was.finding_is
-            (no_finding (count + 1) 1 (kept F) (omega (arith, m))) now.beyond.finding_is now.beyond.findings_left;
+            (no_finding (count + 1) 1 (kept F) (omega (arith, m))) (inr now.beyond.finding_is)
+            now.beyond.findings_left;
         filing_is =
-            left_of filing_table (has_number left.number) filing_rows left.filings tail.filings was.filing_is
-            (no_filing left.number 1 (kept F) lower) now.beyond.filing_is now.beyond.filings_left;
+            left_of filing_table (has_second (count + 1)) filing_rows left.filings tail.filings was.filing_is
+            (no_filing (count + 1) 1 (kept F) (omega (arith, m))) (inr now.beyond.filing_is) now.beyond.filings_left;
         fact_is =
             left_of fact_table (has_number left.number) fact_rows left.facts tail.facts was.fact_is
-            (no_fact left.number 1 (kept F) lower) now.beyond.fact_is now.beyond.facts_left;
+            (no_fact left.number 1 (kept F) apart) (facts_found k.outcome (fact_rows (count + 1) k) now.beyond.fact_is)
+            now.beyond.facts_left;
         amends_is = was.amends_is ∙ ap (λ l. joined_from amends_rows 1 (kept F) ++ l) now.amends_is
             ∙ sym (append_assoc (joined_from amends_rows 1 (kept F)) (amends_rows (count + 1) k) tail.amends.now)
             ∙ ap (λ l. l ++ tail.amends.now) (sym (joined_is amends_rows));
+        leads = leads;
       }
 
   -- the filings are those of the requests with this one
@@ -283,88 +230,149 @@ none_walked amends_are total left db first same kept_are findings_are filings_ar
   filing_is = none_taken filing_table db left.filings filings_are;
   fact_is = none_taken fact_table db left.facts facts_are;
   amends_is = sym same;
+  leads = λ all are. (all, refl);
 }
 
 pub none_filed : (filed : Filed) → AreFiled [] filed → AreFiled (kept []) filed
 unfolding firsts kept_after filings
 none_filed filed are = are
 
+-- ---- what is found
+
+-- rows that come in their order are those that are wanted, or the table has others
+pub found_items : {X : Type 0} (table : Table) (keep : Row → Bool) (made : ℕ → X → Row)
+    → ((at : ℕ) (x : X) → by_second (made at x) ≡ Int (pos at) ∷ []) → (xs : List X) (rows : List Row) (found : Bool)
+    → IsTrue found ↔ (rows ≡ counted_from made 1 xs) → (db : Database) → PicksInOrder table keep rows db
+    → IsTrue found ↔ Picks table keep (counted_from made 1 xs) db
+found_items table keep made sorts xs rows found is db p = (
+  λ yes. subst (λ l. Picks table keep l db) (is.0 yes) p.picks,
+  λ there. is.1 (p.ordered (counted_from made 1 xs) there (counted_rise made by_second sorts 1 xs)),
+)
+
+short_same : {X : Type 0} (xs ys : List X) → IsPermutation xs ys → length xs ≤ 1 → ys ≡ xs
+short_same [] [] same few = refl
+short_same [] (y ∷ ys) same few = absurd (omega (arith, length_permutation _ _ same))
+short_same (x ∷ []) ys same few = one_permutation x ys same
+short_same (x ∷ z ∷ xs) ys same few = absurd (omega (arith, few))
+
+-- one row, or none, has no order
+pub found_few : (table : Table) (keep : Row → Bool) (wanted rows : List Row) (found : Bool) → length wanted ≤ 1
+    → IsTrue found ↔ (rows ≡ wanted) → (db : Database) → Picks table keep rows db
+    → IsTrue found ↔ Picks table keep wanted db
+found_few table keep wanted rows found few is db picked = (
+  λ yes. subst (λ l. Picks table keep l db) (is.0 yes) picked,
+  λ there. is.1 (short_same wanted rows (IsPermutation-trans _ _ _ (IsPermutation-sym _ _ there) picked) few),
+)
+
 -- ---- what is passed by
 
-pub beyond_refused : (seq : ℕ) (left : Left) (found : Option Left) (fs : List Pair) (db : Database)
-    → Picks finding_table (has_number seq) (counted_from (finding_row seq) 1 fs) db
-    → IfSome found (λ tail. (left.findings ≡ tail.findings + length fs) × (tail.filings ≡ left.filings)
-    × (tail.facts ≡ left.facts) × (tail.number ≡ left.number) × (tail.amends.now ≡ left.amends.now))
-    → IfSome found (λ tail. (k : Kept) → k.outcome ≡ Refused fs → Beyond seq k left tail db)
-beyond_refused seq left None fs db picked says = tt
-beyond_refused seq left (Some tail) fs db picked says = λ k is.
-    let size : length (finding_rows seq k) ≡ length fs =
-    ap (λ o. length (counted_from (finding_row seq) 1 (findings_of o))) is
-    ∙ length_counted (finding_row seq) 1 fs in
-    let no_filings : length (filing_rows seq k) ≡ 0 = ap (λ o. length (filing_rows_by seq o)) is in
-    let no_facts : length (fact_rows seq k) ≡ 0 = ap (λ o. length (fact_rows_by (facts k.request.body) o)) is in
-    let none : filings_by k.outcome ≡ 0 = ap filings_by is in
-    let one = says.0 in
-    let two = says.1 in
-    let three = says.2 in
-    let four = says.3 in
-    record {
-      finding_is =
-          inr (subst (λ o. Picks finding_table (has_number seq) (counted_from (finding_row seq) 1 (findings_of o)) db)
-          (sym is) picked);
-      filing_is = inl (ap (filing_rows_by seq) is);
-      fact_is = inl (ap (fact_rows_by (facts k.request.body)) is);
-      findings_left = omega (arith, size, one);
-      filings_left = omega (arith, no_filings, two);
-      facts_left = omega (arith, no_facts, three);
-      number_is = omega (arith, none, four);
-    }
+pub not_found : {P : Type 0} (found : Bool) → found ≡ false → IsTrue found ↔ P → P → ⊥
+not_found found none is p = true≢false (sym (is.1 p) ∙ none)
 
-pub beyond_registered : (seq : ℕ) (left : Left) (found : Option Left) (all : List FactRecord) (db : Database)
-    → Picks filing_table (has_number left.number) ((Int (pos left.number) ∷ Int (pos seq) ∷ []) ∷ []) db
-    → Picks fact_table (has_number left.number) (counted_from (fact_row left.number) 1 all) db
-    → IfSome found (λ tail. (tail.findings ≡ left.findings) × (left.filings ≡ tail.filings + 1)
-    × (left.facts ≡ tail.facts + length all) × (tail.number ≡ left.number + 1)
-    × (tail.amends.now ≡ left.amends.now))
-    → IfSome found (λ tail. (k : Kept) → k.outcome ≡ Registered left.number → all ≡ facts k.request.body
-    → Beyond seq k left tail db)
-beyond_registered seq left None all db here picked says = tt
-beyond_registered seq left (Some tail) all db here picked says = λ k is same.
-    let rows_are : fact_rows seq k ≡ counted_from (fact_row left.number) 1 all =
-    ap (fact_rows_by (facts k.request.body)) is ∙ ap (counted_from (fact_row left.number) 1) (sym same) in
-    let size : length (fact_rows seq k) ≡ length all =
-    ap length rows_are ∙ length_counted (fact_row left.number) 1 all in
-    let no_findings : length (finding_rows seq k) ≡ 0 =
-    ap (λ o. length (counted_from (finding_row seq) 1 (findings_of o))) is in
-    let filing : length (filing_rows seq k) ≡ 1 = ap (λ o. length (filing_rows_by seq o)) is in
-    let by : filings_by k.outcome ≡ 1 = ap filings_by is in
-    let one = says.0 in
-    let two = says.1 in
-    let three = says.2 in
-    let four = says.3 in
-    record {
-      finding_is = inl (ap (λ o. counted_from (finding_row seq) 1 (findings_of o)) is);
-      filing_is =
-          inr (subst (λ o. Picks filing_table (has_number left.number) (filing_rows_by seq o) db) (sym is) here);
-      fact_is = inr (subst (λ l. Picks fact_table (has_number left.number) l db) (sym rows_are) picked);
-      findings_left = omega (arith, no_findings, one);
-      filings_left = omega (arith, filing, two);
-      facts_left = omega (arith, size, three);
-      number_is = omega (arith, by, four);
-    }
+module _ (seq : ℕ) (left : Left) (db : Database) where
+  -- a refused request, whose findings are found or not, and so are filings of it
+  pub beyond_refused : (fs : List Pair) (found : Option Left)
+      → Picks finding_table (has_number seq) (counted_from (finding_row seq) 1 fs) db
+      → Picks filing_table (has_second seq) [] db
+      → MatchOption found (left.findings < length fs) (λ tail. (left.findings ≡ tail.findings + length fs)
+      × (tail.filings ≡ left.filings) × (tail.facts ≡ left.facts) × (tail.number ≡ left.number)
+      × (tail.amends.now ≡ left.amends.now)) → (k : Kept) → k.outcome ≡ Refused fs → IsBeyond seq k left found db
+  beyond_refused fs found findings filings says k is = go found says
+    where
+      size : length (finding_rows seq k) ≡ length fs
+      size = ap (λ o. length (counted_from (finding_row seq) 1 (findings_of o))) is
+          ∙ length_counted (finding_row seq) 1 fs
 
--- at the kept request itself
-pub at_kept : (P : Kept → Left → Type 0) (Given : Kept → Type 0) (k : Kept) → Given k → (passed : Option Left)
-    → IfSome passed (λ tail. (x : Kept) → Given x → P x tail) → IfSome passed (P k)
-at_kept P Given k is None says = tt
-at_kept P Given k is (Some tail) says = says k is
+      no_filings : length (filing_rows seq k) ≡ 0
+      no_filings = ap (λ o. length (filing_rows_by seq o)) is
 
-pub at_filed : (P : Kept → Left → Type 0) (Given Has : Kept → Type 0) (k : Kept) → Given k → Has k
-    → (passed : Option Left) → IfSome passed (λ tail. (x : Kept) → Given x → Has x → P x tail) → IfSome passed (P k)
-at_filed P Given Has k is has None says = tt
-at_filed P Given Has k is has (Some tail) says = says k is has
+      no_facts : length (fact_rows seq k) ≡ 0
+      no_facts = ap (λ o. length (fact_rows_by (facts k.request.body) o)) is
+
+      go : (found : Option Left) → MatchOption found (left.findings < length fs) (λ tail.
+          (left.findings ≡ tail.findings + length fs) × (tail.filings ≡ left.filings) × (tail.facts ≡ left.facts)
+          × (tail.number ≡ left.number) × (tail.amends.now ≡ left.amends.now)) → IsBeyond seq k left found db
+      go None few = λ tail past. let had = past.findings_left in let many = size in omega (arith, had, many, few)
+      go (Some tail) says =
+          let one = says.0 in
+          let two = says.1 in
+          let three = says.2 in
+          let four = says.3 in
+          let many = size in
+          let none = no_filings in
+          let neither = no_facts in
+          let by : filings_by k.outcome ≡ 0 = ap filings_by is in
+          record {
+            finding_is =
+                subst (λ o. Picks finding_table (has_number seq) (counted_from (finding_row seq) 1 (findings_of o)) db)
+                (sym is) findings;
+            filing_is = subst (λ o. Picks filing_table (has_second seq) (filing_rows_by seq o) db) (sym is) filings;
+            fact_is = subst (λ o. HasFactRows o left.number (fact_rows_by (facts k.request.body) o) db) (sym is) refl;
+            findings_left = omega (arith, many, one);
+            filings_left = omega (arith, none, two);
+            facts_left = omega (arith, neither, three);
+            number_is = omega (arith, by, four);
+          }
+
+  -- a registered one
+  pub beyond_registered : (all : List FactRecord) (found : Option Left)
+      → Picks finding_table (has_number seq) [] db
+      → Picks filing_table (has_second seq) ((Int (pos left.number) ∷ Int (pos seq) ∷ []) ∷ []) db
+      → Picks fact_table (has_number left.number) (counted_from (fact_row left.number) 1 all) db
+      → MatchOption found ((left.filings ≡ 0) ⊎ (left.facts < length all)) (λ tail. (tail.findings ≡ left.findings)
+      × (left.filings ≡ tail.filings + 1) × (left.facts ≡ tail.facts + length all)
+      × (tail.number ≡ left.number + 1) × (tail.amends.now ≡ left.amends.now)) → (k : Kept)
+      → k.outcome ≡ Registered left.number → all ≡ facts k.request.body → IsBeyond seq k left found db
+  beyond_registered all found findings filing picked says k is same = go found says
+    where
+      rows_are : fact_rows seq k ≡ counted_from (fact_row left.number) 1 all
+      rows_are = ap (fact_rows_by (facts k.request.body)) is ∙ ap (counted_from (fact_row left.number) 1) (sym same)
+
+      size : length (fact_rows seq k) ≡ length all
+      size = ap length rows_are ∙ length_counted (fact_row left.number) 1 all
+
+      one_row : length (filing_rows seq k) ≡ 1
+      one_row = ap (λ o. length (filing_rows_by seq o)) is
+
+      no_findings : length (finding_rows seq k) ≡ 0
+      no_findings = ap (λ o. length (counted_from (finding_row seq) 1 (findings_of o))) is
+
+      go : (found : Option Left) → MatchOption found ((left.filings ≡ 0) ⊎ (left.facts < length all)) (λ tail.
+          (tail.findings ≡ left.findings) × (left.filings ≡ tail.filings + 1) × (left.facts ≡ tail.facts + length all)
+          × (tail.number ≡ left.number + 1) × (tail.amends.now ≡ left.amends.now)) → IsBeyond seq k left found db
+      go None (inl none) = λ tail past. let had = past.filings_left in let one = one_row in omega
+          (arith, had, one, none)
+      go None (inr few) = λ tail past. let had = past.facts_left in let many = size in omega (arith, had, many, few)
+      go (Some tail) says =
+          let one = says.0 in
+          let two = says.1 in
+          let three = says.2 in
+          let four = says.3 in
+          let many = size in
+          let single = one_row in
+          let none = no_findings in
+          let by : filings_by k.outcome ≡ 1 = ap filings_by is in
+          record {
+            finding_is =
+                subst (λ o. Picks finding_table (has_number seq) (counted_from (finding_row seq) 1 (findings_of o)) db)
+                (sym is) findings;
+            filing_is = subst (λ o. Picks filing_table (has_second seq) (filing_rows_by seq o) db) (sym is) filing;
+            fact_is =
+                subst (λ o. HasFactRows o left.number (fact_rows seq k) db) (sym is)
+                (subst (λ l. Picks fact_table (has_number left.number) l db) (sym rows_are) picked);
+            findings_left = omega (arith, none, one);
+            filings_left = omega (arith, single, two);
+            facts_left = omega (arith, many, three);
+            number_is = omega (arith, by, four);
+          }
 
 -- ---- a kept row, judged after these requests
+
+-- a row with what is beside it
+pub past_row : (seq : ℕ) (row : Row) (k : Kept) (left : Left) (passed : Option Left) (db : Database)
+    → row ≡ kept_row seq k → IsBeyond seq k left passed db → IsPast seq row k left passed db
+past_row seq row k left None db is none = λ _. none
+past_row seq row k left (Some tail) db is beyond = (is, beyond)
 
 -- a request that was judged so is the next of them
 pub judged_so : (F : List Request) (r : Request) (j : Judged) (number : ℕ) → number ≡ suc (length (register F))
@@ -373,77 +381,115 @@ pub judged_so : (F : List Request) (r : Request) (j : Judged) (number : ℕ) →
 judged_so F r j number is told = ap (request_outcome r) (ap (λ n. outcome_of n j) is ∙ sym told)
 
 -- as many rows are left, but for those of `amends`, and the next filing has the same number
-abbrev LeavesAsMany : Left → Left → Type 0
+abbrev pub LeavesAsMany : Left → Left → Type 0
 LeavesAsMany left other =
     (left.findings ≡ other.findings) × (left.filings ≡ other.filings) × (left.facts ≡ other.facts)
     × (other.number ≡ left.number)
 
-beyond_both : (seq : ℕ) (k : Kept) (left other tail : Left) (db : Database) → LeavesAsMany left other
+pub beyond_both : (seq : ℕ) (k : Kept) (left other tail : Left) (db : Database) → LeavesAsMany left other
     → Beyond seq k other tail db → Beyond seq k left tail db
 beyond_both seq k left other tail db same past = record {
   finding_is = past.finding_is;
-  filing_is = subst (λ n. Finds filing_table (has_number n) (filing_rows seq k) db) same.3 past.filing_is;
-  fact_is = subst (λ n. Finds fact_table (has_number n) (fact_rows seq k) db) same.3 past.fact_is;
+  filing_is = past.filing_is;
+  fact_is = subst (λ n. HasFactRows k.outcome n (fact_rows seq k) db) same.3 past.fact_is;
   findings_left = same.0 ∙ past.findings_left;
   filings_left = same.1 ∙ past.filings_left;
   facts_left = same.2 ∙ past.facts_left;
   number_is = past.number_is ∙ ap (λ n. n + filings_by k.outcome) same.3;
 }
 
-module _ (F : List Request) (seq : ℕ) (left : Left) (row : Row) (held : Filed) where
-  abbrev next : Option ℕ → Kept
-  next target = judged (kept F) (request_in target row)
-
-  -- the row is the next one's, and the filings that are held are those with it
-  abbrev IsNext : Option ℕ → Type 0
-  IsNext target = (row ≡ kept_row seq (next target)) × AreFiled (kept F ++ next target ∷ []) held
-
-  -- so it is, behind its row of `amends`, and beyond the other rows where the disk is clean
-  abbrev IsPassed : Type 0 → Database → Left → Type 0
-  IsPassed Clean db tail =
-      (target : Option ℕ) × IsCompleted (request_in target row) × (row ≡ kept_row seq (next target))
-      × (left.amends.now ≡ amends_rows_by seq target ++ tail.amends.now) × AreFiled (kept F ++ next target ∷ []) held
-      × (Clean → HasCommon db.schema → Beyond seq (next target) left tail db)
-
-  pub judged_passes : (Clean : Type 0) (db : Database) (target : Option ℕ) (other : Left) → LeavesAsMany left other
-      → IsCompleted (request_in target row)
-      → left.amends.now ≡ amends_rows_by seq target ++ other.amends.now → (result : Result (Option Left) Error)
-      → IfOk result (λ passed. IfSome passed (λ tail. IsNext target))
-      → (Clean → HasCommon db.schema
-      → IfOk result (λ passed. IfSome passed (λ tail. Beyond seq (next target) other tail db)))
-      → IfOk result (λ passed. IfSome passed (λ tail. (tail.number ≤ other.number + 1)
-      × (tail.amends.now ≡ other.amends.now)))
-      → IfOk result (λ passed. IfSome passed (IsPassed Clean db))
-  judged_passes Clean db target other same completed begins (Ok None) is past rest = tt
-  judged_passes Clean db target other same completed begins (Ok (Some tail)) is past rest = (
+module _ (F : List Request) (seq : ℕ) (left other : Left) (row : Row) (target : Option ℕ) (held : Filed)
+    (db : Database)
+    (same : LeavesAsMany left other) (begins : left.amends.now ≡ amends_rows_by seq target ++ other.amends.now)
+    (ends : begins_with 0 seq other.amends.now ≡ false) where
+  -- a row whose filer and target were read
+  pub next_of : IsCompleted (request_in target row)
+      → ((t : Option ℕ) (l : List Row) → left.amends.now ≡ amends_rows_by seq t ++ l → begins_with 0 seq l ≡ false
+      → (t ≡ target) × (l ≡ other.amends.now)) → (passed : Option Left)
+      → IfSome passed (λ tail. tail.amends.now ≡ other.amends.now)
+      → IsPast seq row (judged (kept F) (request_in target row)) other passed db
+      → OnSome passed (AreFiled (kept F ++ judged (kept F) (request_in target row) ∷ []) held)
+      → MatchOption passed ((t : Option ℕ) (tail : Left) → IsNext F seq row t left tail db → ⊥)
+      (λ tail. (t : Option ℕ) × IsNext F seq row t left tail db
+      × AreFiled (kept F ++ judged (kept F) (request_in t row) ∷ []) held)
+  next_of completed only None rest past filed = λ t tail next.
+      let told = only t tail.amends.now next.amends_is next.ends in
+      let back : LeavesAsMany other left = (sym same.0, sym same.1, sym same.2, sym same.3) in
+      past (subst (λ t. row ≡ kept_row seq (judged (kept F) (request_in t row))) told.0 next.row_is) tail
+      (beyond_both seq (judged (kept F) (request_in target row)) other left tail db back
+      (subst (λ t. Beyond seq (judged (kept F) (request_in t row)) left tail db) told.0 next.beyond))
+  next_of completed only (Some tail) rest past filed = (
     target,
-    completed,
-    is.0,
-    begins ∙ ap (λ l. amends_rows_by seq target ++ l) (sym rest.1),
-    is.1,
-    λ clean d. beyond_both seq (next target) left other tail db same (past clean d),
-  )
-  judged_passes Clean db target other same completed begins (Err e) is past rest = tt
-
-  pub passes_all : (Clean : Type 0) (seen db : Database) → Clean → HasCommon seen.schema → seen ≡ db
-      → Picks kept_table (has_number seq) (row ∷ []) db
-      → length (filter (has_texts (request_in None row).filer (request_in None row).key) (rows_in db kept_table)) ≡ 1
-      → (result : Result (Option Left) Error) → IfOk result (λ passed. IfSome passed (IsPassed Clean seen))
-      → IfOk result (λ passed. IfSome passed (λ tail. (r : Request) × Passes F seq left tail db r
-      × AreFiled (kept F ++ judged (kept F) r ∷ []) held))
-  passes_all Clean seen db clean there same picked alone (Ok None) is = tt
-  passes_all Clean seen db clean there same picked alone (Ok (Some tail)) is = (
-    request_in is.0 row,
     record {
-      completed = is.1;
-      kept_is = subst (λ x. Picks kept_table (has_number seq) (x ∷ []) db) is.2 picked;
-      alone = alone;
-      beyond = subst (Beyond seq (next is.0) left tail) same (is.5 clean there);
-      amends_is = is.3;
+      completed = completed;
+      row_is = past.0;
+      beyond = beyond_both seq (judged (kept F) (request_in target row)) left other tail db same past.1;
+      amends_is = begins ∙ ap (λ l. amends_rows_by seq target ++ l) (sym rest);
+      ends = ap (begins_with 0 seq) rest ∙ ends;
     },
-    is.4,
+    filed,
   )
-  passes_all Clean seen db clean there same picked alone (Err e) is = tt
+
+module _ (F : List Request) (seq : ℕ) (left : Left) (db : Database) (row : Row)
+    (picked : Picks kept_table (has_number seq) (row ∷ []) db) where
+  -- a request that passes has this row
+  pub next_passed : (r : Request) (tail : Left) → Passes F seq left tail db r → IsNext F seq row r.target left tail db
+  next_passed r tail p =
+      let k = judged (kept F) r in
+      let rows : kept_row seq k ∷ [] ≡ row ∷ [] =
+      sym (one_permutation _ _ (IsPermutation-sym _ _ p.kept_is)) ∙ one_permutation _ _
+      (IsPermutation-sym _ _ picked) in
+      let is : kept_row seq k ≡ row = cc in
+      let same : r ≡ request_in r.target row = ap (request_in r.target) is in
+      record {
+        completed = subst IsCompleted same p.completed;
+        row_is = sym is ∙ ap (λ q. kept_row seq (judged (kept F) q)) same;
+        beyond = subst (λ q. Beyond seq (judged (kept F) q) left tail db) same p.beyond;
+        amends_is = p.amends_is;
+        ends = p.ends;
+      }
+
+  pub passes_next : (target : Option ℕ) (tail : Left)
+      → length (filter (has_texts (request_in None row).filer (request_in None row).key) (rows_in db kept_table)) ≡ 1
+      → IsNext F seq row target left tail db → Passes F seq left tail db (request_in target row)
+  passes_next target tail alone next = record {
+    completed = next.completed;
+    kept_is = subst (λ x. Picks kept_table (has_number seq) (x ∷ []) db) next.row_is picked;
+    alone = alone;
+    beyond = next.beyond;
+    amends_is = next.amends_is;
+    ends = next.ends;
+  }
+
+  -- and no other row has its filer and key
+  pub alone_row : (r : Request) (tail : Left) → Passes F seq left tail db r
+      → length (filter (has_texts (request_in None row).filer (request_in None row).key) (rows_in db kept_table)) ≡ 1
+  alone_row r tail p =
+      let rows : kept_row seq (judged (kept F) r) ∷ [] ≡ row ∷ [] =
+      sym (one_permutation _ _ (IsPermutation-sym _ _ p.kept_is)) ∙ one_permutation _ _
+      (IsPermutation-sym _ _ picked) in
+      let is : kept_row seq (judged (kept F) r) ≡ row = cc in
+      subst (λ x. length (filter (has_texts (request_in None x).filer (request_in None x).key)
+      (rows_in db kept_table)) ≡ 1) is p.alone
+
+  -- what is said of the row is said of the request
+  pub passes_row : (held : Filed) (passed : Option Left)
+      → length (filter (has_texts (request_in None row).filer (request_in None row).key) (rows_in db kept_table)) ≡ 1
+      → MatchOption passed ((t : Option ℕ) (tail : Left) → IsNext F seq row t left tail db → ⊥)
+      (λ tail. (t : Option ℕ) × IsNext F seq row t left tail db
+      × AreFiled (kept F ++ judged (kept F) (request_in t row) ∷ []) held)
+      → MatchOption passed (NonePasses F seq left db) (λ tail. (r : Request) × Passes F seq left tail db r
+      × AreFiled (kept F ++ judged (kept F) r ∷ []) held)
+  passes_row held None alone none = λ r tail p. none r.target tail (next_passed r tail p)
+  passes_row held (Some tail) alone next = (request_in next.0 row, passes_next next.0 tail alone next.1, next.2)
+
+-- where there is not one row at this place, no request passes
+pub none_passes : (F : List Request) (seq : ℕ) (left : Left) (db : Database) (rows : List Row)
+    → Picks kept_table (has_number seq) rows db → (length rows ≡ 1 → ⊥) → NonePasses F seq left db
+none_passes F seq left db rows picked many r tail p =
+    let one = length_permutation _ _ p.kept_is in
+    let all = length_permutation _ _ picked in
+    many (omega (arith, one, all))
 
 -- ---- the counts that the walk begins with
 

@@ -1,5 +1,5 @@
 -- Registers in the forms of earlier versions.
-use Rattle.std.specs.Prelude.{◌≡◌, ◌≤◌, ℕ, Bool, List, [], ◌∷◌, ◌++◌, length}
+use Rattle.std.specs.Prelude.{◌≡◌, ◌⊎◌, ◌≤◌, ℕ, Bool, List, [], ◌∷◌, ◌++◌, length, Option, Some, None}
 use Rattle.std.specs.List.{list_any}
 use Rattle.sqlite.specs.Change.{created}
 use Rattle.sqlite.specs.Effect.{Database, IsDatabase}
@@ -12,11 +12,14 @@ use Rattle.sqlite_catalog.specs.Change.{is_used}
 use Rattle.filing_model.specs.Request.{Request}
 use Rattle.table_rows.specs.Rows.{TableHas}
 use Rattle.table_rows.specs.Tables.{BeginsWith, no_schema}
-use Rattle.register_tables.specs.declared.migrate.earlier.Earlier.{Earlier}
-use Rattle.register_tables.specs.declared.migrate.earlier.Earlier.TheVariants.{Second, Third, Fourth}
+use Rattle.register_tables.specs.declared.opening.form.Earlier.{Earlier}
+use Rattle.register_tables.specs.declared.opening.form.Earlier.TheVariants.{Second, Third, Fourth}
+use Rattle.register_rows.specs.Dates.{IsUndatedAt}
+use Rattle.register_rows.specs.Received.{Received}
 use Rattle.register_rows.specs.Register.{form_row, migrated_row}
-use Rattle.register_rows.specs.Schema.{common_tables, meta_table, migrated_table, amends_table, received_table}
-use Rattle.register_tables.specs.Walk.{AreAllOf}
+use Rattle.register_rows.specs.Schema.{common_tables, register_tables, meta_table, migrated_table, amends_table}
+use Rattle.register_rows.specs.Schema.{received_table}
+use Rattle.register_tables.specs.Walk.{AreAllOf, IsUnsound}
 
 -- the number in the row of `intake_meta`
 abbrev pub form_number : Earlier → ℕ
@@ -81,3 +84,44 @@ abbrev pub ForEarlier : {S : Type 0} → Ghosts S → Held S → (Earlier → �
 ForEarlier g conn Holds =
     (form : Earlier) (old_style : ℕ) (F : List Request) → IsAlone form (state g conn).now.schema
     → IsEarlierOf form old_style F (state g conn).now → Holds form old_style F
+
+-- ---- any form: an earlier one, or the present one
+
+abbrev pub number_of_form : Option Earlier → ℕ
+number_of_form (Some form) = form_number form
+number_of_form None = 5
+
+abbrev pub tables_in : Option Earlier → List Table
+tables_in (Some form) = tables_of form
+tables_in None = register_tables
+
+abbrev pub HasOldStyleIn : Option Earlier → Database → ℕ → ℕ → Type 0
+HasOldStyleIn (Some form) db old_style kept = HasOldStyle form db old_style kept
+HasOldStyleIn None db old_style kept = TableHas db migrated_table (migrated_row old_style ∷ []) × (old_style ≤ kept)
+
+abbrev pub HasTargetsIn : Option Earlier → Database → List Row → Type 0
+HasTargetsIn (Some form) db amends_are = HasTargets form db amends_are
+HasTargetsIn None db amends_are = TableHas db amends_table amends_are
+
+-- there is a list of moments, with a place for each kept request; an earlier form has none
+abbrev pub HasMomentsIn : Option Earlier → Database → ℕ → Type 0
+HasMomentsIn (Some form) db kept = Unit {0}
+HasMomentsIn None db kept = (moments : List (Option ℕ)) × (length moments ≡ kept) × Received db moments
+
+-- the tables of this form, but for `intake_meta`, have the rows of these requests
+pub record HoldsIn (form : Option Earlier) (db : Database) (old_style : ℕ) (F : List Request) : Type 0 where
+  pub amends : List Row
+  pub targets : HasTargetsIn form db amends
+  pub are : AreAllOf F amends db
+  pub old_style_is : HasOldStyleIn form db old_style (length F)
+  pub moments : HasMomentsIn form db (length F)
+
+-- the rows stand for no requests, in this form, and this is the row to report: that of a kept request that is not
+-- sound, or 0; 0 also if the rows of kept requests are sound, but not `migrated`; or, if that is sound too, the first
+-- that has no moment and should have one
+pub record IsDamaged (form : Option Earlier) (db : Database) (row : ℕ) : Type 0 where
+  pub none : (old_style : ℕ) (F : List Request) → HoldsIn form db old_style F → ⊥
+  pub amends_are : List Row
+  pub targets : HasTargetsIn form db amends_are
+  pub told : IsUnsound amends_are row db ⊎ ((F : List Request) × AreAllOf F amends_are db
+      × ((row ≡ 0) ⊎ ((dates : List Row) × TableHas db received_table dates × IsUndatedAt (length F) dates row)))

@@ -1,7 +1,6 @@
 pub mod Earlier
 pub mod Faults
 pub mod Gains
-pub mod LaterRows
 pub mod Making
 pub mod Migrating
 pub mod Opening

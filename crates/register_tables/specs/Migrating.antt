@@ -1,11 +1,10 @@
 -- What a migration reads and writes, and why a database is not migrated.
-use Rattle.std.specs.Prelude.{◌≡◌, ◌≢◌, ◌⊎◌, ◌≤◌, ℕ, pos, false, List, [], ◌∷◌, length, replicate, Result, IsTrue}
-use Rattle.std.specs.Prelude.{IfOk, IfErr, OnOk, OnErr, None}
-use Rattle.sqlite.specs.Order.{Row}
+use Rattle.std.specs.Prelude.{◌≡◌, ◌⊎◌, ℕ, pos, false, List, [], ◌∷◌, length, replicate, Some, None, Result, IsTrue}
+use Rattle.std.specs.Prelude.{IfOk, IfErr, OnOk, OnErr}
 use Rattle.sqlite.specs.Store.{Ghosts}
 use Rattle.sqlite.specs.Held.{Held, state}
 use Rattle.sqlite.specs.Tree.{Trees}
-use Rattle.sqlite.specs.State.{HasCleanDisk, Survives}
+use Rattle.sqlite.specs.State.{HasCleanDisk, IsUnchanged, Survives}
 use Rattle.sqlite.specs.declared.error.Error.{Error}
 use Rattle.sqlite.specs.declared.types.Value.TheVariants.{Int}
 use Rattle.filing_model.specs.Request.{Request}
@@ -13,88 +12,42 @@ use Rattle.filing_model.specs.Register.{register}
 use Rattle.table_rows.specs.Causes.{cause_of}
 use Rattle.table_rows.specs.Standing.{HasCommitted, AddsNothing, CommitsNothing}
 use Rattle.table_rows.specs.Statements.{Statement, plain, AreCommitted, AreUndone, AreTreesOf}
+use Rattle.table_rows.specs.Tables.{BeginsWith}
 use Rattle.table_rows.specs.declared.cause.Cause.{Cause}
 use Rattle.table_rows.specs.declared.cause.Cause.TheVariants as cause
 use Rattle.register_tables.specs.declared.migrate.TheConstants.{INSERT_OLD_STYLE, RAISE_FORM}
-use Rattle.register_tables.specs.declared.migrate.earlier.Earlier.{Earlier}
-use Rattle.register_tables.specs.declared.migrate.earlier.Earlier.TheVariants.{Second, Third, Fourth}
+use Rattle.register_tables.specs.declared.opening.form.Earlier.{Earlier}
+use Rattle.register_tables.specs.declared.opening.form.Earlier.TheVariants.{Second, Third, Fourth}
 use Rattle.register_tables.specs.declared.fault.OpenFault.{OpenFault}
 use Rattle.register_tables.specs.declared.fault.OpenFault.TheVariants as fault
 use Rattle.register_tables.specs.declared.opening.Counts.{Counts}
-use Rattle.register_tables.specs.declared.opening.walk.Totals.{Totals}
 use Rattle.register_rows.specs.Catalogue.{catalogue_of, view_lines}
-use Rattle.register_tables.specs.Earlier.{form_number, is_blocked, ForEarlier, IsAlone, IsEarlierOf}
-use Rattle.register_tables.specs.Faults.{table_fault, IsFailure}
+use Rattle.register_tables.specs.Earlier.{is_blocked, tables_of, ForEarlier, IsAlone, IsDamaged, IsEarlierOf}
+use Rattle.register_tables.specs.Faults.{IsFailure}
 use Rattle.register_tables.specs.Making.{create_migrated, create_amends, create_received}
 use Rattle.register_tables.specs.Opening as opening
-use Rattle.register_tables.specs.Opening.{all_meta, all_migrated, all_amends, AreWithin, IsRead, AreRead, StopsFor}
-use Rattle.register_tables.specs.Opening.{HasNoTotals, SaysNothing}
+use Rattle.register_tables.specs.Opening.{AreWithin, HasBeside, HasNoForm, IsHeldIn, SaysForm}
 use Rattle.register_rows.specs.Received.{Received}
-use Rattle.register_rows.specs.Register.{form_row, migrated_row}
 use Rattle.register_tables.specs.Registers.{ForRows, IsRegisterOf, LeavesOnly, LeavesOnlyReceived}
-use Rattle.register_tables.specs.Walk.{AreTotals}
 
 -- ---- what is read
 
--- the tables that the fourth form has beside those of every form
-abbrev pub beside_texts : List (List ℕ)
-beside_texts = all_migrated ∷ all_amends ∷ []
-
--- What is read beside the four tables: of so many kept requests these were kept before there were problem details, all,
--- or as many as the row of `migrated` says that was read; and these are the rows of `amends`, if there is that table.
-abbrev pub ReadsBeside : {S : Type 0} → Ghosts S → Earlier → ℕ → ℕ → List Row → Held S → Held S → Type 0
-ReadsBeside g Second old_style kept amends old new = (old ≡ new) × (old_style ≡ kept) × (amends ≡ [])
-ReadsBeside g Third old_style kept amends old new =
-    IsRead g all_migrated old new (migrated_row old_style ∷ []) × (old_style ≤ kept) × (amends ≡ [])
-ReadsBeside g Fourth old_style kept amends old new =
-    AreRead g beside_texts old new ((migrated_row old_style ∷ []) ∷ amends ∷ []) × (old_style ≤ kept)
-
--- a register in this form holds so much
-pub record IsCounted {S : Type 0} (g : Ghosts S) (form : Earlier) (counts : Counts) (old new : Held S) : Type 0 where
-  pub mid : Held S
-  pub amends : List Row
-  pub beside_are : ReadsBeside g form counts.old_style counts.kept amends old mid
-  pub totals_are : AreTotals amends
-      (record { kept = counts.kept; filings = counts.filings; catalogue = counts.catalogue }) (state g mid)
-      (state g new)
-
--- a register in this form was found, and holds so much
+-- a register in this form was found, and holds so much; nothing was written
 pub record IsSurveyed {S : Type 0} (g : Ghosts S) (form : Earlier) (counts : Counts) (old new : Held S) : Type 0 where
-  pub mid : Held S
-  pub form_is : IsRead g all_meta old mid (form_row (form_number form) ∷ [])
-  pub counted : IsCounted g form counts mid new
+  pub same : IsUnchanged (state g old) (state g new)
+  pub says : SaysForm g (Some form) old
+  pub has : HasBeside (Some form) (state g old).now.schema
+  pub counted : BeginsWith (tables_of form) (state g old).now.schema
+      → IsHeldIn (Some form) counts (state g old).now
 
--- ---- why nothing is found
-
--- `intake_meta` cannot be read, or its rows are not the one row of an earlier form
-abbrev pub HasNoForm : {S : Type 0} → Ghosts S → OpenFault → Held S → Held S → Type 0
-HasNoForm g fault.NotOurs old new =
-    StopsFor g cause.Other (all_meta ∷ []) old new
-    ⊎ ((rows : List Row) × IsRead g all_meta old new rows
-    × ((form : Earlier) → rows ≢ form_row (form_number form) ∷ []))
-HasNoForm g (fault.Damaged row) old new = ⊥
-HasNoForm g fault.Memory old new = StopsFor g cause.Memory (all_meta ∷ []) old new
-HasNoForm g fault.Disk old new = StopsFor g cause.Disk (all_meta ∷ []) old new
-
--- the tables of this form beside `intake_meta` cannot be read, or their rows stand for no requests
-abbrev pub HasNoCounts : {S : Type 0} → Ghosts S → Earlier → OpenFault → Held S → Held S → Type 0
-HasNoCounts g Second why old new = HasNoTotals g [] why old new
-HasNoCounts {S} g Third why old new =
-    ((error : Error) × (why ≡ table_fault error) × StopsFor g (cause_of error) (all_migrated ∷ []) old new)
-    ⊎ ((mid : Held S) × (rows : List Row) × IsRead g all_migrated old mid rows
-    × (HasNoTotals g [] why mid new ⊎ ((why ≡ fault.Damaged 0) × (totals : Totals)
-    × AreTotals [] totals (state g mid) (state g new) × SaysNothing totals.kept rows)))
-HasNoCounts {S} g Fourth why old new =
-    ((error : Error) × (why ≡ table_fault error) × StopsFor g (cause_of error) beside_texts old new)
-    ⊎ ((mid : Held S) × (migrated amends : List Row) × AreRead g beside_texts old mid (migrated ∷ amends ∷ [])
-    × (HasNoTotals g amends why mid new ⊎ ((why ≡ fault.Damaged 0) × (totals : Totals)
-    × AreTotals amends totals (state g mid) (state g new) × SaysNothing totals.kept migrated)))
-
--- no register in an earlier form was found
+-- no register in an earlier form was found: the database does not say that it is one, or the row that is told is
+-- damaged, or memory or the disk failed
 abbrev pub IsNotSurveyed : {S : Type 0} → Ghosts S → OpenFault → Held S → Held S → Type 0
-IsNotSurveyed {S} g why old new =
-    HasNoForm g why old new ⊎ ((form : Earlier) × (mid : Held S)
-    × IsRead g all_meta old mid (form_row (form_number form) ∷ []) × HasNoCounts g form why mid new)
+IsNotSurveyed g fault.NotOurs old new = HasNoForm g fault.NotOurs old new ⊎ SaysForm g None old
+IsNotSurveyed g (fault.Damaged row) old new =
+    (form : Earlier) × SaysForm g (Some form) old
+    × (BeginsWith (tables_of form) (state g old).now.schema → IsDamaged (Some form) (state g old).now row)
+IsNotSurveyed g why old new = Unit {0}
 
 -- ---- what is written
 

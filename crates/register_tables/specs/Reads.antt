@@ -1,16 +1,28 @@
 -- What the SELECTs of an opening read.
-use Rattle.std.specs.Prelude.{Bool, true, ℕ, ◌&&◌, List, [], ◌∷◌, IsTrue, Result, IfErr}
-use Rattle.sqlite.specs.declared.types.Value.TheVariants.{Text}
+use Rattle.std.specs.Prelude.{◌≡◌, ◌≢◌, ◌⊎◌, ◌<◌, Bool, true, ℕ, pos, ◌&&◌, List, [], ◌∷◌, length, filter, None, IsTrue}
+use Rattle.std.specs.Prelude.{Result, IfOk, IfErr}
+use Rattle.sqlite.specs.declared.types.Value.TheVariants.{Int, Text}
 use Rattle.sqlite.specs.Collation.TheVariants.{Binary}
 use Rattle.sqlite.specs.Order.{Row, column}
 use Rattle.sqlite.specs.Ops.{binary, is_true}
 use Rattle.sqlite_sql.specs.declared.ops.BinaryOp.TheVariants.{Compare}
-use Rattle.sqlite_sql.specs.declared.ops.CompareOp.TheVariants.{Eq}
+use Rattle.sqlite_sql.specs.declared.ops.CompareOp.TheVariants.{Eq, Lt}
+use Rattle.sqlite.specs.Effect.{Database}
+use Rattle.sqlite.specs.Held.{Held, state}
 use Rattle.sqlite.specs.State.{State, HasCleanDisk, FailsToQuery}
+use Rattle.sqlite.specs.Store.{Ghosts}
 use Rattle.sqlite.specs.Table.{Table}
 use Rattle.sqlite.specs.declared.error.Error.{Error}
-use Rattle.table_rows.specs.Reading.{ReadsRows}
-use Rattle.register_rows.specs.Schema.{IsDeclared, HasCommon}
+use Rattle.table_rows.specs.Causes.{cause_of}
+use Rattle.table_rows.specs.declared.cause.Cause.TheVariants as cause
+use Rattle.table_rows.specs.Leaving.{OnlyQueries, MayRead}
+use Rattle.table_rows.specs.Picking.{rows_in, Picks}
+use Rattle.table_rows.specs.Reading.{ReadsRows, RisesBy}
+use Rattle.table_rows.specs.Tables.{BeginsWith}
+use Rattle.register_rows.specs.Schema.{IsDeclared, HasCommon, kept_table}
+use Rattle.register_tables.specs.declared.fault.OpenFault.{OpenFault}
+use Rattle.register_tables.specs.declared.fault.OpenFault.TheVariants as fault
+use Rattle.register_tables.specs.Faults.{IsFailure}
 
 -- while the connection is open, the tables of every form are declared as ours
 abbrev pub Knows : State → Type 0
@@ -45,3 +57,51 @@ abbrev pub has_texts : List ℕ → List ℕ → Row → Bool
 has_texts filer key row =
     is_true (binary (Compare Eq Binary) (column row 1) (Text filer))
     && (is_true (binary (Compare Eq Binary) (column row 2) (Text key)) && true)
+
+-- the second column equals this number, as SQL compares
+abbrev pub has_second : ℕ → Row → Bool
+has_second number row = is_true (binary (Compare Eq Binary) (column row 1) (Int (pos number))) && true
+
+-- the first column is a number below the first place
+abbrev pub is_early : Row → Bool
+is_early row = is_true (binary (Compare Lt Binary) (column row 0) (Int (pos 1))) && true
+
+-- a kept row lies before the first place
+abbrev pub HasEarly : Database → Type 0
+HasEarly db = 0 < length (filter is_early (rows_in db kept_table))
+
+-- the rows of the table that pass are these, and if they rise by their second column, they are in this order
+pub record PicksInOrder (table : Table) (keep : Row → Bool) (rows : List Row) (db : Database) : Type 0 where
+  pub picks : Picks table keep rows db
+  pub ordered : (wanted : List Row) → Picks table keep wanted db → RisesBy by_second wanted → rows ≡ wanted
+
+-- ---- what a call does that asks tables which are declared as ours
+
+-- the connection is open, these tables come first, and no limit on steps is set
+pub record IsOurs (tables : List Table) (s : State) : Type 0 where
+  pub alive : IsTrue s.is_open
+  pub declared : BeginsWith tables s.now.schema
+  pub unlimited : s.step_limit ≡ None
+
+-- An answer says this of them. A refusal has its cause in memory or the disk.
+pub record AsksOurs {S X : Type 0} (tables : List Table) (g : Ghosts S) (old new : Held S) (result : Result X Error)
+    (Says : X → Database → Type 0) : Type 0 where
+  pub told : HasCleanDisk (state g new) → IsOurs tables (state g old) → IfOk result (λ x. Says x (state g old).now)
+  pub fails : HasCleanDisk (state g new) → IsOurs tables (state g old)
+      → IfErr result (λ error. cause_of error ≢ cause.Other)
+  pub leaves : OnlyQueries g old new result
+
+-- An answer says this of them. A refusal has its cause in memory or the disk, or they are damaged in this way, and the
+-- row is told.
+pub record ReadsOurs {S X : Type 0} (tables : List Table) (g : Ghosts S) (old new : Held S)
+    (result : Result X OpenFault)
+    (Says : X → Database → Type 0) (IsBad : ℕ → Database → Type 0) : Type 0 where
+  pub told : HasCleanDisk (state g new) → IsOurs tables (state g old) → IfOk result (λ x. Says x (state g old).now)
+  pub refused : HasCleanDisk (state g new) → IsOurs tables (state g old)
+      → IfErr result (λ why. IsFailure why ⊎ ((row : ℕ) × (why ≡ fault.Damaged row) × IsBad row (state g old).now))
+  pub ours : IfErr result (λ why. why ≢ fault.NotOurs)
+  pub leaves : MayRead g old new result
+
+-- no damage is told
+abbrev pub Never : ℕ → Database → Type 0
+Never row db = ⊥

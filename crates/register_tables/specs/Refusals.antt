@@ -11,7 +11,7 @@ use Rattle.register_tables.specs.declared.fault.CreateFault.{CreateFault}
 use Rattle.register_tables.specs.declared.fault.CreateFault.TheVariants as create
 use Rattle.register_tables.specs.declared.fault.OpenFault.{OpenFault}
 use Rattle.register_tables.specs.Earlier.{IsEarlierOf, is_blocked}
-use Rattle.register_tables.specs.declared.migrate.earlier.Earlier.{Earlier}
+use Rattle.register_tables.specs.declared.opening.form.Earlier.{Earlier}
 use Rattle.register_tables.specs.Faults.{create_fault, IsFailure}
 use Rattle.register_tables.specs.Making.{making}
 use Rattle.register_tables.specs.Migrating.{IsNotMigrated, MigratesTo}

@@ -1,5 +1,6 @@
 //! Why no register is made, opened or migrated.
 
+use std::alloc::AllocError;
 use table_rows::Cause;
 
 /// Why no register was made. The database is as it was.
@@ -47,5 +48,31 @@ impl From<sqlite::Error> for CreateFault {
             Cause::Memory => CreateFault::Memory,
             Cause::Disk | Cause::Other => CreateFault::Disk,
         }
+    }
+}
+
+impl From<sqlite::Error> for OpenFault {
+    ghost use Rattle.std.specs.Prelude.{◌≡◌};
+    ghost use Rattle.register_tables.specs.Faults.{table_fault};
+
+    ghost from_gives = { λ error fault. fault ≡ table_fault error };
+
+    fn from(error: sqlite::Error) -> OpenFault {
+        match Cause::from(error) {
+            Cause::Memory => OpenFault::Memory,
+            Cause::Disk => OpenFault::Disk,
+            Cause::Other => OpenFault::Damaged { row: 0 },
+        }
+    }
+}
+
+impl From<AllocError> for OpenFault {
+    ghost use Rattle.std.specs.Prelude.{◌≡◌};
+    ghost use Rattle.register_tables.specs.declared.fault.OpenFault.TheVariants.{Memory};
+
+    ghost from_gives = { λ _ fault. fault ≡ Memory };
+
+    fn from(_error: AllocError) -> OpenFault {
+        OpenFault::Memory
     }
 }

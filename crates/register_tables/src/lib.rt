@@ -9,8 +9,8 @@ mod schema;
 mod select;
 
 pub use fault::{CreateFault, OpenFault};
-pub use migrate::earlier::Earlier;
 pub use migrate::migrate_register;
+pub use opening::form::Earlier;
 pub use opening::watch::{Unwatched, Watch};
 pub use opening::{Counts, read_register};
 pub use schema::create::make_register;

@@ -1,15 +1,18 @@
 //! A register in an earlier form is brought into the present one.
 
-ghost use Rattle.std.specs.Prelude.{◌≡◌, ◌<◌, ◌^◌, false};
+ghost use Rattle.std.specs.Prelude.{◌≡◌, ◌<◌, ◌^◌, false, None, IfErr, IfOk};
+ghost use Rattle.sqlite.specs.Held.{state};
+ghost use Rattle.sqlite.specs.State.{HasCleanDisk};
+ghost use Rattle.table_rows.specs.Leaving.{OnlyReads};
 ghost use Rattle.table_rows.specs.Standing.{IsAtRest};
 ghost use Rattle.table_rows.specs.Statements.{WritesAll};
-ghost use Rattle.register_tables.specs.Migrating.{write_fault, migrating, MigratesRegister};
-
-pub(crate) mod earlier;
+ghost use Rattle.register_tables.specs.Migrating.{write_fault, migrating, IsNotSurveyed, IsSurveyed, MigratesRegister};
+ghost use Rattle.register_tables.specs.Opening.{AreWithin};
 
 use crate::fault::OpenFault;
-use crate::migrate::earlier::{Earlier, read_earlier};
-use crate::opening::Counts;
+use crate::opening::form::Earlier;
+use crate::opening::watch::Unwatched;
+use crate::opening::{Counts, read_form, read_in};
 use crate::schema::create::{CREATE_AMENDS, CREATE_MIGRATED, CREATE_RECEIVED};
 use crate::schema::names;
 use sqlite::{Alter, Connection, Error, params};
@@ -65,6 +68,30 @@ fn write<S: Alter>(conn: &mut Connection<S>, form: Earlier, old_style: u64) -> R
             ],
         ),
     }
+}
+
+/// A register in an earlier form, and how much it holds.
+#[derive(Drop)]
+struct Survey {
+    form: Earlier,
+    counts: Counts,
+}
+
+/// Reads which earlier form the register is in, and how much it holds.
+fn read_earlier<S: Alter>(alloc: Global, conn: &mut Connection<S>) -> Result<Survey, OpenFault>
+    requires { conn.old.step_limit ≡ None }
+    ensures found { HasCleanDisk (state S.Store conn.new)
+        → IfOk result (λ found. IsSurveyed S.Store found.form found.counts conn.old conn.new) }
+    ensures few { IfOk result (λ found. AreWithin found.counts) }
+    ensures refused { HasCleanDisk (state S.Store conn.new)
+        → IfErr result (λ fault. IsNotSurveyed S.Store fault conn.old conn.new) }
+    ensures leaves { OnlyReads S.Store conn.old conn.new result }
+{
+    let Some(form) = read_form(conn)? else {
+        return Err(OpenFault::NotOurs);
+    };
+    let counts = read_in(alloc, conn, Some(form), &mut Unwatched)?;
+    Ok(Survey { form, counts })
 }
 
 /// Brings a register in an earlier form into the present one, in one transaction. What is said of the new rows holds

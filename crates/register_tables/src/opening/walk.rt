@@ -1,34 +1,34 @@
 //! Whether the rows of a register's tables stand for requests, found with one kept request in memory at a time.
 
-ghost use Rattle.std.specs.Prelude.{◌≡◌, ◌<◌, ◌≤◌, ◌^◌, ◌+◌, ◌++◌, ℕ, suc, pos, false, List, length, filter, [], ◌∷◌};
-ghost use Rattle.std.specs.Prelude.{Option, None, Some, IsTrue, IfOk, IfSome};
+ghost use Rattle.std.specs.Prelude.{◌≡◌, ◌↔◌, ◌⊎◌, ◌<◌, ◌≤◌, ◌^◌, ◌+◌, ◌++◌, ℕ, pos, List, length, filter, [], ◌∷◌};
+ghost use Rattle.std.specs.Prelude.{Option, None, Some, IsTrue, IfOk, IfSome, OnSome, MatchOption};
 ghost use Rattle.sqlite.specs.Held.{state};
-ghost use Rattle.sqlite.specs.State.{HasCleanDisk};
 ghost use Rattle.sqlite.specs.declared.types.Value.TheVariants.{Int};
-ghost use Rattle.table_rows.specs.Leaving.{MayQuery, OnlyQueries};
+ghost use Rattle.table_rows.specs.Leaving.{OnlyReads};
 ghost use Rattle.table_rows.specs.Rows.{counted_from};
 ghost use Rattle.xbrl_report.specs.ReportParts.{facts as facts_of};
 ghost use Rattle.xbrl_report.specs.Judgement.{HasFacts};
-ghost use Rattle.filing_model.specs.Register.{Outcome, Kept, judged, kept, register};
+ghost use Rattle.filing_model.specs.Register.{Outcome, Kept, judged, kept};
 ghost use Rattle.filing_model.specs.Request.{Request};
-ghost use Rattle.register_rows.specs.Audit.{request_outcome};
+ghost use Rattle.register_rows.specs.Outcomes.{outcome_of, request_outcome};
 ghost use Rattle.register_rows.specs.Catalogue.{catalogue_of, view_lines};
 ghost use Rattle.register_rows.specs.Columns.{request_in};
 ghost use Rattle.register_rows.specs.Filed.{AreFiled};
-ghost use Rattle.register_tables.specs.Reads.{has_texts};
-ghost use Rattle.register_rows.specs.Outcomes.{outcome_of};
-ghost use Rattle.register_rows.specs.Register.{IsCompleted, kept_row, finding_row, fact_row, amends_rows_by};
+ghost use Rattle.register_rows.specs.Register.{finding_row, fact_row};
+ghost use Rattle.register_rows.specs.Schema.{common_tables, kept_table, finding_table, filing_table, fact_table};
+ghost use Rattle.register_tables.specs.Reads.{AsksOurs, ReadsOurs, Never, has_second, has_texts};
+ghost use Rattle.register_tables.specs.Walk.{Amounts, IsBehind, IsBeyond, IsFirstUnsound, IsNext, IsPast, IsUnsound};
+ghost use Rattle.register_tables.specs.Walk.{NonePasses, Passes, Walked};
 ghost use Rattle.table_rows.specs.Picking.{has_number, Picks, rows_in};
-ghost use Rattle.register_rows.specs.Schema.{HasCommon, kept_table, finding_table, filing_table, fact_table};
-ghost use Rattle.register_tables.specs.Walk.{Amounts, Beyond, Passes, Walked};
 
+use crate::fault::OpenFault;
 use crate::opening::watch::Watch;
 use crate::select::picks;
 use filing_model::{MAX_KEPT, is_target};
 use register_rows::columns::kept;
 use register_rows::{
-    Catalogue, Filed, RowItem, after_filing, after_items, bytes_at, filer_of, is_kept_row,
-    target_of, text_at,
+    Catalogue, Filed, RowItem, after_items, bytes_at, filer_of, has_target, is_kept_row, target_of,
+    text_at,
 };
 use sqlite::{Alter, Connection, Error, Row};
 use std::alloc::Global;
@@ -47,20 +47,9 @@ pub(crate) struct Left<'a> {
 
 fn are_items<T: RowItem>(rows: &[Row], number: u64, items: &[T]) -> bool
     requires { number < 2 ^ 63 }
-    ensures { IsTrue result → rows.now ≡ counted_from (T.row_of number) 1 items.now }
+    ensures { IsTrue result ↔ (rows.now ≡ counted_from (T.row_of number) 1 items.now) }
 {
     match after_items(rows, number, items) {
-        Some(rest) => rest.is_empty(),
-        None => false,
-    }
-}
-
-fn is_filing(rows: &[Row], number: u64, seq: u64) -> bool
-    requires number { number < 2 ^ 63 }
-    requires seq { seq < 2 ^ 63 }
-    ensures { IsTrue result → rows.now ≡ (Int (pos number) ∷ Int (pos seq) ∷ []) ∷ [] }
-{
-    match after_filing(rows, number, seq) {
         Some(rest) => rest.is_empty(),
         None => false,
     }
@@ -73,41 +62,31 @@ fn has_findings<S: Alter>(
     findings: &[Finding],
 ) -> Result<bool, Error>
     requires { seq < 2 ^ 63 }
-    ensures found { HasCleanDisk (state S.Store conn.new) → HasCommon (state S.Store conn.old).now.schema
-        → IfOk result (λ found.
-        IsTrue found
-        → Picks finding_table (has_number seq) (counted_from (finding_row seq) 1 findings.now)
-        (state S.Store conn.old).now) }
-    ensures leaves { OnlyQueries S.Store conn.old conn.new result }
+    ensures { AsksOurs common_tables S.Store conn.old conn.new result (λ found db.
+        IsTrue found ↔ Picks finding_table (has_number seq) (counted_from (finding_row seq) 1 findings.now) db) }
 {
     let rows = picks::findings_at(conn, seq)?;
     Ok(are_items(&rows, seq, findings))
 }
 
-/// Whether the filing with this number is that of the request at this place.
-fn has_filing<S: Alter>(conn: &mut Connection<S>, number: u64, seq: u64) -> Result<bool, Error>
-    requires number { number < 2 ^ 63 }
-    requires seq { seq < 2 ^ 63 }
-    ensures found { HasCleanDisk (state S.Store conn.new) → HasCommon (state S.Store conn.old).now.schema
-        → IfOk result (λ found.
+/// Whether the filings of the request at this place have these numbers.
+fn has_filings<S: Alter>(conn: &mut Connection<S>, seq: u64, numbers: &[i64]) -> Result<bool, Error>
+    requires place { seq < 2 ^ 63 }
+    requires few { length numbers.now ≤ 1 }
+    ensures { AsksOurs common_tables S.Store conn.old conn.new result (λ found db.
         IsTrue found
-        → Picks filing_table (has_number number) ((Int (pos number) ∷ Int (pos seq) ∷ []) ∷ [])
-        (state S.Store conn.old).now) }
-    ensures leaves { OnlyQueries S.Store conn.old conn.new result }
+        ↔ Picks filing_table (has_second seq) (counted_from (λ _ number. Int number ∷ Int (pos seq) ∷ []) 1 numbers.now)
+        db) }
 {
-    let rows = picks::filings_numbered(conn, number)?;
-    Ok(is_filing(&rows, number, seq))
+    let rows = picks::filings_of(conn, seq)?;
+    Ok(are_items(&rows, seq, numbers))
 }
 
 /// Whether the filing with this number has these facts.
 fn has_facts<S: Alter>(conn: &mut Connection<S>, number: u64, facts: &[Fact]) -> Result<bool, Error>
     requires { number < 2 ^ 63 }
-    ensures found { HasCleanDisk (state S.Store conn.new) → HasCommon (state S.Store conn.old).now.schema
-        → IfOk result (λ found.
-        IsTrue found
-        → Picks fact_table (has_number number) (counted_from (fact_row number) 1 facts.now)
-        (state S.Store conn.old).now) }
-    ensures leaves { OnlyQueries S.Store conn.old conn.new result }
+    ensures { AsksOurs common_tables S.Store conn.old conn.new result (λ found db.
+        IsTrue found ↔ Picks fact_table (has_number number) (counted_from (fact_row number) 1 facts.now) db) }
 {
     let rows = picks::facts_numbered(conn, number)?;
     Ok(are_items(&rows, number, facts))
@@ -115,13 +94,11 @@ fn has_facts<S: Alter>(conn: &mut Connection<S>, number: u64, facts: &[Fact]) ->
 
 /// Whether no other kept row has the filer and key of this one.
 fn is_alone<S: Alter>(conn: &mut Connection<S>, row: &Row) -> Result<bool, Error>
-    ensures found { HasCleanDisk (state S.Store conn.new) → HasCommon (state S.Store conn.old).now.schema
-        → IfOk result (λ alone.
+    ensures { AsksOurs common_tables S.Store conn.old conn.new result (λ alone db.
         IsTrue alone
-        → length (filter (has_texts (request_in None row.now).filer (request_in None row.now).key)
-        (rows_in (state S.Store conn.old).now kept_table))
-        ≡ 1) }
-    ensures leaves { OnlyQueries S.Store conn.old conn.new result }
+        ↔ (length (filter (has_texts (request_in None row.now).filer (request_in None row.now).key)
+        (rows_in db kept_table))
+        ≡ 1)) }
 {
     let count = picks::count_with_key(conn, text_at(row, kept::FILER), text_at(row, kept::KEY))?;
     Ok(count == 1)
@@ -129,7 +106,7 @@ fn is_alone<S: Alter>(conn: &mut Connection<S>, row: &Row) -> Result<bool, Error
 
 /// What is left behind so many findings, if there are as many.
 fn without_findings<'a>(left: Left<'a>, count: u64) -> Option<Left<'a>>
-    ensures { IfSome result (λ tail.
+    ensures { MatchOption result (left.entry.findings < count) (λ tail.
         (left.entry.findings ≡ tail.findings + count) × (tail.filings ≡ left.entry.filings)
         × (tail.facts ≡ left.entry.facts) × (tail.number ≡ left.entry.number)
         × (tail.amends.now ≡ left.entry.amends.now)) }
@@ -141,7 +118,7 @@ fn without_findings<'a>(left: Left<'a>, count: u64) -> Option<Left<'a>>
 /// What is left behind a filing and so many facts, if there are as many.
 fn without_filing<'a>(left: Left<'a>, count: u64) -> Option<Left<'a>>
     requires { left.number < 2 ^ 63 }
-    ensures { IfSome result (λ tail.
+    ensures { MatchOption result ((left.entry.filings ≡ 0) ⊎ (left.entry.facts < count)) (λ tail.
         (tail.findings ≡ left.entry.findings) × (left.entry.filings ≡ tail.filings + 1)
         × (left.entry.facts ≡ tail.facts + count) × (tail.number ≡ left.entry.number + 1)
         × (tail.amends.now ≡ left.entry.amends.now)) }
@@ -156,48 +133,49 @@ fn without_filing<'a>(left: Left<'a>, count: u64) -> Option<Left<'a>>
     })
 }
 
-/// What is left behind the findings of a refused request, if they are there.
+/// What is left behind the findings of a refused request, if they are there, and no filing is the request's.
 fn pass_refused<'a, S: Alter>(
     conn: &mut Connection<S>,
     seq: u64,
     findings: &[Finding],
     left: Left<'a>,
-) -> Result<Option<Left<'a>>, Error>
+) -> Result<Option<Left<'a>>, OpenFault>
     requires { seq < 2 ^ 63 }
-    ensures beyond { HasCleanDisk (state S.Store conn.new) → HasCommon (state S.Store conn.old).now.schema
-        → IfOk result (λ passed.
-        IfSome passed (λ tail.
-        (k : Kept) → k.outcome ≡ Outcome.Refused findings.now
-        → Beyond seq k left.entry tail (state S.Store conn.old).now)) }
+    ensures reads { ReadsOurs common_tables S.Store conn.old conn.new result (λ passed db.
+        (k : Kept) → k.outcome ≡ Outcome.Refused findings.now → IsBeyond seq k left.entry passed db)
+        Never }
     ensures rest { IfOk result (λ passed.
         IfSome passed (λ tail. (tail.number ≤ left.entry.number + 1) × (tail.amends.now ≡ left.entry.amends.now))) }
-    ensures leaves { OnlyQueries S.Store conn.old conn.new result }
 {
     if !has_findings(conn, seq, findings)? {
+        return Ok(None);
+    }
+    if !has_filings(conn, seq, &[])? {
         return Ok(None);
     }
     Ok(without_findings(left, findings.len() as u64))
 }
 
-/// What is left behind the filing of a registered request and its facts, if they are there.
+/// What is left behind the filing of a registered request and its facts, if they are there, and there are no findings.
 fn pass_registered<'a, S: Alter>(
     conn: &mut Connection<S>,
     seq: u64,
     facts: &[Fact],
     left: Left<'a>,
-) -> Result<Option<Left<'a>>, Error>
+) -> Result<Option<Left<'a>>, OpenFault>
     requires seq { seq < 2 ^ 63 }
     requires number { left.number < 2 ^ 63 }
-    ensures beyond { HasCleanDisk (state S.Store conn.new) → HasCommon (state S.Store conn.old).now.schema
-        → IfOk result (λ passed.
-        IfSome passed (λ tail.
+    ensures reads { ReadsOurs common_tables S.Store conn.old conn.new result (λ passed db.
         (k : Kept) → k.outcome ≡ Outcome.Registered left.entry.number → facts.now ≡ facts_of k.request.body
-        → Beyond seq k left.entry tail (state S.Store conn.old).now)) }
+        → IsBeyond seq k left.entry passed db)
+        Never }
     ensures rest { IfOk result (λ passed.
         IfSome passed (λ tail. (tail.number ≤ left.entry.number + 1) × (tail.amends.now ≡ left.entry.amends.now))) }
-    ensures leaves { OnlyQueries S.Store conn.old conn.new result }
 {
-    if !has_filing(conn, left.number, seq)? {
+    if !has_findings(conn, seq, &[])? {
+        return Ok(None);
+    }
+    if !has_filings(conn, seq, &[left.number as i64])? {
         return Ok(None);
     }
     if !has_facts(conn, left.number, facts)? {
@@ -213,24 +191,17 @@ fn pass_as<'a, S: Alter>(
     seq: u64,
     judged: &Judged,
     left: Left<'a>,
-) -> Result<Option<Left<'a>>, Error>
+) -> Result<Option<Left<'a>>, OpenFault>
     requires seq { seq < 2 ^ 63 }
     requires number { left.number < 2 ^ 63 }
     requires facts { HasFacts (request_in None row.now).body judged.now }
-    ensures row { (target : Option ℕ)
-        → IfOk result (λ passed.
-        IfSome passed (λ tail.
-        row.now ≡ kept_row seq
-        (request_outcome (request_in target row.now) (outcome_of left.entry.number judged.now)))) }
-    ensures beyond { HasCleanDisk (state S.Store conn.new) → HasCommon (state S.Store conn.old).now.schema
-        → (target : Option ℕ)
-        → IfOk result (λ passed.
-        IfSome passed (λ tail.
-        Beyond seq (request_outcome (request_in target row.now) (outcome_of left.entry.number judged.now))
-        left.entry tail (state S.Store conn.old).now)) }
+    ensures reads { ReadsOurs common_tables S.Store conn.old conn.new result (λ passed db.
+        (target : Option ℕ)
+        → IsPast seq row.now
+        (request_outcome (request_in target row.now) (outcome_of left.entry.number judged.now)) left.entry passed db)
+        Never }
     ensures rest { IfOk result (λ passed.
         IfSome passed (λ tail. (tail.number ≤ left.entry.number + 1) × (tail.amends.now ≡ left.entry.amends.now))) }
-    ensures leaves { MayQuery S.Store conn.old conn.new result }
 {
     match judged {
         Judged::Valid(report) => {
@@ -251,7 +222,7 @@ fn pass_as<'a, S: Alter>(
 }
 
 /// What is left behind this kept row, whose filer and target were read, if its rows are those that judging its request
-/// gives. It is `None` also if memory is short.
+/// gives.
 fn pass_filed<'a, S: Alter>(
     alloc: Global,
     conn: &mut Connection<S>,
@@ -261,41 +232,27 @@ fn pass_filed<'a, S: Alter>(
     row: &Row,
     seq: u64,
     left: Left<'a>,
-) -> Result<Option<Left<'a>>, Error>
+) -> Result<Option<Left<'a>>, OpenFault>
     requires seq { seq < 2 ^ 63 }
     requires number { left.number < 2 ^ 63 }
     requires filer { filer.now ≡ (request_in None row.now).filer }
-    ensures row { (F : List Request) → AreFiled (kept F) filed.old → left.entry.number ≡ suc (length (register F))
-        → seq ≡ suc (length (kept F))
-        → IfOk result (λ passed.
-        IfSome passed (λ tail.
-        (row.now ≡ kept_row seq (judged (kept F) (request_in target row.now)))
-        × AreFiled (kept F ++ judged (kept F) (request_in target row.now) ∷ []) filed.new)) }
-    ensures beyond { HasCleanDisk (state S.Store conn.new) → HasCommon (state S.Store conn.old).now.schema
-        → (F : List Request) → AreFiled (kept F) filed.old → left.entry.number ≡ suc (length (register F))
-        → seq ≡ suc (length (kept F))
-        → IfOk result (λ passed.
-        IfSome passed (λ tail.
-        Beyond seq (judged (kept F) (request_in target row.now)) left.entry tail
-        (state S.Store conn.old).now)) }
+    ensures reads { ReadsOurs common_tables S.Store conn.old conn.new result (λ passed db.
+        (F : List Request) → IsBehind F filed.old left.entry seq
+        → IsPast seq row.now (judged (kept F) (request_in target row.now)) left.entry passed db
+        × OnSome passed (AreFiled (kept F ++ judged (kept F) (request_in target row.now) ∷ []) filed.new))
+        Never }
     ensures rest { IfOk result (λ passed.
         IfSome passed (λ tail. (tail.number ≤ left.entry.number + 1) × (tail.amends.now ≡ left.entry.amends.now))) }
-    ensures leaves { MayQuery S.Store conn.old conn.new result }
 {
-    let Ok(judged) = filed.judge(alloc, filer, target, bytes_at(row, kept::BODY)) else {
-        return Ok(None);
-    };
+    let judged = filed.judge(alloc, filer, target, bytes_at(row, kept::BODY))?;
     let Some(tail) = pass_as(conn, row, seq, &judged, left)? else {
         return Ok(None);
     };
-    match filed.note(alloc, filer, seq, target, &judged) {
-        Ok(()) => Ok(Some(tail)),
-        Err(_) => Ok(None),
-    }
+    filed.note(alloc, filer, seq, target, &judged)?;
+    Ok(Some(tail))
 }
 
-/// What is left behind this kept row, if its rows are those that judging its request gives. It is `None` also if memory
-/// is short.
+/// What is left behind this kept row, if its rows are those that judging its request gives.
 fn pass_judged<'a, S: Alter>(
     alloc: Global,
     conn: &mut Connection<S>,
@@ -303,25 +260,21 @@ fn pass_judged<'a, S: Alter>(
     row: &Row,
     seq: u64,
     left: Left<'a>,
-) -> Result<Option<Left<'a>>, Error>
+) -> Result<Option<Left<'a>>, OpenFault>
     requires seq { seq < 2 ^ 63 }
     requires number { left.number < 2 ^ 63 }
-    ensures row { (F : List Request) → AreFiled (kept F) filed.old → left.entry.number ≡ suc (length (register F))
-        → seq ≡ suc (length (kept F))
-        → IfOk result (λ passed.
-        IfSome passed (λ tail.
-        (target : Option ℕ) × IsCompleted (request_in target row.now)
-        × (row.now ≡ kept_row seq (judged (kept F) (request_in target row.now)))
-        × (left.entry.amends.now ≡ amends_rows_by seq target ++ tail.amends.now)
-        × AreFiled (kept F ++ judged (kept F) (request_in target row.now) ∷ []) filed.new
-        × (HasCleanDisk (state S.Store conn.new) → HasCommon (state S.Store conn.old).now.schema
-        → Beyond seq (judged (kept F) (request_in target row.now)) left.entry tail
-        (state S.Store conn.old).now))) }
+    ensures reads { ReadsOurs common_tables S.Store conn.old conn.new result (λ passed db.
+        (F : List Request) → IsBehind F filed.old left.entry seq
+        → MatchOption passed
+        ((target : Option ℕ) (tail : Left) → IsNext F seq row.now target left.entry tail db → ⊥)
+        (λ tail.
+        (target : Option ℕ) × IsNext F seq row.now target left.entry tail db
+        × AreFiled (kept F ++ judged (kept F) (request_in target row.now) ∷ []) filed.new))
+        Never }
     ensures number { IfOk result (λ passed. IfSome passed (λ tail. tail.number ≤ left.entry.number + 1)) }
-    ensures leaves { MayQuery S.Store conn.old conn.new result }
 {
     let (target, amends) = target_of(left.amends, seq);
-    if !is_target(target) {
+    if !is_target(target) || has_target(amends, seq) {
         return Ok(None);
     }
     let Some(filer) = filer_of(row) else {
@@ -331,6 +284,16 @@ fn pass_judged<'a, S: Alter>(
     pass_filed(alloc, conn, filed, filer, target, row, seq, left)
 }
 
+/// The row, if there is one alone.
+fn only_row(rows: &[Row]) -> Option<&Row>
+    ensures { MatchOption result (length rows.now ≡ 1 → ⊥) (λ row. rows.now ≡ row.now ∷ []) }
+{
+    match rows {
+        [row] => Some(row),
+        _ => None,
+    }
+}
+
 /// What is left behind the kept request at this place, if its rows are those of a request that may come next.
 fn pass<'a, S: Alter>(
     alloc: Global,
@@ -338,61 +301,56 @@ fn pass<'a, S: Alter>(
     filed: &mut Filed,
     seq: u64,
     left: Left<'a>,
-) -> Result<Option<Left<'a>>, Error>
+) -> Result<Option<Left<'a>>, OpenFault>
     requires seq { seq < 2 ^ 63 }
     requires number { left.number < 2 ^ 63 }
-    ensures passes { HasCleanDisk (state S.Store conn.new) → HasCommon (state S.Store conn.old).now.schema
-        → (F : List Request) → AreFiled (kept F) filed.old → left.entry.number ≡ suc (length (register F))
-        → seq ≡ suc (length (kept F))
-        → IfOk result (λ passed.
-        IfSome passed (λ tail.
-        (r : Request) × Passes F seq left.entry tail (state S.Store conn.old).now r
-        × AreFiled (kept F ++ judged (kept F) r ∷ []) filed.new)) }
+    ensures reads { ReadsOurs common_tables S.Store conn.old conn.new result (λ passed db.
+        (F : List Request) → IsBehind F filed.old left.entry seq
+        → MatchOption passed (NonePasses F seq left.entry db) (λ tail.
+        (request : Request) × Passes F seq left.entry tail db request
+        × AreFiled (kept F ++ judged (kept F) request ∷ []) filed.new))
+        Never }
     ensures number { IfOk result (λ passed. IfSome passed (λ tail. tail.number ≤ left.entry.number + 1)) }
-    ensures leaves { OnlyQueries S.Store conn.old conn.new result }
 {
     let rows = picks::kept_at(conn, seq)?;
-    match rows.as_slice() {
-        [row] => {
-            if !is_alone(conn, row)? {
-                return Ok(None);
-            }
-            pass_judged(alloc, conn, filed, row, seq, left)
-        }
-        _ => Ok(None),
+    let Some(row) = only_row(&rows) else {
+        return Ok(None);
+    };
+    if !is_alone(conn, row)? {
+        return Ok(None);
     }
+    pass_judged(alloc, conn, filed, row, seq, left)
 }
 
-/// What is left behind all kept requests, if their rows are those of requests, and the catalogue of their filings.
+/// What is left behind all kept requests, and the catalogue of their filings; or the first of which the rows are not
+/// its own.
 fn walk<'a, S: Alter, W: Watch>(
     alloc: Global,
     conn: &mut Connection<S>,
     total: u64,
     start: Left<'a>,
     watch: &mut W,
-) -> Result<Option<(Left<'a>, Catalogue)>, Error>
+) -> Result<(Left<'a>, Catalogue), OpenFault>
     requires total { total ≤ 2 ^ 62 }
     requires first { start.number ≡ 1 }
-    ensures walked { HasCleanDisk (state S.Store conn.new) → HasCommon (state S.Store conn.old).now.schema
-        → IsTrue (state S.Store conn.old).is_open
-        → Walked start.entry.amends.now total 0 start.entry (state S.Store conn.old).now []
-        → IfOk result (λ passed.
-        IfSome passed (λ all.
-        (F : List Request) × Walked start.entry.amends.now total total all.0 (state S.Store conn.old).now F
-        × (view_lines all.1 ≡ catalogue_of F))) }
-    ensures number { IfOk result (λ passed. IfSome passed (λ all. all.0.number ≤ total + 1)) }
-    ensures leaves { MayQuery S.Store conn.old conn.new result }
+    ensures reads { ReadsOurs common_tables S.Store conn.old conn.new result (λ all db.
+        Walked start.entry.amends.now total 0 start.entry db []
+        → (F : List Request) × Walked start.entry.amends.now total total all.0 db F
+        × (view_lines all.1 ≡ catalogue_of F))
+        (λ row db.
+        Walked start.entry.amends.now total 0 start.entry db [] → IsFirstUnsound start.entry.amends.now row db) }
+    ensures number { IfOk result (λ all. all.0.number ≤ total + 1) }
 {
     let mut filed = Filed::new(alloc);
     let mut left = start;
     for at in 0..total {
         let Some(tail) = pass(alloc, conn, &mut filed, at + 1, left)? else {
-            return Ok(None);
+            return Err(OpenFault::Damaged { row: at + 1 });
         };
         left = tail;
         watch.passed(at + 1, total);
     }
-    Ok(Some((left, filed.into_catalogue())))
+    Ok((left, filed.into_catalogue()))
 }
 
 /// How many rows the tables have that are walked over.
@@ -402,16 +360,25 @@ struct Sizes<'a> {
     others: Left<'a>,
 }
 
+/// Asks each table once for rows that no register has, so that one that cannot be read is told before any row.
+fn try_tables<S: Alter>(conn: &mut Connection<S>) -> Result<(), Error>
+    ensures { AsksOurs common_tables S.Store conn.old conn.new result (λ _ _. Unit {0}) }
+{
+    picks::kept_at(conn, 0)?;
+    picks::findings_at(conn, 0)?;
+    picks::filings_of(conn, 0)?;
+    picks::facts_numbered(conn, 0)?;
+    Ok(())
+}
+
 fn count_tables<'a, S: Alter>(
     conn: &mut Connection<S>,
     amends: &'a [Row],
 ) -> Result<Option<Sizes<'a>>, Error>
-    ensures start { HasCleanDisk (state S.Store conn.new) → HasCommon (state S.Store conn.old).now.schema
-        → IfOk result (λ sizes.
-        IfSome sizes (λ s. Walked amends.now s.kept 0 s.others (state S.Store conn.old).now [])) }
+    ensures reads { AsksOurs common_tables S.Store conn.old conn.new result (λ sizes db.
+        IfSome sizes (λ s. Walked amends.now s.kept 0 s.others db [])) }
     ensures first { IfOk result (λ sizes.
         IfSome sizes (λ s. (s.others.number ≡ 1) × (s.others.amends.now ≡ amends.now))) }
-    ensures leaves { OnlyQueries S.Store conn.old conn.new result }
 {
     let kept = picks::count_kept(conn)?;
     let findings = picks::count_findings(conn)?;
@@ -453,7 +420,10 @@ pub(crate) struct Totals {
 
 /// How much was walked past, if nothing is left.
 fn counts_of(kept: u64, left: Left<'_>, catalogue: Catalogue) -> Option<Totals>
-    ensures { IfSome result (λ counts.
+    ensures { MatchOption result
+        ((left.entry.findings ≡ 0) → (left.entry.filings ≡ 0) → (left.entry.facts ≡ 0) → (left.entry.amends.now ≡ [])
+        → left.entry.number ≡ 0)
+        (λ counts.
         (counts.kept ≡ kept) × (left.entry.findings ≡ 0) × (left.entry.filings ≡ 0) × (left.entry.facts ≡ 0)
         × (left.entry.number ≡ counts.filings + 1) × (left.entry.amends.now ≡ [])
         × (counts.catalogue ≡ catalogue)) }
@@ -474,28 +444,33 @@ fn counts_of(kept: u64, left: Left<'_>, catalogue: Catalogue) -> Option<Totals>
     }
 }
 
-/// How much a register holds whose rows stand for requests, if `amends` has these rows. `None` says nothing of the
-/// rows.
+/// How much a register holds whose rows stand for requests, if `amends` has these rows; or the first kept request of
+/// which the rows are not its own, or 0 if rows are left over.
 pub(crate) fn count_by_walk<S: Alter, W: Watch>(
     alloc: Global,
     conn: &mut Connection<S>,
     amends: &[Row],
     watch: &mut W,
-) -> Result<Option<Totals>, Error>
-    ensures found { HasCleanDisk (state S.Store conn.new) → HasCommon (state S.Store conn.old).now.schema
-        → IfOk result (λ found. IfSome found (λ counts. Amounts counts amends.now (state S.Store conn.old).now)) }
-    ensures few { IfOk result (λ found.
-        IfSome found (λ counts. (counts.kept ≤ 2 ^ 62) × (counts.filings ≤ counts.kept))) }
-    ensures leaves { OnlyQueries S.Store conn.old conn.new result }
+) -> Result<Totals, OpenFault>
+    ensures reads { ReadsOurs common_tables S.Store conn.old conn.new result (λ counts db. Amounts counts amends.now db)
+        (λ row db. IsUnsound amends.now row db) }
+    ensures few { IfOk result (λ counts. (counts.kept ≤ 2 ^ 62) × (counts.filings ≤ counts.kept)) }
+    ensures leaves { OnlyReads S.Store conn.old conn.new result }
 {
+    try_tables(conn)?;
     let Some(sizes) = count_tables(conn, amends)? else {
-        return Ok(None);
+        return Err(OpenFault::Memory);
     };
     if sizes.kept > MAX_KEPT {
-        return Ok(None);
+        return Err(OpenFault::Memory);
     }
-    let Some((left, catalogue)) = walk(alloc, conn, sizes.kept, sizes.others, watch)? else {
-        return Ok(None);
+    // Kept rows are told by their place among all, so the first is told if one lies before it.
+    if picks::has_early(conn)? {
+        return Err(OpenFault::Damaged { row: 1 });
+    }
+    let (left, catalogue) = walk(alloc, conn, sizes.kept, sizes.others, watch)?;
+    let Some(totals) = counts_of(sizes.kept, left, catalogue) else {
+        return Err(OpenFault::Damaged { row: 0 });
     };
-    Ok(counts_of(sizes.kept, left, catalogue))
+    Ok(totals)
 }

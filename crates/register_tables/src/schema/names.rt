@@ -4,7 +4,7 @@ ghost use Rattle.std.specs.Prelude.{◌≡◌};
 ghost use Rattle.register_tables.specs.Earlier.{is_blocked};
 ghost use Rattle.register_rows.specs.Schema.{is_taken};
 
-use crate::migrate::earlier::Earlier;
+use crate::opening::form::Earlier;
 use sqlite_catalog::layout::is_used;
 use sqlite_schema::schema::Schema;
 

@@ -1,13 +1,11 @@
-//! The SELECTs of a walk over a register's tables: the rows of one table with the first column of its key, in the order
-//! of the rest of the key, or how many rows it has.
+//! The SELECTs of a walk over a register's tables: the rows of one table with one number in a column, or how many rows
+//! it has.
 
-ghost use Rattle.std.specs.Prelude.{◌≡◌, ◌<◌, ◌^◌, ◌-◌, pos, length, filter, [], IfOk, IfSome};
+ghost use Rattle.std.specs.Prelude.{◌≡◌, ◌<◌, ◌^◌, length, filter, IfSome, IsTrue};
 ghost use Rattle.sqlite.specs.Held.{state};
-ghost use Rattle.sqlite.specs.State.{HasCleanDisk};
-ghost use Rattle.register_tables.specs.Reads.{has_texts};
-ghost use Rattle.table_rows.specs.Leaving.{OnlyQueries};
+ghost use Rattle.register_tables.specs.Reads.{AsksOurs, PicksInOrder, has_second, has_texts, HasEarly};
 ghost use Rattle.table_rows.specs.Picking.{has_number, CountsTo, Picks, rows_in};
-ghost use Rattle.register_rows.specs.Schema.{HasCommon, kept_table, finding_table, filing_table, fact_table};
+ghost use Rattle.register_rows.specs.Schema.{common_tables, kept_table, finding_table, filing_table, fact_table};
 
 use sqlite::types::ValueRef;
 use sqlite::{Alter, Connection, Error, Row, params};
@@ -18,9 +16,8 @@ const KEPT_AT: &str = "SELECT seq, filer, idem, body, number FROM kept WHERE seq
 /// The kept rows with this place.
 pub(crate) fn kept_at<S: Alter>(conn: &mut Connection<S>, seq: u64) -> Result<Vec<Row>, Error>
     requires { seq < 2 ^ 63 }
-    ensures picks { HasCleanDisk (state S.Store conn.new) → HasCommon (state S.Store conn.old).now.schema
-        → IfOk result (λ rows. Picks kept_table (has_number seq) rows.items (state S.Store conn.old).now) }
-    ensures leaves { OnlyQueries S.Store conn.old conn.new result }
+    ensures { AsksOurs common_tables S.Store conn.old conn.new result (λ rows db.
+        Picks kept_table (has_number seq) rows.items db) }
 {
     select(conn, KEPT_AT, params![seq as i64])
 }
@@ -30,26 +27,21 @@ const FINDINGS_AT: &str = "SELECT seq, pos, code, place FROM finding WHERE seq =
 /// The findings of the request at this place, by `pos`.
 pub(crate) fn findings_at<S: Alter>(conn: &mut Connection<S>, seq: u64) -> Result<Vec<Row>, Error>
     requires { seq < 2 ^ 63 }
-    ensures picks { HasCleanDisk (state S.Store conn.new) → HasCommon (state S.Store conn.old).now.schema
-        → IfOk result (λ rows. Picks finding_table (has_number seq) rows.items (state S.Store conn.old).now) }
-    ensures leaves { OnlyQueries S.Store conn.old conn.new result }
+    ensures { AsksOurs common_tables S.Store conn.old conn.new result (λ rows db.
+        PicksInOrder finding_table (has_number seq) rows.items db) }
 {
     select(conn, FINDINGS_AT, params![seq as i64])
 }
 
-const FILINGS_NUMBERED: &str = "SELECT number, seq FROM filing WHERE number = ?1 ORDER BY number";
+const FILINGS_OF: &str = "SELECT number, seq FROM filing WHERE seq = ?1 ORDER BY number";
 
-/// The filings with this number.
-pub(crate) fn filings_numbered<S: Alter>(
-    conn: &mut Connection<S>,
-    number: u64,
-) -> Result<Vec<Row>, Error>
-    requires { number < 2 ^ 63 }
-    ensures picks { HasCleanDisk (state S.Store conn.new) → HasCommon (state S.Store conn.old).now.schema
-        → IfOk result (λ rows. Picks filing_table (has_number number) rows.items (state S.Store conn.old).now) }
-    ensures leaves { OnlyQueries S.Store conn.old conn.new result }
+/// The filings of the request at this place.
+pub(crate) fn filings_of<S: Alter>(conn: &mut Connection<S>, seq: u64) -> Result<Vec<Row>, Error>
+    requires { seq < 2 ^ 63 }
+    ensures { AsksOurs common_tables S.Store conn.old conn.new result (λ rows db.
+        Picks filing_table (has_second seq) rows.items db) }
 {
-    select(conn, FILINGS_NUMBERED, params![number as i64])
+    select(conn, FILINGS_OF, params![seq as i64])
 }
 
 const FACTS_NUMBERED: &str =
@@ -61,9 +53,8 @@ pub(crate) fn facts_numbered<S: Alter>(
     number: u64,
 ) -> Result<Vec<Row>, Error>
     requires { number < 2 ^ 63 }
-    ensures picks { HasCleanDisk (state S.Store conn.new) → HasCommon (state S.Store conn.old).now.schema
-        → IfOk result (λ rows. Picks fact_table (has_number number) rows.items (state S.Store conn.old).now) }
-    ensures leaves { OnlyQueries S.Store conn.old conn.new result }
+    ensures { AsksOurs common_tables S.Store conn.old conn.new result (λ rows db.
+        PicksInOrder fact_table (has_number number) rows.items db) }
 {
     select(conn, FACTS_NUMBERED, params![number as i64])
 }
@@ -76,10 +67,8 @@ pub(crate) fn count_with_key<S: Alter>(
     filer: &[u8],
     key: &[u8],
 ) -> Result<usize, Error>
-    ensures counted { HasCleanDisk (state S.Store conn.new) → HasCommon (state S.Store conn.old).now.schema
-        → IfOk result (λ count.
-        count ≡ length (filter (has_texts filer.now key.now) (rows_in (state S.Store conn.old).now kept_table))) }
-    ensures leaves { OnlyQueries S.Store conn.old conn.new result }
+    ensures { AsksOurs common_tables S.Store conn.old conn.new result (λ count db.
+        count ≡ length (filter (has_texts filer.now key.now) (rows_in db kept_table))) }
 {
     let rows = select(
         conn,
@@ -93,9 +82,8 @@ const COUNT_KEPT: &str = "SELECT count(*) FROM kept";
 
 /// How many rows `kept` has, or `None` if it has more than SQLite counts.
 pub(crate) fn count_kept<S: Alter>(conn: &mut Connection<S>) -> Result<Option<u64>, Error>
-    ensures counted { HasCleanDisk (state S.Store conn.new) → HasCommon (state S.Store conn.old).now.schema
-        → IfOk result (λ found. IfSome found (λ count. CountsTo kept_table count (state S.Store conn.old).now)) }
-    ensures leaves { OnlyQueries S.Store conn.old conn.new result }
+    ensures { AsksOurs common_tables S.Store conn.old conn.new result (λ found db.
+        IfSome found (λ count. CountsTo kept_table count db)) }
 {
     let rows = select(conn, COUNT_KEPT, &[])?;
     Ok(count_in(&rows))
@@ -105,9 +93,8 @@ const COUNT_FINDINGS: &str = "SELECT count(*) FROM finding";
 
 /// How many rows `finding` has, or `None` if it has more than SQLite counts.
 pub(crate) fn count_findings<S: Alter>(conn: &mut Connection<S>) -> Result<Option<u64>, Error>
-    ensures counted { HasCleanDisk (state S.Store conn.new) → HasCommon (state S.Store conn.old).now.schema
-        → IfOk result (λ found. IfSome found (λ count. CountsTo finding_table count (state S.Store conn.old).now)) }
-    ensures leaves { OnlyQueries S.Store conn.old conn.new result }
+    ensures { AsksOurs common_tables S.Store conn.old conn.new result (λ found db.
+        IfSome found (λ count. CountsTo finding_table count db)) }
 {
     let rows = select(conn, COUNT_FINDINGS, &[])?;
     Ok(count_in(&rows))
@@ -117,9 +104,8 @@ const COUNT_FILINGS: &str = "SELECT count(*) FROM filing";
 
 /// How many rows `filing` has, or `None` if it has more than SQLite counts.
 pub(crate) fn count_filings<S: Alter>(conn: &mut Connection<S>) -> Result<Option<u64>, Error>
-    ensures counted { HasCleanDisk (state S.Store conn.new) → HasCommon (state S.Store conn.old).now.schema
-        → IfOk result (λ found. IfSome found (λ count. CountsTo filing_table count (state S.Store conn.old).now)) }
-    ensures leaves { OnlyQueries S.Store conn.old conn.new result }
+    ensures { AsksOurs common_tables S.Store conn.old conn.new result (λ found db.
+        IfSome found (λ count. CountsTo filing_table count db)) }
 {
     let rows = select(conn, COUNT_FILINGS, &[])?;
     Ok(count_in(&rows))
@@ -129,10 +115,22 @@ const COUNT_FACTS: &str = "SELECT count(*) FROM fact";
 
 /// How many rows `fact` has, or `None` if it has more than SQLite counts.
 pub(crate) fn count_facts<S: Alter>(conn: &mut Connection<S>) -> Result<Option<u64>, Error>
-    ensures counted { HasCleanDisk (state S.Store conn.new) → HasCommon (state S.Store conn.old).now.schema
-        → IfOk result (λ found. IfSome found (λ count. CountsTo fact_table count (state S.Store conn.old).now)) }
-    ensures leaves { OnlyQueries S.Store conn.old conn.new result }
+    ensures { AsksOurs common_tables S.Store conn.old conn.new result (λ found db.
+        IfSome found (λ count. CountsTo fact_table count db)) }
 {
     let rows = select(conn, COUNT_FACTS, &[])?;
     Ok(count_in(&rows))
+}
+
+const COUNT_EARLY: &str = "SELECT count(*) FROM kept WHERE seq < 1";
+
+/// Whether a kept row lies before the first place. If not, that is not said.
+pub(crate) fn has_early<S: Alter>(conn: &mut Connection<S>) -> Result<bool, Error>
+    ensures { AsksOurs common_tables S.Store conn.old conn.new result (λ found db. IsTrue found → HasEarly db) }
+{
+    let rows = select(conn, COUNT_EARLY, &[])?;
+    match count_in(&rows) {
+        Some(count) => Ok(count > 0),
+        None => Ok(false),
+    }
 }

@@ -5,7 +5,7 @@ ghost use Rattle.sqlite.specs.Held.{state};
 ghost use Rattle.sqlite.specs.State.{HasCleanDisk, Shown};
 ghost use Rattle.table_rows.specs.Leaving.{OnlyQueries};
 ghost use Rattle.register_rows.specs.Schema.{kept_table, amends_table, received_table};
-ghost use Rattle.register_tables.specs.Opening.{all_meta, all_kept, all_findings, all_filings, all_facts, all_migrated};
+ghost use Rattle.register_tables.specs.Opening.{all_meta, all_kept, all_migrated};
 ghost use Rattle.register_tables.specs.Opening.{all_amends, all_received};
 ghost use Rattle.register_tables.specs.Reads.{Knows, KnowsAll, FailsOnErr, ReadsWhole};
 
@@ -36,43 +36,6 @@ pub fn kept_rows<S: Alter>(conn: &mut Connection<S>) -> Result<Vec<Row>, Error>
     ensures leaves { OnlyQueries S.Store conn.old conn.new result }
 {
     select(conn, ALL_KEPT, &[])
-}
-
-const ALL_FINDINGS: &str = "SELECT seq, pos, code, place FROM finding ORDER BY seq, pos";
-
-/// All findings, by `seq` and `pos`.
-pub(crate) fn finding_rows<S: Alter>(conn: &mut Connection<S>) -> Result<Vec<Row>, Error>
-    ensures shown { HasCleanDisk (state S.Store conn.new)
-        → IfOk result (λ rows. Shown all_findings [] (state S.Store conn.old) (state S.Store conn.new) rows.items) }
-    ensures failed { FailsOnErr all_findings (state S.Store conn.old) (state S.Store conn.new) result }
-    ensures leaves { OnlyQueries S.Store conn.old conn.new result }
-{
-    select(conn, ALL_FINDINGS, &[])
-}
-
-const ALL_FILINGS: &str = "SELECT number, seq FROM filing ORDER BY number";
-
-/// All filings, by `number`.
-pub(crate) fn filing_rows<S: Alter>(conn: &mut Connection<S>) -> Result<Vec<Row>, Error>
-    ensures shown { HasCleanDisk (state S.Store conn.new)
-        → IfOk result (λ rows. Shown all_filings [] (state S.Store conn.old) (state S.Store conn.new) rows.items) }
-    ensures failed { FailsOnErr all_filings (state S.Store conn.old) (state S.Store conn.new) result }
-    ensures leaves { OnlyQueries S.Store conn.old conn.new result }
-{
-    select(conn, ALL_FILINGS, &[])
-}
-
-const ALL_FACTS: &str =
-    "SELECT number, pos, id, concept, dimensions, value, decimals FROM fact ORDER BY number, pos";
-
-/// All facts, by `number` and `pos`.
-pub(crate) fn fact_rows<S: Alter>(conn: &mut Connection<S>) -> Result<Vec<Row>, Error>
-    ensures shown { HasCleanDisk (state S.Store conn.new)
-        → IfOk result (λ rows. Shown all_facts [] (state S.Store conn.old) (state S.Store conn.new) rows.items) }
-    ensures failed { FailsOnErr all_facts (state S.Store conn.old) (state S.Store conn.new) result }
-    ensures leaves { OnlyQueries S.Store conn.old conn.new result }
-{
-    select(conn, ALL_FACTS, &[])
 }
 
 const ALL_MIGRATED: &str = "SELECT id, last FROM migrated ORDER BY id";

@@ -4,12 +4,12 @@ use Rattle.std.proofs.lemmas.List.{length-replicate}
 use Rattle.sqlite.specs.Held.{state}
 use Rattle.sqlite.specs.State.{HasCleanDisk}
 use Rattle.sqlite.proofs.StateLemmas.{survives_then, survives_weaker}
-use Rattle.register_tables.specs.declared.migrate.earlier.Earlier.{Earlier}
+use Rattle.register_tables.specs.declared.opening.form.Earlier.{Earlier}
 use Rattle.register_tables.specs.Earlier.{is_blocked, ForEarlier}
 use Rattle.register_tables.specs.Migrating.{IsMigrated, MigratesTo}
 use Rattle.register_tables.specs.Opening.{IsCounted}
-use Rattle.register_tables.proofs.NotSurveyed.{survey_sound}
 use Rattle.register_tables.proofs.Surveyed.{to_end, migrates, migrates_only, current_only, not_blocked, not_current}
+use Rattle.register_tables.proofs.Surveyed.{survey_sound}
 use Rattle.register_tables.proofs.Surveyed.{adds_nothing, nothing_then}
 use Rattle.register_tables.proofs.migrate.migrate_register.Goals as goal
 
@@ -185,8 +185,8 @@ returns-in_err-found g c =
       ran = λ clean. tt;
       current = λ clean. tt;
       refused = λ clean. inl (c.in_err-found.ensures.refused clean);
-      sound = λ clean form old_style F is free. survey_sound g.S.Store c.read_earlier.new.conn F c.args.conn.now
-          c.requires.unlimited form old_style is c.in_err-found.field-0.0 (c.in_err-found.ensures.refused clean);
+      sound = λ clean form old_style F is free. survey_sound g.S.Store c.args.conn.now c.read_earlier.new.conn
+          c.requires.unlimited c.in_err-found.field-0.0 (c.in_err-found.ensures.refused clean) form old_style F is;
       neither = λ clean.
           let settled : IsTrue c.is_settled.result = c.is_settled.ensures.value ∙ ap not c.requires.autocommit in
           adds_nothing (c.is_settled.ensures.settled settled) c.in_err-found.ensures.leaves clean;

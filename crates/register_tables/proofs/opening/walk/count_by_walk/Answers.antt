@@ -1,38 +1,93 @@
-use Rattle.std.proofs.Common.{sym, subst, [], Err, rules, ◌≡◌}
-use Rattle.sqlite.specs.Held.{state}
-use Rattle.sqlite.specs.State.{HasCleanDisk, IsUnchanged}
-use Rattle.sqlite.specs.Effect.{Database}
-use Rattle.register_rows.specs.Schema.{HasCommon}
-use Rattle.register_tables.specs.Walk.{Walked}
-use Rattle.register_tables.proofs.WalkEnds.{all_walked}
-use Rattle.table_rows.proofs.LeavingLemmas.{asked_before, asked_then, clean_before}
+use Rattle.std.proofs.Common.{◌≡◌, inr, Ok, Err, IsTrue, [], refl, sym, subst, rules}
+use Rattle.register_tables.specs.Walk.{Amounts, IsFirstUnsound, IsUnsound, Walked}
+use Rattle.register_tables.proofs.Ours.{after, asked, concludes, reads_then, refuses_so}
+use Rattle.register_tables.proofs.WalkEnds.{all_walked, unsound_early, unsound_first, unsound_left}
 use Rattle.register_tables.proofs.opening.walk.count_by_walk.Goals as goal
 
-pub returns-clause-found : goal.returns-clause-found
-returns-clause-found g c clean d =
-    let old = state g.S.Store c.args.conn.now in
-    let mid = state g.S.Store c.count_tables.new.conn in
-    let was_clean : HasCleanDisk mid = clean_before c.walk.ensures.leaves clean in
-    let same : IsUnchanged old mid = c.in_ok-sizes.ensures.leaves.left was_clean in
-    let there : HasCommon mid.now.schema = subst (λ (db : Database). HasCommon db.schema) (sym same.0.now_is) d in
+pub returns-then-branch-clause-reads : goal.returns-then-branch-clause-reads
+returns-then-branch-clause-reads g c =
+    let early : IsTrue c.in_ok-has_early.field-0 = search rules in
+    concludes g.S.Store (λ counts db. Amounts counts c.args.amends.now db)
+    (λ row db. IsUnsound c.args.amends.now row db)
+    c.in_ok-has_early.field-0 (Err _) (λ is. cc)
+    (λ db says. (tt, inr (1, refl, unsound_early c.args.amends.now db (says early))))
+    (after g.S.Store c.in_ok-try_tables.field-0 (Ok c.in_ok-has_early.field-0)
+    (asked g.S.Store c.in_ok-try_tables.field-0 c.in_ok-try_tables.ensures)
+    (after g.S.Store c.in_ok-sizes.field-0 (Ok c.in_ok-has_early.field-0)
+    (asked g.S.Store c.in_ok-sizes.field-0 c.in_ok-sizes.ensures.reads)
+    (asked g.S.Store c.in_ok-has_early.field-0 c.in_ok-has_early.ensures)))
+
+pub returns-in_err-left-clause-reads : goal.returns-in_err-left-clause-reads
+returns-in_err-left-clause-reads g c =
+    let rows = c.args.amends.now in
     let sizes = c.in-Some.sizes in
+    let why = c.in_err-left.field-0.0 in
     let first = rw c.in-Some.is at c.in_ok-sizes.ensures.first in
-    let start = rw c.in-Some.is at c.in_ok-sizes.ensures.start was_clean d in
-    let begins =
-    subst (λ (db : Database). Walked sizes.others.amends.now sizes.kept 0 sizes.others db []) (sym same.0.now_is)
-    (subst (λ l. Walked l sizes.kept 0 sizes.others old.now []) (sym first.1) start) in
-    let walked = rw c.in-Some-2.is at c.in_ok-left.ensures.walked clean there same.0.is_open begins in
-    let left = c.in-Some-2.left in
-    let catalogue = c.in-Some-2.catalogue in
-    all_walked c.args.amends.now sizes.kept left old.now walked.0
-    (subst (λ (db : Database). Walked c.args.amends.now sizes.kept sizes.kept left db walked.0) same.0.now_is
-    (subst (λ l. Walked l sizes.kept sizes.kept left mid.now walked.0) first.1 walked.1)) catalogue walked.2
-    c.counts_of.result c.counts_of.ensures
+    let told : c.from_residual-in_err-left.result ≡ Err why = search rules in
+    rw told (refuses_so g.S.Store (λ counts db. Amounts counts rows db) (λ row db. IsUnsound rows row db) why
+    (λ row db h.
+    let start = rw c.in-Some.is at h.0 in
+    let begins = subst (λ l. Walked l sizes.kept 0 sizes.others db []) (sym first.1) start in
+    unsound_first rows row db (subst (λ l. IsFirstUnsound l row db) first.1 (h.1 begins)))
+    (after g.S.Store c.in_ok-try_tables.field-0 (Err why)
+    (asked g.S.Store c.in_ok-try_tables.field-0 c.in_ok-try_tables.ensures)
+    (reads_then g.S.Store c.in_ok-sizes.field-0 (Err why)
+    (asked g.S.Store c.in_ok-sizes.field-0 c.in_ok-sizes.ensures.reads)
+    (after g.S.Store c.in_ok-has_early.field-0 (Err why)
+    (asked g.S.Store c.in_ok-has_early.field-0 c.in_ok-has_early.ensures) c.in_err-left.ensures.reads))))
 
-pub returns-in_err-left-clause-leaves : goal.returns-in_err-left-clause-leaves
-returns-in_err-left-clause-leaves g c =
-    let told : c.from_residual-in_err-left.result ≡ Err c.in_err-left.field-0.0 = search rules in
-    rw told (asked_then c.in_ok-sizes.ensures.leaves c.in_err-left.ensures.leaves)
+pub returns-in_default-counts_of-clause-reads : goal.returns-in_default-counts_of-clause-reads
+returns-in_default-counts_of-clause-reads g c =
+    let rows = c.args.amends.now in
+    let sizes = c.in-Some.sizes in
+    let left = c.in_ok-left.left in
+    let catalogue = c.in_ok-left.catalogue in
+    let first = rw c.in-Some.is at c.in_ok-sizes.ensures.first in
+    let over = rw c.in_default-counts_of.is at c.counts_of.ensures in
+    concludes g.S.Store (λ counts db. Amounts counts rows db) (λ row db. IsUnsound rows row db) (left, catalogue)
+    (Err _) (λ is. cc)
+    (λ db h.
+    let start = rw c.in-Some.is at h.0 in
+    let begins = subst (λ l. Walked l sizes.kept 0 sizes.others db []) (sym first.1) start in
+    let walked = h.1 begins in (
+      tt,
+      inr (
+        0,
+        refl,
+        unsound_left rows sizes.kept left db walked.0
+            (subst (λ l. Walked l sizes.kept sizes.kept left db walked.0) first.1 walked.1) over,
+      ),
+    ))
+    (after g.S.Store c.in_ok-try_tables.field-0 (Ok (left, catalogue))
+    (asked g.S.Store c.in_ok-try_tables.field-0 c.in_ok-try_tables.ensures)
+    (reads_then g.S.Store c.in_ok-sizes.field-0 (Ok (left, catalogue))
+    (asked g.S.Store c.in_ok-sizes.field-0 c.in_ok-sizes.ensures.reads)
+    (after g.S.Store c.in_ok-has_early.field-0 (Ok (left, catalogue))
+    (asked g.S.Store c.in_ok-has_early.field-0 c.in_ok-has_early.ensures) c.in_ok-left.ensures.reads)))
 
-pub returns-clause-leaves : goal.returns-clause-leaves
-returns-clause-leaves g c = asked_before c.in_ok-sizes.ensures.leaves c.in_ok-left.ensures.leaves
+pub returns-clause-reads : goal.returns-clause-reads
+returns-clause-reads g c =
+    let rows = c.args.amends.now in
+    let sizes = c.in-Some.sizes in
+    let left = c.in_ok-left.left in
+    let catalogue = c.in_ok-left.catalogue in
+    let totals = c.in-Some-counts_of.totals in
+    let first = rw c.in-Some.is at c.in_ok-sizes.ensures.first in
+    let says = rw c.in-Some-counts_of.is at c.counts_of.ensures in
+    concludes g.S.Store (λ counts db. Amounts counts rows db) (λ row db. IsUnsound rows row db) (left, catalogue)
+    (Ok totals) tt
+    (λ db h.
+    let start = rw c.in-Some.is at h.0 in
+    let begins = subst (λ l. Walked l sizes.kept 0 sizes.others db []) (sym first.1) start in
+    let walked = h.1 begins in (
+      all_walked rows sizes.kept left db walked.0
+          (subst (λ l. Walked l sizes.kept sizes.kept left db walked.0) first.1 walked.1) catalogue walked.2 totals
+          says,
+      tt,
+    ))
+    (after g.S.Store c.in_ok-try_tables.field-0 (Ok (left, catalogue))
+    (asked g.S.Store c.in_ok-try_tables.field-0 c.in_ok-try_tables.ensures)
+    (reads_then g.S.Store c.in_ok-sizes.field-0 (Ok (left, catalogue))
+    (asked g.S.Store c.in_ok-sizes.field-0 c.in_ok-sizes.ensures.reads)
+    (after g.S.Store c.in_ok-has_early.field-0 (Ok (left, catalogue))
+    (asked g.S.Store c.in_ok-has_early.field-0 c.in_ok-has_early.ensures) c.in_ok-left.ensures.reads)))

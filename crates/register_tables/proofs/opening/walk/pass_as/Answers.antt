@@ -1,44 +1,30 @@
-use Rattle.std.proofs.Common.{◌≡◌, refl, rules}
-use Rattle.std.proofs.lemmas.Result.{IfOk-weaker}
-use Rattle.sqlite.specs.Held.{state}
+use Rattle.std.proofs.Common.{◌≡◌, None, refl, rules}
 use Rattle.xbrl_report.specs.ReportParts.{facts as facts_of}
-use Rattle.filing_model.specs.Register.{Outcome}
-use Rattle.register_rows.specs.Audit.{request_outcome}
+use Rattle.filing_model.specs.Register.Outcome.{Registered, Refused}
 use Rattle.register_rows.specs.Columns.{request_in}
-use Rattle.register_tables.specs.Walk.{Beyond}
-use Rattle.register_tables.proofs.WalkLemmas.{at_kept, at_filed}
-use Rattle.std.proofs.lemmas.Option.{IfSome_then}
+use Rattle.register_rows.specs.Outcomes.{request_outcome}
+use Rattle.register_tables.proofs.Ours.{answers}
+use Rattle.register_tables.proofs.WalkLemmas.{past_row}
 use Rattle.register_tables.proofs.opening.walk.pass_as.Goals as goal
 
-pub returns-then-is_kept_row-clause-beyond : goal.returns-then-is_kept_row-clause-beyond
-returns-then-is_kept_row-clause-beyond g c clean d target =
-    let db = (state g.S.Store c.args.conn.now).now in
+pub returns-then-is_kept_row-clause-reads : goal.returns-then-is_kept_row-clause-reads
+returns-then-is_kept_row-clause-reads g c =
+    let row = c.args.row.now in
     let number = c.args.left.number in
-    let has : c.facts.result.now ≡ facts_of (request_in target c.args.row.now).body = search rules in
-    rw c.in-Valid.is (IfOk-weaker c.pass_registered.result _ _
-    (λ passed h. at_filed (λ k tail. Beyond c.args.seq k c.args.left tail db)
-    (λ k. k.outcome ≡ Outcome.Registered number) (λ k. c.facts.result.now ≡ facts_of k.request.body)
-    (request_outcome (request_in target c.args.row.now) (Outcome.Registered number)) refl has passed h)
-    (c.pass_registered.ensures.beyond clean d))
+    let has : c.facts.result.now ≡ facts_of (request_in None row).body = search rules in
+    rw c.in-Valid.is (answers g.S.Store _ c.pass_registered.result
+    (λ passed db h target.
+    past_row c.args.seq row (request_outcome (request_in target row) (Registered number)) c.args.left passed db
+    (c.is_kept_row.ensures.0 c.if-is_kept_row.true)
+    (h (request_outcome (request_in target row) (Registered number)) refl has)) c.pass_registered.ensures.reads)
 
-pub returns-then-is_kept_row-2-clause-beyond : goal.returns-then-is_kept_row-2-clause-beyond
-returns-then-is_kept_row-2-clause-beyond g c clean d target =
-    let db = (state g.S.Store c.args.conn.now).now in
+pub returns-then-is_kept_row-2-clause-reads : goal.returns-then-is_kept_row-2-clause-reads
+returns-then-is_kept_row-2-clause-reads g c =
+    let row = c.args.row.now in
     let found = c.list.result.now in
     let same : found ≡ c.in-Refused.findings = search rules in
-    rw (c.in-Refused.is, ← same) (IfOk-weaker c.pass_refused.result _ _
-    (λ passed h. at_kept (λ k tail. Beyond c.args.seq k c.args.left tail db) (λ k. k.outcome ≡ Outcome.Refused found)
-    (request_outcome (request_in target c.args.row.now) (Outcome.Refused found)) refl passed h)
-    (c.pass_refused.ensures.beyond clean d))
-
-pub returns-then-is_kept_row-clause-row : goal.returns-then-is_kept_row-clause-row
-returns-then-is_kept_row-clause-row g c target =
-    rw c.in-Valid.is (IfOk-weaker c.pass_registered.result _ _
-    (λ passed h. IfSome_then passed h (λ tail _. c.is_kept_row.ensures.0 c.if-is_kept_row.true))
-    c.pass_registered.ensures.rest)
-
-pub returns-then-is_kept_row-2-clause-row : goal.returns-then-is_kept_row-2-clause-row
-returns-then-is_kept_row-2-clause-row g c target =
-    rw c.in-Refused.is (IfOk-weaker c.pass_refused.result _ _
-    (λ passed h. IfSome_then passed h (λ tail _. c.is_kept_row-in-Refused.ensures.0 c.if-is_kept_row-2.true))
-    c.pass_refused.ensures.rest)
+    rw (c.in-Refused.is, ← same) (answers g.S.Store _ c.pass_refused.result
+    (λ passed db h target.
+    past_row c.args.seq row (request_outcome (request_in target row) (Refused found)) c.args.left passed db
+    (c.is_kept_row-in-Refused.ensures.0 c.if-is_kept_row-2.true)
+    (h (request_outcome (request_in target row) (Refused found)) refl)) c.pass_refused.ensures.reads)

@@ -1,14 +1,29 @@
-use Rattle.std.proofs.Common.{◌≡◌, ◌∙◌, length, rules}
+use Rattle.std.proofs.Common.{◌≡◌, ◌∙◌, ◌∷◌, [], length, Err, rules}
 use Rattle.sqlite.specs.Held.{state}
-use Rattle.register_tables.proofs.PickTexts.{query_with_key}
-use Rattle.register_tables.proofs.PickLemmas.{counts_with_key}
+use Rattle.sqlite.specs.declared.types.Value.TheVariants.{Text}
+use Rattle.register_tables.proofs.PickTexts.{with_key_text, query_with_key, asks_with_key, calm_with_key}
+use Rattle.register_tables.proofs.PickTexts.{takes_with_key}
+use Rattle.register_tables.proofs.PickLemmas.{counts_with_key, not_selected}
 use Rattle.register_tables.proofs.select.picks.count_with_key.Goals as goal
 
-pub returns-clause-counted : goal.returns-clause-counted
-returns-clause-counted g c clean d =
-    let many : c.len.result ≡ length c.in_ok-rows.rows.items = search rules in
-    many ∙ counts_with_key (state g.S.Store c.args.conn.now) (state g.S.Store c.select.new.conn) d
-    c.in_ok-rows.rows.items c.args.filer.now c.args.key.now (c.in_ok-rows.ensures.shown clean)
+pub returns : goal.returns
+returns g c = record {
+  told = λ clean ours.
+      let many : c.len.result ≡ length c.in_ok-rows.rows.items = search rules in
+      many ∙ counts_with_key (state g.S.Store c.args.conn.now) (state g.S.Store c.select.new.conn) ours.declared
+      c.in_ok-rows.rows.items c.args.filer.now c.args.key.now (c.in_ok-rows.ensures.shown clean);
+  fails = λ clean ours. tt;
+  leaves = c.in_ok-rows.ensures.leaves;
+}
+
+pub returns-in_err-rows : goal.returns-in_err-rows
+returns-in_err-rows g c =
+    let told : c.from_residual.result ≡ Err c.in_err-rows.field-0.0 = search rules in
+    rw told (not_selected g.S.Store c.args.conn.now c.select.new.conn with_key_text
+    (Text c.args.filer.now ∷ Text c.args.key.now ∷ []) _ asks_with_key (takes_with_key c.args.filer.now c.args.key.now)
+    (calm_with_key (Text c.args.filer.now ∷ Text c.args.key.now ∷ [])) _ c.in_err-rows.field-0.0
+    c.in_err-rows.ensures.failed
+    c.in_err-rows.ensures.leaves)
 
 pub select-requires : goal.select-requires
 select-requires g c = query_with_key

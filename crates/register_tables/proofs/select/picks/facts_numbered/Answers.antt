@@ -1,18 +1,30 @@
-use Rattle.std.proofs.Common.{pos, arith, w64}
-use Rattle.std.proofs.lemmas.Result.{IfOk-weaker}
+use Rattle.std.proofs.Common.{pos, [], ◌∷◌, arith, w64}
 use Rattle.std.proofs.lemmas.Int.{to_z-of_z}
 use Rattle.sqlite.specs.Held.{state}
-use Rattle.register_tables.proofs.PickTexts.{query_facts_numbered}
-use Rattle.register_tables.proofs.PickLemmas.{picks_facts_numbered}
+use Rattle.sqlite.specs.declared.types.Value.TheVariants.{Int}
+use Rattle.register_tables.proofs.PickTexts.{query_facts_numbered, asks_facts_numbered, calm_facts_numbered}
+use Rattle.register_tables.proofs.PickTexts.{takes_facts_numbered}
+use Rattle.register_tables.proofs.PickLemmas.{picks_facts_numbered, asks_ours}
 use Rattle.register_tables.proofs.select.picks.facts_numbered.Goals as goal
 
-pub returns-clause-picks : goal.returns-clause-picks
-returns-clause-picks g c clean d = IfOk-weaker c.select.result _ _
-    (λ rows h. picks_facts_numbered (state g.S.Store c.args.conn.now) (state g.S.Store c.select.new.conn) d rows.items
-    c.args.number
-    (rw (c.params-to_sql.ensures, to_z-of_z w64 (pos c.args.number) (record { sfits = omega (arith, c.requires) }))
-    at h))
-    (c.select.ensures.shown clean)
+pub returns : goal.returns
+returns g c =
+    asks_ours g.S.Store c.args.conn.now c.select.new.conn _ (Int (pos c.args.number) ∷ []) _ asks_facts_numbered
+    (takes_facts_numbered c.args.number) (calm_facts_numbered (Int (pos c.args.number) ∷ []))
+    (λ rows. rows.items) _ c.select.result
+    (λ d rows h. picks_facts_numbered (state g.S.Store c.args.conn.now) (state g.S.Store c.select.new.conn) d rows.items
+    c.args.number h)
+    (λ clean. rw (
+      c.params-to_sql.ensures,
+      to_z-of_z w64 (pos c.args.number)
+          (record { sfits = omega (arith, c.requires) }),
+    ) at c.select.ensures.shown clean)
+    (λ clean. rw (
+      c.params-to_sql.ensures,
+      to_z-of_z w64 (pos c.args.number)
+          (record { sfits = omega (arith, c.requires) }),
+    ) at c.select.ensures.failed clean)
+    c.select.ensures.leaves
 
 pub select-requires : goal.select-requires
 select-requires g c = query_facts_numbered

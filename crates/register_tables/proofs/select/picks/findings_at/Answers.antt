@@ -1,17 +1,28 @@
-use Rattle.std.proofs.Common.{pos, arith, w64}
-use Rattle.std.proofs.lemmas.Result.{IfOk-weaker}
+use Rattle.std.proofs.Common.{pos, [], ◌∷◌, arith, w64}
 use Rattle.std.proofs.lemmas.Int.{to_z-of_z}
 use Rattle.sqlite.specs.Held.{state}
-use Rattle.register_tables.proofs.PickTexts.{query_findings_at}
-use Rattle.register_tables.proofs.PickLemmas.{picks_findings_at}
+use Rattle.sqlite.specs.declared.types.Value.TheVariants.{Int}
+use Rattle.register_tables.proofs.PickTexts.{query_findings_at, asks_findings_at, calm_findings_at, takes_findings_at}
+use Rattle.register_tables.proofs.PickLemmas.{picks_findings_at, asks_ours}
 use Rattle.register_tables.proofs.select.picks.findings_at.Goals as goal
 
-pub returns-clause-picks : goal.returns-clause-picks
-returns-clause-picks g c clean d = IfOk-weaker c.select.result _ _
-    (λ rows h. picks_findings_at (state g.S.Store c.args.conn.now) (state g.S.Store c.select.new.conn) d rows.items
-    c.args.seq
-    (rw (c.params-to_sql.ensures, to_z-of_z w64 (pos c.args.seq) (record { sfits = omega (arith, c.requires) })) at h))
-    (c.select.ensures.shown clean)
+pub returns : goal.returns
+returns g c =
+    asks_ours g.S.Store c.args.conn.now c.select.new.conn _ (Int (pos c.args.seq) ∷ []) _ asks_findings_at
+    (takes_findings_at c.args.seq) (calm_findings_at (Int (pos c.args.seq) ∷ [])) (λ rows. rows.items) _ c.select.result
+    (λ d rows h. picks_findings_at (state g.S.Store c.args.conn.now) (state g.S.Store c.select.new.conn) d rows.items
+    c.args.seq h)
+    (λ clean. rw (
+      c.params-to_sql.ensures,
+      to_z-of_z w64 (pos c.args.seq)
+          (record { sfits = omega (arith, c.requires) }),
+    ) at c.select.ensures.shown clean)
+    (λ clean. rw (
+      c.params-to_sql.ensures,
+      to_z-of_z w64 (pos c.args.seq)
+          (record { sfits = omega (arith, c.requires) }),
+    ) at c.select.ensures.failed clean)
+    c.select.ensures.leaves
 
 pub select-requires : goal.select-requires
 select-requires g c = query_findings_at
