@@ -1,1 +1,2 @@
 mod Done
+mod Performed

@@ -1,17 +1,13 @@
 -- What the command line asks `intake` for, by the word that `clap` found and the values of its options. `clap` says
 -- nothing of which words give which values, since an option may have a value that begins with a hyphen.
-use Rattle.std.specs.Prelude.{◌≡◌, ◌⊎◌, ◌&&◌, ◌||◌, ℕ, Bool, true, false, List, [], ◌∷◌, map, codes, Option, Some, None}
+use Rattle.std.specs.Prelude.{◌≡◌, ◌&&◌, ◌||◌, ℕ, Bool, true, false, List, [], ◌∷◌, map, codes, Option, Some, None}
 use Rattle.std.specs.Prelude.{Result, Ok, Err, is_some, option_map, option_and_then, unwrap_or, if◌then◌else◌, eqb}
 use Rattle.std.specs.Prelude.{slice_get}
 use Rattle.std.specs.List.{after_first, before_first, list_any}
 use Rattle.std.specs.Option.{option_map_or}
 use Rattle.std.specs.Result.{result_ok}
 use Rattle.std.specs.Str.{bytes_eq}
-use Rattle.clap.specs.Words.{Row, Text, HasMatchesOf, IsParsedFrom, app_of, kind_of, subcommand_rows_of, takes}
-use Rattle.clap.specs.declared.builder.command.Command.{Command}
-use Rattle.clap.specs.declared.error.Error.{Error}
-use Rattle.clap.specs.declared.error.kind.ErrorKind.TheVariants.{OutOfMemory}
-use Rattle.clap.specs.declared.parser.matches.ArgMatches.{ArgMatches}
+use Rattle.clap.specs.Words.{Row, Text}
 use Rattle.hex.specs.Hex.{decode_sized}
 use Rattle.key_string.specs.Key.{is_key}
 use Rattle.command_line.specs.declared.fault.CommandFault.TheVariants as command
@@ -202,19 +198,3 @@ IsAsked (Some (word, options)) (Ok asked) =
 -- the word behind the program's name is `init`, which only an outbox has
 abbrev pub asks_for_init : List Text → Bool
 asks_for_init words = option_map_or (λ word. bytes_eq word (codes "init")) (slice_get words 1) false
-
--- `clap` found these matches with this command, and they ask for that
-abbrev pub IsReadBy : Command → List Text → Result Asked NotDone → Type 0
-IsReadBy command words asked =
-    (matches : ArgMatches) × IsParsedFrom command matches × HasMatchesOf (app_of command) words matches
-    × IsAsked (subcommand_rows_of matches) asked
-
--- the command does not take the words, as far as `clap` says which it takes, or memory ran out
-abbrev pub IsUnreadBy : Command → List Text → Error → Type 0
-IsUnreadBy command words error = takes (app_of command) words ≡ true → kind_of error ≡ OutOfMemory
-
-abbrev pub IsRead : List Text → Result Asked NotDone → Type 0
-IsRead words asked = (command : Command) × IsReadBy command words asked
-
-abbrev pub IsUnread : List Text → Error → Type 0
-IsUnread words error = (kind_of error ≡ OutOfMemory) ⊎ ((command : Command) × IsUnreadBy command words error)

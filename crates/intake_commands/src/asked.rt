@@ -4,9 +4,10 @@ ghost use Rattle.std.specs.Prelude.{◌≡◌, IfOk, IfErr, IfSome, string_bytes
 ghost use Rattle.std.specs.Prelude.{true, false};
 ghost use Rattle.clap.specs.Words.{subcommand_rows_of};
 ghost use Rattle.command_line.specs.Values.{is_set, number, options_of};
+ghost use Rattle.command_line.specs.Words.{IsRead, IsReadBy, IsUnread, IsUnreadBy};
 ghost use Rattle.intake_commands.specs.Words.{limit_of, form_of, format_of, has_serving, IsServingOf};
 ghost use Rattle.intake_commands.specs.Words.{unasked};
-ghost use Rattle.intake_commands.specs.Words.{IsErrandBy, IsTaskBy, IsAsked, IsRead, IsReadBy, IsUnread, IsUnreadBy};
+ghost use Rattle.intake_commands.specs.Words.{IsErrandBy, IsTaskBy, IsAsked};
 
 use crate::fault::NotDone;
 use crate::options::{
@@ -278,7 +279,7 @@ fn read_by<'a>(
     command: Command<'a>,
     words: &'a [String],
 ) -> Result<Result<Asked<'a>, NotDone<'a>>, Error>
-    ensures read { IfOk result (IsReadBy command.entry (map string_bytes words.now)) }
+    ensures read { IfOk result (IsReadBy IsAsked command.entry (map string_bytes words.now)) }
     ensures unread { IfErr result (IsUnreadBy command.entry (map string_bytes words.now)) }
 {
     match command.try_get_matches_from(words) {
@@ -293,7 +294,7 @@ pub(crate) fn read<'a>(
     alloc: Global,
     words: &'a [String],
 ) -> Result<Result<Asked<'a>, NotDone<'a>>, Error>
-    ensures read { IfOk result (IsRead (map string_bytes words.now)) }
+    ensures read { IfOk result (IsRead IsAsked (map string_bytes words.now)) }
     ensures unread { IfErr result (IsUnread (map string_bytes words.now)) }
 {
     read_by(alloc, command(alloc)?, words)

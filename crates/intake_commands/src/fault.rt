@@ -3,7 +3,7 @@
 ghost use Rattle.std.specs.Prelude.{◌≡◌};
 
 use crate::folder::PageFault;
-use command_line::CommandFault;
+use command_line::{CommandFault, tell};
 use database_places::{DatabaseFlaw, Holding};
 use http_wire::ConnFault;
 use intake_core::Unavailable;
@@ -281,8 +281,7 @@ impl NotDone<'_> {
     pub(crate) fn tell<E: Write>(&self, errors: &mut E) -> u8
         ensures { result ≡ fault_status self.now }
     {
-        // Nothing is left to be done if this text can't be written either.
-        let _ = writeln!(errors, "intake: {self}");
+        tell("intake", self, errors);
         self.status()
     }
 }
@@ -314,7 +313,6 @@ impl From<AllocError> for ConnectionFault {
 impl ConnectionFault {
     /// Writes the text as a line.
     pub(crate) fn tell<E: Write>(&self, errors: &mut E) {
-        // Nothing is left to be done if this text can't be written.
-        let _ = writeln!(errors, "intake: {self}");
+        tell("intake", self, errors);
     }
 }

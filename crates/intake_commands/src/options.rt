@@ -1,11 +1,11 @@
 //! The tasks of `intake` and their values, as `clap` reads them.
 
-use clap::builder::ValueParser;
-use clap::{Arg, ArgAction, Command, value_parser};
+use clap::{Arg, Command, value_parser};
 use command_line::{
-    ToArg, VERSION, Word, database_option, filer_option, option, path_option, port_option,
-    report_files, tasks,
+    ToArg, VERSION, Word, database_option, filer_option, flag, number_option, option, path_option,
+    port_option, report_files, tasks, wait_option,
 };
+use database_places::Access;
 use finding_lines::Form;
 use intake_process::Errand;
 use std::alloc::{AllocError, Global};
@@ -80,23 +80,60 @@ pub enum Task<'a> {
     },
 }
 
-/// A flag, which is set if its name is given.
-fn flag<'a>(alloc: Global, name: &'a str, help: &'a str) -> Arg<'a> {
-    Arg::new(alloc, name)
-        .long(name)
-        .help(help)
-        .action(ArgAction::SetTrue)
-}
+impl<'a> Task<'a> {
+    ghost use Rattle.std.specs.Prelude.{◌≡◌};
+    ghost use Rattle.intake_commands.specs.Reading.{access_of};
+    ghost use Rattle.intake_commands.specs.Words.{database_of, folder_of};
 
-/// A required option whose value is one of these numbers.
-fn number_option<'a>(
-    alloc: Global,
-    name: &'a str,
-    value: &'a str,
-    help: &'a str,
-    numbers: ValueParser<'a>,
-) -> Arg<'a> {
-    option(alloc, name, value, help).value_parser(numbers)
+    /// The name of the file of the register that the task is for, or none.
+    pub(crate) fn database(&self) -> &'a str
+        ensures { result.now ≡ database_of self.now }
+    {
+        match self {
+            Task::Serve(serving) => serving.database,
+            Task::Visit { database, .. } => database,
+            Task::Run { .. } | Task::Lint { .. } => "",
+        }
+    }
+
+    /// The path of the folder that the task writes pages into, or none.
+    pub(crate) fn folder(&self) -> &'a str
+        ensures { result.now ≡ folder_of self.now }
+    {
+        match self {
+            Task::Visit {
+                errand: Errand::Pages { folder },
+                ..
+            } => folder,
+            _ => "",
+        }
+    }
+
+    /// What the task does to the file of its register.
+    pub(crate) fn access(&self) -> Access
+        ensures { result ≡ access_of self.now }
+    {
+        match self {
+            Task::Visit { errand, .. } => match errand {
+                Errand::List {
+                    filer: _,
+                    moments: _,
+                } => Access::Reads,
+                Errand::Show {
+                    number: _,
+                    moments: _,
+                } => Access::Reads,
+                Errand::FilingBody { number: _ } => Access::Reads,
+                Errand::RequestBody { filer: _, key: _ } => Access::Reads,
+                Errand::Check { against: _ } => Access::CopiesLog,
+                Errand::Migrate => Access::Writes,
+                Errand::Export { form: _, filer: _ } => Access::Reads,
+                Errand::Digest { until: _ } => Access::Reads,
+                Errand::Pages { folder: _ } => Access::Reads,
+            },
+            Task::Run { .. } | Task::Serve(_) | Task::Lint { .. } => Access::Writes,
+        }
+    }
 }
 
 fn limit<'a>(alloc: Global) -> Arg<'a> {
@@ -107,7 +144,6 @@ fn limit<'a>(alloc: Global) -> Arg<'a> {
         "The most keys that the register keeps, 0 to 4611686018427387904 [default: 1000000]",
         value_parser!(u64),
     )
-    .required(false)
 }
 
 fn connections<'a>(alloc: Global) -> Arg<'a> {
@@ -118,6 +154,7 @@ fn connections<'a>(alloc: Global) -> Arg<'a> {
         "How many connections to serve before it ends, 1 to 4294967295",
         value_parser!(u32).range(1..=MOST_CONNECTIONS),
     )
+    .required(true)
 }
 
 fn at_once<'a>(alloc: Global) -> Arg<'a> {
@@ -128,7 +165,6 @@ fn at_once<'a>(alloc: Global) -> Arg<'a> {
         "How many connections to serve at once, 1 to 65535; further ones wait [default: 256]",
         value_parser!(u16).range(1..=MOST_AT_ONCE),
     )
-    .required(false)
 }
 
 fn memory<'a>(alloc: Global) -> Arg<'a> {
@@ -142,7 +178,6 @@ fn memory<'a>(alloc: Global) -> Arg<'a> {
         ),
         value_parser!(u32).range(1..=MOST_MEMORY),
     )
-    .required(false)
 }
 
 fn patience<'a>(alloc: Global) -> Arg<'a> {
@@ -156,18 +191,6 @@ fn patience<'a>(alloc: Global) -> Arg<'a> {
         ),
         value_parser!(u32).range(1..=MOST_SECONDS),
     )
-    .required(false)
-}
-
-fn wait<'a>(alloc: Global) -> Arg<'a> {
-    number_option(
-        alloc,
-        "wait",
-        "SECONDS",
-        "The most seconds to wait while another program has the file open, 0 to 86400 [default: 0]",
-        value_parser!(u32).range(0..=MOST_SECONDS),
-    )
-    .required(false)
 }
 
 fn number<'a>(alloc: Global) -> Result<Arg<'a>, AllocError> {
@@ -178,9 +201,10 @@ fn number<'a>(alloc: Global) -> Result<Arg<'a>, AllocError> {
         "The number of the filing, as list prints it",
         value_parser!(u64).range(0..=i64::MAX),
     )
-    .required(false)
-    .required_unless_present_any(&["filer", "key"])?
-    .conflicts_with_all(&["filer", "key"])
+    .required_unless_present("filer")?
+    .required_unless_present("key")?
+    .conflicts_with("filer")?
+    .conflicts_with("key")
 }
 
 fn filer_of_key<'a>(alloc: Global) -> Result<Arg<'a>, AllocError> {
@@ -202,7 +226,8 @@ fn key<'a>(alloc: Global) -> Result<Arg<'a>, AllocError> {
         "The key under which the filer sent it, as the line Idempotency-Key has it without quotes, with --body",
     )
     .required(false)
-    .requires_all(&["filer", "body"])?
+    .requires_arg("filer")?
+    .requires_arg("body")?
     .conflicts_with("moments")
 }
 
@@ -255,7 +280,6 @@ fn until<'a>(alloc: Global) -> Arg<'a> {
         "How many of the kept requests, from the first on [default: all]",
         value_parser!(u64).range(0..=i64::MAX),
     )
-    .required(false)
 }
 
 fn against<'a>(alloc: Global) -> Arg<'a> {
@@ -266,13 +290,6 @@ fn against<'a>(alloc: Global) -> Arg<'a> {
         "The digest of the first N requests that was published, in 64 hexadecimal digits [default: none]",
     )
     .required(false)
-}
-
-fn json<'a>(alloc: Global) -> Arg<'a> {
-    Arg::new(alloc, "json")
-        .long("json")
-        .help("Prints each finding as a JSON object on a line of its own [default: as a sentence]")
-        .action(ArgAction::SetTrue)
 }
 
 /// What a task is given on the command line.
@@ -313,7 +330,7 @@ impl ToArg for Argument {
             Argument::Memory => memory(alloc),
             Argument::Limit => limit(alloc),
             Argument::Patience => patience(alloc),
-            Argument::Wait => wait(alloc),
+            Argument::Wait => wait_option(alloc),
             Argument::New => flag(
                 alloc,
                 "new",
@@ -329,7 +346,11 @@ impl ToArg for Argument {
             Argument::FilerOfKey => filer_of_key(alloc)?,
             Argument::Key => key(alloc)?,
             Argument::Body => body(alloc)?,
-            Argument::Json => json(alloc),
+            Argument::Json => flag(
+                alloc,
+                "json",
+                "Prints each finding as a JSON object on a line of its own [default: as a sentence]",
+            ),
             Argument::Files => report_files(alloc),
             Argument::Format => format(alloc),
             Argument::OnlyFiler => only_filer(alloc),

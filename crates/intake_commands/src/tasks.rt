@@ -3,7 +3,8 @@
 ghost use Rattle.std.specs.Prelude.{◌≡◌, None};
 ghost use Rattle.http_wire.specs.Wire.{wire};
 ghost use Rattle.intake_process.specs.Process.{parts};
-ghost use Rattle.intake_commands.specs.Tasks.{Does, Performs, is_wanted, means};
+ghost use Rattle.intake_commands.specs.Status.{status_of};
+ghost use Rattle.intake_commands.specs.Tasks.{Performs, is_wanted, means};
 
 use crate::fault::NotDone;
 use crate::folder::SiteFolder;
@@ -53,59 +54,28 @@ pub(crate) fn perform_task<
         (L.traffic port.new) (parts P.lying process.new))
         result }
 {
-    match do_task(
-        rt, task, process, port, folder, reader, writer, output, errors,
-    ) {
-        Ok(status) => status,
-        Err(fault) => fault.tell(errors),
+    match task {
+        Task::Run { limit } => end(run_once(rt.alloc(), *limit, reader, writer), errors),
+        Task::Serve(serving) => end(serve(rt, *serving, process, port, errors), errors),
+        Task::Visit { database, errand } if is_wanted(*errand) => {
+            let done = visit(rt, database, *errand, process, folder, output, errors);
+            end(done, errors)
+        }
+        Task::Visit { .. } => end(Err(NotDone::Command(CommandFault::Filer)), errors),
+        Task::Lint { filer, form, files } => {
+            let linted = lint_reports(rt, "intake", *form, filer, files, output, errors);
+            end(linted.map_err(NotDone::Command), errors)
+        }
     }
 }
 
-/// Does a task. It answers the status, or why the task is not done.
-fn do_task<
-    'a,
-    D: Disk + Drop,
-    P: Place<D> + Drop,
-    L: Port,
-    F: SiteFolder,
-    R: Source,
-    W: Sink,
-    O: Write,
-    E: Write,
->(
-    rt: &HostRuntime,
-    task: &Task<'a>,
-    process: &mut IntakeProcess<D, P>,
-    port: &mut L,
-    folder: &mut F,
-    reader: &mut R,
-    writer: &mut W,
-    output: &mut O,
-    errors: &mut E,
-) -> Result<u8, NotDone<'a>>
-    requires { (parts P.lying process.old).intake ≡ None }
-    ensures { Does {g = D.Disk} task.now
-        (means (wire R.Source W.Sink reader.old writer.old) (O.contents output.old) (F.Folder.pages folder.old)
-        (L.traffic port.old) (parts P.lying process.old))
-        (means (wire R.Source W.Sink reader.new writer.new) (O.contents output.new) (F.Folder.pages folder.new)
-        (L.traffic port.new) (parts P.lying process.new))
-        result }
+/// The status of a task that was done, or of why it was not. That is written as a line.
+fn end<E: Write>(done: Result<u8, NotDone<'_>>, errors: &mut E) -> u8
+    ensures { result ≡ status_of done.entry }
 {
-    match task {
-        Task::Run { limit } => run_once(rt.alloc(), *limit, reader, writer),
-        Task::Serve(serving) => serve(rt, *serving, process, port, errors),
-        Task::Visit { database, errand } => {
-            if !is_wanted(*errand) {
-                return Err(NotDone::Command(CommandFault::Filer));
-            }
-            visit(rt, database, *errand, process, folder, output, errors)
-        }
-        Task::Lint { filer, form, files } => {
-            match lint_reports(rt, "intake", *form, filer, files, output, errors) {
-                Ok(status) => Ok(status),
-                Err(fault) => Err(NotDone::Command(fault)),
-            }
-        }
+    match done {
+        Ok(status) => status,
+        Err(fault) => fault.tell(errors),
     }
 }
 

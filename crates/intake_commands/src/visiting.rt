@@ -110,10 +110,8 @@ fn visit_current<'a, D: Disk + Drop, P: Place<D> + Drop, F: SiteFolder, O: Write
 fn show_current<'a, O: Write>(output: &mut O) -> Result<u8, NotDone<'a>>
     ensures { IsCurrentShown (O.contents output.old) (O.contents output.new) result }
 {
-    match show(output, b"has this version already\n") {
-        Ok(()) => Ok(DONE),
-        Err(fault) => Err(NotDone::Command(fault)),
-    }
+    show(output, b"has this version already\n")?;
+    Ok(DONE)
 }
 
 /// Whether an errand was not done since the register that should be migrated is none of an earlier version.
@@ -218,11 +216,8 @@ fn end_with<'a, O: Write>(
 ) -> Result<u8, NotDone<'a>>
     ensures { EndsWith verdict told.entry (O.contents output.old) (O.contents output.new) result }
 {
-    match verdict {
-        None => Err(told),
-        Some(verdict) => match show_verdict(alloc, verdict, "a register", output) {
-            Ok(()) => Err(told),
-            Err(fault) => Err(NotDone::Command(fault)),
-        },
+    if let Some(verdict) = verdict {
+        show_verdict(alloc, verdict, "a register", output)?;
     }
+    Err(told)
 }
