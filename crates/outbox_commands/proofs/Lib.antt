@@ -1,5 +1,6 @@
 mod Current
 mod Looks
 mod Opened
+mod Performed
 mod Telling
 mod Turns

@@ -1,17 +1,13 @@
--- Which tasks of `outbox` only read.
-use Rattle.std.specs.Prelude.{Bool, true, false}
+-- What each task of `outbox` does to the file of its outbox.
+use Rattle.database_places.specs.declared.access.Access.{Access}
+use Rattle.database_places.specs.declared.access.Access.TheVariants.{Reads, CopiesLog, Writes}
 use Rattle.outbox_commands.specs.declared.options.Task.{Task}
 use Rattle.outbox_commands.specs.declared.options.Task.TheVariants as task
 
--- a task that changes nothing of the outbox that it is for
-abbrev pub only_reads : Task → Bool
-only_reads (task.Status database) = true
-only_reads (task.Show database entry) = true
-only_reads (task.Body database entry) = true
-only_reads (task.Ask database peer id form) = true
-only_reads other = false
-
 -- the states are asked for, for which the log is copied into the file if both may be written
-abbrev pub copies_log : Task → Bool
-copies_log (task.Status database) = true
-copies_log other = false
+abbrev pub access_of : Task → Access
+access_of (task.Status database) = CopiesLog
+access_of (task.Show database entry) = Reads
+access_of (task.Body database entry) = Reads
+access_of (task.Ask database peer id form) = Reads
+access_of other = Writes

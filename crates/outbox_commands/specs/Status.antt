@@ -9,6 +9,7 @@ use Rattle.outbox_core.specs.declared.fault.PutFault.TheVariants as put
 use Rattle.outbox_core.specs.declared.fault.TakeFault.TheVariants as take
 use Rattle.filer_client.specs.declared.fault.ExchangeFault.{ExchangeFault}
 use Rattle.filer_client.specs.declared.fault.ExchangeFault.TheVariants as exchange
+use Rattle.command_line.specs.declared.fault.CommandFault.{CommandFault}
 use Rattle.command_line.specs.Status.{database_status}
 use Rattle.command_line.specs.Status as command
 use Rattle.command_line.specs.Reports.{report_status}
@@ -153,7 +154,7 @@ abbrev pub status_by : {X : Type 0} → Result X NotDone → ℕ
 status_by (Ok done) = 0
 status_by (Err why) = status_of why
 
--- the status of the program: that of what was done, or of why it was not
-abbrev pub ended_status : Result ℕ NotDone → ℕ
+-- the status of what was done, or of why it was not
+abbrev pub ended_status : Result ℕ CommandFault → ℕ
 ended_status (Ok status) = status
-ended_status (Err why) = status_of why
+ended_status (Err why) = command.status_of why

@@ -1,17 +1,13 @@
 -- What the command line asks `outbox` for, by the word that `clap` found and the values of its options. `clap` says
 -- nothing of which words give which values, since an option may have a value that begins with a hyphen.
-use Rattle.std.specs.Prelude.{◌≡◌, ◌⊎◌, ◌&&◌, ◌||◌, ◌^◌, not, ℕ, Bool, true, false, List, [], ◌∷◌, map, codes}
+use Rattle.std.specs.Prelude.{◌≡◌, ◌&&◌, ◌||◌, ◌^◌, not, ℕ, Bool, true, false, List, [], ◌∷◌, map, codes}
 use Rattle.std.specs.Prelude.{nat_lt, nat_le, Option, Some, None, is_some, option_map, option_and_then, unwrap_or}
 use Rattle.std.specs.Prelude.{if◌then◌else◌}
 use Rattle.std.specs.Borrow.{Bor}
 use Rattle.std.specs.List.{list_any}
 use Rattle.std.specs.Option.{option_map_or}
 use Rattle.std.specs.Str.{bytes_eq}
-use Rattle.clap.specs.Words.{Row, Text, HasMatchesOf, IsParsedFrom, app_of, kind_of, subcommand_rows_of, takes}
-use Rattle.clap.specs.declared.builder.command.Command.{Command}
-use Rattle.clap.specs.declared.error.Error.{Error}
-use Rattle.clap.specs.declared.error.kind.ErrorKind.TheVariants.{OutOfMemory}
-use Rattle.clap.specs.declared.parser.matches.ArgMatches.{ArgMatches}
+use Rattle.clap.specs.Words.{Row, Text}
 use Rattle.finding_lines.specs.declared.form.Form.{Form}
 use Rattle.finding_lines.specs.declared.form.Form.TheVariants.{Sentences, Objects}
 use Rattle.outbox_process.specs.declared.errand.Which.{Which}
@@ -124,21 +120,3 @@ IsAskedBy word options (Some (Lint filer form files)) =
 abbrev pub IsAsked : Option (Text × List Row) → Option Asked → Type 0
 IsAsked None asked = asked ≡ None
 IsAsked (Some (word, options)) asked = IsAskedBy word options asked
-
--- ---- reading the command line
-
--- `clap` found these matches with this command, and they ask for that
-abbrev pub IsReadBy : Command → List Text → Option Asked → Type 0
-IsReadBy command words asked =
-    (matches : ArgMatches) × IsParsedFrom command matches × HasMatchesOf (app_of command) words matches
-    × IsAsked (subcommand_rows_of matches) asked
-
--- the command does not take the words, as far as `clap` says which it takes, or memory ran out
-abbrev pub IsUnreadBy : Command → List Text → Error → Type 0
-IsUnreadBy command words error = takes (app_of command) words ≡ true → kind_of error ≡ OutOfMemory
-
-abbrev pub IsRead : List Text → Option Asked → Type 0
-IsRead words asked = (command : Command) × IsReadBy command words asked
-
-abbrev pub IsUnread : List Text → Error → Type 0
-IsUnread words error = (kind_of error ≡ OutOfMemory) ⊎ ((command : Command) × IsUnreadBy command words error)

@@ -3,8 +3,8 @@
 ghost use Rattle.std.specs.Prelude.{◌≡◌, IfOk, IfErr, IfSome, string_bytes, map, codes, Some, None};
 ghost use Rattle.clap.specs.Words.{subcommand_rows_of};
 ghost use Rattle.command_line.specs.Values.{options_of, number};
+ghost use Rattle.command_line.specs.Words.{IsRead, IsReadBy, IsUnread, IsUnreadBy};
 ghost use Rattle.outbox_commands.specs.Words.{form_of, which_of, amended, IsPeerOf, IsTaskOn, IsAskedBy, IsAsked};
-ghost use Rattle.outbox_commands.specs.Words.{IsRead, IsReadBy, IsUnread, IsUnreadBy};
 
 use crate::options::{Asked, Peer, Task, command};
 use clap::{ArgMatches, Command, Error};
@@ -207,7 +207,7 @@ fn read_by<'a>(
     command: Command<'a>,
     words: &'a [String],
 ) -> Result<Option<Asked<'a>>, Error>
-    ensures read { IfOk result (IsReadBy command.entry (map string_bytes words.now)) }
+    ensures read { IfOk result (IsReadBy IsAsked command.entry (map string_bytes words.now)) }
     ensures unread { IfErr result (IsUnreadBy command.entry (map string_bytes words.now)) }
 {
     match command.try_get_matches_from(words) {
@@ -218,7 +218,7 @@ fn read_by<'a>(
 
 /// What these words ask for. The first word is the program's name. `None` if they ask for nothing.
 pub(crate) fn read<'a>(alloc: Global, words: &'a [String]) -> Result<Option<Asked<'a>>, Error>
-    ensures read { IfOk result (IsRead (map string_bytes words.now)) }
+    ensures read { IfOk result (IsRead IsAsked (map string_bytes words.now)) }
     ensures unread { IfErr result (IsUnread (map string_bytes words.now)) }
 {
     read_by(alloc, command(alloc)?, words)

@@ -7,7 +7,7 @@ ghost use Rattle.outbox_commands.specs.Status.{task_status, visit_status, status
 ghost use Rattle.outbox_commands.specs.Visits.{outbox_verdict, opening_verdict};
 
 use crate::held::{taken, unfit};
-use command_line::{CommandFault, ReportFault};
+use command_line::{CommandFault, ReportFault, tell};
 use database_places::{DatabaseFlaw, Holding};
 use filer_client::ExchangeFault;
 use http_wire::ReplyFault;
@@ -475,8 +475,7 @@ impl NotDone<'_> {
     pub(crate) fn tell<E: Write>(&self, errors: &mut E) -> u8
         ensures { result ≡ status_of self.now }
     {
-        // Nothing is left to be done if this text can't be written either.
-        let _ = writeln!(errors, "outbox: {self}");
+        tell("outbox", self, errors);
         self.status()
     }
 }

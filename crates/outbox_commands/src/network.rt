@@ -1,10 +1,11 @@
 //! The network of `outbox send` and `outbox ask`: a port of this machine, what its peer answered, and the receipts of
 //! that.
 
-ghost use Rattle.std.specs.Prelude.{◌≡◌, false, []};
+ghost use Rattle.std.specs.Prelude.{◌≡◌, IfOk, IfErr, option_map};
+ghost use Rattle.outbox_commands.specs.Networks.{traffic_of, IsNetworkTo, IsNoFolder};
 
 use crate::answer::{MOST_NOTED, Noted, tell_open, tell_refused};
-use crate::fault::{ExchangeInWords, NoReceipt};
+use crate::fault::{ExchangeInWords, NoReceipt, NotDone};
 use crate::options::Peer;
 use crate::written::Written;
 use command_line::{Deadline, Patient};
@@ -70,6 +71,24 @@ fn stream_to(rt: &HostRuntime, port: u16) -> io::Result<TcpStream> {
     Ok(stream)
 }
 
+/// The folder of this path, if one is named. It is looked at before anything is sent.
+fn receipt_folder<'r, 'a: 'r>(
+    rt: &'r HostRuntime,
+    path: Option<&'a str>,
+) -> Result<Option<ReceiptFolder<'r, HostRuntime>>, NotDone<'a>>
+    ensures named { IfOk result (λ folder.
+        option_map (λ it. it.path.now) folder ≡ option_map (λ name. name.now) path.entry) }
+    ensures refused { IfErr result (IsNoFolder path.entry) }
+{
+    let Some(name) = path else {
+        return Ok(None);
+    };
+    match ReceiptFolder::open(rt, rt.alloc(), name) {
+        Ok(folder) => Ok(Some(folder)),
+        Err(error) => Err(NotDone::Folder { name, error }),
+    }
+}
+
 /// Keeps the receipt of an exchange with this port, whose reply came now.
 fn keep_receipt(
     rt: &HostRuntime,
@@ -84,20 +103,16 @@ fn keep_receipt(
 }
 
 impl<'r> PeerDial<'r> {
-    /// The port of this peer. Receipts of its replies are kept in this folder, if there is one.
-    pub(crate) fn new(
+    /// The network of this peer. Receipts of its replies are kept in the folder that it names, if it names one.
+    pub(crate) fn new<'a: 'r>(
         rt: &'r HostRuntime,
-        peer: Peer<'_>,
-        receipts: Option<ReceiptFolder<'r, HostRuntime>>,
-    ) -> PeerDial<'r>
-        ensures port { result.port ≡ peer.entry.port }
-        ensures patience { result.patience ≡ peer.entry.patience }
-        ensures receipts { result.receipts ≡ receipts.entry }
-        ensures in_time { result.is_late ≡ false }
-        ensures none_lost { result.lost_receipts ≡ 0 }
-        ensures unused { result.over.items ≡ [] }
+        peer: Peer<'a>,
+    ) -> Result<PeerDial<'r>, NotDone<'a>>
+        ensures made { IfOk result (IsNetworkTo peer.entry) }
+        ensures refused { IfErr result (IsNoFolder peer.entry.receipts) }
     {
-        PeerDial {
+        let receipts = receipt_folder(rt, peer.receipts)?;
+        Ok(PeerDial {
             rt,
             port: peer.port,
             patience: peer.patience,
@@ -108,7 +123,7 @@ impl<'r> PeerDial<'r> {
             receipts,
             lost_receipts: 0,
             errors: rt.stderr(),
-        }
+        })
     }
 
     /// How many receipts could not be written.
@@ -193,9 +208,7 @@ impl<'r> Dial for PeerDial<'r> {
 
     type Writer = Noted<Device<Patient<'r, TcpStream, HostRuntime>>>;
 
-    ghost use Rattle.outbox_commands.specs.Networks.{recorded};
-
-    ghost traffic = { λ network. recorded network.over.items network.is_late };
+    ghost traffic = { traffic_of };
 
     fn connect(&mut self) -> io::Result<(Self::Reader, Self::Writer)> {
         self.tell();

@@ -1,11 +1,11 @@
 //! The tasks of `outbox` and their values, as `clap` reads them.
 
-use clap::builder::ValueParser;
 use clap::{Arg, ArgAction, Command, value_parser};
 use command_line::{
-    ToArg, VERSION, Word, database_option, filer_option, option, path_option, port_option,
-    report_files, tasks,
+    ToArg, VERSION, Word, database_option, filer_option, flag, number_option, option, path_option,
+    port_option, report_files, tasks, wait_option,
 };
+use database_places::Access;
 use finding_lines::Form;
 use outbox_process::{Target, Which};
 use std::alloc::{AllocError, Global};
@@ -81,6 +81,7 @@ pub enum Task<'a> {
 
 impl<'a> Task<'a> {
     ghost use Rattle.std.specs.Prelude.{◌≡◌};
+    ghost use Rattle.outbox_commands.specs.Reading.{access_of};
     ghost use Rattle.outbox_commands.specs.Words.{database_of, Calls};
 
     /// The name of the file that the outbox lies in.
@@ -96,6 +97,19 @@ impl<'a> Task<'a> {
             | Task::Status { database }
             | Task::Show { database, .. }
             | Task::Body { database, .. } => database,
+        }
+    }
+
+    /// What the task does to its file. Copies that are made by `cp` after `outbox status` rely on it.
+    pub(crate) fn access(&self) -> Access
+        ensures { result ≡ access_of self.now }
+    {
+        match self {
+            Task::Show { .. } | Task::Body { .. } | Task::Ask { .. } => Access::Reads,
+            Task::Status { .. } => Access::CopiesLog,
+            Task::Init { .. } | Task::Put { .. } | Task::Migrate { .. } | Task::Send { .. } => {
+                Access::Writes
+            }
         }
     }
 
@@ -123,19 +137,6 @@ pub struct Peer<'a> {
     pub(crate) patience: Option<u64>,
     /// The folder in which receipts of its replies are kept, if they are.
     pub(crate) receipts: Option<&'a str>,
-}
-
-/// An option that may be missing, whose value is one of these numbers.
-fn number_option<'a>(
-    alloc: Global,
-    name: &'a str,
-    value: &'a str,
-    help: &'a str,
-    numbers: ValueParser<'a>,
-) -> Arg<'a> {
-    option(alloc, name, value, help)
-        .required(false)
-        .value_parser(numbers)
 }
 
 /// The files of reports: one or more after each `--body`. None begins with a hyphen, as the option after them does.
@@ -188,16 +189,6 @@ fn patience<'a>(alloc: Global) -> Arg<'a> {
     )
 }
 
-fn wait<'a>(alloc: Global) -> Arg<'a> {
-    number_option(
-        alloc,
-        "wait",
-        "SECONDS",
-        "The most seconds to wait while another program has the file open, 0 to 86400 [default: 0]",
-        value_parser!(u32).range(0..=86_400),
-    )
-}
-
 fn receipts<'a>(alloc: Global) -> Arg<'a> {
     path_option(
         alloc,
@@ -222,13 +213,6 @@ fn all<'a>(alloc: Global) -> Result<Arg<'a>, AllocError> {
         ))
         .action(ArgAction::SetTrue)
         .conflicts_with("entry")
-}
-
-fn flag<'a>(alloc: Global, name: &'a str, help: &'a str) -> Arg<'a> {
-    Arg::new(alloc, name)
-        .long(name)
-        .help(help)
-        .action(ArgAction::SetTrue)
 }
 
 /// The flag that asks for the report of an entry alone.
@@ -276,7 +260,7 @@ impl ToArg for Argument {
             Argument::Entry(help) => entry(alloc, help),
             Argument::ThisEntry(help) => entry(alloc, help).required(true),
             Argument::All => all(alloc)?,
-            Argument::Wait => wait(alloc),
+            Argument::Wait => wait_option(alloc),
             Argument::Strict(help) => flag(alloc, "strict", help),
             Argument::Body => body(alloc)?,
             Argument::Json(help) => flag(alloc, "json", help),

@@ -1,13 +1,9 @@
 //! Performs a task, and says how the program ends.
 
-ghost use Rattle.std.specs.Prelude.{◌≡◌, true, map, string_bytes, Some, None, Ok, IfOk, IfErr, option_map};
-ghost use Rattle.clap.specs.Words.{kind_of};
-ghost use Rattle.command_line.specs.Status.{IsRefusalStatus};
+ghost use Rattle.std.specs.Prelude.{◌≡◌, map, string_bytes, Some, None, Ok};
 ghost use Rattle.outbox_process.specs.Process.{parts};
-ghost use Rattle.outbox_commands.specs.Performing.{IsNetworkOf, PerformsWith, PerformsOver, PerformsOnce, IsNoFolder};
-ghost use Rattle.outbox_commands.specs.Performing.{ended_without, PrintsLint, PerformsAsked, PerformsWords, Performs};
-ghost use Rattle.outbox_commands.specs.Reading.{only_reads, copies_log};
-ghost use Rattle.outbox_commands.specs.Status.{opening_status, status_of, status_by, ended_status};
+ghost use Rattle.outbox_commands.specs.Performing.{PerformsOver, Performs, ended_without};
+ghost use Rattle.outbox_commands.specs.Status.{opening_status, status_of, status_by};
 ghost use Rattle.outbox_commands.specs.Tasks.{MakesOutbox, IsJudged, IsPrinted, MigratesOutbox, Does, is_current};
 ghost use Rattle.outbox_commands.specs.Visits.{opening_verdict};
 ghost use Rattle.outbox_commands.specs.Words.{database_of};
@@ -18,16 +14,12 @@ use crate::fault::{NotDone, verdict_on};
 use crate::network::{Network, PeerDial};
 use crate::options::{Asked, Task};
 use crate::putting::put;
-use clap::Error;
-use command_line::{CommandFault, DONE, show, show_refusal, words};
-use database_places::{
-    Place, ReadingPlace, SystemFile, SystemPlace, WaitingPlace, has_writable_log, show_verdict,
-};
-use finding_lines::{Form, lint_reports};
+use command_line::{CommandFault, DONE, refuse, show, words};
+use database_places::{Place, ReadingPlace, SystemFile, SystemPlace, WaitingPlace, show_verdict};
+use finding_lines::lint_reports;
 use found_files::Found;
 use key_string::is_filer;
 use outbox_process::{Beginning, Errand, OpeningFault, OutboxProcess};
-use receipts::ReceiptFolder;
 use sqlite_disk::Disk;
 use std::alloc::Global;
 use std::io::Write;
@@ -186,226 +178,47 @@ pub(crate) fn perform_task<'a, D: Disk + Drop, P: Place<D> + Drop, N: Network, O
     }
 }
 
-/// The folder of this path, if one is named. It is looked at before anything is sent.
-fn receipt_folder<'r, 'a: 'r>(
-    rt: &'r HostRuntime,
-    path: Option<&'a str>,
-) -> Result<Option<ReceiptFolder<'r, HostRuntime>>, NotDone<'a>>
-    ensures named { IfOk result (λ folder.
-        option_map (λ it. it.path.now) folder ≡ option_map (λ name. name.now) path.entry) }
-    ensures refused { IfErr result (IsNoFolder path.entry) }
-{
-    let Some(name) = path else {
-        return Ok(None);
-    };
-    match ReceiptFolder::open(rt, rt.alloc(), name) {
-        Ok(folder) => Ok(Some(folder)),
-        Err(error) => Err(NotDone::Folder { name, error }),
-    }
-}
-
-/// The result of a task of which this many receipts are missing: it is done if none is.
-fn done_but_for<'a>(lost: u64) -> Result<u8, NotDone<'a>>
-    ensures { result ≡ ended_without lost (Ok tt) }
-{
-    if lost > 0 {
-        return Err(NotDone::Receipts { lost });
-    }
-    Ok(DONE)
-}
-
-/// Whether a task changes nothing of its outbox.
-fn only_reads(task: &Task<'_>) -> bool
-    ensures { result ≡ only_reads task.now }
-{
-    match task {
-        Task::Status { .. } | Task::Show { .. } | Task::Body { .. } | Task::Ask { .. } => true,
-        Task::Init { .. } | Task::Put { .. } | Task::Migrate { .. } | Task::Send { .. } => false,
-    }
-}
-
-/// Whether a task that changes nothing is also to copy the log into the file, if both may be written. Copies that are
-/// made by `cp` after `outbox status` rely on it.
-fn copies_log(task: &Task<'_>) -> bool
-    ensures { result ≡ copies_log task.now }
-{
-    match task {
-        Task::Status { .. } => true,
-        _ => false,
-    }
-}
-
-/// Performs a task on the outbox that lies in the place of its file, over the network of its peer, and answers the
-/// status.
-fn perform_with<'a, D: Disk + Drop, P: Place<D> + Drop, O: Write, E: Write>(
-    rt: &HostRuntime,
-    task: Task<'a>,
-    place: P,
-    network: &mut PeerDial<'_>,
-    output: &mut O,
-    errors: &mut E,
-) -> Result<u8, NotDone<'a>>
-    requires file { P.file place ≡ Some (database_of task).now }
-    requires peer { IsNetworkOf task network.old }
-    ensures { PerformsWith D.Disk task.entry (P.lying place) network.old network.new (O.contents output.old)
-        (O.contents output.new) result }
-{
-    let mut process = OutboxProcess::new(place);
-    perform_task(rt, &mut process, network, task, output, errors)?;
-    done_but_for(network.lost_receipts())
-}
-
 /// The disks of the files of the system. A clause reads each lifetime as this one.
 type File = SystemFile<'static>;
 
 type ReadingFile = database_places::ReadingFile<'static>;
 
-/// Performs a task on the outbox that lies in the place of its file, and answers the status. Receipts are kept in the
-/// folder that the task names.
-fn perform_over<'a, D: Disk + Drop, P: Place<D> + Drop, O: Write, E: Write>(
+/// Performs a task on the outbox that lies in the place of its file, which is waited for so many seconds, over the
+/// network of its peer, and answers the status.
+fn perform_in<D: Disk + Drop, P: Place<D> + Drop, O: Write, E: Write>(
     rt: &HostRuntime,
-    task: Task<'a>,
+    task: Task<'_>,
     place: P,
+    wait: u32,
     output: &mut O,
     errors: &mut E,
-) -> Result<u8, NotDone<'a>>
+) -> u8
     requires { P.file place ≡ Some (database_of task).now }
-    ensures { PerformsOver D.Disk task.entry (P.lying place) (O.contents output.old) (O.contents output.new)
-        result }
+    ensures { PerformsOver D.Disk task.entry (P.lying place) (O.contents output.old) (O.contents output.new) result }
 {
-    let peer = task.peer();
-    let folder = receipt_folder(rt, peer.receipts)?;
-    let mut network = PeerDial::new(rt, peer, folder);
-    perform_with(rt, task, place, &mut network, output, errors)
-}
-
-/// Performs a task that changes nothing, and opens the file of its outbox for reading alone. So the file may lie where
-/// it may not be written.
-fn perform_reading<'a, O: Write, E: Write>(
-    rt: &HostRuntime,
-    found: &Found,
-    task: Task<'a>,
-    wait: u32,
-    output: &mut O,
-    errors: &mut E,
-) -> Result<u8, NotDone<'a>>
-    requires { only_reads task ≡ true }
-    ensures { PerformsOver ⟦<ReadingFile as Disk>⟧ task.entry None (O.contents output.old) (O.contents output.new)
-        result }
-{
-    let place = ReadingPlace::new(rt, task.database(), found);
-    let waiting = WaitingPlace::new(rt, place, wait);
-    perform_over(rt, task, waiting, output, errors)
-}
-
-/// Performs a task, and opens the file of its outbox for writing.
-fn perform_writing<'a, O: Write, E: Write>(
-    rt: &HostRuntime,
-    found: &Found,
-    task: Task<'a>,
-    wait: u32,
-    output: &mut O,
-    errors: &mut E,
-) -> Result<u8, NotDone<'a>>
-    ensures { PerformsOver ⟦<File as Disk>⟧ task.entry None (O.contents output.old) (O.contents output.new) result }
-{
-    let place = SystemPlace::new(rt, task.database(), found);
-    let waiting = WaitingPlace::new(rt, place, wait);
-    perform_over(rt, task, waiting, output, errors)
-}
-
-/// Performs a task on the file of an outbox, and answers the status. The file is opened for writing only if the task
-/// changes the outbox, or is to copy the log into it and may.
-fn perform_once<'a, O: Write, E: Write>(
-    rt: &HostRuntime,
-    found: &Found,
-    task: Task<'a>,
-    wait: u32,
-    output: &mut O,
-    errors: &mut E,
-) -> Result<u8, NotDone<'a>>
-    ensures { PerformsOnce ⟦<File as Disk>⟧ ⟦<ReadingFile as Disk>⟧ task.entry (O.contents output.old)
-        (O.contents output.new) result }
-{
-    if only_reads(&task) {
-        if !copies_log(&task) || !has_writable_log(rt, task.database()) {
-            return perform_reading(rt, found, task, wait, output, errors);
-        }
-    }
-    perform_writing(rt, found, task, wait, output, errors)
-}
-
-/// Prints what is wrong with the reports in these files, and answers the status.
-fn lint<'a, O: Write, E: Write>(
-    rt: &HostRuntime,
-    form: Form,
-    filer: &'a str,
-    files: &[&'a str],
-    output: &mut O,
-    errors: &mut E,
-) -> Result<u8, NotDone<'a>>
-    ensures { PrintsLint form filer.entry files.now (O.contents output.old) (O.contents output.new) result }
-{
-    match lint_reports(rt, "outbox", form, filer, files, output, errors) {
-        Ok(status) => Ok(status),
-        Err(fault) => Err(NotDone::Command(fault)),
+    let mut network = match PeerDial::new(rt, task.peer()) {
+        Ok(network) => network,
+        Err(fault) => return fault.tell(errors),
+    };
+    let mut process = OutboxProcess::new(WaitingPlace::new(rt, place, wait));
+    match perform_task(rt, &mut process, &mut network, task, output, errors) {
+        Ok(()) => done_but_for(network.lost_receipts(), errors),
+        Err(fault) => fault.tell(errors),
     }
 }
 
-/// Performs what is asked for, and answers the status.
-fn perform_asked<'a, O: Write, E: Write>(
-    rt: &HostRuntime,
-    found: &Found,
-    asked: Option<Asked<'a>>,
-    output: &mut O,
-    errors: &mut E,
-) -> Result<u8, NotDone<'a>>
-    ensures { PerformsAsked ⟦<File as Disk>⟧ ⟦<ReadingFile as Disk>⟧ asked.entry (O.contents output.old)
-        (O.contents output.new) result }
+/// The status of a task that is done, of which this many receipts are missing. If one is, that is reported.
+fn done_but_for<E: Write>(lost: u64, errors: &mut E) -> u8
+    ensures { result ≡ ended_without lost (Ok tt) }
 {
-    match asked {
-        Some(Asked::Lint { filer, form, files }) => {
-            lint(rt, form, filer, files.as_slice(), output, errors)
-        }
-        Some(Asked::Outbox { task, wait }) => perform_once(rt, found, task, wait, output, errors),
-        None => Err(NotDone::Command(CommandFault::NoTask)),
+    if lost > 0 {
+        return NotDone::Receipts { lost }.tell(errors);
     }
+    DONE
 }
 
-/// Shows what `clap` says of words that it does not take, and answers the status.
-fn refuse<'a, O: Write, E: Write>(
-    alloc: Global,
-    error: &Error,
-    output: &mut O,
-    errors: &mut E,
-) -> Result<u8, NotDone<'a>>
-    ensures { IsRefusalStatus (kind_of error.now) (ended_status result) }
-{
-    match show_refusal(alloc, error, output, errors) {
-        Ok(status) => Ok(status),
-        Err(fault) => Err(NotDone::Command(fault)),
-    }
-}
-
-/// Performs what these words ask for, and answers the status.
-fn perform_words<'a, O: Write, E: Write>(
-    rt: &HostRuntime,
-    found: &Found,
-    words: &'a [String],
-    output: &mut O,
-    errors: &mut E,
-) -> Result<u8, NotDone<'a>>
-    ensures { PerformsWords ⟦<File as Disk>⟧ ⟦<ReadingFile as Disk>⟧ (map string_bytes words.now)
-        (O.contents output.old) (O.contents output.new) result }
-{
-    match read(rt.alloc(), words) {
-        Ok(asked) => perform_asked(rt, found, asked, output, errors),
-        Err(error) => refuse(rt.alloc(), &error, output, errors),
-    }
-}
-
-/// Performs what these words ask for, the program's name first, and answers the status. A fault's text goes to
-/// `errors`.
+/// Performs what these words ask for, the program's name first, and answers the status. Files hold at first what was
+/// found, and the file of an outbox is opened for writing only if the task needs it. A fault's text goes to `errors`.
 pub fn perform<O: Write, E: Write>(
     rt: &HostRuntime,
     found: &Found,
@@ -416,9 +229,28 @@ pub fn perform<O: Write, E: Write>(
     ensures { Performs ⟦<File as Disk>⟧ ⟦<ReadingFile as Disk>⟧ (map string_bytes words.now)
         (O.contents output.old) (O.contents output.new) result }
 {
-    match perform_words(rt, found, words, output, errors) {
-        Ok(status) => status,
-        Err(fault) => fault.tell(errors),
+    let asked = match read(rt.alloc(), words) {
+        Ok(Some(asked)) => asked,
+        Ok(None) => return CommandFault::NoTask.tell("outbox", errors),
+        Err(error) => return refuse(rt.alloc(), "outbox", &error, output, errors),
+    };
+    match asked {
+        Asked::Outbox { task, wait } => {
+            let database = task.database();
+            if task.access().opens_for_reading(rt, database) {
+                let place = ReadingPlace::new(rt, database, found);
+                perform_in(rt, task, place, wait, output, errors)
+            } else {
+                let place = SystemPlace::new(rt, database, found);
+                perform_in(rt, task, place, wait, output, errors)
+            }
+        }
+        Asked::Lint { filer, form, files } => {
+            match lint_reports(rt, "outbox", form, filer, &files, output, errors) {
+                Ok(status) => status,
+                Err(fault) => fault.tell("outbox", errors),
+            }
+        }
     }
 }
 
@@ -432,6 +264,6 @@ pub fn main(rt: &HostRuntime) -> u8 {
             &mut rt.stdout(),
             &mut rt.stderr(),
         ),
-        Err(fault) => NotDone::Command(fault).tell(&mut rt.stderr()),
+        Err(fault) => fault.tell("outbox", &mut rt.stderr()),
     }
 }
