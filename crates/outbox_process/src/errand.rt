@@ -1,7 +1,6 @@
 //! What is done with an outbox that is open. This is written over any store.
 
-ghost use Rattle.std.specs.Prelude.{◌≡◌};
-ghost use Rattle.outbox_process.specs.Errands.{answer, Sends, DoesErrand};
+ghost use Rattle.outbox_process.specs.Errands.{DoesErrand};
 
 use crate::target::Target;
 use crate::tasks::asking::ask;
@@ -81,64 +80,40 @@ pub(crate) fn do_errand<S: Alter, N: Dial, O: Write>(
 {
     match errand {
         Errand::Put { key, target, body } => {
-            match put(alloc, outbox, key, target.number, body, output) {
-                Ok(id) => Ok(Done::Put { id }),
-                Err(fault) => Err(fault),
-            }
+            let id = put(alloc, outbox, key, target.number, body, output)?;
+            Ok(Done::Put { id })
         }
-        Errand::Send(which) => send(alloc, network, outbox, which, output),
-        Errand::Ask { id, form } => asked(ask(alloc, network, outbox, form, id, output)),
-        Errand::ShowStates => shown(show_states(alloc, outbox, output)),
-        Errand::ShowEntry(id) => shown(show_entry(alloc, outbox, id, output)),
-        Errand::ShowEach => shown(show_each(alloc, outbox, output)),
-        Errand::ShowBody(id) => shown(show_body(outbox, id, output)),
-    }
-}
-
-/// Sends these entries, and answers how they ended.
-fn send<S: Alter, N: Dial, O: Write>(
-    alloc: Global,
-    network: &mut N,
-    outbox: &mut Outbox<S>,
-    which: Which,
-    output: &mut O,
-) -> Result<Done, TaskFault>
-    ensures { Sends S.Store which (N.traffic network.old) (N.traffic network.new) outbox.old outbox.new
-        (O.contents output.old) (O.contents output.new) result }
-{
-    match which {
-        Which::Next => match send_next(alloc, network, outbox, output) {
-            Ok(Some(state)) => Ok(Done::Sent(Round::of(state))),
-            Ok(None) => Ok(Done::Sent(Round::NONE)),
-            Err(fault) => Err(fault),
+        Errand::Send(Which::Next) => match send_next(alloc, network, outbox, output)? {
+            Some(state) => Ok(Done::Sent(Round::of(state))),
+            None => Ok(Done::Sent(Round::NONE)),
         },
-        Which::Entry(id) => match send_entry(alloc, network, outbox, id, output) {
-            Ok(state) => Ok(Done::Sent(Round::of(state))),
-            Err(fault) => Err(fault),
-        },
-        Which::All => match send_all(alloc, network, outbox, output) {
-            Ok(round) => Ok(Done::Sent(round)),
-            Err(fault) => Err(fault),
-        },
-    }
-}
-
-/// The reply is printed, unless there is a fault.
-fn asked(came: Result<(), TaskFault>) -> Result<Done, TaskFault>
-    ensures { result ≡ answer (λ _. Done.Asked) came }
-{
-    match came {
-        Ok(()) => Ok(Done::Asked),
-        Err(fault) => Err(fault),
-    }
-}
-
-/// The errand is done, unless showing the entries failed.
-fn shown(came: Result<(), TaskFault>) -> Result<Done, TaskFault>
-    ensures { result ≡ answer (λ _. Done.Shown) came }
-{
-    match came {
-        Ok(()) => Ok(Done::Shown),
-        Err(fault) => Err(fault),
+        Errand::Send(Which::Entry(id)) => {
+            let state = send_entry(alloc, network, outbox, id, output)?;
+            Ok(Done::Sent(Round::of(state)))
+        }
+        Errand::Send(Which::All) => {
+            let round = send_all(alloc, network, outbox, output)?;
+            Ok(Done::Sent(round))
+        }
+        Errand::Ask { id, form } => {
+            ask(alloc, network, outbox, form, id, output)?;
+            Ok(Done::Asked)
+        }
+        Errand::ShowStates => {
+            show_states(alloc, outbox, output)?;
+            Ok(Done::Shown)
+        }
+        Errand::ShowEntry(id) => {
+            show_entry(alloc, outbox, id, output)?;
+            Ok(Done::Shown)
+        }
+        Errand::ShowEach => {
+            show_each(alloc, outbox, output)?;
+            Ok(Done::Shown)
+        }
+        Errand::ShowBody(id) => {
+            show_body(outbox, id, output)?;
+            Ok(Done::Shown)
+        }
     }
 }

@@ -1,4 +1,3 @@
-use Rattle.std.proofs.Common.{Err}
 use Rattle.filing_model.specs.declared.state.State.TheVariants.{Open}
 use Rattle.outbox_process.proofs.Asked.{replied, not_replied}
 use Rattle.outbox_process.proofs.tasks.asking.look_once.Goals as goal
