@@ -3,7 +3,7 @@
 ghost use Rattle.std.specs.Prelude.{◌≡◌, ◌+◌, ◌<◌, ◌^◌, All, filter, length, map, vec_len, IfOk};
 ghost use Rattle.vectors.specs.Report.{AreSomeOf, IsWhole, fails};
 
-use crate::schedules;
+use crate::{calls, schedules};
 use std::alloc::{AllocError, Global};
 
 /// Which vectors passed.
@@ -79,7 +79,7 @@ fn outcome_of(alloc: Global, number: u32) -> Result<Outcome, AllocError>
 {
     let calls = match number {
         15 | 16 => None,
-        _ => Some(vector_examples::run(alloc, number)?),
+        _ => Some(calls::run(alloc, number)?),
     };
     let script = match number {
         15 | 16 | 24 | 27 => Some(schedules::run(alloc, number)?),

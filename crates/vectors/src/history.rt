@@ -1,14 +1,15 @@
 //! Connections to an intake as data, and what runs them.
 
 use crate::examples::repeated;
-use crate::fault::VectorFault;
+use crate::refusal::answer;
+use example_texts::Giving;
 use gateway_server::{Ended, Mark, Served, serve};
 use http_wire::{ConnFault, Device};
 use intake_core::Intake;
-use register_store::Store;
+use register_store::{CreateFault, Store, StoreFault};
 use sqlite::{Alter, MemStore};
-use std::alloc::Global;
-use std::io::{self, Read, Write};
+use std::alloc::{AllocError, Global};
+use std::io::{Read, Write};
 
 /// A part of what is given on a connection.
 #[derive(Clone, Copy)]
@@ -63,7 +64,7 @@ impl<'a> History<'a> {
     }
 
     /// Whether every reply is the expected one, and the register holds as much as expected.
-    pub(crate) fn holds(&self, alloc: Global) -> Result<bool, VectorFault> {
+    pub(crate) fn holds(&self, alloc: Global) -> Result<bool, AllocError> {
         match self.run(alloc)? {
             Some(store) => self.leaves(&store),
             None => Ok(false),
@@ -71,17 +72,16 @@ impl<'a> History<'a> {
     }
 
     /// The register after the connections, if each went as expected.
-    pub(crate) fn run(&self, alloc: Global) -> Result<Option<Store<MemStore>>, VectorFault> {
-        let mut intake = empty_intake(alloc, self.limit)?;
-        if self.goes(alloc, &mut intake)? {
-            Ok(Some(register_of(intake)))
-        } else {
-            Ok(None)
-        }
+    pub(crate) fn run(&self, alloc: Global) -> Result<Option<Store<MemStore>>, AllocError> {
+        let Some(mut intake) = empty_intake(alloc, self.limit)? else {
+            return Ok(None);
+        };
+        let goes = self.goes(alloc, &mut intake)?;
+        Ok(goes.then_some(register_of(intake)))
     }
 
     /// Whether each connection goes as expected.
-    fn goes<S: Alter>(&self, alloc: Global, intake: &mut Intake<S>) -> Result<bool, VectorFault> {
+    fn goes<S: Alter>(&self, alloc: Global, intake: &mut Intake<S>) -> Result<bool, AllocError> {
         for connection in self.connections {
             if !connection.goes(alloc, intake, self.piece)? {
                 return Ok(false);
@@ -91,14 +91,17 @@ impl<'a> History<'a> {
     }
 
     /// Whether the register holds as much as expected.
-    pub(crate) fn leaves<S: Alter>(&self, store: &Store<S>) -> Result<bool, VectorFault> {
-        Ok(store.kept_count()? == self.kept && store.filing_count()? == self.filings)
+    pub(crate) fn leaves<S: Alter>(&self, store: &Store<S>) -> Result<bool, AllocError> {
+        let kept = answer(store.kept_count(), StoreFault::Memory)?;
+        let filings = answer(store.filing_count(), StoreFault::Memory)?;
+        Ok(kept == Ok(self.kept) && filings == Ok(self.filings))
     }
 }
 
 /// An intake that keeps nothing yet.
-fn empty_intake(alloc: Global, limit: u32) -> Result<Intake<MemStore>, VectorFault> {
-    Ok(Intake::in_memory(alloc, u64::from(limit))?)
+fn empty_intake(alloc: Global, limit: u32) -> Result<Option<Intake<MemStore>>, AllocError> {
+    let made = Intake::in_memory(alloc, u64::from(limit));
+    Ok(answer(made, CreateFault::Memory)?.ok())
 }
 
 /// The register of an intake.
@@ -113,19 +116,20 @@ impl Connection<'_> {
         alloc: Global,
         intake: &mut Intake<S>,
         piece: usize,
-    ) -> Result<bool, VectorFault> {
+    ) -> Result<bool, AllocError> {
         let given = self.text(alloc)?;
         let mut output = Vec::new(alloc);
-        let pieces = Pieces {
+        let pieces = Giving {
             rest: given.as_bytes(),
             most: piece,
+            fails: None,
         };
         let served = served(alloc, intake, pieces, &mut output);
         self.is_so(&served, &output)
     }
 
     /// What is given, as one text.
-    fn text(&self, alloc: Global) -> Result<String, VectorFault> {
+    fn text(&self, alloc: Global) -> Result<String, AllocError> {
         let mut text = String::new(alloc);
         for part in self.given {
             append(alloc, &mut text, *part)?;
@@ -134,9 +138,9 @@ impl Connection<'_> {
     }
 
     /// Whether the connection had this result. A writer in memory fails only if memory runs out.
-    fn is_so(&self, served: &Served, output: &[u8]) -> Result<bool, VectorFault> {
+    fn is_so(&self, served: &Served, output: &[u8]) -> Result<bool, AllocError> {
         match served.ended {
-            Ended::Fault(ConnFault::Memory | ConnFault::Write { .. }) => Err(VectorFault::Memory),
+            Ended::Fault(ConnFault::Memory | ConnFault::Write { .. }) => Err(AllocError),
             ended => Ok(
                 ended == self.ended
                     && served.marks.as_slice() == self.marks
@@ -147,7 +151,7 @@ impl Connection<'_> {
 }
 
 /// Appends a part.
-fn append(alloc: Global, text: &mut String, part: Part<'_>) -> Result<(), VectorFault> {
+fn append(alloc: Global, text: &mut String, part: Part<'_>) -> Result<(), AllocError> {
     match part {
         Part::Text(more) => text.push_str(more)?,
         Part::Repeated(character, count) => text.push_str(&repeated(alloc, character, count)?)?,
@@ -157,11 +161,11 @@ fn append(alloc: Global, text: &mut String, part: Part<'_>) -> Result<(), Vector
 }
 
 /// The request that files a body under a key.
-fn filing(alloc: Global, path: &str, key: &str, body: &str) -> Result<String, VectorFault> {
+fn filing(alloc: Global, path: &str, key: &str, body: &str) -> Result<String, AllocError> {
     let length = body.len();
-    Ok(format!(in alloc;
+    format!(in alloc;
         "POST /filings/{path} HTTP/1.1\r\nHost: localhost\r\nIdempotency-Key: \"{key}\"\r\nContent-Length: {length}\r\n\r\n{body}"
-    )?)
+    )
 }
 
 /// Whether these bytes are the texts, one after another.
@@ -186,18 +190,4 @@ fn served<R: Read + Drop, W: Write + Drop, S: Alter>(
     let mut reader = Device::new(reader);
     let mut writer = Device::new(writer);
     serve(alloc, &mut reader, &mut writer, intake)
-}
-
-/// A reader that gives at most so many bytes a read.
-#[derive(Drop)]
-struct Pieces<'a> {
-    rest: &'a [u8],
-    most: usize,
-}
-
-impl Read for Pieces<'_> {
-    fn read(&mut self, room: &mut [u8]) -> io::Result<usize> {
-        let count = self.most.min(room.len());
-        self.rest.read(&mut room[..count])
-    }
 }

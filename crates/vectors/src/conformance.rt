@@ -1,8 +1,8 @@
 //! The worked examples of the protocol, in two calls, since a test has a minute and is run with checks as well.
 
+use crate::connection::registered;
+use crate::{NUMBERS, run};
 use std::test::Fail;
-use vector_examples::first_over;
-use vectors::{NUMBERS, run};
 
 #[test]
 fn vectors_1_to_14_pass(rt: HostRuntime) -> Result<(), Fail> {
@@ -22,6 +22,6 @@ fn vectors_15_to_27_pass(rt: HostRuntime) -> Result<(), Fail> {
 
 #[test]
 fn an_intake_that_keeps_nothing_fails_the_first(rt: HostRuntime) -> Result<(), Fail> {
-    assert_eq!(rt; first_over(rt.alloc(), 0)?, false);
+    assert_eq!(rt; registered(rt.alloc(), 0)?, false);
     Ok(())
 }

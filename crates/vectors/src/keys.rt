@@ -1,26 +1,28 @@
 //! The vector of keys.
 
 use crate::examples::repeated;
-use crate::fault::{VectorFault, refusal};
+use crate::refusal::answer;
 use key_string::{KeyFault, KeyText, append_key, read_key};
-use std::alloc::Global;
+use std::alloc::{AllocError, Global};
 
 /// Vector 8: what spells a key, and what does not.
-pub(crate) fn keys(alloc: Global) -> Result<bool, VectorFault> {
+pub(crate) fn keys(alloc: Global) -> Result<bool, AllocError> {
     Ok(spelling(alloc)? && no_strings(alloc)? && long_keys(alloc)? && unprintable(alloc)?)
 }
 
 /// A key with both characters that are escaped, read and written again.
-fn spelling(alloc: Global) -> Result<bool, VectorFault> {
+fn spelling(alloc: Global) -> Result<bool, AllocError> {
     let field = b"\"a\\\"b\\\\c\"";
-    let key = read_key(alloc, field)?;
+    let Ok(key) = answer(read_key(alloc, field), KeyFault::Memory)? else {
+        return Ok(false);
+    };
     let mut written = Vec::new(alloc);
     append_key(&key, &mut written)?;
     Ok(key.as_str() == "a\"b\\c" && written.as_slice() == field.as_slice())
 }
 
 /// Fields that are no String, and the empty one.
-fn no_strings(alloc: Global) -> Result<bool, VectorFault> {
+fn no_strings(alloc: Global) -> Result<bool, AllocError> {
     for (field, fault) in [
         ("\"a\\nb\"", KeyFault::NotString),
         ("k-1", KeyFault::NotString),
@@ -28,7 +30,8 @@ fn no_strings(alloc: Global) -> Result<bool, VectorFault> {
         ("\"a\";p=1", KeyFault::NotString),
         ("\"\"", KeyFault::Empty),
     ] {
-        if refusal(read_key(alloc, field.as_bytes()))? != Some(fault) {
+        let read = answer(read_key(alloc, field.as_bytes()), KeyFault::Memory)?;
+        if read.err() != Some(fault) {
             return Ok(false);
         }
     }
@@ -36,23 +39,27 @@ fn no_strings(alloc: Global) -> Result<bool, VectorFault> {
 }
 
 /// The longest key, and a longer one.
-fn long_keys(alloc: Global) -> Result<bool, VectorFault> {
+fn long_keys(alloc: Global) -> Result<bool, AllocError> {
     for (letters, fault) in [(1024, None), (1025, Some(KeyFault::TooLong))] {
         let text = repeated(alloc, 'a', letters)?;
         let field = format!(in alloc; "\"{text}\"")?;
-        if refusal(read_key(alloc, field.as_bytes()))? != fault
-            || refusal(KeyText::new(alloc, &text))? != fault
-        {
+        let read = answer(read_key(alloc, field.as_bytes()), KeyFault::Memory)?;
+        if read.err() != fault || text_fault(alloc, &text)? != fault {
             return Ok(false);
         }
     }
     Ok(true)
 }
 
+/// How a text is refused as a key, if it is.
+fn text_fault(alloc: Global, text: &str) -> Result<Option<KeyFault>, AllocError> {
+    Ok(answer(KeyText::new(alloc, text), KeyFault::Memory)?.err())
+}
+
 /// Bare texts that are no key.
-fn unprintable(alloc: Global) -> Result<bool, VectorFault> {
+fn unprintable(alloc: Global) -> Result<bool, AllocError> {
     Ok(
-        refusal(KeyText::new(alloc, "a\t"))? == Some(KeyFault::NotPrintable { at: 1 })
-            && refusal(KeyText::new(alloc, ""))? == Some(KeyFault::Empty),
+        text_fault(alloc, "a\t")? == Some(KeyFault::NotPrintable { at: 1 })
+            && text_fault(alloc, "")? == Some(KeyFault::Empty),
     )
 }

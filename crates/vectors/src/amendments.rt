@@ -1,26 +1,16 @@
 //! The vector of reports that replace filings.
 
 use crate::connection::{FIRST, answered};
-use crate::examples::{KEY_REUSED, REPORT_OF_BETA};
-use crate::fault::VectorFault;
+use crate::examples::{REPORT_OF_BETA, key_text};
 use crate::history::{History, Part};
-use example_texts::{REGISTERED, REGISTERED_SECOND, REPORT};
+use example_texts::{KEY_REUSED, NO_PATH, NOT_REPLACEABLE, REGISTERED, REGISTERED_SECOND, REPORT};
 use gateway_server::Mark;
 use http_wire::append_request;
-use key_string::KeyText;
-use std::alloc::Global;
+use std::alloc::{AllocError, Global};
 
 /// The list of a filing and the one that replaces it: 88 bytes.
 const BOTH: &str =
     "HTTP/1.1 200 OK\r\nContent-Type: application/json\r\nContent-Length: 88\r\n\r\n{\"filings\":[{\"facts\":1,\"number\":1,\"replaced_by\":2},{\"facts\":1,\"number\":2,\"replaces\":1}]}";
-
-/// The reply to a report whose filing cannot be replaced: 137 bytes.
-const NOT_REPLACEABLE: &str =
-    "HTTP/1.1 422 Unprocessable Content\r\nContent-Type: application/problem+json\r\nContent-Length: 137\r\n\r\n{\"findings\":[{\"code\":\"not-replaceable\",\"place\":\"\"}],\"reason\":\"refused\",\"status\":422,\"title\":\"Unprocessable Content\",\"type\":\"about:blank\"}";
-
-/// The reply to a path that names no filings.
-const NO_PATH: &str =
-    "HTTP/1.1 404 Not Found\r\nContent-Type: application/problem+json\r\nContent-Length: 74\r\n\r\n{\"reason\":\"no-path\",\"status\":404,\"title\":\"Not Found\",\"type\":\"about:blank\"}";
 
 /// The report filed again to replace filing 1, under another key, and under a third.
 const SECOND: Part<'static> = Part::Filing("ACME/1", "k-2", REPORT);
@@ -28,11 +18,11 @@ const SECOND: Part<'static> = Part::Filing("ACME/1", "k-2", REPORT);
 const THIRD: Part<'static> = Part::Filing("ACME/1", "k-3", REPORT);
 
 /// Vector 26: a filing is replaced once, by a report of its own filer; what is no number of a filing is no path.
-pub(crate) fn amended(alloc: Global) -> Result<bool, VectorFault> {
-    Ok(replaced_once(alloc)? && request_length(alloc)? == 539)
+pub(crate) fn amended(alloc: Global) -> Result<bool, AllocError> {
+    Ok(replaced_once(alloc)? && request_length(alloc)? == Some(539))
 }
 
-fn replaced_once(alloc: Global) -> Result<bool, VectorFault> {
+fn replaced_once(alloc: Global) -> Result<bool, AllocError> {
     let other = [Part::Filing("BETA/1", "k-1", REPORT_OF_BETA)];
     let connections = [
         answered(&[FIRST], &[REGISTERED], &[Mark::Done]),
@@ -66,9 +56,11 @@ fn replaced_once(alloc: Global) -> Result<bool, VectorFault> {
 }
 
 /// How long the request is by which `ACME` files the report to replace filing 1.
-fn request_length(alloc: Global) -> Result<usize, VectorFault> {
+fn request_length(alloc: Global) -> Result<Option<usize>, AllocError> {
+    let Some(key) = key_text(alloc, "k-1")? else {
+        return Ok(None);
+    };
     let mut request = Vec::new(alloc);
-    let key = KeyText::new(alloc, "k-1")?;
     append_request("ACME", Some(1), &key, REPORT.as_bytes(), &mut request)?;
-    Ok(request.len())
+    Ok(Some(request.len()))
 }

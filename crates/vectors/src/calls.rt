@@ -1,24 +1,14 @@
-//! The vectors by their numbers.
+//! The vectors over the public calls, by their numbers.
 
-use crate::fault::VectorFault;
 use crate::{
     amendments, connection, history, keys, migration, outbox, outbox_migration, register, replies,
     reports,
 };
 use std::alloc::{AllocError, Global};
 
-/// Runs the vector of this number over databases of its own in memory, and says whether it passed. An unknown
-/// number fails. If memory was refused, it answers that.
-pub fn run(alloc: Global, number: u32) -> Result<bool, AllocError> {
-    VectorFault::settle(run_row(alloc, number))
-}
-
-/// Runs the first vector over an intake that keeps at most this many keys. With 0 it fails.
-pub fn first_over(alloc: Global, limit: u32) -> Result<bool, AllocError> {
-    VectorFault::settle(connection::registered(alloc, limit))
-}
-
-fn run_row(alloc: Global, number: u32) -> Result<bool, VectorFault> {
+/// Runs the vector of this number over databases of its own in memory, and says whether it passed. An unknown number
+/// fails. If memory was refused, it answers that.
+pub(crate) fn run(alloc: Global, number: u32) -> Result<bool, AllocError> {
     match number {
         22 => outbox::entries(alloc),
         23 => register::reopened(alloc),
@@ -30,7 +20,7 @@ fn run_row(alloc: Global, number: u32) -> Result<bool, VectorFault> {
 }
 
 /// Runs the vector of this number if it is one of what goes over one connection. Another one fails.
-fn run_connection(alloc: Global, number: u32) -> Result<bool, VectorFault> {
+fn run_connection(alloc: Global, number: u32) -> Result<bool, AllocError> {
     match number {
         1 => connection::registered(alloc, history::LIMIT),
         2 => connection::repeated_request(alloc),

@@ -2,12 +2,11 @@
 
 use crate::connection::is_refused_with;
 use crate::examples::report;
-use crate::fault::VectorFault;
-use std::alloc::Global;
+use std::alloc::{AllocError, Global};
 use xbrl_report::{Code, Finding, Judged, Period, judge, read_period, read_unit};
 
 /// Whether a body has these findings, in this order: places and words.
-fn has_findings(alloc: Global, body: &str, findings: &[(&str, &str)]) -> Result<bool, VectorFault> {
+fn has_findings(alloc: Global, body: &str, findings: &[(&str, &str)]) -> Result<bool, AllocError> {
     match judge(alloc, "ACME", body.as_bytes())? {
         Judged::Valid(_) => Ok(false),
         Judged::Refused(found) => Ok(are_so(found.list(), findings)),
@@ -27,7 +26,7 @@ fn are_so(found: &[Finding], findings: &[(&str, &str)]) -> bool {
 }
 
 /// Vector 18: all findings of a report, in order.
-pub(crate) fn all_findings(alloc: Global) -> Result<bool, VectorFault> {
+pub(crate) fn all_findings(alloc: Global) -> Result<bool, AllocError> {
     has_findings(
         alloc,
         "{\"documentInfo\":{\"documentType\":\"x\"},\"facts\":{\"f1\":7,\"f2\":{\"value\":1,\"decimals\":\"0\",\"dimensions\":{\"entity\":\"lei:BETA\",\"size\":\"s\"}}}}",
@@ -46,7 +45,7 @@ pub(crate) fn all_findings(alloc: Global) -> Result<bool, VectorFault> {
 }
 
 /// Vector 19: a body that is no object, and as many findings as a reply has at most.
-pub(crate) fn many_findings(alloc: Global) -> Result<bool, VectorFault> {
+pub(crate) fn many_findings(alloc: Global) -> Result<bool, AllocError> {
     let too_many = with_facts(alloc, 1001)?;
     Ok(
         has_findings(alloc, "[]", &[("", "not-object")])?
@@ -66,7 +65,7 @@ pub(crate) fn many_findings(alloc: Global) -> Result<bool, VectorFault> {
 }
 
 /// The smallest report with so many facts that are numbers, under `0`, `1` and so on.
-fn with_facts(alloc: Global, count: u32) -> Result<String, VectorFault> {
+fn with_facts(alloc: Global, count: u32) -> Result<String, AllocError> {
     let mut body = String::from_str(
         alloc,
         "{\"documentInfo\":{\"documentType\":\"https://xbrl.org/2021/xbrl-json\",\"taxonomy\":[\"t\"]},\"facts\":{\"0\":1",
@@ -79,7 +78,7 @@ fn with_facts(alloc: Global, count: u32) -> Result<String, VectorFault> {
 }
 
 /// Whether each of this many facts is found to be no fact.
-fn are_facts(alloc: Global, count: u32) -> Result<bool, VectorFault> {
+fn are_facts(alloc: Global, count: u32) -> Result<bool, AllocError> {
     let body = with_facts(alloc, count)?;
     match judge(alloc, "ACME", body.as_bytes())? {
         Judged::Valid(_) => Ok(false),
@@ -94,11 +93,11 @@ fn are_facts(alloc: Global, count: u32) -> Result<bool, VectorFault> {
 }
 
 /// Vector 20: units and periods.
-pub(crate) fn units_and_periods(alloc: Global) -> Result<bool, VectorFault> {
+pub(crate) fn units_and_periods(alloc: Global) -> Result<bool, AllocError> {
     Ok(units(alloc)? && periods() && equal_ends(alloc)?)
 }
 
-fn units(alloc: Global) -> Result<bool, VectorFault> {
+fn units(alloc: Global) -> Result<bool, AllocError> {
     for (text, is_unit) in [
         ("a:x", true),
         ("a:x*b:y", true),
@@ -127,7 +126,7 @@ fn periods() -> bool {
 }
 
 /// A span whose ends are equal is read, and refused in a report.
-fn equal_ends(alloc: Global) -> Result<bool, VectorFault> {
+fn equal_ends(alloc: Global) -> Result<bool, AllocError> {
     let body = report(
         alloc,
         "f1",

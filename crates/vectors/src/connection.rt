@@ -1,16 +1,17 @@
 //! Vectors of connections to an intake.
 
-use crate::examples::{CONTINUE, KEY_REUSED, LENGTH, REPORT_OF_BETA, REQUEST, repeated, report};
-use crate::fault::VectorFault;
+use crate::examples::{LENGTH, REPORT_OF_BETA, REQUEST, repeated, report};
 use crate::history::{Connection, History, Part};
+use crate::refusal::answer;
 use example_texts::{
-    MALFORMED, NO_FILINGS, NOT_JSON, REGISTERED, REGISTERED_CLOSED, REGISTERED_SECOND, REPORT,
-    SMALLEST, UNAVAILABLE,
+    CODING, CONTENT_CODING, CONTINUE, HEAD_TOO_LARGE, KEY_BAD, KEY_MISSING, KEY_REUSED, MALFORMED,
+    NO_FILINGS, NO_METHOD, NO_METHOD_OF_HEAD, NO_PATH, NOT_JSON, ONE_FILING, REGISTERED,
+    REGISTERED_CLOSED, REGISTERED_SECOND, REPORT, SMALLEST, TOO_LARGE, UNAVAILABLE,
 };
 use gateway_server::{Ended, Mark, fact_line};
-use register_store::Store;
+use register_store::{Store, StoreFault};
 use sqlite::Alter;
-use std::alloc::Global;
+use std::alloc::{AllocError, Global};
 use xbrl_report::Fact;
 
 /// A connection whose input ends after its requests are answered.
@@ -41,14 +42,12 @@ fn closed<'a>(given: &'a [Part<'a>], written: &'a [&'a str], marks: &'a [Mark]) 
 pub(crate) const FIRST: Part<'static> = Part::Text(REQUEST);
 
 /// Vector 1: a valid report is registered, listed, and shown by its facts.
-pub(crate) fn registered(alloc: Global, limit: u32) -> Result<bool, VectorFault> {
+pub(crate) fn registered(alloc: Global, limit: u32) -> Result<bool, AllocError> {
     let connections = [
         answered(&[FIRST], &[REGISTERED], &[Mark::Done]),
         answered(
             &[Part::Text("GET /filings/ACME HTTP/1.1\r\nHost: localhost\r\n\r\n")],
-            &[
-                "HTTP/1.1 200 OK\r\nContent-Type: application/json\r\nContent-Length: 36\r\n\r\n{\"filings\":[{\"facts\":1,\"number\":1}]}",
-            ],
+            &[ONE_FILING],
             &[Mark::NotFiled],
         ),
     ];
@@ -63,7 +62,7 @@ pub(crate) fn registered(alloc: Global, limit: u32) -> Result<bool, VectorFault>
 }
 
 /// Whether the fact of the example, and no other, is that of the first filing.
-fn has_fact<S: Alter>(alloc: Global, store: &mut Store<S>) -> Result<bool, VectorFault> {
+fn has_fact<S: Alter>(alloc: Global, store: &mut Store<S>) -> Result<bool, AllocError> {
     match first_facts(store)? {
         None => Ok(false),
         Some(facts) => match facts.as_slice() {
@@ -77,12 +76,12 @@ fn has_fact<S: Alter>(alloc: Global, store: &mut Store<S>) -> Result<bool, Vecto
 }
 
 /// The facts of the first filing.
-fn first_facts<S: Alter>(store: &mut Store<S>) -> Result<Option<Vec<Fact>>, VectorFault> {
-    Ok(store.facts(1)?)
+fn first_facts<S: Alter>(store: &mut Store<S>) -> Result<Option<Vec<Fact>>, AllocError> {
+    Ok(answer(store.facts(1), StoreFault::Memory)?.unwrap_or(None))
 }
 
 /// Vector 2: repeats get the first reply, and add nothing.
-pub(crate) fn repeated_request(alloc: Global) -> Result<bool, VectorFault> {
+pub(crate) fn repeated_request(alloc: Global) -> Result<bool, AllocError> {
     History::of(
         &[answered(&[FIRST; 3], &[REGISTERED; 3], &[Mark::Done; 3])],
         1,
@@ -92,7 +91,7 @@ pub(crate) fn repeated_request(alloc: Global) -> Result<bool, VectorFault> {
 }
 
 /// Vector 3: another body under a used key.
-pub(crate) fn key_reused(alloc: Global) -> Result<bool, VectorFault> {
+pub(crate) fn key_reused(alloc: Global) -> Result<bool, AllocError> {
     let longer = format!(in alloc; "{REPORT} ")?;
     let given = [FIRST, Part::Filing("ACME", "k-1", &longer)];
     let told = answered(&given, &[REGISTERED, KEY_REUSED], &[Mark::Done; 2]);
@@ -100,7 +99,7 @@ pub(crate) fn key_reused(alloc: Global) -> Result<bool, VectorFault> {
 }
 
 /// Vector 4: the same key of two filers.
-pub(crate) fn two_filers(alloc: Global) -> Result<bool, VectorFault> {
+pub(crate) fn two_filers(alloc: Global) -> Result<bool, AllocError> {
     let given = [FIRST, Part::Filing("BETA", "k-1", REPORT_OF_BETA)];
     let told = answered(&given, &[REGISTERED, REGISTERED_SECOND], &[Mark::Done; 2]);
     History::of(&[told], 2, 2).holds(alloc)
@@ -111,7 +110,7 @@ const TWO_FINDINGS: &str =
     "HTTP/1.1 422 Unprocessable Content\r\nContent-Type: application/problem+json\r\nContent-Length: 217\r\n\r\n{\"findings\":[{\"code\":\"period\",\"place\":\"/facts/f1/dimensions/period\"},{\"code\":\"unbound-prefix\",\"place\":\"/facts/f1/dimensions/unit\"}],\"reason\":\"refused\",\"status\":422,\"title\":\"Unprocessable Content\",\"type\":\"about:blank\"}";
 
 /// Vector 5: a refused report is kept with its findings, and takes no number.
-pub(crate) fn refused(alloc: Global) -> Result<bool, VectorFault> {
+pub(crate) fn refused(alloc: Global) -> Result<bool, AllocError> {
     let body = report(
         alloc,
         "f1",
@@ -135,7 +134,7 @@ const NO_NUMBER: &str =
     "HTTP/1.1 422 Unprocessable Content\r\nContent-Type: application/problem+json\r\nContent-Length: 148\r\n\r\n{\"findings\":[{\"code\":\"number\",\"place\":\"/facts/a~1b~0c/value\"}],\"reason\":\"refused\",\"status\":422,\"title\":\"Unprocessable Content\",\"type\":\"about:blank\"}";
 
 /// Vector 6: the place of a finding is a JSON Pointer.
-pub(crate) fn escaped_place(alloc: Global) -> Result<bool, VectorFault> {
+pub(crate) fn escaped_place(alloc: Global) -> Result<bool, AllocError> {
     let body = report(
         alloc,
         "a/b~c",
@@ -149,7 +148,7 @@ pub(crate) fn escaped_place(alloc: Global) -> Result<bool, VectorFault> {
 }
 
 /// Vector 7: an empty body is kept; a POST without a length is not.
-pub(crate) fn empty_body(alloc: Global) -> Result<bool, VectorFault> {
+pub(crate) fn empty_body(alloc: Global) -> Result<bool, AllocError> {
     let kept = answered(
         &[Part::Filing("ACME", "k-1", ""), FIRST],
         &[NOT_JSON, KEY_REUSED],
@@ -168,7 +167,7 @@ pub(crate) fn empty_body(alloc: Global) -> Result<bool, VectorFault> {
 }
 
 /// Vector 9: the values of `Content-Length`.
-pub(crate) fn content_lengths(alloc: Global) -> Result<bool, VectorFault> {
+pub(crate) fn content_lengths(alloc: Global) -> Result<bool, AllocError> {
     if !is_length(alloc, "Content-Length: 84, 084")? {
         return Ok(false);
     }
@@ -193,42 +192,40 @@ const UNDECLARED: Part<'static> = Part::Text(
 /// The end of a head.
 const END: Part<'static> = Part::Text("\r\n\r\n");
 
-fn is_length(alloc: Global, lines: &str) -> Result<bool, VectorFault> {
+fn is_length(alloc: Global, lines: &str) -> Result<bool, AllocError> {
     let given = [UNDECLARED, Part::Text(lines), END, Part::Text(SMALLEST)];
     History::of(&[answered(&given, &[REGISTERED], &[Mark::Done])], 1, 1).holds(alloc)
 }
 
-fn is_no_length(alloc: Global, lines: &str) -> Result<bool, VectorFault> {
+fn is_no_length(alloc: Global, lines: &str) -> Result<bool, AllocError> {
     let given = [UNDECLARED, Part::Text(lines), END, Part::Text(SMALLEST)];
     History::of(&[closed(&given, &[MALFORMED], &[Mark::NotFiled])], 0, 0).holds(alloc)
 }
 
 /// Vector 10: the longest body, a longer one, and the interim response.
-pub(crate) fn long_bodies(alloc: Global) -> Result<bool, VectorFault> {
+pub(crate) fn long_bodies(alloc: Global) -> Result<bool, AllocError> {
     Ok(longest_body(alloc)? && longer_body(alloc)? && awaited_body(alloc)?)
 }
 
-fn longest_body(alloc: Global) -> Result<bool, VectorFault> {
+fn longest_body(alloc: Global) -> Result<bool, AllocError> {
     let spaces = repeated(alloc, ' ', 1_048_492)?;
     let body = format!(in alloc; "{SMALLEST}{spaces}")?;
     let given = [Part::Filing("ACME", "k-1", &body)];
     History::of(&[answered(&given, &[REGISTERED], &[Mark::Done])], 1, 1).holds(alloc)
 }
 
-fn longer_body(alloc: Global) -> Result<bool, VectorFault> {
+fn longer_body(alloc: Global) -> Result<bool, AllocError> {
     let refused = closed(
         &[Part::Text(
             "POST /filings/ACME HTTP/1.1\r\nHost: localhost\r\nIdempotency-Key: \"k-1\"\r\nExpect: 100-continue\r\nContent-Length: 1048577\r\n\r\n",
         )],
-        &[
-            "HTTP/1.1 413 Content Too Large\r\nContent-Type: application/problem+json\r\nContent-Length: 84\r\nConnection: close\r\n\r\n{\"reason\":\"too-large\",\"status\":413,\"title\":\"Content Too Large\",\"type\":\"about:blank\"}",
-        ],
+        &[TOO_LARGE],
         &[Mark::NotFiled],
     );
     History::of(&[refused], 0, 0).holds(alloc)
 }
 
-fn awaited_body(alloc: Global) -> Result<bool, VectorFault> {
+fn awaited_body(alloc: Global) -> Result<bool, AllocError> {
     let awaited = answered(
         &[Part::Text(
             "POST /filings/ACME HTTP/1.1\r\nHost: localhost\r\nIdempotency-Key: \"k-1\"\r\nExpect: 100-continue\r\nContent-Length: 5\r\n\r\nhello",
@@ -239,16 +236,12 @@ fn awaited_body(alloc: Global) -> Result<bool, VectorFault> {
     History::of(&[awaited], 1, 0).holds(alloc)
 }
 
-/// The reply to a head that is too long.
-const HEAD_TOO_LARGE: &str =
-    "HTTP/1.1 431 Request Header Fields Too Large\r\nContent-Type: application/problem+json\r\nContent-Length: 103\r\nConnection: close\r\n\r\n{\"reason\":\"head-too-large\",\"status\":431,\"title\":\"Request Header Fields Too Large\",\"type\":\"about:blank\"}";
-
 /// Vector 11: heads at the limit of their length.
-pub(crate) fn long_heads(alloc: Global) -> Result<bool, VectorFault> {
+pub(crate) fn long_heads(alloc: Global) -> Result<bool, AllocError> {
     Ok(heads_without_end(alloc)? && heads_with_end(alloc)?)
 }
 
-fn heads_without_end(alloc: Global) -> Result<bool, VectorFault> {
+fn heads_without_end(alloc: Global) -> Result<bool, AllocError> {
     let unfinished = [
         answered(&[Part::Repeated('a', 16_383)], &[], &[]),
         answered(&[Part::Repeated(' ', 16_383)], &[], &[]),
@@ -264,7 +257,7 @@ fn heads_without_end(alloc: Global) -> Result<bool, VectorFault> {
 /// The beginning of a GET, up to the value of its last field.
 const ASKED: Part<'static> = Part::Text("GET /filings/ACME HTTP/1.1\r\nHost: localhost\r\nX: ");
 
-fn heads_with_end(alloc: Global) -> Result<bool, VectorFault> {
+fn heads_with_end(alloc: Global) -> Result<bool, AllocError> {
     let connections = [
         answered(
             &[ASKED, Part::Repeated('a', 16_332), END],
@@ -286,7 +279,7 @@ fn heads_with_end(alloc: Global) -> Result<bool, VectorFault> {
 }
 
 /// Vector 12: how the bytes come changes nothing, and a body is no request.
-pub(crate) fn byte_by_byte(alloc: Global) -> Result<bool, VectorFault> {
+pub(crate) fn byte_by_byte(alloc: Global) -> Result<bool, AllocError> {
     let repeated = [answered(&[FIRST; 3], &[REGISTERED; 3], &[Mark::Done; 3])];
     let bytes = History {
         piece: 1,
@@ -301,7 +294,7 @@ pub(crate) fn byte_by_byte(alloc: Global) -> Result<bool, VectorFault> {
 }
 
 /// Vector 13: a request that is cut off gets no reply.
-pub(crate) fn cut_off(alloc: Global) -> Result<bool, VectorFault> {
+pub(crate) fn cut_off(alloc: Global) -> Result<bool, AllocError> {
     let Some(cut) = REQUEST.strip_suffix('}') else {
         return Ok(false);
     };
@@ -309,7 +302,7 @@ pub(crate) fn cut_off(alloc: Global) -> Result<bool, VectorFault> {
 }
 
 /// Vector 14: a register that is full answers what it keeps, and no more.
-pub(crate) fn full_register(alloc: Global) -> Result<bool, VectorFault> {
+pub(crate) fn full_register(alloc: Global) -> Result<bool, AllocError> {
     let kept = [answered(
         &[FIRST, Part::Filing("ACME", "k-2", REPORT), FIRST],
         &[REGISTERED, UNAVAILABLE, REGISTERED],
@@ -328,12 +321,12 @@ pub(crate) fn full_register(alloc: Global) -> Result<bool, VectorFault> {
 }
 
 /// Vector 17: requests that file nothing, and other spellings of one that does.
-pub(crate) fn other_requests(alloc: Global) -> Result<bool, VectorFault> {
+pub(crate) fn other_requests(alloc: Global) -> Result<bool, AllocError> {
     Ok(refused_heads(alloc)? && told(alloc)? && posts_told(alloc)? && posts_filed(alloc)?)
 }
 
 /// Heads after whose refusal the connection closes.
-fn refused_heads(alloc: Global) -> Result<bool, VectorFault> {
+fn refused_heads(alloc: Global) -> Result<bool, AllocError> {
     for (given, written) in [
         ("GET /filings/ACME HTTP/1.1\r\n\r\n", MALFORMED),
         (
@@ -342,7 +335,7 @@ fn refused_heads(alloc: Global) -> Result<bool, VectorFault> {
         ),
         (
             "POST /filings/ACME HTTP/1.1\r\nHost: localhost\r\nTransfer-Encoding: chunked\r\nContent-Length: x\r\n\r\n",
-            "HTTP/1.1 501 Not Implemented\r\nContent-Type: application/problem+json\r\nContent-Length: 79\r\nConnection: close\r\n\r\n{\"reason\":\"coding\",\"status\":501,\"title\":\"Not Implemented\",\"type\":\"about:blank\"}",
+            CODING,
         ),
     ] {
         if !History::of(
@@ -359,19 +352,16 @@ fn refused_heads(alloc: Global) -> Result<bool, VectorFault> {
 }
 
 /// Messages that are refused for their path or method.
-fn told(alloc: Global) -> Result<bool, VectorFault> {
+fn told(alloc: Global) -> Result<bool, AllocError> {
     for (given, written) in [
-        (
-            "GET /other HTTP/1.1\r\nHost: localhost\r\n\r\n",
-            "HTTP/1.1 404 Not Found\r\nContent-Type: application/problem+json\r\nContent-Length: 74\r\n\r\n{\"reason\":\"no-path\",\"status\":404,\"title\":\"Not Found\",\"type\":\"about:blank\"}",
-        ),
+        ("GET /other HTTP/1.1\r\nHost: localhost\r\n\r\n", NO_PATH),
         (
             "PUT /filings/ACME HTTP/1.1\r\nHost: localhost\r\n\r\n",
-            "HTTP/1.1 405 Method Not Allowed\r\nContent-Type: application/problem+json\r\nContent-Length: 85\r\nAllow: GET, POST\r\n\r\n{\"reason\":\"no-method\",\"status\":405,\"title\":\"Method Not Allowed\",\"type\":\"about:blank\"}",
+            NO_METHOD,
         ),
         (
             "HEAD /filings/ACME HTTP/1.1\r\nHost: localhost\r\n\r\n",
-            "HTTP/1.1 405 Method Not Allowed\r\nContent-Type: application/problem+json\r\nAllow: GET, POST\r\n\r\n",
+            NO_METHOD_OF_HEAD,
         ),
     ] {
         let given = [Part::Text(given)];
@@ -383,20 +373,14 @@ fn told(alloc: Global) -> Result<bool, VectorFault> {
 }
 
 /// Reports that are refused for their coding or key.
-fn posts_told(alloc: Global) -> Result<bool, VectorFault> {
+fn posts_told(alloc: Global) -> Result<bool, AllocError> {
     for (lines, written) in [
         (
             "Host: localhost\r\nIdempotency-Key: \"k-1\"\r\nContent-Encoding: gzip\r\n",
-            "HTTP/1.1 415 Unsupported Media Type\r\nContent-Type: application/problem+json\r\nContent-Length: 94\r\n\r\n{\"reason\":\"content-coding\",\"status\":415,\"title\":\"Unsupported Media Type\",\"type\":\"about:blank\"}",
+            CONTENT_CODING,
         ),
-        (
-            "Host: localhost\r\n",
-            "HTTP/1.1 400 Bad Request\r\nContent-Type: application/problem+json\r\nContent-Length: 80\r\n\r\n{\"reason\":\"key-missing\",\"status\":400,\"title\":\"Bad Request\",\"type\":\"about:blank\"}",
-        ),
-        (
-            "Host: localhost\r\nIdempotency-Key: k-1\r\n",
-            "HTTP/1.1 400 Bad Request\r\nContent-Type: application/problem+json\r\nContent-Length: 76\r\n\r\n{\"reason\":\"key-bad\",\"status\":400,\"title\":\"Bad Request\",\"type\":\"about:blank\"}",
-        ),
+        ("Host: localhost\r\n", KEY_MISSING),
+        ("Host: localhost\r\nIdempotency-Key: k-1\r\n", KEY_BAD),
     ] {
         let given = [
             Part::Text("POST /filings/ACME HTTP/1.1\r\n"),
@@ -412,7 +396,7 @@ fn posts_told(alloc: Global) -> Result<bool, VectorFault> {
 }
 
 /// Reports that are registered.
-fn posts_filed(alloc: Global) -> Result<bool, VectorFault> {
+fn posts_filed(alloc: Global) -> Result<bool, AllocError> {
     for connection in [
         answered(
             &[
@@ -452,7 +436,7 @@ pub(crate) fn is_refused_with(
     alloc: Global,
     body: &str,
     written: &str,
-) -> Result<bool, VectorFault> {
+) -> Result<bool, AllocError> {
     let given = [Part::Filing("ACME", "k-1", body)];
     History::of(&[answered(&given, &[written], &[Mark::Done])], 1, 0).holds(alloc)
 }
