@@ -2,7 +2,7 @@
 """Refuses each allocation of a test in turn: runs the test once to count them, and then once for each, with that one
 refused. The test has to pass in every run. Status 1 if one run does not.
 
-    tools/refuse_memory.py crates/gateway_tests/out/gateway_tests_tests client::refused_memory_changes_nothing
+    tools/refuse_memory.py crates/tests/out/tests_tests exchanges::memory::refused_memory_changes_nothing
 
 The first word is a program of tests as `rt test` builds it, the others are full names of its tests.
 """
