@@ -50,7 +50,8 @@ module _ {D R : Type 0} (written : Ghosts D) (read : Ghosts R) (out out' : Optio
       → access ≡ access_of task → OpensBy access (reading ≡ false) (reading ≡ true) → reading ≡ true
       → PerformsOver read task None no_port no_port out out' status → PerformsTask written read task out out' status
   as_reading task access reading other access_is opens is over =
-      by_access task other (subst (λ access. OpensBy access (PerformsOver written task None no_port no_port out out' status)
+      by_access task other
+      (subst (λ access. OpensBy access (PerformsOver written task None no_port no_port out out' status)
       (PerformsOver read task None no_port no_port out out' status)) access_is
       (opened_for_reading access reading _ _ opens is over))
 
@@ -58,6 +59,7 @@ module _ {D R : Type 0} (written : Ghosts D) (read : Ghosts R) (out out' : Optio
       → access ≡ access_of task → OpensBy access (reading ≡ false) (reading ≡ true) → reading ≡ false
       → PerformsOver written task None no_port no_port out out' status → PerformsTask written read task out out' status
   as_writing task access reading other access_is opens is over =
-      by_access task other (subst (λ access. OpensBy access (PerformsOver written task None no_port no_port out out' status)
+      by_access task other
+      (subst (λ access. OpensBy access (PerformsOver written task None no_port no_port out out' status)
       (PerformsOver read task None no_port no_port out out' status)) access_is
       (opened_for_writing access reading _ _ opens is over))

@@ -27,7 +27,7 @@ pub as_done : {D : Type 0} {g : Ghosts D} {out out' : Option (List ℕ)} {status
     (lost : ℕ) → Calls task peer → IsNetworkTo peer before → old ≡ closed lying
     → Does g task (traffic_of before) (traffic_of after) out out' old new done → done ≡ Ok tt
     → lost ≡ after.lost_receipts → status ≡ ended_without lost (Ok tt) → PerformsOver g task lying out out' status
-as_done {g} {out} {out'} task peer before after lying old new done lost calls is old_is does done_is lost_is status_is = (
+as_done {g} {out} {out'} task peer before after lying old new done lost calls is was does told lost_is is_status = (
   peer,
   calls,
   inr (
@@ -36,16 +36,17 @@ as_done {g} {out} {out'} task peer before after lying old new done lost calls is
     after,
     new,
     done,
-    subst (λ old. Does g task (traffic_of before) (traffic_of after) out out' old new done) old_is does,
-    status_is
+    subst (λ old. Does g task (traffic_of before) (traffic_of after) out out' old new done) was does,
+    is_status
         ∙ ap (λ lost. ended_without lost (Ok tt)) lost_is
-        ∙ sym (ap (ended_without after.lost_receipts) done_is),
+        ∙ sym (ap (ended_without after.lost_receipts) told),
   ),
 )
 
 module _ {D R : Type 0} {written : Ghosts D} {read : Ghosts R} {out out' : Option (List ℕ)} {status : ℕ}
     (words : List Text) (came : Option Asked) (is_read : IsRead IsAsked words came) where
-  pub as_none : came ≡ None → PerformsAsked written read None out out' status → Performs written read words out out' status
+  pub as_none : came ≡ None → PerformsAsked written read None out out' status
+      → Performs written read words out out' status
   as_none is performs =
       inl (came, is_read, subst (λ came. PerformsAsked written read came out out' status) (sym is) performs)
 
@@ -63,8 +64,8 @@ module _ {D R : Type 0} {written : Ghosts D} {read : Ghosts R} {out out' : Optio
   module _ (asked : Asked) (task : Task) (wait : ℕ) (access : Access) (reading : Bool) (is : came ≡ Some asked)
       (that : asked ≡ Outbox task wait) (access_is : access ≡ access_of task)
       (opens : OpensBy access (reading ≡ false) (reading ≡ true)) where
-    by_access : OpensBy access (PerformsOver written task None out out' status) (PerformsOver read task None out out' status)
-        → Performs written read words out out' status
+    by_access : OpensBy access (PerformsOver written task None out out' status)
+        (PerformsOver read task None out out' status) → Performs written read words out out' status
     by_access performs =
         as_asked asked (Outbox task wait) is that
         (subst (λ access. OpensBy access (PerformsOver written task None out out' status)

@@ -35,8 +35,8 @@ ended_without lost (Err why) = status_of why
 ended_without zero (Ok done) = 0
 ended_without (suc lost) (Ok done) = 3
 
--- No receipt can be kept in the folder of the task's peer, and nothing was done; or the task was done to the outbox that
--- lies there, over the network of this peer.
+-- No receipt can be kept in the folder of the task's peer, and nothing was done; or the task was done to the outbox
+-- that lies there, over the network of this peer.
 abbrev pub PerformsOver : {D : Type 0} (g : Ghosts D) → Task → Option (Option (Files D)) → Option (List ℕ)
     → Option (List ℕ) → ℕ → Type 0
 PerformsOver g task lying out out' status =

@@ -1,5 +1,6 @@
 -- A database that is no outbox of this version was only read.
-use Rattle.std.proofs.Common.{◌≡◌, ℕ, [], Option, Some, None, Result, Ok, Err, IfOk, IfErr, inl, inr, sym, ap, subst, ◌∙◌}
+use Rattle.std.proofs.Common.{◌≡◌, ℕ, [], Option, Some, None, Result, Ok, Err, IfOk, IfErr, inl, inr}
+use Rattle.std.proofs.Common.{sym, ap, subst, ◌∙◌}
 use Rattle.sqlite.specs.Clock.{timed}
 use Rattle.sqlite.specs.State.{State, FailsToQuery, FailsToShow, HasCause, IsNotRun, IsUnchanged, store_error}
 use Rattle.sqlite.specs.declared.error.Error.{Error}

@@ -32,7 +32,11 @@ pub returns-in-Serve : goal.returns-in-Serve
 returns-in-Serve g c =
     let read = read_as (map string_bytes c.args.words.now) c.in-Ok-Ok.field-0-is c.in-Ok-Ok.ensures.read in
     unwanted _ _ _ (sym c.if-asks_for_init.false ∙ c.asks_for_init.ensures)
-    (inl (Ok c.in-Ok-Ok.asked, read, as_unserved _ _ _ _ _ _ c.in-Serve.serving c.in-Serve.is c.tell-in-Err-port_of.ensures refl))
+    (inl (
+      Ok c.in-Ok-Ok.asked,
+      read,
+      as_unserved _ _ _ _ _ _ c.in-Serve.serving c.in-Serve.is c.tell-in-Err-port_of.ensures refl,
+    ))
 
 pub returns-in_default : goal.returns-in_default
 returns-in_default g c =

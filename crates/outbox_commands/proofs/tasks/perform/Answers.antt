@@ -20,7 +20,8 @@ pub returns-in-Outbox : goal.returns-in-Outbox
 returns-in-Outbox g c =
     as_writing (map string_bytes c.args.words.now) c.in-Ok-Some.field-0 c.in-Ok-Some.ensures.read c.in-Ok-Some.asked
     c.in-Outbox.task c.in-Outbox.wait c.access.result c.opens_for_reading.result c.in-Ok-Some.field-0-is c.in-Outbox.is
-    c.access.ensures c.opens_for_reading.ensures c.if-opens_for_reading.false c.perform_in-else-opens_for_reading.ensures
+    c.access.ensures c.opens_for_reading.ensures c.if-opens_for_reading.false
+    c.perform_in-else-opens_for_reading.ensures
 
 pub returns-in-Ok : goal.returns-in-Ok
 returns-in-Ok g c =
