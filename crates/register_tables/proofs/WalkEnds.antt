@@ -1,6 +1,12 @@
 -- What a walk comes to, and that it comes to the end of a register that stands.
 use Rattle.std.proofs.Common.{◌≡◌, ◌<◌, inl, inr, ℕ, ◌+◌, ◌++◌, suc, false, List, [], ◌∷◌, Some, length, subst}
 use Rattle.std.proofs.Common.{sym, ap, ◌∙◌, append-nil, length-append, arith, refl, pos, Bool, true, int_cmp, filter}
+use Rattle.std.proofs.Common.{Option, None, drop, ◌≤◌}
+use Rattle.std.proofs.lemmas.Bool.Decides.{nat_tests}
+use Rattle.std.specs.List.{prefix_len}
+use Rattle.std.proofs.lemmas.List.{length-drop}
+use Rattle.std.proofs.lemmas.List.Sums.{prefix_len-le-length}
+use Rattle.sqlite.specs.declared.types.Value.TheVariants.{Int}
 use Rattle.std.specs.Ordering.{is_lt}
 use Rattle.std.proofs.lemmas.Int.{ints}
 use Rattle.sqlite.specs.Ops.{binary, is_true, from_truth}
@@ -20,7 +26,8 @@ use Rattle.table_rows.proofs.TakeLemmas.{all_taken}
 use Rattle.register_rows.specs.Catalogue.{catalogue_of, view_lines}
 use Rattle.register_rows.specs.declared.catalogue.Catalogue.{Catalogue}
 use Rattle.register_rows.specs.Outcomes.{filings_by}
-use Rattle.register_rows.specs.Register.{amends_rows, finding_rows, filing_rows, fact_rows, joined_from, kept_row}
+use Rattle.register_rows.specs.Register.{amends_rows, amends_rows_by, finding_rows, filing_rows, fact_rows}
+use Rattle.register_rows.specs.Register.{joined_from, kept_row}
 use Rattle.register_rows.specs.Schema.{kept_table, finding_table, filing_table, fact_table}
 use Rattle.register_rows.proofs.MoreRequests.{kept_length}
 use Rattle.register_rows.proofs.SegmentLemmas.{length_counted}
@@ -28,8 +35,8 @@ use Rattle.register_rows.proofs.StepsOfTargets.{no_amends}
 use Rattle.register_tables.specs.declared.opening.walk.Left.{Left}
 use Rattle.register_tables.specs.declared.opening.walk.Totals.{Totals}
 use Rattle.register_tables.specs.Reads.{is_early, HasEarly}
-use Rattle.register_tables.specs.Walk.{AreAllOf, Amounts, HasFactRows, IsFirstUnsound, IsUnsound, NonePasses, Passes}
-use Rattle.register_tables.specs.Walk.{Walked}
+use Rattle.register_tables.specs.Walk.{AreAllOf, AreAllPassed, Amounts, HasFactRows, IsFirstUnsound, IsUnsound}
+use Rattle.register_tables.specs.Walk.{NonePasses, Passes, Walked, is_stray, of_requests}
 use Rattle.register_tables.proofs.Leading.{alone_is, amends_left, behind, completed_is, facts_picked, filing_picked}
 use Rattle.register_tables.proofs.Leading.{findings_picked, kept_picked, rows_left}
 
@@ -169,6 +176,42 @@ module _ (amends_are : List Row) (total count : ℕ) (left : Left) (db : Databas
           let counted = w.many in
           absurd (omega (arith, long, parts, many, counted, end))
 
+-- ---- rows of `amends` that are of no request
+
+not_stray : (seq target : ℕ) → 0 < seq → is_stray (Int (pos seq) ∷ Int (pos target) ∷ []) ≡ false
+not_stray seq target low = grind (arith, nat_tests)
+
+none_stray : (seq : ℕ) (ks : List Kept) → 0 < seq → prefix_len is_stray (joined_from amends_rows seq ks) ≡ 0
+none_stray seq [] low = refl
+none_stray seq (k ∷ ks) low = go k.request.target (none_stray (seq + 1) ks (omega arith))
+  where
+    go : (t : Option ℕ) → prefix_len is_stray (joined_from amends_rows (seq + 1) ks) ≡ 0
+        → prefix_len is_stray (amends_rows_by seq t ++ joined_from amends_rows (seq + 1) ks) ≡ 0
+    go None later = later
+    go (Some target) later = rw (not_stray seq target low) refl
+
+-- a register that stands has none
+stands_without : (amends_are : List Row) (db : Database) (all : List Request) → AreAllOf all amends_are db
+    → of_requests amends_are ≡ amends_are
+stands_without amends_are db all are =
+    ap (λ n. drop n amends_are) (ap (prefix_len is_stray) are.amends_is ∙ none_stray 1 (kept all) (omega arith))
+
+-- so what it has is what is walked over
+all_of_requests : (amends_are : List Row) (db : Database) (all : List Request) → AreAllOf all amends_are db
+    → AreAllOf all (of_requests amends_are) db
+all_of_requests amends_are db all are =
+    subst (λ rows. AreAllOf all rows db) (sym (stands_without amends_are db all are)) are
+
+-- where none is left out, all are walked over
+pub none_out : (amends_are : List Row) → length amends_are ≤ length (of_requests amends_are)
+    → of_requests amends_are ≡ amends_are
+none_out amends_are most =
+    let n = prefix_len is_stray amends_are in
+    let within = prefix_len-le-length is_stray amends_are in
+    let long = length-drop n amends_are in
+    let none : n ≡ 0 = omega (arith, within, long, most) in
+    ap (λ m. drop m amends_are) none
+
 -- where one is unsound, the tables have the rows of no requests
 pub none_stand : (amends_are : List Row) (row : ℕ) (db : Database) → IsFirstUnsound amends_are row db
     → (all : List Request) → AreAllOf all amends_are db → ⊥
@@ -201,27 +244,42 @@ early_stands_not amends_are db early all are =
 
 -- ---- why no amounts are found
 
-pub unsound_first : (amends_are : List Row) (row : ℕ) (db : Database) → IsFirstUnsound amends_are row db
+pub unsound_first : (amends_are : List Row) (row : ℕ) (db : Database) → IsFirstUnsound (of_requests amends_are) row db
     → IsUnsound amends_are row db
-unsound_first amends_are row db first = record { none = none_stand amends_are row db first; told = inr (inr first) }
+unsound_first amends_are row db first = record {
+  none = λ all are. none_stand (of_requests amends_are) row db first all (all_of_requests amends_are db all are);
+  told = inr (inr first);
+}
 
 pub unsound_early : (amends_are : List Row) (db : Database) → HasEarly db → IsUnsound amends_are 1 db
 unsound_early amends_are db early =
     record { none = early_stands_not amends_are db early; told = inr (inl (refl, early)) }
 
--- rows are left over behind the last
-pub unsound_left : (amends_are : List Row) (total : ℕ) (left : Left) (db : Database) (F : List Request)
-    → Walked amends_are total total left db F
-    → (left.findings ≡ 0 → left.filings ≡ 0 → left.facts ≡ 0 → left.amends.now ≡ [] → left.number ≡ 0)
-    → IsUnsound amends_are 0 db
-unsound_left amends_are total left db F w over = record {
-  none = λ all are.
-      let end = ends_so amends_are total total left db F w all are refl in
-      let none = over end.0 end.1 end.2 end.3 in
-      let next = w.number_is in
-      omega (arith, none, next);
-  told = inl (
-    refl,
-    record { requests = F; left = left; walked = subst (λ n. Walked amends_are n n left db F) (sym w.many) w },
-  );
-}
+module _ (amends_are : List Row) (total : ℕ) (left : Left) (db : Database) (F : List Request)
+    (w : Walked (of_requests amends_are) total total left db F) where
+  all_passed : AreAllPassed (of_requests amends_are) db
+  all_passed = record {
+    requests = F;
+    left = left;
+    walked = subst (λ n. Walked (of_requests amends_are) n n left db F) (sym w.many) w;
+  }
+
+  -- rows are left over behind the last
+  pub unsound_left : (left.findings ≡ 0 → left.filings ≡ 0 → left.facts ≡ 0 → left.amends.now ≡ [] → left.number ≡ 0)
+      → IsUnsound amends_are 0 db
+  unsound_left over = record {
+    none = λ all are.
+        let end =
+        ends_so (of_requests amends_are) total total left db F w all (all_of_requests amends_are db all are) refl in
+        let none = over end.0 end.1 end.2 end.3 in
+        let next = w.number_is in
+        omega (arith, none, next);
+    told = inl (refl, all_passed);
+  }
+
+  -- rows of `amends` lie before the first place
+  pub unsound_stray : length (of_requests amends_are) < length amends_are → IsUnsound amends_are 0 db
+  unsound_stray fewer = record {
+    none = λ all are. let same = ap length (stands_without amends_are db all are) in omega (arith, fewer, same);
+    told = inl (refl, all_passed);
+  }

@@ -1,8 +1,8 @@
 -- What a walk over a register's tables finds, one kept request after another.
 use Rattle.std.specs.Prelude.{◌≡◌, ◌≤◌, ℕ, ◌+◌, ◌<◌, ◌⊎◌, false, suc, List, [], ◌∷◌, ◌++◌, length, filter, Option}
-use Rattle.std.specs.Prelude.{Some, None}
-use Rattle.std.specs.List.{AllByRecursion}
-use Rattle.sqlite.specs.Order.{Row}
+use Rattle.std.specs.Prelude.{Some, None, Bool, drop, unwrap_or, ◌==◌}
+use Rattle.std.specs.List.{AllByRecursion, prefix_len}
+use Rattle.sqlite.specs.Order.{Row, column}
 use Rattle.sqlite.specs.Effect.{Database}
 use Rattle.table_rows.specs.Picking.{rows_in, Picks, HasLeft, has_number}
 use Rattle.table_rows.specs.Rows.{TableHas, counted_from}
@@ -14,7 +14,7 @@ use Rattle.register_tables.specs.declared.opening.walk.Totals.{Totals}
 use Rattle.register_tables.specs.declared.opening.walk.Left.{Left}
 use Rattle.register_tables.specs.Reads.{has_second, has_texts, HasEarly}
 use Rattle.register_rows.specs.Catalogue.{catalogue_of, view_lines}
-use Rattle.register_rows.specs.Columns.{begins_with, request_in}
+use Rattle.register_rows.specs.Columns.{begins_with, number_in, request_in}
 use Rattle.register_rows.specs.Filed.{AreFiled}
 use Rattle.register_rows.specs.Outcomes.{filings_by}
 use Rattle.register_rows.specs.Register.{IsCompleted, kept_row, finding_rows, filing_rows, fact_rows, amends_rows}
@@ -121,6 +121,14 @@ pub record Amounts (counts : Totals) (amends_are : List Row) (db : Database) : T
 
 -- ---- which kept request is told
 
+-- the row of `amends` is of no request: it says no place from 1 on
+abbrev pub is_stray : Row → Bool
+is_stray row = unwrap_or (number_in (column row 0)) 0 == 0
+
+-- the rows of `amends` that are of a request: those from the first place on, where they come in their order
+abbrev pub of_requests : List Row → List Row
+of_requests amends_are = drop (prefix_len is_stray amends_are) amends_are
+
 -- the first that is not sound: those before it were walked past, and then no request passes
 pub record IsFirstUnsound (amends_are : List Row) (row : ℕ) (db : Database) : Type 0 where
   pub total : ℕ
@@ -137,9 +145,10 @@ pub record AreAllPassed (amends_are : List Row) (db : Database) : Type 0 where
   pub left : Left
   pub walked : Walked amends_are (length requests) (length requests) left db requests
 
--- the tables have the rows of no requests, and this is the row to report: the first that is not sound, or the first if
--- a kept row lies before it, or 0 if each is sound, and rows are left over
+-- The tables have the rows of no requests, and this is the row to report: the first that is not sound, or the first if
+-- a kept row lies before it, or 0 if each is sound, and rows are left over. Of `amends` only the rows that are of a
+-- request are walked over.
 pub record IsUnsound (amends_are : List Row) (row : ℕ) (db : Database) : Type 0 where
   pub none : (requests : List Request) → AreAllOf requests amends_are db → ⊥
-  pub told : ((row ≡ 0) × AreAllPassed amends_are db)
-      ⊎ (((row ≡ 1) × HasEarly db) ⊎ IsFirstUnsound amends_are row db)
+  pub told : ((row ≡ 0) × AreAllPassed (of_requests amends_are) db)
+      ⊎ (((row ≡ 1) × HasEarly db) ⊎ IsFirstUnsound (of_requests amends_are) row db)

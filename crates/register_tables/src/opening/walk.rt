@@ -18,7 +18,7 @@ ghost use Rattle.register_rows.specs.Register.{finding_row, fact_row};
 ghost use Rattle.register_rows.specs.Schema.{common_tables, kept_table, finding_table, filing_table, fact_table};
 ghost use Rattle.register_tables.specs.Reads.{AsksOurs, ReadsOurs, Never, has_second, has_texts};
 ghost use Rattle.register_tables.specs.Walk.{Amounts, IsBehind, IsBeyond, IsFirstUnsound, IsNext, IsPast, IsUnsound};
-ghost use Rattle.register_tables.specs.Walk.{NonePasses, Passes, Walked};
+ghost use Rattle.register_tables.specs.Walk.{NonePasses, Passes, Walked, is_stray, of_requests};
 ghost use Rattle.table_rows.specs.Picking.{has_number, Picks, rows_in};
 
 use crate::fault::OpenFault;
@@ -27,12 +27,15 @@ use crate::select::picks;
 use filing_model::{MAX_KEPT, is_target};
 use register_rows::columns::kept;
 use register_rows::{
-    Catalogue, Filed, RowItem, after_items, bytes_at, filer_of, has_target, is_kept_row, target_of,
-    text_at,
+    Catalogue, Filed, RowItem, after_items, bytes_at, filer_of, has_target, is_kept_row, number_at,
+    target_of, text_at,
 };
 use sqlite::{Alter, Connection, Error, Row};
 use std::alloc::Global;
 use xbrl_report::{Fact, Finding, Judged};
+
+/// The column of `amends` in which a row says the place of its request.
+const PLACE: usize = 0;
 
 /// What is left of the tables beside `kept` behind the requests that were walked past: the rows of `amends`, and of the
 /// other tables the number of rows. And the number of the next filing.
@@ -444,6 +447,21 @@ fn counts_of(kept: u64, left: Left<'_>, catalogue: Catalogue) -> Option<Totals>
     }
 }
 
+/// Whether the row of `amends` says no place from 1 on.
+fn is_before_first(row: &Row) -> bool
+    ensures { result ≡ is_stray row.now }
+{
+    number_at(row, PLACE).unwrap_or(0) == 0
+}
+
+/// The rows of `amends`, which come in the order of their places, from the first place on.
+fn from_first(rows: &[Row]) -> &[Row]
+    ensures { result.now ≡ of_requests rows.now }
+{
+    let strays = rows.iter().take_while(|row| is_before_first(row)).count();
+    &rows[strays..]
+}
+
 /// How much a register holds whose rows stand for requests, if `amends` has these rows; or the first kept request of
 /// which the rows are not its own, or 0 if rows are left over.
 pub(crate) fn count_by_walk<S: Alter, W: Watch>(
@@ -458,7 +476,9 @@ pub(crate) fn count_by_walk<S: Alter, W: Watch>(
     ensures leaves { OnlyReads S.Store conn.old conn.new result }
 {
     try_tables(conn)?;
-    let Some(sizes) = count_tables(conn, amends)? else {
+    // A row before the first place would hide the targets behind it.
+    let targets = from_first(amends);
+    let Some(sizes) = count_tables(conn, targets)? else {
         return Err(OpenFault::Memory);
     };
     if sizes.kept > MAX_KEPT {
@@ -469,6 +489,9 @@ pub(crate) fn count_by_walk<S: Alter, W: Watch>(
         return Err(OpenFault::Damaged { row: 1 });
     }
     let (left, catalogue) = walk(alloc, conn, sizes.kept, sizes.others, watch)?;
+    if targets.len() < amends.len() {
+        return Err(OpenFault::Damaged { row: 0 });
+    }
     let Some(totals) = counts_of(sizes.kept, left, catalogue) else {
         return Err(OpenFault::Damaged { row: 0 });
     };

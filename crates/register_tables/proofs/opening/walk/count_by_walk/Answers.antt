@@ -1,7 +1,8 @@
-use Rattle.std.proofs.Common.{◌≡◌, inr, Ok, Err, IsTrue, [], refl, sym, subst, rules}
+use Rattle.std.proofs.Common.{◌≡◌, ◌<◌, ◌≤◌, length, inr, Ok, Err, IsTrue, [], refl, sym, subst, rules, ◌∙◌}
 use Rattle.register_tables.specs.Walk.{Amounts, IsFirstUnsound, IsUnsound, Walked}
 use Rattle.register_tables.proofs.Ours.{after, asked, concludes, reads_then, refuses_so}
-use Rattle.register_tables.proofs.WalkEnds.{all_walked, unsound_early, unsound_first, unsound_left}
+use Rattle.register_tables.proofs.WalkEnds.{all_walked, none_out, unsound_early, unsound_first, unsound_left}
+use Rattle.register_tables.proofs.WalkEnds.{unsound_stray}
 use Rattle.register_tables.proofs.opening.walk.count_by_walk.Goals as goal
 
 pub returns-then-branch-clause-reads : goal.returns-then-branch-clause-reads
@@ -23,18 +24,50 @@ returns-in_err-left-clause-reads g c =
     let sizes = c.in-Some.sizes in
     let why = c.in_err-left.field-0.0 in
     let first = rw c.in-Some.is at c.in_ok-sizes.ensures.first in
+    let same = first.1 ∙ c.from_first-targets.ensures in
     let told : c.from_residual-in_err-left.result ≡ Err why = search rules in
     rw told (refuses_so g.S.Store (λ counts db. Amounts counts rows db) (λ row db. IsUnsound rows row db) why
     (λ row db h.
     let start = rw c.in-Some.is at h.0 in
     let begins = subst (λ l. Walked l sizes.kept 0 sizes.others db []) (sym first.1) start in
-    unsound_first rows row db (subst (λ l. IsFirstUnsound l row db) first.1 (h.1 begins)))
+    unsound_first rows row db (subst (λ l. IsFirstUnsound l row db) same (h.1 begins)))
     (after g.S.Store c.in_ok-try_tables.field-0 (Err why)
     (asked g.S.Store c.in_ok-try_tables.field-0 c.in_ok-try_tables.ensures)
     (reads_then g.S.Store c.in_ok-sizes.field-0 (Err why)
     (asked g.S.Store c.in_ok-sizes.field-0 c.in_ok-sizes.ensures.reads)
     (after g.S.Store c.in_ok-has_early.field-0 (Err why)
     (asked g.S.Store c.in_ok-has_early.field-0 c.in_ok-has_early.ensures) c.in_err-left.ensures.reads))))
+
+pub returns-then-targets-amends-clause-reads : goal.returns-then-targets-amends-clause-reads
+returns-then-targets-amends-clause-reads g c =
+    let rows = c.args.amends.now in
+    let sizes = c.in-Some.sizes in
+    let left = c.in_ok-left.left in
+    let catalogue = c.in_ok-left.catalogue in
+    let first = rw c.in-Some.is at c.in_ok-sizes.ensures.first in
+    let same = first.1 ∙ c.from_first-targets.ensures in
+    let fewer : length c.from_first-targets.result.now < length rows = search rules in
+    concludes g.S.Store (λ counts db. Amounts counts rows db) (λ row db. IsUnsound rows row db) (left, catalogue)
+    (Err _) (λ is. cc)
+    (λ db h.
+    let start = rw c.in-Some.is at h.0 in
+    let begins = subst (λ l. Walked l sizes.kept 0 sizes.others db []) (sym first.1) start in
+    let walked = h.1 begins in (
+      tt,
+      inr (
+        0,
+        refl,
+        unsound_stray rows sizes.kept left db walked.0
+            (subst (λ l. Walked l sizes.kept sizes.kept left db walked.0) same walked.1)
+            (subst (λ l. length l < length rows) c.from_first-targets.ensures fewer),
+      ),
+    ))
+    (after g.S.Store c.in_ok-try_tables.field-0 (Ok (left, catalogue))
+    (asked g.S.Store c.in_ok-try_tables.field-0 c.in_ok-try_tables.ensures)
+    (reads_then g.S.Store c.in_ok-sizes.field-0 (Ok (left, catalogue))
+    (asked g.S.Store c.in_ok-sizes.field-0 c.in_ok-sizes.ensures.reads)
+    (after g.S.Store c.in_ok-has_early.field-0 (Ok (left, catalogue))
+    (asked g.S.Store c.in_ok-has_early.field-0 c.in_ok-has_early.ensures) c.in_ok-left.ensures.reads)))
 
 pub returns-in_default-counts_of-clause-reads : goal.returns-in_default-counts_of-clause-reads
 returns-in_default-counts_of-clause-reads g c =
@@ -43,6 +76,7 @@ returns-in_default-counts_of-clause-reads g c =
     let left = c.in_ok-left.left in
     let catalogue = c.in_ok-left.catalogue in
     let first = rw c.in-Some.is at c.in_ok-sizes.ensures.first in
+    let same = first.1 ∙ c.from_first-targets.ensures in
     let over = rw c.in_default-counts_of.is at c.counts_of.ensures in
     concludes g.S.Store (λ counts db. Amounts counts rows db) (λ row db. IsUnsound rows row db) (left, catalogue)
     (Err _) (λ is. cc)
@@ -55,7 +89,7 @@ returns-in_default-counts_of-clause-reads g c =
         0,
         refl,
         unsound_left rows sizes.kept left db walked.0
-            (subst (λ l. Walked l sizes.kept sizes.kept left db walked.0) first.1 walked.1) over,
+            (subst (λ l. Walked l sizes.kept sizes.kept left db walked.0) same walked.1) over,
       ),
     ))
     (after g.S.Store c.in_ok-try_tables.field-0 (Ok (left, catalogue))
@@ -73,7 +107,10 @@ returns-clause-reads g c =
     let catalogue = c.in_ok-left.catalogue in
     let totals = c.in-Some-counts_of.totals in
     let first = rw c.in-Some.is at c.in_ok-sizes.ensures.first in
+    let same = first.1 ∙ c.from_first-targets.ensures in
     let says = rw c.in-Some-counts_of.is at c.counts_of.ensures in
+    let most : length rows ≤ length c.from_first-targets.result.now = search rules in
+    let all = none_out rows (subst (λ l. length rows ≤ length l) c.from_first-targets.ensures most) in
     concludes g.S.Store (λ counts db. Amounts counts rows db) (λ row db. IsUnsound rows row db) (left, catalogue)
     (Ok totals) tt
     (λ db h.
@@ -81,8 +118,8 @@ returns-clause-reads g c =
     let begins = subst (λ l. Walked l sizes.kept 0 sizes.others db []) (sym first.1) start in
     let walked = h.1 begins in (
       all_walked rows sizes.kept left db walked.0
-          (subst (λ l. Walked l sizes.kept sizes.kept left db walked.0) first.1 walked.1) catalogue walked.2 totals
-          says,
+          (subst (λ l. Walked l sizes.kept sizes.kept left db walked.0) (same ∙ all) walked.1) catalogue walked.2
+          totals says,
       tt,
     ))
     (after g.S.Store c.in_ok-try_tables.field-0 (Ok (left, catalogue))
