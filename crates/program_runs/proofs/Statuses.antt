@@ -67,6 +67,8 @@ task_fails (task.Put why) = put_fails why
 task_fails (task.NotTold id why) = refl
 task_fails (task.Send id why) = send_fails why
 task_fails (task.Contradicts id state told) = refl
+task_fails (task.NotListed id number) = refl
+task_fails (task.NoList id number status) = refl
 task_fails (task.Line why) = refl
 
 -- if the status is 0, all were put in
@@ -144,6 +146,7 @@ fault_fails (fault.Command why) = command_fails why
 fault_fails (fault.Key why) = key_fails why
 fault_fails fault.ForOne = refl
 fault_fails (fault.Report why) = report_fails why
+fault_fails (fault.NotJson name) = refl
 fault_fails (fault.Outbox name why) = visit_fails why
 fault_fails (fault.NotPut name why) = visit_fails why
 fault_fails (fault.LastPut name id why) = command_fails why
@@ -153,6 +156,8 @@ fault_fails (fault.Patience port seconds) = refl
 fault_fails (fault.Round port sent failed) = refl
 fault_fails (fault.Unfiled refused left) = unfiled_fails refused
 fault_fails (fault.Contradicts port id state told) = refl
+fault_fails (fault.NotListed port id number) = refl
+fault_fails (fault.NoList port id number status) = refl
 fault_fails (fault.Folder name error) = refl
 fault_fails (fault.Receipts lost) = refl
 fault_fails (fault.Random error) = refl
