@@ -45,10 +45,10 @@ except ImportError:
 
 PROGRAMS = ["chromium", "chromedriver", "certutil", "pk12util", "node", "nginx", "openssl"]
 HOST, OTHER = "intake.example", "other.example"
-# The programs, the page, and how many seconds are waited for what should come, on a machine that has much else to do.
-# The filers of the trials begin with `prefix`, and `port` is that of the intake.
-given = argparse.Namespace(intake=INTAKE, outbox=OUTBOX, page=ROOT / "deploy" / "filer", pictures=None, patience=180,
-                           prefix="", port=0)
+# The programs, the page, and how many seconds are waited for what should come, on a machine that has much else to do,
+# or more by BERRUZPIL_PATIENCE. The filers of the trials begin with `prefix`, and `port` is that of the intake.
+given = argparse.Namespace(intake=INTAKE, outbox=OUTBOX, page=ROOT / "deploy" / "filer", pictures=None,
+                           patience=180 * float(os.environ.get("BERRUZPIL_PATIENCE", "1")), prefix="", port=0)
 
 
 class Late(Exception):
