@@ -1431,6 +1431,13 @@ def check_again(folder):
         found = script("outbox-again", *words)
         hold(f"outbox-again: {what}", (found[0], found[1], cause in found[2], found[2].count("\n"), new.exists()),
              (status, "", True, 1, False))  # fmt: skip
+    asked = ("import pathlib, runpy, sys\n"
+             "print(runpy.run_path(sys.argv[1])['filer_of'](pathlib.Path(sys.argv[2])))")  # fmt: skip
+    with open(old, "r+b") as held:
+        fcntl.lockf(held, fcntl.LOCK_EX, 510, 0x40000002)
+        asking = subprocess.Popen([sys.executable, "-c", asked, DEPLOY / "outbox-again", old], stdout=subprocess.PIPE)
+        time.sleep(2)
+    hold("outbox-again waits while a round has the outbox open", asking.communicate()[0], b"ACME\n")
     script("register-restore", folder / "copy.db", folder / "restored.db")
     serving = Serving(folder / "restored.db", 1 << 31)
     # Another filer gets the number 2 meanwhile.
