@@ -26,8 +26,6 @@ import trials
 
 SECTIONS = ["NAME", "SYNOPSIS", "DESCRIPTION", "COMMANDS", "OPTIONS", "EXIT STATUS", "EXAMPLES", "SEE ALSO"]
 PORT = 8080
-# How long a server may take until it serves: one that was built without proof takes its time.
-PATIENCE = 120
 
 
 # ---- the page
@@ -93,7 +91,7 @@ class Scratch:
 
     def run(self, example):
         return subprocess.run(["bash", "-c", example], cwd=self.folder, env=self.env, capture_output=True, text=True,
-                              stdin=subprocess.DEVNULL, timeout=PATIENCE)  # fmt: skip
+                              stdin=subprocess.DEVNULL, timeout=trials.PATIENCE)  # fmt: skip
 
     def serve(self, example):
         """Starts an example that serves, and waits until it does. What it said, if it does not."""
@@ -102,10 +100,10 @@ class Scratch:
         with open(said, "wb") as errors:
             self.server = subprocess.Popen(["bash", "-c", example], cwd=self.folder, env=self.env, stderr=errors,
                                            stdin=subprocess.DEVNULL, start_new_session=True)  # fmt: skip
-        until = time.monotonic() + PATIENCE
+        until = time.monotonic() + trials.PATIENCE
         while b": serving " not in said.read_bytes():
             if self.server.poll() is not None or time.monotonic() > until:
-                return said.read_text() or f"nothing is said in {PATIENCE} s"
+                return said.read_text() or f"nothing is said in {trials.PATIENCE} s"
             time.sleep(0.05)
         return None
 

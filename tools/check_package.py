@@ -553,7 +553,11 @@ def on_machines(package, parts, word):
                     seen = sees(base, package, fault)
                     tell(f"{fault.line}: seen by: {seen}", None if seen else "no check fails")
     except machines.NotPossible as fault:
-        print(f"not tried: {fault}")
+        # Where one machine has booted, each has to.
+        if first_days.passed:
+            tell("a machine", str(fault))
+        else:
+            print(f"not tried: {fault}")
 
 
 def words_of(words):
