@@ -54,7 +54,7 @@ WIDTH = 120
 ANY_WIDTH = re.compile(r"\.(?:md|json|yaml|edit)$|^crates\.txt$|^tools/questions\.txt$|^conformance/cases/"
                        r"|^crates/\w+/(?:stdin|stdout|args)$")
 HANDFUL = 5
-WORDS = 43_000
+WORDS = 44_000
 CELL = 35
 FIRST = 300
 # Between these two lines docs/PROOF.md has how many wrong bodies there are.
