@@ -31,7 +31,10 @@ pub(crate) fn connect<D: Disk + Drop>(
 {
     match Connection::open_files(alloc, files, Options::new(1)) {
         Ok(conn) => Ok(Some(conn)),
-        Err((error, _)) => unanswered(error),
+        Err((error, _)) => {
+            unless_memory(error)?;
+            Ok(None)
+        }
     }
 }
 
@@ -44,15 +47,18 @@ pub(crate) fn close<D: Disk + Drop>(
 {
     match conn.close_files() {
         Ok(files) => Ok(Some(files)),
-        Err((error, _)) => unanswered(error),
+        Err((error, _)) => {
+            unless_memory(error)?;
+            Ok(None)
+        }
     }
 }
 
-/// Nothing, unless memory was refused.
-fn unanswered<T>(error: sqlite::Error) -> Result<Option<T>, AllocError> {
+/// Refuses an error that came since memory was refused.
+fn unless_memory(error: sqlite::Error) -> Result<(), AllocError> {
     match Cause::from(error) {
         Cause::Memory => Err(AllocError),
-        Cause::Disk | Cause::Other => Ok(None),
+        Cause::Disk | Cause::Other => Ok(()),
     }
 }
 
