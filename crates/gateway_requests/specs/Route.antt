@@ -4,7 +4,7 @@ use Rattle.key_string.specs.declared.fault.KeyFault.{KeyFault}
 use Rattle.key_string.specs.declared.fault.KeyFault.TheVariants.{NotString, Empty, TooLong, NotPrintable}
 use Rattle.key_string.specs.Filer.{is_filer}
 use Rattle.key_string.specs.Key.{key_of_field}
-use Rattle.http_wire.specs.declared.inbox.Message.{Message as Lent}
+use Rattle.http_connection.specs.declared.event.Request.{Request as Lent}
 use Rattle.http_messages.specs.Request.{Request as Message}
 use Rattle.http_messages.specs.Posting.{IsTarget}
 use Rattle.filing_model.specs.Reply.{word_reply}

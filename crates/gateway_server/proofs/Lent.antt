@@ -1,7 +1,7 @@
 -- The message that is lent.
 use Rattle.std.proofs.Common.{◌≡◌, ℕ, ◌≤◌, List, length, Some, sym, ◌∙◌, arith}
 use Rattle.std.proofs.lemmas.Grind.{common_steps}
-use Rattle.http_wire.proofs.NextArrivalLemmas.{body_length-bound}
+use Rattle.http_connection.proofs.Heads.{body_length-bound}
 use Rattle.http_wire.specs.declared.inbox.Inbox.{Inbox}
 use Rattle.http_messages.specs.Head.{body_length, max_body_len}
 use Rattle.http_wire.specs.Inbox.{lent_request, LendsFirst}

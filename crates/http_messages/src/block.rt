@@ -1,5 +1,5 @@
 //! Where the head of a message ends (RFC 9112, sections 2.1 and 2.2).
-ghost use Rattle.std.specs.Prelude.{◌≡◌, ◌≤◌, length, MatchOption};
+ghost use Rattle.std.specs.Prelude.{◌≡◌, ◌≤◌, ◌++◌, ℕ, List, length, MatchOption};
 ghost use Rattle.http_messages.specs.Block.{max_block_len, skipped_len, from_block, HasNoEndUpTo, BeginsBlock, IsBlock};
 ghost use Rattle.http_messages.specs.Feeds.{HasNoFeedFrom, IsNextFeed};
 
@@ -43,6 +43,20 @@ pub fn find_block_from(bytes: &[u8], searched: usize) -> Block
         Some(len) => Block::End(skipped + len),
         None if text.len() < MAX_BLOCK_LEN => Block::More,
         None => Block::TooLong,
+    }
+}
+
+/// How many bytes of the block are known to hold no end, if the bytes hold none: all that are there, once there are
+/// four. A search by `find_block_from` goes on behind them.
+pub fn searched_len(bytes: &[u8]) -> usize
+    requires { IsBlock bytes.now Block.More }
+    ensures unended { (more : List ℕ) → HasNoEndUpTo (from_block (bytes.now ++ more)) result }
+    ensures all { 4 ≤ length bytes.now → result ≡ length (from_block bytes.now) }
+{
+    if bytes.len() < 4 {
+        0
+    } else {
+        bytes.len() - skipped_len(bytes)
     }
 }
 

@@ -19,7 +19,7 @@ mod response;
 mod split;
 mod target;
 
-pub use block::{Block, find_block, find_block_from, skipped_len};
+pub use block::{Block, find_block, find_block_from, searched_len, skipped_len};
 pub use coding::has_content_coding;
 pub use fields::FieldsNamed;
 pub use head::{

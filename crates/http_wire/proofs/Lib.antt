@@ -1,6 +1,5 @@
-pub mod BufferLemmas
 pub mod InboxLemmas
-pub mod NextArrivalLemmas
+pub mod ReadingLemmas
 pub mod ReceivedLemmas
 pub mod ReplyAgain
 pub mod ReplyLemmas

@@ -1,16 +1,14 @@
 -- What several reads come to.
 use Rattle.std.proofs.Common.{◌≡◌, ℕ, ◌+◌, ◌<◌, ◌≤◌, Bool, true, false, List, [], ◌++◌, length, drop, Option, Result}
-use Rattle.std.proofs.Common.{Ok, Err, is_ok, refl, sym, ap, ◌∙◌, subst, append-nil, le_of_eq, arith}
+use Rattle.std.proofs.Common.{Ok, Err, is_ok, refl, sym, ap, ◌∙◌, subst, append-nil, arith}
 use Rattle.std.proofs.KnownBytes.{Consumes-nil, Consumes-trans, Consumes-kept}
 use Rattle.std.proofs.lemmas.Bool.{false≢true}
 use Rattle.std.proofs.lemmas.Grind.{common_steps}
-use Rattle.std.proofs.lemmas.List.{drop_all}
 use Rattle.std.specs.Io.KnownBytes.{Consumes, Keeps}
-use Rattle.http_wire.specs.declared.received.Received.{Received}
 use Rattle.http_messages.specs.declared.refusal.ConnFault.{ConnFault}
 use Rattle.http_messages.specs.declared.refusal.ConnFault.TheVariants.{Read, Write, ReadLimit, Memory}
 use Rattle.http_wire.specs.Fill.{IsFillFault}
-use Rattle.http_wire.specs.Received.{held_bytes, read_count, Receives, ReceivesNothing, IsReadFault}
+use Rattle.http_wire.specs.Received.{Held, Receives, ReceivesNothing, IsReadFault}
 use Rattle.http_messages.specs.Reads.{max_reads}
 
 -- what was added in two steps
@@ -27,24 +25,24 @@ drop-once x y z first second =
     grind (arith, common_steps, first, second, twice)
 
 -- two reads are one
-pub Receives-join : (a b c : Option (List ℕ)) (x y z : Received) → Receives a b x y → Receives b c y z
+pub Receives-join : (a b c : Option (List ℕ)) (x y z : Held) → Receives a b x y → Receives b c y z
     → Receives a c x z
 Receives-join a b c x y z first second = record {
-  bytes = drop-once (held_bytes x) (held_bytes y) (held_bytes z) first.bytes second.bytes;
-  given = subst (Consumes a c) (sym (drop-twice (held_bytes x) (held_bytes y) (held_bytes z) first.bytes second.bytes))
+  bytes = drop-once x.bytes y.bytes z.bytes first.bytes second.bytes;
+  given = subst (Consumes a c) (sym (drop-twice x.bytes y.bytes z.bytes first.bytes second.bytes))
       (Consumes-trans a b c _ _ first.given second.given);
   reads = omega (arith, first.reads, second.reads);
   each =
-      let both = ap length (drop-twice (held_bytes x) (held_bytes y) (held_bytes z) first.bytes second.bytes) in
+      let both = ap length (drop-twice x.bytes y.bytes z.bytes first.bytes second.bytes) in
       grind (arith, common_steps, first.each, second.each, both);
   idle = λ same. second.idle (omega (arith, first.reads, second.reads))
       ∙ first.idle (omega (arith, first.reads, second.reads));
 }
 
 -- a read of nothing
-pub Receives-nil : (a : Option (List ℕ)) (x : Received) → Receives a a x x
+pub Receives-nil : (a : Option (List ℕ)) (x : Held) → Receives a a x x
 Receives-nil a x =
-    let none : drop (length (held_bytes x)) (held_bytes x) ≡ [] = grind (arith, common_steps) in
+    let none : drop (length x.bytes) x.bytes ≡ [] = grind (arith, common_steps) in
     record {
       bytes = grind (arith, common_steps);
       given = subst (Consumes a a) (sym none) (Consumes-nil a);
@@ -54,7 +52,7 @@ Receives-nil a x =
     }
 
 -- two times nothing
-pub ReceivesNothing-join : {R : Type 0} (a b c : R) (x y z : Received) → ReceivesNothing a b x y
+pub ReceivesNothing-join : {R : Type 0} (a b c : R) (x y z : Held) → ReceivesNothing a b x y
     → ReceivesNothing b c y z → ReceivesNothing a c x z
 ReceivesNothing-join a b c x y z first second = record {
   reader = second.reader ∙ first.reader;
@@ -62,38 +60,29 @@ ReceivesNothing-join a b c x y z first second = record {
   reads = second.reads ∙ first.reads;
 }
 
--- a read of so many bytes, which is counted only if there are some
-pub Receives-count : (a b : Option (List ℕ)) (x y : Received) (count : ℕ)
-    → held_bytes y ≡ held_bytes x ++ drop (length (held_bytes x)) (held_bytes y)
-    → Consumes a b (drop (length (held_bytes x)) (held_bytes y)) → length (held_bytes y) ≡ length (held_bytes x) + count
-    → read_count x ≤ read_count y → read_count y ≤ read_count x + count → (read_count y ≡ read_count x → count ≡ 0)
-    → Receives a b x y
-Receives-count a b x y count kept given more low high none = record {
-  bytes = kept;
-  given = given;
-  reads = low;
-  each = let size : length (drop (length (held_bytes x)) (held_bytes y)) ≡ count = grind (arith, common_steps, more) in
-      omega (arith, high, size);
-  idle = λ same. let size : length (held_bytes y) ≡ length (held_bytes x) = omega (arith, more, none same) in
-      grind (arith, common_steps, kept, size);
-}
-
--- a read that failed
-pub Receives-kept : (a b : Option (List ℕ)) (x y : Received) → held_bytes y ≡ held_bytes x → read_count y ≡ read_count x
-    → Keeps a b → Receives a b x y
-Receives-kept a b x y same count keeps =
-    let none : drop (length (held_bytes x)) (held_bytes y) ≡ [] = drop_all _ _ (le_of_eq (ap length same)) in
+-- a read of these bytes, which is counted only if there are some
+pub Receives-got : (a b : Option (List ℕ)) (x y : Held) (got : List ℕ) → y.bytes ≡ x.bytes ++ got → Consumes a b got
+    → x.reads ≤ y.reads → y.reads ≤ x.reads + length got → (y.reads ≡ x.reads → got ≡ []) → Receives a b x y
+Receives-got a b x y got grown given low high none =
+    let same : drop (length x.bytes) y.bytes ≡ got = rw grown (grind (arith, common_steps)) in
     record {
-      bytes = same ∙ sym (append-nil (held_bytes x)) ∙ ap (λ l. held_bytes x ++ l) (sym none);
-      given = subst (Consumes a b) (sym none) (Consumes-kept a a b [] (Consumes-nil a) keeps);
-      reads = omega (arith, count);
-      each = omega (arith, count);
-      idle = λ _. same;
+      bytes = grown ∙ ap (λ l. x.bytes ++ l) (sym same);
+      given = subst (Consumes a b) (sym same) given;
+      reads = low;
+      each = let size = ap length same in omega (arith, high, size);
+      idle = λ count. grown ∙ ap (λ l. x.bytes ++ l) (none count) ∙ append-nil x.bytes;
     }
 
+-- a read that failed
+pub Receives-kept : (a b : Option (List ℕ)) (x y : Held) → y.bytes ≡ x.bytes → y.reads ≡ x.reads → Keeps a b
+    → Receives a b x y
+Receives-kept a b x y same count keeps =
+    Receives-got a b x y [] (same ∙ sym (append-nil x.bytes)) (Consumes-kept a a b [] (Consumes-nil a) keeps)
+    (omega (arith, count)) (omega (arith, count)) (λ _. refl)
+
 -- why a read failed, where one more may give bytes
-pub IsReadFault-fill : (a b : ℕ) (r : Received) (fault : ConnFault) → read_count r < max_reads → IsFillFault a b fault
-    → IsReadFault a b r fault
+pub IsReadFault-fill : (a b reads : ℕ) (fault : ConnFault) → reads < max_reads → IsFillFault a b fault
+    → IsReadFault a b reads fault
 IsReadFault-fill a b r Read low f = f
 IsReadFault-fill a b r (Write sent) low f = f
 IsReadFault-fill a b r ReadLimit low f = absurd f

@@ -6,7 +6,7 @@ use Rattle.std.specs.Prelude.{slice_range}
 use Rattle.std.proofs.lemmas.Grind.{common_steps}
 use Rattle.std.proofs.lemmas.List.{append-nil, take-append-drop}
 use Rattle.http_wire.specs.declared.received.Received.{Received}
-use Rattle.http_wire.specs.Received.{held_bytes, read_count, Receives, IsReadFault}
+use Rattle.http_wire.specs.Received.{held_bytes, read_count, received, Receives, IsReadFault}
 use Rattle.http_messages.specs.declared.refusal.ConnFault.{ConnFault}
 use Rattle.http_messages.specs.declared.refusal.ConnFault.TheVariants.{Read, Write, ReadLimit, Memory}
 use Rattle.http_messages.specs.declared.response.ResponseHead.{ResponseHead}
@@ -20,7 +20,8 @@ use Rattle.http_messages.proofs.BlockLemmas.{EndsAt-within}
 use Rattle.http_messages.proofs.MoreBytes.{IsBlockEnd-within}
 
 -- reads take nothing
-pub Takes-receives : (a b : Option (List ℕ)) (x y : Received) → Receives a b x y → Takes a b x y []
+pub Takes-receives : (a b : Option (List ℕ)) (x y : Received) → Receives a b (received x) (received y)
+    → Takes a b x y []
 Takes-receives a b x y r =
     record { read = drop (length (held_bytes x)) (held_bytes y); given = r.given; bytes = sym r.bytes; count = r.each }
 
@@ -62,7 +63,7 @@ head-split bytes rest parts n h same =
 
 -- a head is taken that was found at the front
 pub TakesHead-found : (a b : Option (List ℕ)) (old mid new : Received) (head : ResponseHead) (n : ℕ)
-    → Receives a b old mid → IsBlockEnd (held_bytes mid) n
+    → Receives a b (received old) (received mid) → IsBlockEnd (held_bytes mid) n
     → IsResponseBlock (slice_range (held_bytes mid) (skipped_len (held_bytes mid)) n) head
     → held_bytes new ≡ drop n (held_bytes mid) → read_count new ≡ read_count mid → TakesHead a b old new head
 TakesHead-found a b old mid new head n reads end is bytes count = record {
@@ -98,7 +99,7 @@ turn-short part items held rest after n len least made same cut other short =
 
 -- and a read follows
 Takes-more : (a b c : Option (List ℕ)) (old mid new : Received) (part : List ℕ) → Takes a b old mid part
-    → Receives b c mid new → Takes a c old new part
+    → Receives b c (received mid) (received new) → Takes a c old new part
 Takes-more a b c old mid new part before reads =
     subst (Takes a c old new) (append-nil part) (Takes-join a b c old mid new part [] before
     (Takes-receives b c mid new reads))
@@ -112,7 +113,8 @@ pub record Turn (a b : Option (List ℕ)) (old mid new : Received) (items : List
 pub Turn-of : (a b c : Option (List ℕ)) (old first mid new : Received) (part items held : List ℕ) (n len : ℕ)
     → Takes a b old first part → length part ≤ len → held ≡ held_bytes first
     → n ≡ min (length held) (len - length part) → items ≡ part ++ take n held → length items ≢ len
-    → held_bytes mid ≡ drop n (held_bytes first) → read_count mid ≡ read_count first → Receives b c mid new
+    → held_bytes mid ≡ drop n (held_bytes first) → read_count mid ≡ read_count first
+    → Receives b c (received mid) (received new)
     → Turn a c old mid new items len
 Turn-of a b c old first mid new part items held n len before within same least made other bytes count reads =
     let short =
@@ -127,7 +129,7 @@ Turn-of a b c old first mid new part items held n len before within same least m
 -- which may fail
 pub content_failure : (a b : Option (List ℕ)) (p q r s : ℕ) (old new : Received) (part : List ℕ) (len : ℕ)
     (fault : ConnFault) → Takes a b old new part → held_bytes new ≡ [] → length part < len → r ≡ p
-    → IsReadFault r s new fault → q ≡ s → IsContentFailure a b p q old new len (fault_of_read fault)
+    → IsReadFault r s (read_count new) fault → q ≡ s → IsContentFailure a b p q old new len (fault_of_read fault)
 content_failure a b p q r s old new part len Read takes empty short same f last = subst₂ HasFailed same (sym last) f
 content_failure a b p q r s old new part len (Write sent) takes empty short same f last = absurd f
 content_failure a b p q r s old new part len ReadLimit takes empty short same f last =
@@ -138,7 +140,7 @@ content_failure a b p q r s old new part len Memory takes empty short same f las
 
 -- a read that failed
 pub head_failure-read : (a b : Option (List ℕ)) (p q : ℕ) (old new : Received) (fault : ConnFault)
-    → Receives a b old new → IsUnended (held_bytes new) → IsReadFault p q new fault
+    → Receives a b (received old) (received new) → IsUnended (held_bytes new) → IsReadFault p q (read_count new) fault
     → IsHeadFailure a b p q old new (fault_of_read fault)
 head_failure-read a b p q old new Read reads unended f = f
 head_failure-read a b p q old new (Write sent) reads unended f = absurd f
@@ -146,7 +148,7 @@ head_failure-read a b p q old new ReadLimit reads unended f = (f.0, Takes-receiv
 head_failure-read a b p q old new Memory reads unended f = f
 
 -- a head that is taken after reads that gave nothing leaves less
-pub head-shorter : (a b : Option (List ℕ)) (old mid new : Received) (n : ℕ) → Receives a b old mid
+pub head-shorter : (a b : Option (List ℕ)) (old mid new : Received) (n : ℕ) → Receives a b (received old) (received mid)
     → IsBlockEnd (held_bytes mid) n
     → held_bytes new ≡ drop n (held_bytes mid) → read_count new ≡ read_count mid → read_count new ≡ read_count old
     → length (held_bytes new) < length (held_bytes old)

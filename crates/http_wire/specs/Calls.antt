@@ -8,6 +8,8 @@ use Rattle.http_messages.specs.Block.{HoldsBlock}
 use Rattle.http_messages.specs.Message.{BeginsRequest, IsRefused, Asks, IsInterimFor, interim}
 use Rattle.http_messages.specs.Reads.{max_reads}
 use Rattle.http_messages.specs.Request.{Request}
+use Rattle.http_wire.specs.declared.device.Sink.{Ghosts as Writes}
+use Rattle.http_wire.specs.Device.{HasFailed}
 use Rattle.http_wire.specs.Wire.{Wire, ReaderFailed, WriterFailed, NoneFailed}
 
 -- the bytes begin with a request or a refusal
@@ -40,3 +42,12 @@ IsFault before after reads held Read = ReaderFailed before after × ¬ (HoldsArr
 IsFault before after reads held (Write sent) = WriterFailed before after
 IsFault before after reads held ReadLimit = NoneFailed before after × (reads ≡ max_reads) × ¬ (HoldsArrival held)
 IsFault before after reads held Memory = NoneFailed before after × (reads ≡ max_reads → HoldsBlock held)
+
+-- a write failed after a part of the interim response that was asked for
+abbrev pub IsSendFault : {W : Type 0} → Writes W → W → W → Bool → ConnFault → Type 0
+IsSendFault w before after asked Read = ⊥
+IsSendFault w before after asked (Write sent) =
+    (asked ≡ true) × HasFailed (w.write_failures before) (w.write_failures after) × (sent ≤ length interim)
+    × Appends (w.written before) (w.written after) (take sent interim)
+IsSendFault w before after asked ReadLimit = ⊥
+IsSendFault w before after asked Memory = ⊥

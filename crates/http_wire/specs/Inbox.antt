@@ -1,35 +1,31 @@
 -- What contracts see of an inbox, and what its calls do.
 use Rattle.std.specs.Prelude.{◌≡◌, ◌⊎◌, ℕ, ◌+◌, ◌≤◌, Bool, true, false, List, [], ◌++◌, length, drop, Option, Some}
-use Rattle.std.specs.Prelude.{None, option_map, not, ◌||◌}
-use Rattle.std.specs.Option.{option_map_or}
+use Rattle.std.specs.Prelude.{None, ◌||◌}
 use Rattle.std.specs.Io.KnownBytes.{Consumes, Appends, IsAtEnd}
+use Rattle.http_connection.specs.Connection as machine
 use Rattle.http_wire.specs.declared.inbox.Inbox.{Inbox}
-use Rattle.http_wire.specs.declared.inbox.Phase.{Phase}
-use Rattle.http_wire.specs.declared.inbox.Phase.TheVariants.{Open, Closed, Failed}
 use Rattle.http_wire.specs.declared.inbox.Next.{Next}
 use Rattle.http_wire.specs.declared.inbox.Next.TheVariants.{Message, Refuse, End}
 use Rattle.http_wire.specs.Calls.{interim_if, WritesAsked}
 use Rattle.http_messages.specs.Head.{closes}
-use Rattle.http_messages.specs.Message.{BeginsRequest, IsRefused, IsRest, awaits}
-use Rattle.http_wire.specs.Parsed.{parsed_end, parsed_request}
-use Rattle.http_wire.specs.Received.{held_bytes, held_memory, read_count}
+use Rattle.http_messages.specs.Message.{BeginsRequest, IsRefused, IsRest}
 use Rattle.http_messages.specs.Request.{Request}
 
 -- how many reads are counted, each of which gave a byte at least
 abbrev pub reads : Inbox → ℕ
-reads i = read_count i.received
+reads i = i.reading.reads
 
 -- the bytes that were read and not yet dropped
 abbrev pub held : Inbox → List ℕ
-held i = held_bytes i.received
+held i = machine.held i.reading.connection
 
 -- for how many of them it has taken memory
 abbrev pub memory : Inbox → ℕ
-memory i = held_memory i.received
+memory i = machine.memory i.reading.connection
 
 -- how many of them belong to the request that is lent
 abbrev pub lent_len : Inbox → ℕ
-lent_len i = option_map_or parsed_end i.lent 0
+lent_len i = machine.lent_len i.reading.connection
 
 -- the bytes after it
 abbrev pub unread : Inbox → List ℕ
@@ -37,27 +33,15 @@ unread i = drop (lent_len i) (held i)
 
 -- the request that is lent
 abbrev pub lent_request : Inbox → Option Request
-lent_request i = option_map (parsed_request (held i)) i.lent
-
--- requests may come
-abbrev pub is_open : Phase → Bool
-is_open Open = true
-is_open Closed = false
-is_open Failed = false
-
--- a call failed
-abbrev pub has_failed : Phase → Bool
-has_failed Open = false
-has_failed Closed = false
-has_failed Failed = true
+lent_request i = machine.lent i.reading.connection
 
 -- nothing arrives any more
 abbrev pub is_over : Inbox → Bool
-is_over i = not (is_open i.phase) || option_map_or (λ p. p.framing.closes) i.lent false
+is_over i = machine.is_over i.reading.connection || machine.lent_closes i.reading.connection
 
 -- a call failed before
 abbrev pub is_failed : Inbox → Bool
-is_failed i = has_failed i.phase
+is_failed i = i.has_failed
 
 -- nothing was read, and there is memory for a first read
 pub record IsNew (i : Inbox) : Type 0 where
@@ -105,7 +89,7 @@ IsNext after old new End = (is_over new ≡ true) × ((is_over old ≡ true) ⊎
 
 -- the head of the request that is lent asks for an interim response
 abbrev pub lent_awaits : Inbox → Bool
-lent_awaits i = option_map_or (λ request. awaits request.head) (lent_request i) false
+lent_awaits i = machine.lent_awaits i.reading.connection
 
 -- what was written: the interim response that what `next` answered asks for, and nothing else
 abbrev pub WritesInterim : Option (List ℕ) → Option (List ℕ) → Inbox → Inbox → Next → Type 0

@@ -1,4 +1,3 @@
-pub mod Buffer
 pub mod Calls
 pub mod Conn
 pub mod Device
@@ -6,8 +5,7 @@ pub mod Devices
 pub mod Fill
 pub mod Inbox
 pub mod Memory
-pub mod NextArrival
-pub mod Parsed
+pub mod Reading
 pub mod ReadingOn
 pub mod Received
 pub mod ReplyFaults

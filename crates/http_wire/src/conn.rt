@@ -6,8 +6,9 @@ ghost use Rattle.http_messages.specs.Replies.{reply_parts};
 ghost use Rattle.http_messages.specs.Reply.{phrase};
 
 use crate::device::{Sink, Source};
-use crate::inbox::{Inbox, Message, Next};
+use crate::inbox::{Inbox, Next};
 use crate::write::write_reply;
+use http_connection::Request;
 use http_messages::{ConnFault, Reply};
 use std::alloc::{AllocError, Global};
 
@@ -43,7 +44,7 @@ impl<R: Source + Drop, W: Sink + Drop> Conn<R, W> {
     }
 
     /// The request that `next` found last, if it answered `Message`.
-    pub fn message(&self) -> Message<'_>
+    pub fn message(&self) -> Request<'_>
         requires { IsSome (lent_request (conn_inbox self.now)) }
         ensures { lent_request (conn_inbox self.now) ≡ Some (record { head = result.head; body = result.body.now }) }
     {

@@ -1,34 +1,23 @@
-//! The requests of a connection, which are read one after another into one buffer.
-ghost use Rattle.std.specs.Prelude.{◌≡◌, ◌||◌, Some, None, IsSome, IfOk};
-ghost use Rattle.std.specs.Option.{ForSome};
-ghost use Rattle.http_wire.specs.Parsed.{IsParsed};
-ghost use Rattle.http_wire.specs.Received.{held_bytes};
+//! The requests of a connection, which are read one after another.
+ghost use Rattle.std.specs.Prelude.{◌≡◌, ◌||◌, Some, IsSome, IfOk, is_some, true, false};
+ghost use Rattle.http_connection.specs.Connection.{has_head, has_ended, is_over as is_closed, lent};
 
-use crate::arrival::{NextArrival, Parsed, find_arrival};
 use crate::device::{Sink, Source};
-use crate::received::Received;
-use http_messages::{ConnFault, Head, HeldSpans, Refusal};
+use crate::reading::Reading;
+use http_connection::Request;
+use http_messages::{ConnFault, Refusal};
 use std::alloc::{AllocError, Global};
 
-/// How far a connection has come.
-#[derive(Clone, Copy, PartialEq, Eq)]
-enum Phase {
-    /// Requests may come.
-    Open,
-    /// No request comes any more.
-    Closed,
-    /// A call failed.
-    Failed,
-}
-
-/// The bytes of a connection that were read and not yet answered, and the request that stands first in them. Each call
-/// is given the reader and the writer, which stay the same over the whole connection.
+/// A connection that is read, up to the request that stands first in what was read and not yet answered. Each call is
+/// given the reader and the writer, which stay the same over the whole connection.
 #[derive(Drop)]
 pub struct Inbox {
-    received: Received,
-    lent: Option<Parsed>,
-    phase: Phase,
-    ghost parsed: { ForSome lent (IsParsed (held_bytes received)) },
+    reading: Reading,
+    has_failed: bool,
+    ghost settled: { is_closed reading.connection ≡ false → has_head reading.connection ≡ true
+        → is_some (lent reading.connection) ≡ true },
+    ghost goes_on: { is_closed reading.connection ≡ false → has_ended reading.connection ≡ false },
+    ghost shut: { has_failed ≡ true → is_closed reading.connection ≡ true },
 }
 
 /// What stands next on a connection.
@@ -42,13 +31,6 @@ pub enum Next {
     End,
 }
 
-/// A request in the bytes of an inbox, which can't go on as long as this is held.
-#[derive(Drop)]
-pub struct Message<'a> {
-    pub head: Head<'a>,
-    pub body: &'a [u8],
-}
-
 impl Inbox {
     ghost use Rattle.http_wire.specs.Inbox.{held, unread, lent_request, is_over, is_failed, reads, IsNew, KeepsBytes};
     ghost use Rattle.http_wire.specs.ReadingOn.{FindsNext};
@@ -59,9 +41,8 @@ impl Inbox {
         ensures { IfOk result IsNew }
     {
         Ok(Inbox {
-            received: Received::new(alloc)?,
-            lent: None,
-            phase: Phase::Open,
+            reading: Reading::new(alloc)?,
+            has_failed: false,
         })
     }
 
@@ -76,59 +57,45 @@ impl Inbox {
         ensures { FindsNext R.Source W.Sink reader.old reader.new writer.old writer.new self.old self.new result }
     {
         self.drop_message();
-        if self.phase != Phase::Open {
+        if self.reading.connection.is_over() {
             return Ok(Next::End);
         }
-        match find_arrival(&mut self.received, reader, writer) {
-            Ok(NextArrival::Request(parsed)) => {
-                self.lent = Some(parsed);
-                Ok(Next::Message)
-            }
-            Ok(NextArrival::Refused(refusal)) => {
-                self.phase = Phase::Closed;
+        match self.reading.next_arrival(reader, writer) {
+            Ok(Next::Message) => Ok(Next::Message),
+            Ok(Next::Refuse(refusal)) => {
+                self.reading.connection.close();
                 Ok(Next::Refuse(refusal))
             }
-            Ok(NextArrival::Rest) => {
-                self.phase = Phase::Closed;
+            Ok(Next::End) => {
+                self.reading.connection.close();
                 Ok(Next::End)
             }
             Err(fault) => {
-                self.phase = Phase::Failed;
+                self.reading.connection.close();
+                self.has_failed = true;
                 Err(fault)
             }
         }
     }
 
     /// The request that `next` found last, if it answered `Message`.
-    pub fn message(&self) -> Message<'_>
+    pub fn message(&self) -> Request<'_>
         requires { IsSome (lent_request self.now) }
         ensures { lent_request self.now ≡ Some (record { head = result.head; body = result.body.now }) }
     {
-        let Some(parsed) = &self.lent else {
-            unreachable!()
-        };
-        let bytes = self.received.bytes();
-        let body_end = parsed.end + parsed.framing.body_len;
-        Message {
-            head: Head::at(
-                &bytes[parsed.start..parsed.end],
-                HeldSpans::Lent(&parsed.spans),
-                parsed.framing,
-            ),
-            body: &bytes[parsed.end..body_end],
-        }
+        self.reading.connection.request()
     }
 
     /// Whether a call failed.
     pub(crate) fn has_failed(&self) -> bool
         ensures { result ≡ is_failed self.now }
     {
-        self.phase == Phase::Failed
+        self.has_failed
     }
 
     /// The allocator of the bytes.
     pub(crate) fn alloc(&self) -> Global {
-        self.received.alloc()
+        self.reading.connection.alloc()
     }
 
     /// Takes note of a reply: no request follows one that closes, or that failed.
@@ -137,28 +104,22 @@ impl Inbox {
         ensures over { is_over self.new ≡ ((closes || fails) || is_over self.old) }
         ensures failed { is_failed self.new ≡ (is_failed self.old || fails) }
     {
-        self.phase = match self.phase {
-            _ if fails => Phase::Failed,
-            Phase::Open if closes => Phase::Closed,
-            phase => phase,
-        };
+        if closes || fails {
+            self.reading.connection.close();
+        }
+        self.has_failed |= fails;
     }
 
     /// Drops the request that was lent.
     fn drop_message(&mut self)
         ensures held { held self.new ≡ unread self.old }
         ensures count { reads self.new ≡ reads self.old }
-        ensures none { self.new.lent ≡ None }
-        ensures over { is_over self.new ≡ is_over self.old }
+        ensures none { is_closed self.new.reading.connection ≡ false → has_head self.new.reading.connection ≡ false }
+        ensures over { is_closed self.new.reading.connection ≡ is_over self.old }
         ensures failed { is_failed self.new ≡ is_failed self.old }
     {
-        let Some(parsed) = self.lent.take() else {
-            return;
-        };
-        self.received
-            .drop_front(parsed.end + parsed.framing.body_len);
-        if parsed.framing.closes && self.phase == Phase::Open {
-            self.phase = Phase::Closed;
+        if self.reading.connection.lends() {
+            self.reading.connection.finish();
         }
     }
 }

@@ -5,7 +5,9 @@ ghost use Rattle.http_messages.specs.Head.{IsHeadFault};
 ghost use Rattle.ready_connections.specs.NextPiece.{BeginsRequestOf, IsProgress, IsNextPiece};
 
 use crate::progress::Progress;
-use http_messages::{Block, Framing, HeadFault, find_block_from, read_parts, skipped_len};
+use http_messages::{
+    Block, Framing, HeadFault, find_block_from, read_parts, searched_len, skipped_len,
+};
 use std::alloc::{AllocError, Global};
 
 /// What the bytes of a connection begin with, of those that were not served yet.
@@ -94,19 +96,5 @@ fn piece_of_body(held: &[u8], len: usize, asks: bool, has_ended: bool) -> Piece
         Piece::Asks(Progress::Body { len, asks })
     } else {
         Piece::More(Progress::Body { len, asks })
-    }
-}
-
-/// How many bytes of the block are known to hold no end, if the bytes hold none: all that are there, once there are
-/// four.
-fn searched_len(bytes: &[u8]) -> usize
-    requires { IsBlock bytes.now Block.More }
-    ensures unended { (more : List ℕ) → HasNoEndUpTo (from_block (bytes.now ++ more)) result }
-    ensures all { 4 ≤ length bytes.now → result ≡ length (from_block bytes.now) }
-{
-    if bytes.len() < 4 {
-        0
-    } else {
-        bytes.len() - skipped_len(bytes)
     }
 }

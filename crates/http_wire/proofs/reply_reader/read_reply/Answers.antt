@@ -10,7 +10,7 @@ use Rattle.http_wire.proofs.reply_reader.read_reply.Goals as goal
 pub loop-received-init : goal.loop-received-init
 loop-received-init g c = record {
   skipped =
-      HasSkipped-none _ c.in_ok-received.received c.in_ok-received.ensures.bytes.0 c.in_ok-received.ensures.bytes.1;
+      HasSkipped-none _ c.in_ok-received.received c.in_ok-received.ensures.0 c.in_ok-received.ensures.1;
   fine = search rules;
 }
 

@@ -10,7 +10,7 @@ loop-content-init g c =
     let old = c.args.received.now in
     let none = c.new-content.ensures.items in
     record {
-      takes = rw none (Takes-receives _ _ old old (Receives-nil _ old));
+      takes = rw none (Takes-receives _ _ old old (Receives-nil _ _));
       fine = refl;
       short = let size = ap length none in omega (arith, size);
     }

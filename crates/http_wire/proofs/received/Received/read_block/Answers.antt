@@ -1,25 +1,17 @@
-use Rattle.std.proofs.Common.{ℕ, List, ◌++◌, ◌⊎◌, length, drop, Ok, subst, subst₂, refl, sym, ap, ◌∙◌, inl, inr, rules}
+use Rattle.std.proofs.Common.{ℕ, List, ◌++◌, length, drop, Ok, subst, subst₂, refl, sym, ap, ◌∙◌, rules}
 use Rattle.std.proofs.lemmas.Bool.{false≢true}
 use Rattle.std.proofs.lemmas.Result.{err_from_is_err_and}
 use Rattle.http_messages.specs.Block.{from_block, HasNoEndUpTo, IsBlock, IsUnended}
-use Rattle.http_wire.specs.Received.{held_bytes, ReceivesNothing, IsReadFault}
-use Rattle.http_wire.specs.declared.received.Received.{Received}
+use Rattle.http_wire.specs.Received.{held_bytes, read_count, IsReadFault}
 use Rattle.http_messages.proofs.BlockLemmas.{HasNoEndUpTo-zero}
 use Rattle.http_wire.proofs.ReceivedLemmas.{Receives-join, Receives-nil, no_answer, one_answer}
 use Rattle.http_wire.proofs.received.Received.read_block.Goals as goal
 
--- bytes that hold no end of a block held none at first
-first-unended : {R : Type 0} (a b : R) (x y : Received) → ReceivesNothing a b x y ⊎ IsUnended (held_bytes x)
-    → IsUnended (held_bytes y) → IsUnended (held_bytes x)
-first-unended a b x y (inl same) unended = subst IsUnended same.bytes unended
-first-unended a b x y (inr first) unended = first
-
 pub loop-block-init : goal.loop-block-init
 loop-block-init g c = record {
   searched = HasNoEndUpTo-zero (from_block (held_bytes c.args.self.now));
-  reads = Receives-nil (g.R.Source.left c.args.reader.now) c.args.self.now;
+  reads = Receives-nil _ _;
   fine = refl;
-  lazy = inl (record { reader = refl; bytes = refl; reads = refl });
 }
 
 pub returns-then-ne : goal.returns-then-ne
@@ -31,7 +23,6 @@ returns-then-ne g c =
         fine = before.fine;
         fault = tt;
       };
-      lazy = λ ended. elim before.lazy [ inl same ↦ same | inr first ↦ absurd (ended first) ];
       block = subst (λ bytes. IsBlock bytes c.find_block_from-block.result) c.bytes.ensures.value
           c.find_block_from-block.ensures;
       end = λ more. absurd (false≢true (sym (rw (one_answer refl more) at c.if-ne.ensures)));
@@ -43,17 +34,15 @@ returns-in_err-read_more g c =
     let new = c.read_more.new.self in
     let before = c.loop-block.invariant in
     let unended : IsUnended (held_bytes c.loop-block.self) = search rules in
-    let first = first-unended _ _ c.args.self.now c.loop-block.self before.lazy unended in
     let gives = err_from_is_err_and c.from_residual.result c.from_residual.ensures.1 in
     record {
       reads = record {
         receives =
-            Receives-join _ _ _ c.args.self.now c.loop-block.self new before.reads c.read_more.ensures.reads.receives;
+            Receives-join _ _ _ _ _ _ before.reads c.read_more.ensures.reads.receives;
         fine = rw gives.1 tt;
         fault = rw gives.1 (subst₂ (λ count fault. IsReadFault count (g.R.Source.read_failures c.read_more.new.reader)
-            new fault) before.fine (sym gives.2) c.in_err-read_more.ensures.reads.fault);
+            (read_count new) fault) before.fine (sym gives.2) c.in_err-read_more.ensures.reads.fault);
       };
-      lazy = λ ended. absurd (ended first);
       block = rw gives.1 tt;
       end = λ same. absurd (no_answer gives.1 same);
       unended = rw gives.1 (subst IsUnended (sym c.in_err-read_more.ensures.same) unended);
@@ -63,17 +52,15 @@ pub returns-then-not-branch : goal.returns-then-not-branch
 returns-then-not-branch g c =
     let before = c.loop-block.invariant in
     let unended : IsUnended (held_bytes c.loop-block.self) = search rules in
-    let first = first-unended _ _ c.args.self.now c.loop-block.self before.lazy unended in
     let ended = c.read_more.ensures.end (c.in_ok-read_more.was ∙ ap Ok c.if-not-branch.true) in
     record {
       reads = record {
         receives =
-            Receives-join _ _ _ c.args.self.now c.loop-block.self c.read_more.new.self before.reads
+            Receives-join _ _ _ _ _ _ before.reads
             c.read_more.ensures.reads.receives;
         fine = c.in_ok-read_more.ensures.reads.fine ∙ before.fine;
         fault = tt;
       };
-      lazy = λ ended. absurd (ended first);
       block = subst IsUnended (sym ended.0) unended;
       end = λ _. ended.1;
       unended = tt;
@@ -92,8 +79,7 @@ loop-block-preserved g c =
           subst (λ bytes. HasNoEndUpTo (from_block bytes) c.searched_len-searched.result)
           (sym c.read_more.ensures.reads.receives.bytes)
           (searched (drop (length (held_bytes here)) (held_bytes c.read_more.new.self)));
-      reads = Receives-join _ _ _ c.args.self.now here c.read_more.new.self before.reads
+      reads = Receives-join _ _ _ _ _ _ before.reads
           c.read_more.ensures.reads.receives;
       fine = c.in_ok-read_more.ensures.reads.fine ∙ before.fine;
-      lazy = inr (first-unended _ _ c.args.self.now here before.lazy unended);
     }

@@ -1,0 +1,5 @@
+pub mod Bounds
+pub mod BufferLemmas
+pub mod Finished
+pub mod Heads
+pub mod Telling
