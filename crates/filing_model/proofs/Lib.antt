@@ -1,4 +1,5 @@
 pub mod Alike
+mod Alone
 pub mod Answered
 pub mod Answers
 pub mod Appending
@@ -20,6 +21,7 @@ pub mod Posted
 pub mod Replacing
 pub mod Serving
 pub mod Sizes
+pub mod Steps
 mod StopAtZero
 pub mod Stopping
 pub mod Styles

@@ -8,6 +8,7 @@ pub mod Register
 pub mod Reply
 pub mod Request
 pub mod Serving
+pub mod Steps
 pub mod Stopping
 pub mod Style
 pub mod Text

@@ -3,11 +3,11 @@
 //! code that decides requests has contracts by the same definitions.
 
 ghost use Rattle.std.specs.Prelude.{◌≡◌, ◌≢◌, ◌↔◌, ℕ, ◌^◌, ◌<◌, ◌≤◌, Bool, true, List, [], ◌++◌, length, filter, codes};
-ghost use Rattle.std.specs.Prelude.{Option, Some};
+ghost use Rattle.std.specs.Prelude.{◌∷◌, Option, Some};
 ghost use Rattle.http_messages.specs.declared.refusal.ConnFault.{ConnFault};
 ghost use Rattle.http_messages.specs.declared.reply.Kind.TheVariants.{Problem};
 ghost use Rattle.http_messages.specs.Head.{closes};
-ghost use Rattle.http_messages.specs.Message.{Arrival};
+ghost use Rattle.http_messages.specs.Message.{Arrival, Ending};
 ghost use Rattle.http_messages.specs.Reply.{render};
 ghost use Rattle.http_messages.specs.Request.{Request as Message};
 ghost use Rattle.http_messages.specs.Response.{IsReadable};
@@ -26,7 +26,8 @@ ghost use Rattle.filing_model.specs.Reply.{reply_as, unavailable};
 ghost use Rattle.filing_model.specs.Serving.{keeping, Serves};
 ghost use Rattle.filing_model.specs.Stopping.{Crash, No, Before, After, IsEndOf, IsEndOrStopOf, ServesUntil};
 ghost use Rattle.filing_model.specs.Stopping.{StopsOrServes};
-ghost use Rattle.filing_model.specs.Text.{MarkFits, completed, reply_with, reply_text_with};
+ghost use Rattle.filing_model.specs.Steps.{Step, StepsFit, all_completed, steps_on, text_of_step, text_on};
+ghost use Rattle.filing_model.specs.Text.{MarkFits, MarksFit, completed, reply_with, reply_text_with, text_with};
 ghost use Rattle.filing_model.specs.Laws.{IsAnswered, IsRegisterOf, ListsTheFilers, RepeatChangesNothing};
 ghost use Rattle.filing_model.specs.Laws.{RegisterGrows, ReplaceTheirOwn, RepeatGetsTheFirst, StaysRegistered};
 ghost use Rattle.filing_model.specs.Laws.{StopAlike};
@@ -155,4 +156,27 @@ pub fn head_is_answered_without_content()
         → m.head.method ≡ codes "HEAD" → MarkFits limit requests (Arrival.Read m) mark
         → reply_text_with old_style requests (Arrival.Read m) mark ≡ render
         (record { status = (reply_with old_style requests m).status; content = []; kind = Problem }) (closes m.head) }
+{}
+
+/// A connection that is served alone gets the text of one connection. Its marks fit exactly if those of one connection
+/// do, and it completes what they complete.
+pub fn a_connection_alone_gets_its_text()
+    ensures text { (old_style before : List Request) (i : ℕ) (arrivals : List Arrival) (marks : List Mark)
+        → length marks ≡ length arrivals → text_on old_style before i (steps_on i arrivals marks)
+        ≡ text_with old_style before arrivals Ending.Closed marks }
+    ensures fit { (limit : ℕ) (before : List Request) (i : ℕ) (arrivals : List Arrival) (marks : List Mark)
+        → length marks ≡ length arrivals
+        → StepsFit limit before (steps_on i arrivals marks) ↔ MarksFit limit before arrivals marks }
+    ensures completed { (i : ℕ) (arrivals : List Arrival) (marks : List Mark)
+        → all_completed (steps_on i arrivals marks) ≡ completed arrivals marks }
+{}
+
+/// One more step writes its own text behind that of its connection, after all requests that were completed before it,
+/// and nothing on the others.
+pub fn a_step_adds_its_text()
+    ensures own { (old_style before : List Request) (steps : List Step) (step : Step)
+        → text_on old_style before step.on (steps ++ step ∷ [])
+        ≡ text_on old_style before step.on steps ++ text_of_step old_style (before ++ all_completed steps) step }
+    ensures others { (old_style before : List Request) (steps : List Step) (step : Step) (i : ℕ) → step.on ≢ i
+        → text_on old_style before i (steps ++ step ∷ []) ≡ text_on old_style before i steps }
 {}

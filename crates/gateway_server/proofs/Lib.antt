@@ -12,3 +12,6 @@ pub mod Stopping
 pub mod Transitions
 pub mod Written
 pub mod Unanswered
+pub mod FirstBytes
+pub mod Steps
+pub mod Grouped

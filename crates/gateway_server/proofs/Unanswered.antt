@@ -36,7 +36,7 @@ use Rattle.gateway_server.specs.Ports.{Connection}
 
 -- ---- what was there first stays there
 
-abbrev Keeps : ℕ → List Request → List Request → Type 0
+abbrev pub Keeps : ℕ → List Request → List Request → Type 0
 Keeps n F G = (take n G ≡ take n F) × (firsts G ≡ G) × (n ≤ length G)
 
 keeps_one : (n : ℕ) (F : List Request) (r : Request) (result : Given) → n ≤ length F → firsts F ≡ F
@@ -51,7 +51,7 @@ keeps_one n F r (Ok a) few are = ⊎_elim
     ))
     (cases_Bool (has_key F r))
 
-keeps_after : (n : ℕ) (F : List Request) (ds : List Decided) → n ≤ length F → firsts F ≡ F → Keeps n F (after F ds)
+pub keeps_after : (n : ℕ) (F : List Request) (ds : List Decided) → n ≤ length F → firsts F ≡ F → Keeps n F (after F ds)
 keeps_after n F [] few are = (refl, are, few)
 keeps_after n F (d ∷ ds) few are =
     let one = keeps_one n F d.0 d.1 few are in

@@ -1,4 +1,4 @@
--- What a message gets. No public clause cites this file.
+-- What a message gets.
 use Rattle.std.specs.Prelude.{◌≡◌, ℕ, Bool, List, [], IfOk, IsSome, if◌then◌else◌}
 use Rattle.http_messages.specs.Replies.{reply_parts}
 use Rattle.http_messages.specs.declared.reply.Kind.TheVariants.{Problem}

@@ -6,3 +6,5 @@ pub mod Decided
 pub mod Answered
 pub mod Written
 pub mod Ahead
+pub mod Steps
+pub mod Group

@@ -23,9 +23,9 @@ use std::alloc::{AllocError, Global};
 
 /// A mark, and the reply to its message, unless there was no memory for the reply.
 #[derive(Drop)]
-pub(crate) struct Decided {
-    pub(crate) mark: Mark,
-    pub(crate) reply: Result<Reply, AllocError>,
+pub struct Decided {
+    pub mark: Mark,
+    pub reply: Result<Reply, AllocError>,
 }
 
 /// Answers a message with this body and this route.
@@ -136,7 +136,7 @@ fn file<S: Alter>(
     }
 }
 
-fn unavailable(alloc: Global) -> Decided
+pub(crate) fn unavailable(alloc: Global) -> Decided
     ensures { IsUnavailable result }
 {
     Decided {

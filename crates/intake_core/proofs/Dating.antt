@@ -19,6 +19,7 @@ use Rattle.intake_core.specs.declared.intake.Intake.{Intake}
 use Rattle.intake_core.specs.declared.intake.Unavailable.TheVariants.{Store}
 use Rattle.intake_core.specs.Group.{after, after_one, Decided, DecidesEach, Given}
 use Rattle.intake_core.specs.Held.{shows, store_of, old_style_of, HoldsRequests, with_request}
+use Rattle.intake_core.specs.Looked.{DatesAllIf, DecidesEachIf}
 use Rattle.intake_core.specs.Moments.{DatesAll, DatesRequest, HoldsMoments, KeepsMoments, moments_after}
 use Rattle.intake_core.specs.Moments.{LeavesSomeWith, SurvivesWith, moments_after_one, with_moment, with_moments}
 use Rattle.register_rows.specs.declared.moment.Moment.{Moment}
@@ -220,24 +221,25 @@ moments_refused F (r ∷ rs) [] moments = refl
 moments_refused F (r ∷ rs) (m ∷ ms) moments = moments_refused F rs ms moments
 
 module _ {S : Type 0} {g : Ghosts S} where
-  pub dates_then : (xs ys : List Decided) (ms ms' : List ℕ) (old mid new : Intake S) → length ms ≡ length xs
-      → DecidesEach g xs old mid → DecidesEach g ys mid new → DatesAll g xs ms old mid → DatesAll g ys ms' mid new
-      → DatesAll g (xs ++ ys) (ms ++ ms') old new
-  dates_then xs ys ms ms' old mid new long one two first second = record {
-    dated = λ clean F h moments had.
+  pub dates_then : (Open : Type 0) (Holds : List Request → Type 0) (xs ys : List Decided) (ms ms' : List ℕ)
+      (old mid new : Intake S) → length ms ≡ length xs → DecidesEachIf g Open Holds xs old mid
+      → DecidesEach g ys mid new → DatesAllIf g Open Holds xs ms old mid → DatesAll g ys ms' mid new
+      → DatesAllIf g Open Holds (xs ++ ys) (ms ++ ms') old new
+  dates_then Open Holds xs ys ms ms' old mid new long one two first second = record {
+    dated = λ clean F h moments had is.
         let cleaned = two.setting.clean clean in
         subst (HoldsMoments g new) (sym (moments_append F xs ys ms ms' moments long))
-        (second.dated clean (after F xs) (one.answers cleaned F h).1 (moments_after F xs ms moments)
-        (first.dated cleaned F h moments had));
+        (second.dated clean (after F xs) (one.answers cleaned F h is).1 (moments_after F xs ms moments)
+        (first.dated cleaned F h moments had is));
     crash = survives_then (shows g old) (shows g mid) (shows g new) _ _ _
-        (λ clean trees left F moments h had. leaves_first (old_style_of old) F moments xs ys ms ms' trees long
-        (left F moments h had))
-        (λ clean trees left F moments h had.
+        (λ clean trees left F moments h had alive is. leaves_first (old_style_of old) F moments xs ys ms ms' trees long
+        (left F moments h had alive is))
+        (λ clean trees left F moments h had alive is.
         let cleaned = two.setting.clean clean in
         leaves_second (old_style_of old) F moments xs ys ms ms' trees long
         (subst (λ n. LeavesSomeWith n (after F xs) (moments_after F xs ms moments) ys ms' trees) one.setting.old_style
-        (left (after F xs) (moments_after F xs ms moments) (one.answers cleaned F h).1
-        (first.dated cleaned F h moments had))))
+        (left (after F xs) (moments_after F xs ms moments) (one.answers cleaned F h is).1
+        (first.dated cleaned F h moments had is))))
         first.crash second.crash;
     next = second.next ∙ first.next;
   }

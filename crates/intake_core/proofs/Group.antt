@@ -4,7 +4,7 @@ use Rattle.std.proofs.Common.{zero, suc}
 use Rattle.std.proofs.Common.{Ok, Err, refl, sym, ap, ◌∙◌, subst, ⊎_elim, arith, length-append, Vec}
 use Rattle.std.proofs.Common.{append_assoc, inl, inr, vec_len, vec_capacity}
 use Rattle.std.proofs.lemmas.Bool.{cases_Bool}
-use Rattle.std.proofs.lemmas.List.{take-append-le, length-take-le}
+use Rattle.std.proofs.lemmas.List.{take-append-drop, take-append-le, length-take-le}
 use Rattle.std.specs.List.{AllByRecursion, zip}
 use Rattle.std.specs.Result.{IsErr, is_err}
 use Rattle.std.specs.declared.alloc.Global.{Global}
@@ -22,7 +22,8 @@ use Rattle.intake_core.specs.Group.{after, after_one, AreDecidedInTurn, Decided,
 use Rattle.intake_core.specs.Group.{Given, HasFailed, LeavesHeld, LeavesSome}
 use Rattle.intake_core.specs.Held.{shows, limit_of, old_style_of, old_style_in, has_stopped, HoldsRequests, SurvivesAs}
 use Rattle.intake_core.specs.Held.{with_request}
-use Rattle.intake_core.specs.Moments.{DatesAll, DatesRequest}
+use Rattle.intake_core.specs.Looked.{AddsResultsIf, DatesAllIf, DecidesEachIf}
+use Rattle.intake_core.specs.Moments.{DatesRequest}
 use Rattle.intake_core.specs.Together.{AddsResults}
 use Rattle.intake_core.proofs.Dating.{after-append, append-three, dates_none, dates_one, dates_then}
 use Rattle.intake_core.proofs.Deciding.{firsts-more}
@@ -198,11 +199,12 @@ down_is_none : (d : Decided) → d.1 ≡ Err Down → IsErr d.1
 down_is_none d is = ap is_err is
 
 module _ {S : Type 0} {g : Ghosts S} where
-  pub decides_then : (xs ys : List Decided) (old mid new : Intake S) → DecidesEach g xs old mid
-      → DecidesEach g ys mid new → DecidesEach g (xs ++ ys) old new
-  decides_then xs ys old mid new one two = record {
-    answers = λ clean F h.
-        let first = one.answers (two.setting.clean clean) F h in
+  pub decides_then : (Open : Type 0) (Holds : List Request → Type 0) (xs ys : List Decided) (old mid new : Intake S)
+      → DecidesEachIf g Open Holds xs old mid → DecidesEach g ys mid new
+      → DecidesEachIf g Open Holds (xs ++ ys) old new
+  decides_then Open Holds xs ys old mid new one two = record {
+    answers = λ clean F h is.
+        let first = one.answers (two.setting.clean clean) F h is in
         let second = two.answers clean (after F xs) first.1 in
         let style : old_style_in mid (after F xs) ≡ old_style_in old F =
         ap (λ n. take n (after F xs)) one.setting.old_style
@@ -219,17 +221,17 @@ module _ {S : Type 0} {g : Ghosts S} where
       old_style = two.setting.old_style ∙ one.setting.old_style;
     };
     crash = survives_then (shows g old) (shows g mid) (shows g new) _ _ _
-        (λ clean trees left F h. leaves-first (old_style_of old) F xs ys trees (left F h))
-        (λ clean trees left F h.
+        (λ clean trees left F h alive is. leaves-first (old_style_of old) F xs ys trees (left F h alive is))
+        (λ clean trees left F h alive is.
         leaves-second (old_style_of old) F xs ys trees
         (subst (λ n. LeavesSome n (after F xs) ys trees) one.setting.old_style
-        (left (after F xs) (one.answers (two.setting.clean clean) F h).1)))
+        (left (after F xs) (one.answers (two.setting.clean clean) F h is).1)))
         one.crash two.crash;
-    durable = λ clean F h trees left.
+    durable = λ clean F h alive is trees left.
         let cleaned = two.setting.clean clean in
-        let first = one.answers cleaned F h in
+        let first = one.answers cleaned F h is in
         elim (two.durable clean (after F xs) first.1 trees left) [
-          | inl same ↦ elim (one.durable cleaned F h trees same.0) [
+          | inl same ↦ elim (one.durable cleaned F h alive is trees same.0) [
             | inl was ↦ inl (was.0, after-append F xs ys ∙ same.1 ∙ was.1)
             | inr held ↦ inr (held-first (old_style_of old) F xs ys trees same.1 held)
           ]
@@ -371,43 +373,119 @@ module _ {S : Type 0} {g : Ghosts S} where
     room = room;
   }
 
-  pub adds_then : (rs ss : List Request) (ms ms' : List ℕ) (old mid new : Intake S) (a b c : Vec Given Global)
-      → length ms ≡ length rs → AddsResults g rs ms old mid a b → AddsResults g ss ms' mid new b c
-      → AddsResults g (rs ++ ss) (ms ++ ms') old new a c
-  adds_then rs ss ms ms' old mid new a b c long one two = record {
+  pub adds_then : (Open : Type 0) (Holds : List Request → Type 0) (rs ss : List Request) (ms ms' : List ℕ)
+      (old mid new : Intake S) (a b c : Vec Given Global) → length ms ≡ length rs
+      → AddsResultsIf g Open Holds rs ms old mid a b → AddsResults g ss ms' mid new b c
+      → AddsResultsIf g Open Holds (rs ++ ss) (ms ++ ms') old new a c
+  adds_then Open Holds rs ss ms ms' old mid new a b c long one two = record {
     given = one.given ++ two.given;
     are = two.are ∙ ap (λ xs. xs ++ two.given) one.are ∙ append_assoc a.items one.given two.given;
     each = omega (arith, length-append one.given two.given, length-append rs ss, one.each, two.each);
     len = omega (arith, length-append one.given two.given, one.len, two.len);
     decides =
-        subst (λ ds. DecidesEach g ds old new) (sym (zip-append rs ss one.given two.given one.each))
-        (decides_then (zip rs one.given) (zip ss two.given) old mid new one.decides two.decides);
+        subst (λ ds. DecidesEachIf g Open Holds ds old new) (sym (zip-append rs ss one.given two.given one.each))
+        (decides_then Open Holds (zip rs one.given) (zip ss two.given) old mid new one.decides two.decides);
     dates =
-        subst (λ ds. DatesAll g ds (ms ++ ms') old new) (sym (zip-append rs ss one.given two.given one.each))
-        (dates_then (zip rs one.given) (zip ss two.given) ms ms' old mid new
+        subst (λ ds. DatesAllIf g Open Holds ds (ms ++ ms') old new) (sym (zip-append rs ss one.given two.given
+        one.each))
+        (dates_then Open Holds (zip rs one.given) (zip ss two.given) ms ms' old mid new
         (long ∙ sym (length_zipped rs one.given one.each))
         one.decides two.decides one.dates two.dates);
     room = two.room ∙ one.room;
   }
 
+  -- what is so in any case
+  pub adds_if : (Open : Type 0) (Holds : List Request → Type 0) {rs : List Request} {ms : List ℕ} {old new : Intake S}
+      {a b : Vec Given Global} → AddsResults g rs ms old new a b → AddsResultsIf g Open Holds rs ms old new a b
+  adds_if Open Holds {rs = rs} {ms = ms} {old = old} {new = new} h = record {
+    given = h.given;
+    are = h.are;
+    each = h.each;
+    len = h.len;
+    room = h.room;
+    decides = record {
+      answers = λ clean F held is. h.decides.answers clean F held;
+      setting = h.decides.setting;
+      crash = survives_weaker (shows g old) (shows g new) _ _ (λ clean trees left F held alive is. left F held)
+          h.decides.crash;
+      durable = λ clean F held alive is. h.decides.durable clean F held;
+      ends = h.decides.ends;
+      down = h.decides.down;
+      stops = h.decides.stops;
+      up = h.decides.up;
+    };
+    dates = record {
+      dated = λ clean F held moments had is. h.dates.dated clean F held moments had;
+      crash = survives_weaker (shows g old) (shows g new) _ _
+          (λ clean trees left F moments held had alive is. left F moments held had) h.dates.crash;
+      next = h.dates.next;
+    };
+  }
+
+  -- what is so if nothing is needed for it
+  pub adds_always : {rs : List Request} {ms : List ℕ} {old new : Intake S} {a b : Vec Given Global}
+      → AddsResultsIf g (Unit {0}) (λ F. Unit {0}) rs ms old new a b → AddsResults g rs ms old new a b
+  adds_always {rs = rs} {ms = ms} {old = old} {new = new} h = record {
+    given = h.given;
+    are = h.are;
+    each = h.each;
+    len = h.len;
+    room = h.room;
+    decides = record {
+      answers = λ clean F held. h.decides.answers clean F held tt;
+      setting = h.decides.setting;
+      crash = survives_weaker (shows g old) (shows g new) _ _ (λ clean trees left F held. left F held tt tt)
+          h.decides.crash;
+      durable = λ clean F held. h.decides.durable clean F held tt tt;
+      ends = h.decides.ends;
+      down = h.decides.down;
+      stops = h.decides.stops;
+      up = h.decides.up;
+    };
+    dates = record {
+      dated = λ clean F held moments had. h.dates.dated clean F held moments had tt;
+      crash = survives_weaker (shows g old) (shows g new) _ _
+          (λ clean trees left F moments held had. left F moments held had tt tt) h.dates.crash;
+      next = h.dates.next;
+    };
+  }
+
+  -- one part behind another
+  pub adds_more : (rs ss : List Request) (ms ms' : List ℕ) (old mid new : Intake S) (a b c : Vec Given Global)
+      → length ms ≡ length rs → AddsResults g rs ms old mid a b → AddsResults g ss ms' mid new b c
+      → AddsResults g (rs ++ ss) (ms ++ ms') old new a c
+  adds_more rs ss ms ms' old mid new a b c long one two =
+      adds_always (adds_then (Unit {0}) (λ F. Unit {0}) rs ss ms ms' old mid new a b c long
+      (adds_if (Unit {0}) (λ F. Unit {0}) one) two)
+
   -- those that come next
   pub adds_next : (requests : List Request) (ms : List ℕ) {rest : List Request} {ms' : List ℕ} (at count : ℕ)
-      (old mid new : Intake S) (a b c : Vec Given Global) → length ms ≡ length requests → vec_len b ≡ at
+      (old mid new : Intake S) (a b c : Vec Given Global) → length ms ≡ length requests
       → AddsResults g (take at requests) (take at ms) old mid a b
       → AddsResults g (take count rest) (take count ms') mid new b c → count ≤ length rest → rest ≡ drop at requests
       → ms' ≡ drop at ms → at ≤ length requests
-      → (vec_len c ≡ at + count) × AddsResults g (take (vec_len c) requests) (take (vec_len c) ms) old new a c
-  adds_next requests ms {rest} {ms'} at count old mid new a b c long_ms here one two few is ms_is within =
-      let long : vec_len c ≡ at + count = omega (arith, two.len, two.each, here, length-take-le count rest few) in (
-        long,
-        subst (λ ms. AddsResults g (take (vec_len c) requests) ms old new a c)
-            (ap (λ (rest : List ℕ). take at ms ++ take count rest) ms_is
-            ∙ take-both at count ms
-            ∙ ap (λ n. take n ms) (sym long))
-            (subst (λ rs. AddsResults g rs (take at ms ++ take count ms') old new a c)
-            (ap (λ (rest : List Request). take at requests ++ take count rest) is
-            ∙ take-both at count requests
-            ∙ ap (λ n. take n requests) (sym long))
-            (adds_then (take at requests) (take count rest) (take at ms) (take count ms') old mid new a b c
-            (length-take-le at ms (omega (arith, long_ms, within)) ∙ sym (length-take-le at requests within)) one two)),
-      )
+      → (vec_len c ≡ vec_len b + count) × AddsResults g (take (at + count) requests) (take (at + count) ms) old new a c
+  adds_next requests ms {rest} {ms'} at count old mid new a b c long_ms one two few is ms_is within = (
+    omega (arith, two.len, two.each, length-take-le count rest few),
+    subst (λ ms. AddsResults g (take (at + count) requests) ms old new a c)
+        (ap (λ (rest : List ℕ). take at ms ++ take count rest) ms_is ∙ take-both at count ms)
+        (subst (λ rs. AddsResults g rs (take at ms ++ take count ms') old new a c)
+        (ap (λ (rest : List Request). take at requests ++ take count rest) is ∙ take-both at count requests)
+        (adds_more (take at requests) (take count rest) (take at ms) (take count ms') old mid new a b c
+        (length-take-le at ms (omega (arith, long_ms, within)) ∙ sym (length-take-le at requests within)) one two)),
+  )
+
+  -- the first of them, and the others
+  pub adds_rest : (Open : Type 0) (Holds : List Request → Type 0) (requests : List Request) (ms : List ℕ)
+      {rest : List Request} {ms' : List ℕ} (count : ℕ) (old mid new : Intake S) (a b c : Vec Given Global)
+      → length ms ≡ length requests
+      → AddsResultsIf g Open Holds (take count requests) (take count ms) old mid a b
+      → AddsResults g rest ms' mid new b c → rest ≡ drop count requests → ms' ≡ drop count ms
+      → count ≤ length requests → AddsResultsIf g Open Holds requests ms old new a c
+  adds_rest Open Holds requests ms {rest} {ms'} count old mid new a b c long_ms one two is ms_is within =
+      subst (λ ms. AddsResultsIf g Open Holds requests ms old new a c)
+      (ap (λ (rest : List ℕ). take count ms ++ rest) ms_is ∙ take-append-drop count ms)
+      (subst (λ rs. AddsResultsIf g Open Holds rs (take count ms ++ ms') old new a c)
+      (ap (λ (rest : List Request). take count requests ++ rest) is ∙ take-append-drop count requests)
+      (adds_then Open Holds (take count requests) rest (take count ms) ms' old mid new a b c
+      (length-take-le count ms (omega (arith, long_ms, within)) ∙ sym (length-take-le count requests within)) one two))

@@ -1,9 +1,10 @@
 -- New requests are kept together.
 use Rattle.std.proofs.Common.{◌≡◌, ◌<◌, ◌≤◌, ◌+◌, ℕ, true, false, List, [], ◌∷◌, ◌++◌, take, map, length, inl, inr}
+use Rattle.std.proofs.Common.{get_or}
 use Rattle.std.proofs.Common.{Ok, Err, Vec, IsTrue, true≢false, refl, sym, ap, ◌∙◌, subst, arith, append_assoc}
 use Rattle.std.proofs.lemmas.Slice.Zip.{firsts-zip}
 use Rattle.std.proofs.lemmas.List.{length-take-le}
-use Rattle.std.proofs.lemmas.List.Elements.{All-nil, All-cons, All-head, All-tail}
+use Rattle.std.proofs.lemmas.List.Elements.{All-from_recursion, All-nil, All-cons, All-head, All-tail}
 use Rattle.std.proofs.lemmas.List.Folds.{list_any-append}
 use Rattle.std.proofs.lemmas.Result.{IfOk-weaker}
 use Rattle.std.proofs.Common.{Result, OnErr, OnOk, Option, Some}
@@ -27,6 +28,7 @@ use Rattle.sqlite.specs.Store.{Ghosts}
 use Rattle.sqlite.specs.State.{HasCleanDisk, Survives}
 use Rattle.sqlite.specs.Tree.{Trees}
 use Rattle.sqlite.proofs.StateLemmas.{survives_then, survives_weaker}
+use Rattle.table_rows.proofs.StepLemmas.{nothing_yet}
 use Rattle.filing_model.specs.declared.outcome.Outcome.{Outcome}
 use Rattle.filing_model.specs.Views.{view_outcome}
 use Rattle.register_store.specs.Outcomes.{outcomes_behind}
@@ -37,11 +39,12 @@ use Rattle.intake_core.specs.declared.intake.Intake.{Intake}
 use Rattle.intake_core.specs.declared.intake.Unavailable.TheVariants.{Down, Store}
 use Rattle.intake_core.specs.declared.intake.group.Together.{Together}
 use Rattle.intake_core.specs.declared.intake.group.Together.TheVariants.{Kept, Alone, Failed}
-use Rattle.intake_core.specs.Group.{after, AreDecidedInTurn, Decided, DecidesEach, EndAtFailure, Given}
+use Rattle.intake_core.specs.Group.{after, AreDecidedInTurn, Decided, EndAtFailure, Given}
 use Rattle.intake_core.specs.Group.{HasFailed, LeavesHeld, LeavesSome}
 use Rattle.intake_core.specs.Held.{shows, limit_of, old_style_of, old_style_in, has_stopped, HoldsRequests, IsClean}
 use Rattle.intake_core.specs.Held.{store_of, IsDurableAs}
-use Rattle.intake_core.specs.Moments.{DatesAll, HoldsMoments, LeavesSomeWith, with_moments}
+use Rattle.intake_core.specs.Looked.{AddsLookedUp, AddsResultsIf, AreNewTo, DatesAllIf, DecidesEachIf, KeepsFirstIf}
+use Rattle.intake_core.specs.Moments.{HoldsMoments, LeavesSomeWith, with_moments}
 use Rattle.intake_core.specs.Together.{AddsResults, AnswersGroup, AreNewBehind, KeepsFirst, RefusesGroup}
 use Rattle.intake_core.specs.Together.{in_milliseconds}
 use Rattle.intake_core.proofs.Dating.{HoldsMoments-same, leaves_together, moments_kept, moments_refused, with_new}
@@ -58,6 +61,12 @@ firsts_behind F (r ∷ rs) are new =
 pub has_key-neither : (F rs : List Request) (r : Request) → has_key F r ≡ false → has_key rs r ≡ false
     → has_key (F ++ rs) r ≡ false
 has_key-neither F rs r first second = rw (list_any-append (λ s. same_key s r) F rs, first, second) refl
+
+-- what is new to some requests is so at its place
+pub new_at : (F rs : List Request) (i : ℕ) (r : Request) → AreNewTo F rs → i < length rs → r ≡ get_or rs i r
+    → has_key F r ≡ false
+new_at F rs i r new low is =
+    subst (λ r. has_key F r ≡ false) (sym is) (All-from_recursion (λ r. has_key F r ≡ false) rs new i r low)
 
 pub new_more : (F rs : List Request) (r : Request) → AreNewBehind F rs → has_key (F ++ rs) r ≡ false
     → AreNewBehind F (rs ++ r ∷ [])
@@ -147,6 +156,17 @@ module _ {S : Type 0} {g : Ghosts S} where
         (λ clean trees none. none) one.crash two.crash;
   }
 
+  -- nothing was looked up
+  pub looks_none : (i : Intake S) → LooksUp g i i
+  looks_none i = record {
+    same = λ clean F h. h;
+    moments = record { same = λ clean F h moments had. had; next = refl };
+    setting = record { clean = λ clean. clean; limit = refl; old_style = refl };
+    stopped = refl;
+    count = refl;
+    crash = nothing_yet (shows g i);
+  }
+
   adds_rows : (rows : List NewRow) (old new : Intake S) (result : Result (Vec Outcome Global) StoreFault)
       → AllZip IsJudgedAlone (map request_of rows) (map (λ (row : NewRow). row.judged.now) rows)
       → new.cache ≡ old.cache → limit_of new ≡ limit_of old → has_stopped new ≡ has_stopped old
@@ -194,19 +214,20 @@ module _ {S : Type 0} {g : Ghosts S} where
       (subst (λ rs. AllZip IsJudgedAlone rs judged) (sym are.requests) each)) cache limit stopped next a m))
 
   -- they are kept
-  pub first_kept : (requests : List Request) (ms : List ℕ) → length ms ≡ length requests
-      → (outcomes : Vec Outcome Global) (count : ℕ) → 0 < count → count ≤ length requests → (old mid new : Intake S)
-      → LooksUp g old mid
-      → ForRequests g old mid (λ F. AreNewBehind F (take count requests) × IsTrue (shows g mid).is_open)
+  pub first_kept : (Open : Type 0) (Holds : List Request → Type 0) (requests : List Request) (ms : List ℕ)
+      → length ms ≡ length requests → (outcomes : Vec Outcome Global) (count : ℕ) → 0 < count
+      → count ≤ length requests → (old mid new : Intake S) → LooksUp g old mid
+      → ForRequests g old mid (λ F. Holds F → AreNewBehind F (take count requests)
+      × (Open → IsTrue (shows g mid).is_open))
       → (store_of mid).kept + count ≤ limit_of mid
       → AddsGroup g (take count requests) (take count ms) mid new (Ok outcomes)
-      → KeepsFirst g requests ms old new (Kept outcomes)
-  first_kept requests ms long_ms outcomes count some few old mid new looks fresh room a =
+      → KeepsFirstIf g Open Holds requests ms old new (Kept outcomes)
+  first_kept Open Holds requests ms long_ms outcomes count some few old mid new looks fresh room a =
       let is : count ≡ length outcomes.items = sym (a.each ∙ length-take-le count requests few) in record {
         some = (omega (arith, is, some), omega (arith, is, few));
-        kept = λ clean F h.
+        kept = λ clean F h holds.
             let cleaned = a.setting.clean clean in
-            let new_ones = fresh cleaned F h in
+            let new_ones = fresh cleaned F h holds in
             let held = looks.same cleaned F h in
             let told = a.added clean F held new_ones.0 in
             let within : length F + count ≤ limit_of old =
@@ -222,16 +243,16 @@ module _ {S : Type 0} {g : Ghosts S} where
             (a.dated clean F (looks.same cleaned F h) moments (looks.moments.same cleaned F h moments had));
         undated = λ clean F h moments had. tt;
         received = survives_then (shows g old) (shows g mid) (shows g new) _ _ _ (λ clean trees none. absurd none)
-            (λ clean trees left F moments h had.
+            (λ clean trees left F moments h had alive holds.
             let cleaned = a.setting.clean clean in
             subst (λ m. LeavesReceived (old_style_of old) (firsts (F ++ take m requests))
             (with_moments F (take m requests) (take m ms) moments) trees) is
             (left_together (old_style_of old) F requests ms moments trees long_ms count few h.firsts'
-            (fresh cleaned F h).0
+            (fresh cleaned F h holds).0
             (subst (λ n. LeavesReceived n (F ++ take count requests) (moments ++ map Some (take count ms)) trees)
             looks.setting.old_style
-            (left F moments (looks.same cleaned F h) (looks.moments.same cleaned F h moments had) (fresh cleaned F h).1
-            (fresh cleaned F h).0)))) looks.crash a.received;
+            (left F moments (looks.same cleaned F h) (looks.moments.same cleaned F h moments had)
+            ((fresh cleaned F h holds).1 alive) (fresh cleaned F h holds).0)))) looks.crash a.received;
         next = a.next ∙ looks.moments.next;
         setting = record {
           clean = λ clean. looks.setting.clean (a.setting.clean clean);
@@ -240,47 +261,50 @@ module _ {S : Type 0} {g : Ghosts S} where
         };
         stopped = a.stopped ∙ looks.stopped;
         crash = survives_then (shows g old) (shows g mid) (shows g new) _ _ _ (λ clean trees none. absurd none)
-            (λ clean trees left F h.
+            (λ clean trees left F h alive holds.
             let cleaned = a.setting.clean clean in
-            let new_ones = fresh cleaned F h in
+            let new_ones = fresh cleaned F h holds in
             let held = looks.same cleaned F h in
             subst (λ m. LeavesRegister (old_style_of old) (firsts (F ++ take m requests)) trees) is
             (subst (λ (G : List Request). LeavesRegister (old_style_of old) G trees)
             (sym (firsts_behind F (take count requests) h.firsts' new_ones.0))
             (subst (λ n. LeavesRegister n (F ++ take count requests) trees) looks.setting.old_style
-            (left F held new_ones.1 new_ones.0)))) looks.crash a.crash;
-        durable = λ clean F h.
+            (left F held (new_ones.1 alive) new_ones.0)))) looks.crash a.crash;
+        durable = λ clean F h holds.
             let cleaned = a.setting.clean clean in
             subst (λ m. IsDurableAs g new (old_style_of old) (F ++ take m requests)) is
             (subst (λ n. IsDurableAs g new n (F ++ take count requests)) looks.setting.old_style
-            (a.durable clean F (looks.same cleaned F h) (fresh cleaned F h).0));
+            (a.durable clean F (looks.same cleaned F h) (fresh cleaned F h holds).0));
       }
 
   -- the database refused to keep them
-  pub first_refused : {e : StoreFault} (requests : List Request) (ms : List ℕ) → length ms ≡ length requests
-      → (result : Together) (count : ℕ) → count_of result ≡ count
+  pub first_refused : (Open : Type 0) (Holds : List Request → Type 0) {e : StoreFault} (requests : List Request)
+      (ms : List ℕ) → length ms ≡ length requests → (result : Together) (count : ℕ) → count_of result ≡ count
       → ((P : Type 0) → P → UnlessKept result P) → ((P : List Outcome → Type 0) → IfKept result P) → 0 < count
       → count ≤ length requests → (old mid new : Intake S) → LooksUp g old mid
-      → ForRequests g old mid (λ F. AreNewBehind F (take count requests) × IsTrue (shows g mid).is_open)
-      → AddsGroup g (take count requests) (take count ms) mid new (Err e) → KeepsFirst g requests ms old new result
-  first_refused requests ms long_ms result count is unless kept some few old mid new looks fresh a = record {
+      → ForRequests g old mid (λ F. Holds F → AreNewBehind F (take count requests)
+      × (Open → IsTrue (shows g mid).is_open))
+      → AddsGroup g (take count requests) (take count ms) mid new (Err e)
+      → KeepsFirstIf g Open Holds requests ms old new result
+  first_refused Open Holds requests ms long_ms result count is unless kept some few old mid new looks fresh a = record {
     some = (omega (arith, is, some), omega (arith, is, few));
-    kept = λ clean F h. kept _;
+    kept = λ clean F h holds. kept _;
     none = λ clean F h. unless _ (a.same clean F (looks.same (a.setting.clean clean) F h));
     dated = λ clean F h moments had. kept _;
     undated = λ clean F h moments had.
         let cleaned = a.setting.clean clean in
         unless _ (a.undated clean F (looks.same cleaned F h) moments (looks.moments.same cleaned F h moments had));
     received = survives_then (shows g old) (shows g mid) (shows g new) _ _ _ (λ clean trees none. absurd none)
-        (λ clean trees left F moments h had.
+        (λ clean trees left F moments h had alive holds.
         let cleaned = a.setting.clean clean in
         subst (λ m. LeavesReceived (old_style_of old) (firsts (F ++ take m requests))
         (with_moments F (take m requests) (take m ms) moments) trees) (sym is)
-        (left_together (old_style_of old) F requests ms moments trees long_ms count few h.firsts' (fresh cleaned F h).0
+        (left_together (old_style_of old) F requests ms moments trees long_ms count few h.firsts'
+        (fresh cleaned F h holds).0
         (subst (λ n. LeavesReceived n (F ++ take count requests) (moments ++ map Some (take count ms)) trees)
         looks.setting.old_style
-        (left F moments (looks.same cleaned F h) (looks.moments.same cleaned F h moments had) (fresh cleaned F h).1
-        (fresh cleaned F h).0)))) looks.crash a.received;
+        (left F moments (looks.same cleaned F h) (looks.moments.same cleaned F h moments had)
+        ((fresh cleaned F h holds).1 alive) (fresh cleaned F h holds).0)))) looks.crash a.received;
     next = a.next ∙ looks.moments.next;
     setting = record {
       clean = λ clean. looks.setting.clean (a.setting.clean clean);
@@ -289,16 +313,53 @@ module _ {S : Type 0} {g : Ghosts S} where
     };
     stopped = a.stopped ∙ looks.stopped;
     crash = survives_then (shows g old) (shows g mid) (shows g new) _ _ _ (λ clean trees none. absurd none)
-        (λ clean trees left F h.
+        (λ clean trees left F h alive holds.
         let cleaned = a.setting.clean clean in
-        let new_ones = fresh cleaned F h in
+        let new_ones = fresh cleaned F h holds in
         let held = looks.same cleaned F h in
         subst (λ m. LeavesRegister (old_style_of old) (firsts (F ++ take m requests)) trees) (sym is)
         (subst (λ (G : List Request). LeavesRegister (old_style_of old) G trees)
         (sym (firsts_behind F (take count requests) h.firsts' new_ones.0))
         (subst (λ n. LeavesRegister n (F ++ take count requests) trees) looks.setting.old_style
-        (left F held new_ones.1 new_ones.0)))) looks.crash a.crash;
-    durable = λ clean F h. kept _;
+        (left F held (new_ones.1 alive) new_ones.0)))) looks.crash a.crash;
+    durable = λ clean F h holds. kept _;
+  }
+
+  -- they are kept in any case
+  pub kept_if : {requests : List Request} {ms : List ℕ} {old new : Intake S} {result : Together}
+      → KeepsFirst g requests ms old new result
+      → KeepsFirstIf g (Unit {0}) (λ F. Unit {0}) requests ms old new result
+  kept_if {old = old} {new = new} k = record {
+    some = k.some;
+    kept = λ clean F h holds. k.kept clean F h;
+    none = k.none;
+    dated = k.dated;
+    undated = k.undated;
+    received = survives_weaker (shows g old) (shows g new) _ _
+        (λ clean trees left F moments h had alive holds. left F moments h had) k.received;
+    next = k.next;
+    setting = k.setting;
+    stopped = k.stopped;
+    crash = survives_weaker (shows g old) (shows g new) _ _ (λ clean trees left F h alive holds. left F h) k.crash;
+    durable = λ clean F h holds. k.durable clean F h;
+  }
+
+  pub kept_always : {requests : List Request} {ms : List ℕ} {old new : Intake S} {result : Together}
+      → KeepsFirstIf g (Unit {0}) (λ F. Unit {0}) requests ms old new result
+      → KeepsFirst g requests ms old new result
+  kept_always {old = old} {new = new} k = record {
+    some = k.some;
+    kept = λ clean F h. k.kept clean F h tt;
+    none = k.none;
+    dated = k.dated;
+    undated = k.undated;
+    received = survives_weaker (shows g old) (shows g new) _ _
+        (λ clean trees left F moments h had. left F moments h had tt tt) k.received;
+    next = k.next;
+    setting = k.setting;
+    stopped = k.stopped;
+    crash = survives_weaker (shows g old) (shows g new) _ _ (λ clean trees left F h. left F h tt tt) k.crash;
+    durable = λ clean F h. k.durable clean F h tt;
   }
 
 -- ---- each of them has an answer
@@ -408,10 +469,12 @@ long_take : {X : Type 0} (n : ℕ) (xs : List X) → 0 < n → n ≤ length xs �
 long_take n xs some few = omega (arith, some, long_of n xs few)
 
 module _ {S : Type 0} {g : Ghosts S} (requests : List Request) (ms : List ℕ) (long_ms : length ms ≡ length requests)
-    (old mid new : Intake S) (results results' : Vec Given Global) (up : has_stopped old ≡ false) where
-  pub together_kept : (outcomes : Vec Outcome Global) → KeepsFirst g requests ms old mid (Kept outcomes)
+    (old mid new : Intake S) (results results' : Vec Given Global) (up : has_stopped old ≡ false) (Open : Type 0)
+    (Holds : List Request → Type 0) where
+  pub together_kept : (outcomes : Vec Outcome Global) → KeepsFirstIf g Open Holds requests ms old mid (Kept outcomes)
       → AnswersGroup g (take (length outcomes.items) requests) outcomes.items mid new results results'
-      → AddsResults g (take (length outcomes.items) requests) (take (length outcomes.items) ms) old new results results'
+      → AddsResultsIf g Open Holds (take (length outcomes.items) requests) (take (length outcomes.items) ms) old new
+      results results'
   together_kept outcomes k h =
       let rs = take (length outcomes.items) requests in
       let cleaned : IsClean g new → IsClean g mid = λ clean.
@@ -424,8 +487,8 @@ module _ {S : Type 0} {g : Ghosts S} (requests : List Request) (ms : List ℕ) (
         len = h.len;
         room = h.room;
         dates = record {
-          dated = λ clean F held moments had.
-              let kept = k.kept (cleaned clean) F held in
+          dated = λ clean F held moments had holds.
+              let kept = k.kept (cleaned clean) F held holds in
               let few = k.some.1 in
               subst (HoldsMoments g new)
               (sym (moments_kept F rs h.given (take (length outcomes.items) ms) moments held.firsts' kept.0 h.each
@@ -434,18 +497,19 @@ module _ {S : Type 0} {g : Ghosts S} (requests : List Request) (ms : List ℕ) (
               (k.dated (cleaned clean) F held moments had));
           crash =
               subst (λ s. Survives (shows g old) (register.shows g s) (λ trees. (F : List Request)
-              (moments : List (Option ℕ)) → HoldsRequests g old F → HoldsMoments g old moments
+              (moments : List (Option ℕ)) → HoldsRequests g old F → HoldsMoments g old moments → Open → Holds F
               → LeavesSomeWith (old_style_of old) F moments (zip rs h.given) (take (length outcomes.items) ms) trees))
               (sym h.rest.store)
               (survives_weaker (shows g old) (shows g mid) _ _
-              (λ clean trees left F moments held had. leaves_together (old_style_of old) F rs moments h.given
-              (take (length outcomes.items) ms) trees h.each
-              (long_take (length outcomes.items) requests k.some.0 k.some.1) (left F moments held had)) k.received);
+              (λ clean trees left F moments held had alive holds.
+              leaves_together (old_style_of old) F rs moments h.given (take (length outcomes.items) ms) trees h.each
+              (long_take (length outcomes.items) requests k.some.0 k.some.1) (left F moments held had alive holds))
+              k.received);
           next = ap (λ (t : Moment). t.milliseconds) h.rest.moment ∙ k.next;
         };
         decides = record {
-          answers = λ clean F held.
-              let kept = k.kept (cleaned clean) F held in
+          answers = λ clean F held holds.
+              let kept = k.kept (cleaned clean) F held holds in
               let told = h.answers F held.firsts' kept.2 kept.0 kept.1
               (subst (λ n. n ≤ length F) (sym k.setting.old_style) held.rows.within)
               (subst (λ n. length F + length rs ≤ n) (sym k.setting.limit)
@@ -462,17 +526,18 @@ module _ {S : Type 0} {g : Ghosts S} (requests : List Request) (ms : List ℕ) (
           };
           crash =
               subst (λ s. Survives (shows g old) (register.shows g s) (λ trees. (F : List Request)
-              → HoldsRequests g old F → LeavesSome (old_style_of old) F (zip rs h.given) trees)) (sym h.rest.store)
+              → HoldsRequests g old F → Open → Holds F → LeavesSome (old_style_of old) F (zip rs h.given) trees))
+              (sym h.rest.store)
               (survives_weaker (shows g old) (shows g mid) _ _
-              (λ clean trees left F held. leaves_all (old_style_of old) F rs h.given trees h.each
-              (long_take (length outcomes.items) requests k.some.0 k.some.1) (left F held)) k.crash);
-          durable = λ clean F held trees left.
-              let kept = k.kept (cleaned clean) F held in
+              (λ clean trees left F held alive holds. leaves_all (old_style_of old) F rs h.given trees h.each
+              (long_take (length outcomes.items) requests k.some.0 k.some.1) (left F held alive holds)) k.crash);
+          durable = λ clean F held alive holds trees left.
+              let kept = k.kept (cleaned clean) F held holds in
               let same = after_new F rs h.given held.firsts' kept.0 h.each h.all in
               inr (held_exactly (old_style_of old) F (zip rs h.given) trees
               (ap firsts same ∙ firsts_behind F rs held.firsts' kept.0 ∙ sym same)
               (subst (λ (G : List Request). LeavesRegister (old_style_of old) G trees) (sym same)
-              ((k.durable (cleaned clean) F held).1 trees
+              ((k.durable (cleaned clean) F held holds).1 trees
               (subst (λ s. (register.shows g s).may_leave trees) h.rest.store left))));
           ends = ok_ends rs h.given h.all;
           down = λ down. absurd (true≢false (sym down ∙ up));
@@ -487,9 +552,9 @@ module _ {S : Type 0} {g : Ghosts S} (requests : List Request) (ms : List ℕ) (
         };
       }
 
-  pub together_alone : (count : ℕ) → KeepsFirst g requests ms old mid (Alone count)
+  pub together_alone : (count : ℕ) → KeepsFirstIf g Open Holds requests ms old mid (Alone count)
       → AddsResults g (take count requests) (take count ms) mid new results results'
-      → AddsResults g (take count requests) (take count ms) old new results results'
+      → AddsResultsIf g Open Holds (take count requests) (take count ms) old new results results'
   together_alone count k h =
       let rs = take count requests in
       let ds = zip rs h.given in
@@ -501,13 +566,15 @@ module _ {S : Type 0} {g : Ghosts S} (requests : List Request) (ms : List ℕ) (
         len = h.len;
         room = h.room;
         dates = record {
-          dated = λ clean F held moments had.
+          dated = λ clean F held moments had holds.
               let cleaned = d.setting.clean clean in
               h.dates.dated clean F (k.none cleaned F held) moments (k.undated cleaned F held moments had);
           crash = survives_then (shows g old) (shows g mid) (shows g new) _ _ _
-              (λ clean trees left F moments held had. leaves_together (old_style_of old) F rs moments h.given
-              (take count ms) trees h.each (long_take count requests k.some.0 k.some.1) (left F moments held had))
-              (λ clean trees left F moments held had.
+              (λ clean trees left F moments held had alive holds.
+              leaves_together (old_style_of old) F rs moments h.given (take count ms) trees h.each
+              (long_take count requests k.some.0 k.some.1)
+              (left F moments held had alive holds))
+              (λ clean trees left F moments held had alive holds.
               let cleaned = d.setting.clean clean in
               subst (λ n. LeavesSomeWith n F moments ds (take count ms) trees) k.setting.old_style
               (left F moments (k.none cleaned F held) (k.undated cleaned F held moments had)))
@@ -515,7 +582,7 @@ module _ {S : Type 0} {g : Ghosts S} (requests : List Request) (ms : List ℕ) (
           next = h.dates.next ∙ k.next;
         };
         decides = record {
-          answers = λ clean F held.
+          answers = λ clean F held holds.
               let told = d.answers clean F (k.none (d.setting.clean clean) F held) in (
                 subst (λ n. AreDecidedInTurn n (old_style_in old F) F ds) k.setting.limit
                     (subst (λ n. AreDecidedInTurn (limit_of mid) (take n F) F ds) k.setting.old_style told.0),
@@ -527,18 +594,19 @@ module _ {S : Type 0} {g : Ghosts S} (requests : List Request) (ms : List ℕ) (
             old_style = d.setting.old_style ∙ k.setting.old_style;
           };
           crash = survives_then (shows g old) (shows g mid) (shows g new) _ _ _
-              (λ clean trees left F held. leaves_all (old_style_of old) F rs h.given trees h.each
-              (long_take count requests k.some.0 k.some.1) (left F held))
-              (λ clean trees left F held.
+              (λ clean trees left F held alive holds. leaves_all (old_style_of old) F rs h.given trees h.each
+              (long_take count requests k.some.0 k.some.1) (left F held alive holds))
+              (λ clean trees left F held alive holds.
               subst (λ n. LeavesSome n F ds trees) k.setting.old_style
               (left F (k.none (d.setting.clean clean) F held)))
               k.crash d.crash;
-          durable = λ clean F held trees left.
+          durable = λ clean F held alive holds trees left.
               let cleaned = d.setting.clean clean in
               elim (d.durable clean F (k.none cleaned F held) trees left) [
                 | inl same ↦ elim (k.crash.crash cleaned trees same.0) [
                   | inl was ↦ inl (was, same.1)
-                  | inr made ↦ inr (held_all (old_style_of old) F rs h.given trees h.each same.1 (made F held))
+                  | inr made ↦ inr (held_all (old_style_of old) F rs h.given trees h.each same.1 (made F held
+                      alive holds))
                 ]
                 | inr still ↦ inr (subst (λ n. LeavesHeld n F ds trees) k.setting.old_style still)
               ];
@@ -555,9 +623,9 @@ module _ {S : Type 0} {g : Ghosts S} (requests : List Request) (ms : List ℕ) (
         };
       }
 
-  pub together_failed : (count : ℕ) → KeepsFirst g requests ms old mid (Failed count)
+  pub together_failed : (count : ℕ) → KeepsFirstIf g Open Holds requests ms old mid (Failed count)
       → RefusesGroup (take count requests) mid new results results'
-      → AddsResults g (take count requests) (take count ms) old new results results'
+      → AddsResultsIf g Open Holds (take count requests) (take count ms) old new results results'
   together_failed count k h =
       let rs = take count requests in
       let some : 0 < length rs = long_take count requests k.some.0 k.some.1 in
@@ -570,19 +638,19 @@ module _ {S : Type 0} {g : Ghosts S} (requests : List Request) (ms : List ℕ) (
         each = long;
         len = omega (arith, h.len, long);
         room = h.room;
-        dates = subst (DatesAll g ds (take count ms) old) same (record {
-          dated = λ clean F held moments had.
+        dates = subst (DatesAllIf g Open Holds ds (take count ms) old) same (record {
+          dated = λ clean F held moments had holds.
               subst (HoldsMoments g (record mid { is_down = true }))
               (sym (moments_refused F rs (take count ms) moments))
               (HoldsMoments-same mid (record mid { is_down = true }) moments refl (k.undated clean F held moments had));
           crash = survives_weaker (shows g old) (shows g mid) _ _
-              (λ clean trees left F moments held had. leaves_together (old_style_of old) F rs moments (refused rs)
-              (take count ms) trees long some (left F moments held had))
+              (λ clean trees left F moments held had alive holds. leaves_together (old_style_of old) F rs moments
+              (refused rs) (take count ms) trees long some (left F moments held had alive holds))
               k.received;
           next = k.next;
         });
-        decides = subst (DecidesEach g ds old) same (record {
-          answers = λ clean F held.
+        decides = subst (DecidesEachIf g Open Holds ds old) same (record {
+          answers = λ clean F held holds.
               let still = k.none clean F held in (
                 refused_in_turn (limit_of old) (old_style_in old F) F rs,
                 subst (HoldsRequests g (record mid { is_down = true })) (sym (refused_after F rs)) (record {
@@ -597,12 +665,14 @@ module _ {S : Type 0} {g : Ghosts S} (requests : List Request) (ms : List ℕ) (
             old_style = k.setting.old_style;
           };
           crash = survives_weaker (shows g old) (shows g mid) _ _
-              (λ clean trees left F held. leaves_all (old_style_of old) F rs (refused rs) trees long some (left F held))
+              (λ clean trees left F held alive holds. leaves_all (old_style_of old) F rs (refused rs) trees long some
+              (left F held alive holds))
               k.crash;
-          durable = λ clean F held trees left. elim (k.crash.crash clean trees left) [
+          durable = λ clean F held alive holds trees left. elim (k.crash.crash clean trees left) [
             | inl was ↦ inl (was, refused_after F rs)
             | inr made ↦
-                inr (held_all (old_style_of old) F rs (refused rs) trees long (refused_after F rs) (made F held))
+                inr (held_all (old_style_of old) F rs (refused rs) trees long (refused_after F rs)
+                (made F held alive holds))
           ];
           ends = refused_ends rs;
           down = λ down. absurd (true≢false (sym down ∙ up));
@@ -610,3 +680,37 @@ module _ {S : Type 0} {g : Ghosts S} (requests : List Request) (ms : List ℕ) (
           up = refused_up (true ≡ true) rs;
         });
       }
+
+-- ---- requests that were looked up before
+
+module _ {S : Type 0} {g : Ghosts S} (requests : List Request) (ms : List ℕ) (long_ms : length ms ≡ length requests)
+    (old mid new : Intake S) (results results' : Vec Given Global) (up : has_stopped old ≡ false) (count : ℕ)
+    (some : 0 < count) (few : count ≤ length requests)
+    (fresh : (F : List Request) → AreNewTo F requests → AreNewBehind F (take count requests)) where
+  pub looked_up_kept : (outcomes : Vec Outcome Global) → (store_of old).kept + count ≤ limit_of old
+      → AddsGroup g (take count requests) (take count ms) old mid (Ok outcomes)
+      → AnswersGroup g (take count requests) outcomes.items mid new results results'
+      → AddsLookedUp g requests (take count requests) (take count ms) old new results results'
+  looked_up_kept outcomes room a h =
+      let is : length outcomes.items ≡ count = a.each ∙ length-take-le count requests few in
+      subst (λ n. AddsLookedUp g requests (take n requests) (take n ms) old new results results') is
+      (together_kept requests ms long_ms old mid new results results' up _ _ outcomes
+      (first_kept _ _ requests ms long_ms outcomes count some few old old mid (looks_none old)
+      (λ clean F held new_ones. (fresh F new_ones, λ alive. alive)) room a)
+      (subst (λ n. AnswersGroup g (take n requests) outcomes.items mid new results results') (sym is) h))
+
+  pub looked_up_alone : {e : StoreFault} → AddsGroup g (take count requests) (take count ms) old mid (Err e)
+      → AddsResults g (take count requests) (take count ms) mid new results results'
+      → AddsLookedUp g requests (take count requests) (take count ms) old new results results'
+  looked_up_alone a h =
+      together_alone requests ms long_ms old mid new results results' up _ _ count
+      (first_refused _ _ requests ms long_ms (Alone count) count refl (λ P p. p) (λ P. tt) some few old
+      old mid (looks_none old) (λ clean F held new_ones. (fresh F new_ones, λ alive. alive)) a) h
+
+  pub looked_up_failed : {e : StoreFault} → AddsGroup g (take count requests) (take count ms) old mid (Err e)
+      → RefusesGroup (take count requests) mid new results results'
+      → AddsLookedUp g requests (take count requests) (take count ms) old new results results'
+  looked_up_failed a h =
+      together_failed requests ms long_ms old mid new results results' up _ _ count
+      (first_refused _ _ requests ms long_ms (Failed count) count refl (λ P p. p) (λ P. tt) some few old
+      old mid (looks_none old) (λ clean F held new_ones. (fresh F new_ones, λ alive. alive)) a) h

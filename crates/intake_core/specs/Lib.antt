@@ -6,3 +6,4 @@ pub mod Together
 pub mod Answered
 pub mod Cache
 pub mod FactLine
+pub mod Looked

@@ -1,11 +1,12 @@
 //! Several requests decided in their order, new ones with one commit.
 
-ghost use Rattle.std.specs.Prelude.{◌≡◌, ◌<◌, ◌≤◌, ◌+◌, ℕ, All, length, take, true, false, vec_len, vec_capacity};
+ghost use Rattle.std.specs.Prelude.{◌≡◌, ◌<◌, ◌≤◌, ◌+◌, ℕ, List, All, length, take, true, false, vec_len, vec_capacity};
 ghost use Rattle.std.specs.Prelude.{IsTrue, IfOk, OnOk, None, MatchResult};
 ghost use Rattle.std.specs.List.{AllZip, zip};
 ghost use Rattle.filing_model.specs.Request.{Request, has_key};
 ghost use Rattle.intake_core.specs.Calls.{IsRequest};
 ghost use Rattle.intake_core.specs.Group.{DecidesEach};
+ghost use Rattle.intake_core.specs.Looked.{AddsLookedUp, AreNewTo, DatesNew, DecidesNew};
 ghost use Rattle.intake_core.specs.Moments.{DatesEach};
 ghost use Rattle.intake_core.specs.Together.{AddsGroup, AddsResults, AnswersGroup, AreNewBehind, AreRowsOf};
 ghost use Rattle.intake_core.specs.Together.{IsJudgedAlone, KeepsFirst, LooksUp, RefusesGroup, in_milliseconds};
@@ -81,12 +82,30 @@ impl<S: Alter> Intake<S> {
             DatesEach S.Store (zip requests.now results.items) (in_milliseconds moments.now) self.old self.new) }
     {
         let mut results = Vec::with_capacity(self.alloc, requests.len())?;
-        for at in 0..requests.len() {
-            // Those before `results.len()` were decided together with one before them.
-            if at == results.len() {
-                self.submit_next(&requests[at..], &moments[at..], &mut results);
-            }
-        }
+        self.submit_others(requests, moments, &mut results);
+        Ok(results)
+    }
+
+    /// Decides requests in their order as `submit_all` does, and does not look up again those that it keeps together.
+    /// What the clauses say of the rows holds if each is the first of its filer and key after what is held, as
+    /// `is_first` says; what they say of a crash, if the register is open too. A second one of a filer and key among
+    /// them is decided as a repeat.
+    pub fn submit_new(
+        &mut self,
+        requests: &[Request<'_>],
+        moments: &[Moment],
+    ) -> Result<Vec<Result<Answer, Unavailable>>, AllocError>
+        requires requests { All IsRequest requests.now }
+        requires moments { length moments.now ≡ length requests.now }
+        ensures each { IfOk result (λ results. length results.items ≡ length requests.now) }
+        ensures decides { MatchResult result (λ results. DecidesNew S.Store requests.now
+            (zip requests.now results.items) self.old self.new) (λ _. self.new ≡ self.old) }
+        ensures dates { IfOk result (λ results. DatesNew S.Store requests.now (zip requests.now results.items)
+            (in_milliseconds moments.now) self.old self.new) }
+    {
+        let mut results = Vec::with_capacity(self.alloc, requests.len())?;
+        let count = self.submit_looked_up(requests, moments, &mut results);
+        self.submit_others(&requests[count..], &moments[count..], &mut results);
         Ok(results)
     }
 
@@ -102,6 +121,64 @@ impl<S: Alter> Intake<S> {
             return false;
         }
         matches!(self.is_new(request), Ok(true))
+    }
+
+    /// Decides the first of these requests, which were looked up, as far as they are kept together, and answers how
+    /// many were decided.
+    fn submit_looked_up(
+        &mut self,
+        requests: &[Request<'_>],
+        moments: &[Moment],
+        results: &mut Vec<Result<Answer, Unavailable>>,
+    ) -> usize
+        requires requests { All IsRequest requests.now }
+        requires moments { length moments.now ≡ length requests.now }
+        requires room { vec_len results.old + length requests.now ≤ vec_capacity results.old }
+        ensures few { result ≤ length requests.now }
+        ensures adds { AddsLookedUp S.Store requests.now (take result requests.now)
+            (take result (in_milliseconds moments.now)) self.old self.new results.old results.new }
+    {
+        if self.is_down {
+            return 0;
+        }
+        let judged = match self.judge_looked_up(requests) {
+            Ok(judged) => judged,
+            Err(_) => return 0,
+        };
+        let count = judged.len();
+        if count == 0 {
+            return 0;
+        }
+        match self.keep_group(&requests[..count], &moments[..count], &judged) {
+            Ok(outcomes) => self.answer_group(&requests[..count], outcomes, results),
+            Err(StoreFault::Memory) => {
+                self.submit_each(&requests[..count], &moments[..count], results)
+            }
+            Err(StoreFault::Store) => self.refuse_group(&requests[..count], results),
+        }
+        count
+    }
+
+    /// Decides these requests in their order, as `submit_all` does.
+    fn submit_others(
+        &mut self,
+        requests: &[Request<'_>],
+        moments: &[Moment],
+        results: &mut Vec<Result<Answer, Unavailable>>,
+    )
+        requires requests { All IsRequest requests.now }
+        requires moments { length moments.now ≡ length requests.now }
+        requires room { vec_len results.old + length requests.now ≤ vec_capacity results.old }
+        ensures { AddsResults S.Store requests.now (in_milliseconds moments.now) self.old self.new results.old
+            results.new }
+    {
+        let start = results.len();
+        for at in 0..requests.len() {
+            // Those before `results.len()` were decided together with one before them.
+            if at == results.len() - start {
+                self.submit_next(&requests[at..], &moments[at..], results);
+            }
+        }
     }
 
     /// Decides the first of these requests, and those that are kept together with it. If there is no memory for all of
@@ -254,6 +331,28 @@ impl<S: Alter> Intake<S> {
         Ok(group)
     }
 
+    /// How the first of these requests are judged that may be kept together, if each was looked up and is new.
+    fn judge_looked_up(&self, requests: &[Request<'_>]) -> Result<Vec<Judged>, StoreFault>
+        ensures few { IfOk result (λ judged. length judged.items ≤ length requests.now) }
+        ensures judged { IfOk result (λ judged.
+            AllZip IsJudgedAlone (take (length judged.items) requests.now) judged.items) }
+        ensures new { (F : List Request) → AreNewTo F requests.now → IfOk result (λ judged.
+            AreNewBehind F (take (length judged.items) requests.now)) }
+        ensures limit { IfOk result (λ judged. 0 < length judged.items
+            → (store_of self.now).kept + length judged.items ≤ limit_of self.now) }
+    {
+        let mut group = Vec::new(self.alloc);
+        for (at, request) in requests.iter().enumerate() {
+            if !self.fits(&requests[..at], request)? {
+                break;
+            }
+            group.reserve(1)?;
+            let judged = judge_amendment(self.alloc, request.filer, request.body, true)?;
+            group.push_reserved(judged);
+        }
+        Ok(group)
+    }
+
     /// Whether a request may be kept together with these before it.
     fn may_join(
         &mut self,
@@ -270,14 +369,25 @@ impl<S: Alter> Intake<S> {
             → OnOk result (IsTrue (shows S.Store self.new).is_open)) }
         ensures looks { LooksUp S.Store self.old self.new }
     {
-        let kept = self.store.kept_count()?;
-        if request.target.is_some()
-            || before.len() as u64 >= self.limit.keys.saturating_sub(kept)
-            || has_key(before, request)
-        {
+        if !self.fits(before, request)? {
             return Ok(false);
         }
         self.is_new(request)
+    }
+
+    /// Whether a request may be kept together with these before it, if nothing is kept of its filer and key.
+    fn fits(&self, before: &[Request<'_>], request: &Request<'_>) -> Result<bool, StoreFault>
+        ensures alone { IfOk result (λ fits. fits ≡ true → request.now.target ≡ None) }
+        ensures own { IfOk result (λ fits. fits ≡ true → has_key before.now request.now ≡ false) }
+        ensures limit { IfOk result (λ fits. fits ≡ true
+            → (store_of self.now).kept + length before.now < limit_of self.now) }
+    {
+        let kept = self.store.kept_count()?;
+        Ok(
+            request.target.is_none()
+                && (before.len() as u64) < self.limit.keys.saturating_sub(kept)
+                && !has_key(before, request),
+        )
     }
 
     /// Whether nothing is kept of a request's filer and key.

@@ -6,7 +6,8 @@ use Rattle.register_rows.specs.declared.moment.Moment.{Moment}
 use Rattle.intake_core.specs.declared.intake.group.Together.TheVariants.{Kept, Alone, Failed}
 use Rattle.intake_core.specs.Together.{AddsResults, AnswersGroup, KeepsFirst, in_milliseconds}
 use Rattle.intake_core.proofs.Dating.{length_milliseconds}
-use Rattle.intake_core.proofs.Together.{together_alone, together_failed, together_kept}
+use Rattle.intake_core.proofs.Group.{adds_always}
+use Rattle.intake_core.proofs.Together.{kept_if, together_alone, together_failed, together_kept}
 use Rattle.intake_core.proofs.intake.Intake.submit_next.Goals as goal
 use Rattle.std.proofs.Common.{rules}
 
@@ -39,8 +40,10 @@ returns-in-Kept g c =
       count,
       keeps.some.0,
       keeps.some.1,
-      together_kept all ms long_ms c.args.self.now c.keep_first.new.self c.answer_group.new.self c.args.results.now
-          c.answer_group.new.results c.if-self.false c.in-Kept.outcomes keeps answers,
+      adds_always (together_kept all ms long_ms c.args.self.now c.keep_first.new.self c.answer_group.new.self
+          c.args.results.now
+          c.answer_group.new.results c.if-self.false (Unit {0}) (λ F. Unit {0}) c.in-Kept.outcomes (kept_if keeps)
+          answers),
     )
 
 pub returns-in-Alone : goal.returns-in-Alone
@@ -54,11 +57,12 @@ returns-in-Alone g c =
       count,
       keeps.some.0,
       keeps.some.1,
-      together_alone all ms long_ms c.args.self.now c.keep_first.new.self c.submit_each-in-Alone.new.self
-          c.args.results.now c.submit_each-in-Alone.new.results c.if-self.false count keeps
+      adds_always (together_alone all ms long_ms c.args.self.now c.keep_first.new.self c.submit_each-in-Alone.new.self
+          c.args.results.now c.submit_each-in-Alone.new.results c.if-self.false (Unit {0}) (λ F. Unit {0}) count
+          (kept_if keeps)
           (subst (λ ms. AddsResults g.S.Store (take count all) ms c.keep_first.new.self c.submit_each-in-Alone.new.self
           c.args.results.now c.submit_each-in-Alone.new.results)
-          (sym (take-map (λ (t : Moment). t.milliseconds) count c.args.moments.now)) c.submit_each-in-Alone.ensures),
+          (sym (take-map (λ (t : Moment). t.milliseconds) count c.args.moments.now)) c.submit_each-in-Alone.ensures)),
     )
 
 pub returns-in-Failed : goal.returns-in-Failed
@@ -72,6 +76,8 @@ returns-in-Failed g c =
       count,
       keeps.some.0,
       keeps.some.1,
-      together_failed all ms long_ms c.args.self.now c.keep_first.new.self c.refuse_group.new.self c.args.results.now
-          c.refuse_group.new.results c.if-self.false count keeps c.refuse_group.ensures,
+      adds_always (together_failed all ms long_ms c.args.self.now c.keep_first.new.self c.refuse_group.new.self
+          c.args.results.now
+          c.refuse_group.new.results c.if-self.false (Unit {0}) (λ F. Unit {0}) count (kept_if keeps)
+          c.refuse_group.ensures),
     )
