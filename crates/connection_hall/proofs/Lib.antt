@@ -1,0 +1,5 @@
+pub mod Told
+pub mod Done
+pub mod Halls
+pub mod Hands
+pub mod Answered

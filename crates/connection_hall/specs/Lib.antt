@@ -1,0 +1,15 @@
+pub mod Answers
+pub mod Streams
+pub mod Loans
+pub mod Ready
+pub mod Arriving
+pub mod Connections
+pub mod TurnsTaken
+pub mod Comings
+pub mod Turns
+pub mod Rounds
+pub mod Lending
+pub mod Deadlines
+pub mod Bounds
+pub mod Places
+pub mod Running
