@@ -78,6 +78,15 @@ CREATE TEMP VIEW refused_amendments AS
         LEFT JOIN replaced ON replaced.number = target
     WHERE kept.number IS NULL;
 
+-- The period that `missing` and `late` ask about, as facts have it. If there is none, they take the filings of all.
+-- INSERT INTO asked VALUES ('2024-01-01T00:00:00/2025-01-01T00:00:00')
+CREATE TEMP TABLE asked (period TEXT NOT NULL);
+
+-- The filings for that period: those that have a fact of it.
+CREATE TEMP VIEW asked_filings AS
+    SELECT number FROM filing
+    WHERE NOT EXISTS (SELECT 1 FROM asked) OR number IN (SELECT number FROM facts JOIN asked USING (period));
+
 -- Who has not filed: fill `expected` first, as by `INSERT INTO expected VALUES ('ACME')` or
 -- `.import list.txt expected`, with a filer's code on each line. `refused` says how many reports of that filer were
 -- refused. Codes are compared with case, without spaces and CR at their ends.
@@ -86,7 +95,8 @@ CREATE TEMP VIEW missing AS
     WITH list AS (SELECT DISTINCT trim(filer, char(9, 13, 32)) AS filer FROM expected)
     SELECT filer, (SELECT count(*) FROM kept WHERE kept.filer = list.filer) AS refused
     FROM list
-    WHERE filer <> '' AND NOT EXISTS (SELECT 1 FROM kept JOIN filing USING (seq) WHERE kept.filer = list.filer)
+    WHERE filer <> '' AND NOT EXISTS (SELECT 1 FROM kept JOIN filing USING (seq)
+        WHERE kept.filer = list.filer AND filing.number IN (SELECT number FROM asked_filings))
     ORDER BY filer;
 
 -- The filings with the moment at which the intake had each whole, by its clock: in UTC, with milliseconds, as RFC 3339
@@ -96,7 +106,8 @@ CREATE TEMP VIEW received AS
         strftime('%Y-%m-%dT%H:%M:%S', moment / 1000, 'unixepoch') || printf('.%03dZ', moment % 1000) AS received
     FROM filings LEFT JOIN main.received USING (seq);
 
--- Who filed after a deadline. The moment is the reader's to give, in RFC 3339:
+-- Who filed after a deadline. The moment is the reader's to give, in RFC 3339; in a register of several periods the
+-- period, too (`asked`):
 -- INSERT INTO deadline VALUES ('2025-03-31T23:59:59.999Z'); SELECT * FROM late
 CREATE TEMP TABLE deadline (at TEXT NOT NULL);
 
@@ -105,9 +116,10 @@ CREATE TEMP TABLE deadline (at TEXT NOT NULL);
 CREATE TEMP VIEW late AS
     SELECT one.number, one.filer, one.key, one.received,
         (SELECT count(*) FROM received AS other
-            WHERE other.filer = one.filer
+            WHERE other.filer = one.filer AND other.number IN (SELECT number FROM asked_filings)
                 AND (other.received IS NULL OR julianday(other.received) <= julianday(at))) AS in_time
-    FROM received AS one, deadline WHERE julianday(one.received) > julianday(at);
+    FROM received AS one, deadline
+    WHERE julianday(one.received) > julianday(at) AND one.number IN (SELECT number FROM asked_filings);
 
 -- The filings with the users who sent them, and for those without a moment the one that the log has. Both come from the
 -- log of nginx: a file that `register-receipts --into` makes has them.

@@ -94,7 +94,7 @@ def check_lines(folder):
 # What docs/OPERATIONS.md says: each value is a text, and no text is taken for a missing value.
 READ_CSV = """
 import json, sys, pandas
-facts = pandas.read_csv(sys.argv[1], dtype=str, keep_default_na=False)
+facts = pandas.read_csv(sys.argv[1], dtype=str, keep_default_na=False, engine="python")
 print(json.dumps([list(facts.columns)] + facts.values.tolist()))
 """
 READ_LINES = """
@@ -116,6 +116,9 @@ def check_pandas(folder):
     wanted = list(records(SENT))
     done = subprocess.run([*PANDAS, READ_CSV, folder / "facts.csv"], capture_output=True, check=True)
     hold("pandas reads the CSV that was filed", json.loads(done.stdout), [NAMES] + [as_text(it) for it in wanted])
+    (folder / "nul.csv").write_bytes(b'"value"\r\n"a\0b"\r\n')
+    done = subprocess.run([*PANDAS, READ_CSV, folder / "nul.csv"], capture_output=True, check=True)
+    hold("pandas reads a value with U+0000", json.loads(done.stdout), [["value"], ["a\0b"]])
     done = subprocess.run([*PANDAS, READ_LINES, folder / "facts.jsonl"], capture_output=True, check=True)
     hold("pandas reads the lines that were filed", json.loads(done.stdout),
          [NAMES, [it["value"] for it in wanted], [it["dimensions"] for it in wanted]])

@@ -11,8 +11,10 @@ of a page there, outside of the repository. Status 1 if a trial fails, or if a f
 """
 import base64
 import contextlib
+import functools
 import hashlib
 import html.parser
+import http.server
 import os
 import pathlib
 import re
@@ -20,6 +22,7 @@ import shutil
 import subprocess
 import sys
 import tempfile
+import threading
 import time
 
 from odd_register import MOMENTS, REGION, SENT, REFUSED, date_register, fact, make_odd_register, many, moment_text
@@ -28,7 +31,7 @@ from trials import INTAKE, ROOT, failures, hold, run, tell, try_all
 
 TAGS = set(
     "html head meta link title style body a nav main h1 p label input span div table caption thead tbody tr th td "
-    "dl dt dd em br code svg text rect script".split()
+    "dl dt dd em br code svg text rect script small wbr footer".split()
 )
 # How many findings of a report are shown at most, what a page has besides its rows, what a row takes at most, and what
 # `pages` may hold in memory beyond what `check` of the same register holds; in bytes.
@@ -41,8 +44,12 @@ MORE = [
     ("acme", "s-1", None, {"f1": fact("acme", "1")}),
     ("Acme", "s-2", None, {"f1": fact("Acme", "bell \u0007 and return \r", **{REGION: None})}),
     ("Acme", "s-3", 99, {"f1": fact("Acme", "1")}),
+    ("BETA", "b-4", None, {"f1": fact("BETA", "1", period="2024-01-01T00:00:00/2024-12-31T12:00:00"),
+                           "f2": fact("BETA", "1", entity="eg:BETA")}),
 ]
-VOID = {"meta", "link", "input", "br"}
+VOID = {"meta", "link", "input", "br", "wbr"}
+# The dimensions of a fact that have a column of their own, or stand above the table.
+COLUMNS = {"concept", "period", "unit", "entity"}
 
 
 class Page(html.parser.HTMLParser):
@@ -53,7 +60,7 @@ class Page(html.parser.HTMLParser):
         super().__init__(convert_charrefs=True)
         self.tags, self.links, self.rows, self.classes, self.open = set(), [], [], [], []
         self.next, self.before, self.policy, self.texts, self.linked = None, None, "", {}, []
-        self.terms = []
+        self.terms, self.ids, self.footer = [], set(), ""
         self.faults = []
         self.feed(text)
         self.close()
@@ -63,6 +70,7 @@ class Page(html.parser.HTMLParser):
     def handle_starttag(self, tag, attrs):
         its = dict(attrs)
         self.tags.add(tag)
+        self.ids |= {value for name, value in attrs if name == "id"}
         self.links += [value for name, value in attrs if name in ("href", "src")]
         self.faults += [f"{tag} has {name}" for name, _ in attrs if name.startswith("on") or name == "style"]
         if tag == "tr":
@@ -99,11 +107,28 @@ class Page(html.parser.HTMLParser):
     def handle_data(self, data):
         if self.inside("td", "th"):
             self.rows[-1][-1] += data
+        if self.inside("footer"):
+            self.footer += data
         if self.inside("dt", "dd"):
             self.terms[-1][self.inside("dd")] += data
         for tag in ("style", "script"):
             if self.open and self.open[-1] == tag:
                 self.texts[tag] = self.texts.get(tag, "") + data
+
+
+def words_of_codes():
+    """What each code means and what to do, as docs/PROTOCOL.md has them."""
+    part = (ROOT / "docs/PROTOCOL.md").read_text().partition("## What to do about a finding")[2].partition("\n## ")[0]
+    found = re.findall(r"^- `([a-z-]+)`: (.*?) \*(.*?)\*[ \n]", part, re.M | re.S)
+    return {code: [" ".join(text.replace("`", "").split()) for text in texts] for code, *texts in found}
+
+
+def concept_of(its):
+    """What stands in the cell of the concept of a fact: with the dimensions that have no column."""
+    dimensions = its["dimensions"]
+    others = [f"{name}: {'nil' if dimensions[name] is None else seen(dimensions[name])}"
+              for name in sorted(dimensions, key=str.encode) if name not in COLUMNS]
+    return dimensions["concept"] + "".join(others)
 
 
 def code_in_names(code):
@@ -160,6 +185,7 @@ def check_texts(folder):
     wanted |= {f"filer-{code_in_names(sent[0])}.html" for sent in SENT}
     wanted |= {f"refused-{code_in_names(sent[0])}.html" for sent in refused}
     wanted |= {f"filing-{at}.json" for at in range(1, len(valid) + 1)}
+    wanted |= {f"request-{at}.json" for at in range(len(valid) + 1, len(SENT) + 1)}
     hold("the files", {it.name for it in site.iterdir()}, wanted | {"index.html", "findings.html"})
     read = {it.name: page(site, it.name) for it in site.glob("*.html")}
     for number, (_, _, _, facts) in enumerate(valid, 1):
@@ -170,8 +196,12 @@ def check_texts(folder):
         hold(f"filing {number}: facts", [row[0] for row in rows], [seen(name) for name in names])
         texts = [row["value"] for row in records(SENT) if row["number"] == number]
         wanted = ["nil" if text is None else seen(text) for text in texts]
-        hold(f"filing {number}: values", [row[5] for row in rows], wanted)
-        hold(f"filing {number}: concepts", {row[1] for row in rows}, {"eg:A<b>&'"})
+        hold(f"filing {number}: values", [row[4] for row in rows], wanted)
+        hold(f"filing {number}: concepts, with what tells rows apart", [row[1] for row in rows],
+             [concept_of(facts[name]) for name in names])
+        hold(f"filing {number}: dates without midnight", {row[2] for row in rows}, {"2024-12-31"})
+        hold(f"filing {number}: its entity", dict(read[f"filing-{number}.html"].terms)["Entity"],
+             f"lei:{valid[number - 1][0]}")
         hold(f"filing {number}: when it was received", dict(read[f"filing-{number}.html"].terms)["Received"],
              shown(MOMENTS[number - 1]))
     hold("the keys of ACME", [row[1] for row in read["filer-ACME.html"].rows[1:]], ["k<1>'&", "k-2"])
@@ -181,12 +211,26 @@ def check_texts(folder):
     hold("the filers", [row for row in read["index.html"].rows[1:]],
          [["007", "1", "1", "0"], ["ACME", "2", "1", "0"], ["BETA", "1", "1", "2"], ["a.b_c-", "1", "1", "0"]])
     rows = read["refused-BETA.html"].rows[1:]
-    hold("the refused", [row[:2] for row in rows], [["b-2", ""], ["b-3", "1"]])
+    sizes = [str(len(report(sent[3]))) for sent in refused]
+    hold("the refused: their keys, when they came, what they were to replace, their sizes, and the next filing",
+         [row[:4] + row[5:] for row in rows], [["b-2", shown(MOMENTS[5]), "", sizes[0], "none"],
+                                               ["b-3", shown(MOMENTS[6]), "1", sizes[1], "none"]])
+    for at, (_, _, _, facts) in enumerate(refused, len(valid) + 1):
+        hold(f"refused report {at}: its bytes", (site / f"request-{at}.json").read_bytes(), report(facts))
+        hold(f"refused report {at}: is linked", read["refused-BETA.html"].linked[at - len(valid)][3],
+             f"request-{at}.json")
     column = report(SENT[-1][3]).decode().index('"1,5"') + 1
-    hold("where a finding is, and what it means",
-         f'report:1:{column}: number: "1,5" is no number (/facts/f1/value)' in rows[1][2], True)
-    found = {row[0]: int(row[1]) for row in read["findings.html"].rows[1:]}
-    hold("the codes", found, {"value": 1, "name": 1, "not-the-filer": 1, "number": 1, "not-replaceable": 1})
+    hold("what a finding means, and then where it is",
+         f'"1,5" is no numbernumber 1:{column} /facts/f1/value' in rows[1][4], True)
+    rows = read["findings.html"].rows[1:]
+    hold("the codes: findings, reports, filers, and whose", {row[0]: row[3:] for row in rows},
+         {code: ["1", "1", "1", "BETA "] for code in ("value", "name", "not-the-filer", "number", "not-replaceable")})
+    words = words_of_codes()
+    hold("the protocol's words", len(words), 26)
+    hold("the words of codes", {row[0]: row[1:3] for row in rows}, {row[0]: words[row[0]] for row in rows})
+    line = run(INTAKE, "digest", "--db", folder / "register.db").stdout.decode().strip()
+    hold("each page says of which register it is", {it.footer for it in read.values()},
+         {f"Register of {len(SENT)} requests, the last received: {shown(MOMENTS[-1])}. Digest: {line}"})
 
 
 def check_looks(folder):
@@ -201,30 +245,34 @@ def check_looks(folder):
     for name, its in sorted(read.items()):
         hold(f"{name}: tags", its.tags - TAGS, set())
         hold(f"{name}: faults", its.faults, [])
-        hold(f"{name}: links", [link for link in its.links
-                                       if not (site / link).is_file() and link not in ("#main", "data:,")], [])
+        hold(f"{name}: links",
+             [link for link in its.links if link != "data:," and not leads(site, read, name, link)], [])
         words = re.split(r"[; ]+", its.policy)
         hold(f"{name}: the hash of its style", words[words.index("style-src") + 1], hash_of(its.texts["style"]))
-        hold(f"{name}: the hash of its script", words[words.index("script-src") + 1], hash_of(its.texts["script"]))
+        if "script" in its.texts or not name.startswith("filing-"):
+            hold(f"{name}: the hash of its script", words[words.index("script-src") + 1], hash_of(its.texts["script"]))
         hold(f"{name}: nothing unsafe", "unsafe" in its.policy, False)
     # The registered ones of what was sent, in the order of their numbers.
-    valid = [*SENT[: len(SENT) - REFUSED], *MORE[:2]]
+    valid = [*SENT[: len(SENT) - REFUSED], *MORE[:2], MORE[3]]
     for number, (_, _, _, facts) in enumerate(valid, 1):
         its = read[f"filing-{number}.html"]
         wanted = [("amount" if "unit" in facts[at]["dimensions"] else None) for at in sorted(facts, key=str.encode)]
-        hold(f"filing {number}: amounts on the right", [row[5] for row in its.classes[1:]], wanted)
-        hold(f"filing {number}: periods on one line", {row[2] for row in its.classes[1:]}, {"period"})
-        hold(f"filing {number}: decimals on the right", {row[6] for row in its.classes[1:]}, {"number"})
-        hold(f"filing {number}: its last column has something",
-             any(row[len(its.rows[0]) - 1 :] not in ([], [""]) for row in its.rows[1:]) or len(its.rows[0]) == 7, True)
-        core = {"concept", "entity", "period", "unit"}
-        wide = any(set(it["dimensions"]) - core for it in facts.values())
-        hold(f"filing {number}: columns", len(its.rows[0]), 8 if wide else 7)
+        hold(f"filing {number}: amounts on the right", [row[4] for row in its.classes[1:]], wanted)
+        hold(f"filing {number}: periods", {row[2] for row in its.classes[1:]}, {"period"})
+        hold(f"filing {number}: decimals on the right", {row[5] for row in its.classes[1:]}, {"number"})
+        hold(f"filing {number}: columns", {len(row) for row in its.rows}, {6})
     style = read["index.html"].texts["style"]
     hold("moments on one line", {row[2] for row in read["filer-ACME.html"].classes[1:]}, {"moment"})
-    for rule in (".amount { text-align: right; }", ".moment, .period { white-space: nowrap; }"):
+    for rule in (".amount { text-align: right; }", ".moment { white-space: nowrap; }", "@media print {"):
         hold(f"the style has {rule}", rule in style, True)
-    hold("control characters are seen", read[f"filing-{len(valid)}.html"].rows[1][5], "bell \u2407 and return \u240d")
+    last = f"filing-{len(valid)}.html"
+    hold("control characters are seen", read[f"filing-{len(valid) - 1}.html"].rows[1][4],
+         "bell \u2407 and return \u240d")
+    hold("a time that is not midnight, and another entity", [row[1:3] for row in read[last].rows[1:]],
+         [["eg:A<b>&'", "2024-01-01/2024-12-31T12:00:00"], ["eg:A<b>&'entity: eg:BETA", "2024-12-31"]])
+    its = read["refused-BETA.html"]
+    hold("BETA: the filing that came after the refused ones is linked",
+         [(row[5], link[5]) for row, link in zip(its.rows[1:], its.linked[1:])], [(str(len(valid)), last)] * REFUSED)
     counts = dict(zip((row[0] for row in read["index.html"].rows), (row[3] for row in read["index.html"].linked)))
     wanted = {"BETA": "refused-BETA.html", "Acme": "refused-A~c~m~e.html"}
     hold("refused reports are linked from where they are counted",
@@ -234,10 +282,18 @@ def check_looks(folder):
         hold(f"{filer}: its page names {name}, and is named there", (name in read[its].links, its in read[name].links),
              (True, True))
     hold("BETA: the filing that was to be replaced is linked",
-         [row[1] for row in read["refused-BETA.html"].linked[1:]], [None, "filing-1.html"])
+         [row[2] for row in read["refused-BETA.html"].linked[1:]], [None, "filing-1.html"])
     hold("Acme: a filing that there is not is no link",
-         [(row[1], link[1]) for row, link in zip(read["refused-A~c~m~e.html"].rows[1:],
+         [(row[2], link[2]) for row, link in zip(read["refused-A~c~m~e.html"].rows[1:],
                                                  read["refused-A~c~m~e.html"].linked[1:])], [("99", None)])
+
+
+def leads(site, read, name, link):
+    """Whether a link of this page leads to something."""
+    target, _, part = link.partition("#")
+    if part:
+        return part in read[target or name].ids
+    return (site / target).is_file()
 
 
 def follow(site, name):
@@ -309,11 +365,14 @@ def check_hostile(folder):
         tell(f"{name} has {size} bytes", None if size <= bound else f"more than {bound}")
     rows = [row for its in pages.values() for row in its.rows[1:]]
     hold("each refused report", [row[0] for row in rows], [row[1] for row in sent])
-    hold("none of them has more findings", {row[2].count("report:") for row in rows[:-1]}, {FINDINGS})
-    hold("how many more", {row[2].rpartition("and ")[2].split()[0] for row in rows[:-1]}, {"980"})
-    hold("too many findings", (rows[-1][2].count("report:"), "too-many" in rows[-1][2]), (1, True))
-    place = f"(/facts/{'f' * 52}\u2026{'f' * 40}/dimensions/eg:x0000)"
-    hold("a place is shortened in its middle", place in rows[0][2], True)
+    hold("none of them has more findings", {row[4].count("dimension-value 1:") for row in rows[:-1]}, {FINDINGS})
+    hold("how many more", {row[4].rpartition("and ")[2].split()[0] for row in rows[:-1]}, {"980"})
+    hold("too many findings", rows[-1][4].count("too-many 1:"), 1)
+    place = f" /facts/{'f' * 52}\u2026{'f' * 40}/dimensions/eg:x0000"
+    hold("a place is shortened in its middle", place in rows[0][4], True)
+    hold("the reports of the code", [row[3:] for row in page(site, "findings.html").rows[1:]],
+         [["100000", "100", "1", "MALLORY "], *[["1", "1", "1", "BETA "]] * 4, ["1", "1", "1", "MALLORY "],
+          ["1", "1", "1", "BETA "]])
 
 
 def check_folder(folder):
@@ -328,6 +387,7 @@ def check_folder(folder):
     hold("the first of them is named", b"site/filing-2.html: " in done.stderr, True)
     hold("the others are written", {it.name for it in site.iterdir() if it.is_file()},
          {*(f"filing-{at}.html" for at in (1, 3, 4, 5)), *(f"filing-{at}.json" for at in range(1, 6)),
+          "request-6.json", "request-7.json",
           "filer-007.html", "filer-ACME.html", "filer-BETA.html",
           "filer-~a.~b_~c-.html", "findings.html", "index.html"})
 
@@ -346,6 +406,68 @@ def check_time(folder):
          None if took < 30 and size < 100 else "too slow, or too large")
 
 
+# Searches the page, and says in its title what is shown.
+SEARCHED = """
+var b = document.getElementById("search"); b.value = "bet"; b.dispatchEvent(new Event("input"));
+setTimeout(function () {
+var rows = Array.from(document.querySelectorAll("tbody tr"));
+document.title = rows.map(function (row) { return row.cells[0].textContent; }).join(" ");
+}, 500);
+"""
+# Searches a list of several pages from one of them, then sorts it by the keys, the last one first, and says in the
+# title what is shown, and how many milliseconds each took.
+LISTED = """
+var b = document.getElementById("search"), heads = document.querySelectorAll("thead button");
+function rows() { return document.querySelectorAll("tbody tr"); }
+function until(holds) { return new Promise(function (done) {
+(function look() { if (holds()) { done(); } else { setTimeout(look, 5); } })(); }); }
+async function all() {
+var begin = performance.now(); b.value = "m-2499"; b.dispatchEvent(new Event("input"));
+await until(function () { return rows().length === 1; });
+var found = rows()[0].cells[1].textContent, search = performance.now() - begin;
+b.value = ""; b.dispatchEvent(new Event("input")); begin = performance.now(); heads[1].click();
+await until(function () { return document.querySelector("[aria-sort=ascending]"); }); heads[1].click();
+await until(function () { return document.querySelector("[aria-sort=descending]"); });
+document.title = [found, rows().length, rows()[0].cells[1].textContent, Math.round(search),
+Math.round(performance.now() - begin)].join(" ");
+}
+all();
+"""
+
+
+def with_script(text, script):
+    """A page with one script more, which its policy allows: the folder is the trial's."""
+    return text.replace("script-src ", f"script-src {hash_of(script)} ").replace(
+        "</body>", f"<script>{script}</script></body>")
+
+
+def check_lists(folder, words):
+    """A list of 10,000 filings is searched and sorted over all its pages, within a second each."""
+    more = [("MANY", f"m-{at}", None, {"f1": fact("MANY", str(at))}) for at in range(10_000)]
+    make_odd_register(folder / "many.db", more)
+    site = folder / "many"
+    site.mkdir()
+    pages_of(folder / "many.db", site)
+    (site / "listed.html").write_text(with_script((site / "filer-MANY~2.html").read_text(), LISTED))
+    handler = functools.partial(Quiet, directory=site)
+    with http.server.ThreadingHTTPServer(("127.0.0.1", 0), handler) as server:
+        threading.Thread(target=server.serve_forever, daemon=True).start()
+        done = subprocess.run([*words, "--virtual-time-budget=30000", "--dump-dom",
+                               f"http://127.0.0.1:{server.server_port}/listed.html"],
+                              capture_output=True, check=False, timeout=120)
+        server.shutdown()
+    said = re.search(r"<title>(.*?)</title>", done.stdout.decode()).group(1).split()
+    hold("a list is searched and sorted over all its pages", said[:3], ["m-2499", "1000", "m-9999"])
+    if len(said) == 5:
+        tell(f"searched in {said[3]} ms, sorted twice in {said[4]} ms",
+             None if int(said[3]) <= 1000 and int(said[4]) <= 2000 else "too slow")
+
+
+class Quiet(http.server.SimpleHTTPRequestHandler):
+    def log_message(self, *_):
+        pass
+
+
 def check_browser(folder):
     browser = next(filter(None, map(shutil.which, ("chromium", "chromium-browser", "google-chrome"))), None)
     if browser is None:
@@ -361,18 +483,11 @@ def check_browser(folder):
         done = subprocess.run([*words, "--dump-dom", f"file://{site}/{name}"],
                               capture_output=True, check=False, timeout=60)
         hold(f"{name}: nothing in the console", re.findall(r"CONSOLE.*", done.stderr.decode(errors="replace")), [])
-    # The page is searched by a script that is put behind its own: the folder is this trial's.
-    # Its policy is taken out, since that allows no other script.
-    searched = re.sub("<meta http-equiv=[^>]*>", "", (site / "index.html").read_text()).replace(
-        "</body>",
-        '<script>var b = document.getElementById("search"); b.value = "bet"; b.dispatchEvent(new Event("input"));'
-        'document.title = [].filter.call(document.querySelectorAll("tbody tr"), function (r) { return !r.hidden; })'
-        '.map(function (r) { return r.cells[0].textContent; }).join(" ");</script></body>',
-    )
-    (site / "searched.html").write_text(searched)
-    done = subprocess.run([*words, "--dump-dom", f"file://{site}/searched.html"],
+    (site / "searched.html").write_text(with_script((site / "index.html").read_text(), SEARCHED))
+    done = subprocess.run([*words, "--virtual-time-budget=10000", "--dump-dom", f"file://{site}/searched.html"],
                           capture_output=True, check=False, timeout=60)
     hold("the search", re.search(r"<title>(.*?)</title>", done.stdout.decode()).group(1), "BETA")
+    check_lists(folder, words)
     if len(sys.argv) > 1:
         kept = pathlib.Path(sys.argv[1]).resolve()
         if ROOT in kept.parents:
@@ -397,6 +512,18 @@ FAULTS = [
     (check_looks, "filing-2.html", 'class="period"', 'class="text"'),
     (check_looks, "filing-7.html", "\u2407", "\u0007"),
     (check_looks, "filing-4.html", "Decimals</th></tr>", "Decimals</th><th>Other dimensions</th></tr>"),
+    (check_texts, "filing-1.html", ">2024-12-31<", ">2024-12-31T00:00:00<"),
+    (check_texts, "filing-5.html", "eg:Region: eg:South", "eg:Region: eg:North"),
+    (check_texts, "request-6.json", "documentInfo", "documentinfo"),
+    (check_texts, "refused-BETA.html", 'href="request-6.json"', 'href="request-7.json"'),
+    (check_texts, "refused-BETA.html", "is no number", "is a number"),
+    (check_texts, "refused-BETA.html", ">none<", ">1<"),
+    (check_texts, "findings.html", "its value is no number", "its value is a number"),
+    (check_texts, "filing-3.html", "Digest: <code>7 ", "Digest: <code>6 "),
+    (check_looks, "findings.html", "refused-BETA.html#request-", "refused-BETA.html#report-"),
+    (check_looks, "refused-BETA.html", 'href="filing-8.html"', 'href="filing-7.html"'),
+    (check_looks, "filing-8.html", "entity: eg:BETA", "entity: lei:BETA"),
+    (check_looks, "index.html", "@media print", "@media screen"),
     (check_looks, "index.html", 'href="refused-BETA.html"', 'href="findings.html"'),
     (check_looks, "refused-A~c~m~e.html", ">99<", '><a href="filing-99.html">99</a><'),
     (check_looks, "index.html", "<body>", "<body onload='x'>"),

@@ -187,7 +187,8 @@ class Serving:
                 if line.owed and line.peer.fileno() >= 0:
                     self.go_on(line, selectors.EVENT_WRITE)
             self.cut_off()
-        print(f"intake: ended after {self.taken} connections", file=sys.stderr, flush=True)
+        ending = "" if self.taken == 1 else "s"
+        print(f"intake: ended after {self.taken} connection{ending}", file=sys.stderr, flush=True)
 
     def spins(self):
         return FAULT == "spins without a descriptor" and time.monotonic() < self.stalled_until

@@ -63,6 +63,7 @@ impl fmt::Display for LogMessage {
                 "the register is full: --limit is {limit}, and a report with a new key gets 503"
             ),
             LogMessage::OpenAgain => f.write_str("the database is open again"),
+            LogMessage::Served { connections: 1 } => f.write_str("ended after 1 connection"),
             LogMessage::Served { connections } => write!(
                 f,
                 "ended after {connections} connections"

@@ -2,16 +2,19 @@
 use Rattle.std.proofs.Common.{◌≡◌, ℕ, ◌+◌, suc, List, [], ◌∷◌, ◌++◌, append-nil, append_assoc, Option, Some, None}
 use Rattle.std.proofs.Common.{Result, Ok, Err, OnOk, refl, sym, ap, subst, ◌∙◌, arith}
 use Rattle.std.proofs.lemmas.Grind.{flat_map-append}
-use Rattle.std.specs.Prelude.{◌↔◌, Contains, count_by, flat_map, map}
+use Rattle.std.proofs.lemmas.List.{length-map}
+use Rattle.std.specs.Prelude.{◌↔◌, Contains, filter, flat_map, length, map}
 use Rattle.std.specs.Ordering.{nat_cmp}
 use Rattle.std.specs.Cmp.Lexicographic.{slice_cmp}
 use Rattle.std.specs.List.Sorted.{IsStrictlySortedBy}
 use Rattle.filing_model.specs.Request.{Request}
 use Rattle.filing_model.specs.Register.{Kept, kept, register}
 use Rattle.register_pages.specs.declared.fault.WritingFault.{WritingFault}
-use Rattle.register_pages.specs.Pages.{Adds, File, Page, Writes, WritesSite, filer_page, filing_files, is_filed}
-use Rattle.register_pages.specs.Pages.{is_refused}
-use Rattle.register_pages.specs.Pages.{numbered, other_pages, pages_for, pages_of_filer, refused_pages, sent_by}
+use Rattle.register_pages.specs.declared.own.Own.{Own}
+use Rattle.register_pages.specs.Own.{AreOwn, places_of}
+use Rattle.register_pages.specs.Pages.{Adds, File, Page, Writes, WritesSite, files_of_filer, filer_page, filing_files}
+use Rattle.register_pages.specs.Pages.{is_refused, numbered, other_files, pages_for, refused_files, refused_pages}
+use Rattle.register_pages.specs.Pages.{refused_report, sent_by}
 
 adds_none : (old : Option (List File)) → Adds old old []
 adds_none None = tt
@@ -50,16 +53,27 @@ module _ (m m' m'' : Option WritingFault) (old mid new : Option (List File)) whe
       ∙ ap (λ l. flat_map pages xs ++ l) (append-nil (pages x)) in
       subst (Writes m m'' old new) (sym all) (writes_then (flat_map pages xs) (pages x) p q)
 
-  -- the pages of a filer, who has so many filings and refused reports
-  pub filer_written : (ks : List Kept) (filer : List ℕ) (filed refused : ℕ)
-      → filed ≡ count_by is_filed (sent_by filer ks) → refused ≡ count_by is_refused (sent_by filer ks)
-      → Writes m m' old mid (numbered (filer_page filer) (pages_for 1000 filed))
-      → Writes m' m'' mid new (refused_pages filer refused) → Writes m m'' old new (pages_of_filer ks filer)
-  filer_written ks filer filed refused e f p q =
+  -- the files of a filer, of whom this is known
+  pub filer_written : (ks : List Kept) (filer : List ℕ) (own : Own) → AreOwn own (sent_by filer ks)
+      → Writes m m' old mid (numbered (filer_page filer) (pages_for 1000 (length own.filings.items)))
+      → Writes m' m'' mid new (refused_files filer (filter is_refused (sent_by filer ks)))
+      → Writes m m'' old new (files_of_filer ks filer)
+  filer_written ks filer own are p q =
       let first : ℕ → List File = λ n. numbered (filer_page filer) (pages_for 1000 n) in
-      subst (λ n. Writes m m'' old new (first n ++ refused_pages filer (count_by is_refused (sent_by filer ks)))) e
-      (subst (λ n. Writes m m'' old new (first filed ++ refused_pages filer n)) f
-      (writes_then (first filed) (refused_pages filer refused) p q))
+      let refused = refused_files filer (filter is_refused (sent_by filer ks)) in
+      subst (λ n. Writes m m'' old new (first n ++ refused)) are.filings
+      (writes_then (first (length own.filings.items)) refused p q)
+
+  -- the pages of refused requests with these places, and the report of each
+  pub refused_written : (filer places : List ℕ) (refused : List (ℕ × Kept)) → places ≡ places_of refused
+      → Writes m m' old mid (refused_pages filer (length places))
+      → Writes m' m'' mid new (flat_map refused_report refused)
+      → Writes m m'' old new (refused_files filer refused)
+  refused_written filer places refused are p q =
+      let reports = flat_map refused_report refused in
+      let many : length places ≡ length refused = ap length are ∙ length-map refused (λ (r : ℕ × Kept). r.0) in
+      subst (λ n. Writes m m'' old new (refused_pages filer n ++ reports)) many
+      (writes_then (refused_pages filer (length places)) reports p q)
 
 pub writes_none : (m : Option WritingFault) (old : Option (List File)) → Writes m m old old []
 writes_none m old e = (e, adds_none old)
@@ -69,7 +83,7 @@ pub site_written : {X E : Type 0} (requests : List Request) (old new : Option (L
     (filers : List (List ℕ)) (r : Result X E)
     → ((filer : List ℕ) → Contains filers filer ↔ Contains (map (λ k. k.request.filer) (kept requests)) filer)
     → OnOk r (IsStrictlySortedBy (slice_cmp nat_cmp) filers)
-    → OnOk r (Adds old new (filing_files (register requests) ++ other_pages (kept requests) filers))
+    → OnOk r (Adds old new (filing_files (register requests) ++ other_files (kept requests) filers))
     → OnOk r (WritesSite requests old new)
 site_written requests old new filers (Ok x) each ascend written =
     (filers, record { ascend = ascend; each = each }, written)

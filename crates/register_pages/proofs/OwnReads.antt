@@ -1,8 +1,10 @@
 -- What the SELECT of one filer's requests reads.
-use Rattle.std.proofs.Common.{◌≡◌, ℕ, ◌+◌, ◌<◌, zero, suc, true, false, List, [], ◌∷◌, map, filter, length, get_or}
-use Rattle.std.proofs.Common.{codes, refl, ap, ◌∙◌, ⊎_elim, arith}
-use Rattle.std.specs.Prelude.{bytes_eq}
+use Rattle.std.proofs.Common.{◌≡◌, ℕ, ◌+◌, ◌<◌, true, false, List, [], ◌∷◌, map, filter, length, get_or}
+use Rattle.std.proofs.Common.{codes, refl, ap, ◌∙◌, ⊎_elim, inl, inr}
+use Rattle.std.specs.Prelude.{All, bytes_eq}
 use Rattle.std.proofs.lemmas.Bool.{cases_Bool}
+use Rattle.std.proofs.lemmas.List.{get_or-map}
+use Rattle.std.proofs.lemmas.List.Elements.{All-cons, All-filter, All-nil, All-weaker}
 use Rattle.sqlite_schema.specs.declared.schema.Index.{Index}
 use Rattle.sqlite_schema.specs.declared.schema.View.{View}
 use Rattle.sqlite_tied.specs.Compute.{everything}
@@ -30,11 +32,12 @@ use Rattle.register_rows.specs.Schema.{HasCommon, common_tables, kept_table}
 use Rattle.register_tables.specs.Reads.{Knows, by_first}
 use Rattle.register_tables.specs.Registers.{IsRegisterOf}
 use Rattle.register_tables.proofs.ReadTexts.{columns, equals, on_ours}
+use Rattle.register_store.specs.Found.{IsPlaced}
 use Rattle.register_store.specs.Reads.{has_filer}
 use Rattle.register_store.proofs.ReplaceLemmas.{no_kept}
 use Rattle.register_pages.specs.declared.reads.TheConstants.{OWN}
-use Rattle.register_pages.specs.Own.{AreOwn, own_columns}
-use Rattle.register_pages.specs.Pages.{sent_by}
+use Rattle.register_pages.specs.Own.{ArePlaced, own_columns, own_row}
+use Rattle.register_pages.specs.Pages.{is_refused, placed, sent_by}
 
 abbrev pub own_text : List ℕ
 own_text = OWN.now
@@ -73,34 +76,48 @@ module _ (filer : List ℕ) where
   its_filer : (at : ℕ) (k : Kept) → has_filer filer (kept_row at k) ≡ bytes_eq k.request.filer filer
   its_filer at k = and_true _ ∙ same_text k.request.filer filer
 
-  pub are_own : (at : ℕ) (ks : List Kept)
-      → AreOwn (map own_columns (filter (has_filer filer) (counted_from kept_row at ks))) (sent_by filer ks)
-  are_own at [] = tt
-  are_own at (x ∷ ks) = ⊎_elim
-      (λ (t : bytes_eq x.request.filer filer ≡ true). rw (its_filer at x ∙ t, t) ((at, refl), are_own (at + 1) ks))
-      (λ (f : bytes_eq x.request.filer filer ≡ false). rw (its_filer at x ∙ f, f) (are_own (at + 1) ks))
+  own_rows : (at : ℕ) (ks : List Kept)
+      → map own_columns (filter (has_filer filer) (counted_from kept_row at ks))
+      ≡ map own_row (filter (λ p. bytes_eq p.1.request.filer filer) (placed at ks))
+  own_rows at [] = refl
+  own_rows at (x ∷ ks) = ⊎_elim
+      (λ (t : bytes_eq x.request.filer filer ≡ true).
+      rw (its_filer at x ∙ t, t) (ap (λ rows. own_row (at, x) ∷ rows) (own_rows (at + 1) ks)))
+      (λ (f : bytes_eq x.request.filer filer ≡ false). rw (its_filer at x ∙ f, f) (own_rows (at + 1) ks))
       (cases_Bool (bytes_eq x.request.filer filer))
 
   pub own_shown : {old_style : ℕ} (F : List Request) (old new : State) (rows : List Row)
       → HasCommitted (IsRegisterOf old_style F) old
       → ReadsRows kept_table (has_filer filer) by_first own_columns rows old new
-      → rows ≡ map own_columns (filter (has_filer filer) (counted_from kept_row 1 (kept F)))
+      → rows ≡ map own_row (sent_by filer (kept F))
   own_shown F old new rows was r =
       let wanted = counted_from kept_row 1 (kept F) in
       r.ordered wanted (was.now r.same.0.was_open).rows.rows.kept_is
       (ascending-filter _ (has_filer filer) wanted (counted_rise kept_row by_first (λ _ _. refl) 1 (kept F)))
+      ∙ own_rows 1 (kept F)
+
+-- ---- each is at its place
+
+placed_each : (at : ℕ) (ks : List Kept) → All (λ p. IsPlaced at p.0 ks p.1) (placed at ks)
+placed_each at [] = All-nil (λ (p : ℕ × Kept). IsPlaced at p.0 [] p.1)
+placed_each at (x ∷ ks) =
+    All-cons (λ (p : ℕ × Kept). IsPlaced at p.0 (x ∷ ks) p.1) (at, x) (placed (at + 1) ks) (inl (refl, refl))
+    (All-weaker (λ (p : ℕ × Kept). IsPlaced (at + 1) p.0 ks p.1) (λ (p : ℕ × Kept). IsPlaced at p.0 (x ∷ ks) p.1)
+    (λ p. inr) (placed (at + 1) ks) (placed_each (at + 1) ks))
+
+pub refused_placed : (filer : List ℕ) (ks : List Kept) → ArePlaced ks (filter is_refused (sent_by filer ks))
+refused_placed filer ks =
+    let IsThere : ℕ × Kept → Type 0 = λ p. IsPlaced 1 p.0 ks p.1 in
+    All-filter is_refused IsThere (sent_by filer ks)
+    (All-filter (λ p. bytes_eq p.1.request.filer filer) IsThere (placed 1 ks) (placed_each 1 ks))
 
 -- ---- one of them
 
-pub as_many_own : (rows : List Row) (ks : List Kept) → AreOwn rows ks → length rows ≡ length ks
-as_many_own [] [] h = refl
-as_many_own [] (k ∷ ks) h = absurd h
-as_many_own (row ∷ rows) [] h = absurd h
-as_many_own (row ∷ rows) (k ∷ ks) h = ap suc (as_many_own rows ks h.1)
+-- a pair, for the end of a list
+abbrev pub no_request : ℕ × Kept
+no_request = (0, no_kept)
 
-pub own_at : (i : ℕ) (rows : List Row) (ks : List Kept) (row : Row) → AreOwn rows ks → i < length rows
-    → row ≡ get_or rows i row → (seq : ℕ) × (row ≡ own_columns (kept_row seq (get_or ks i no_kept)))
-own_at i [] ks row h low is = absurd (omega (arith, low))
-own_at i (x ∷ rows) [] row h low is = absurd h
-own_at zero (x ∷ rows) (k ∷ ks) row h low is = (h.0.0, is ∙ h.0.1)
-own_at (suc i) (x ∷ rows) (k ∷ ks) row h low is = own_at i rows ks row h.1 (omega (arith, low)) is
+pub own_at : (i : ℕ) (rows : List Row) (sent : List (ℕ × Kept)) (row : Row) → rows ≡ map own_row sent → i < length sent
+    → row ≡ get_or rows i row → row ≡ own_row (get_or sent i no_request)
+own_at i rows sent row are low is =
+    is ∙ ap (λ rs. get_or rs i row) are ∙ get_or-map own_row sent i no_request row low

@@ -1,7 +1,7 @@
 -- Which pages a register has, and which reports beside them, by the names of their files; own rules.
-use Rattle.std.specs.Prelude.{◌≡◌, ◌↔◌, ◌&&◌, ◌==◌, ◌-◌, ◌/◌, ℕ, zero, suc, Bool, not, List, [], ◌∷◌, ◌++◌, map, filter}
-use Rattle.std.specs.Prelude.{flat_map, count_by, codes, length, bytes_eq, nat_le, if◌then◌else◌, Contains, Option}
-use Rattle.std.specs.Prelude.{Some, None, is_some}
+use Rattle.std.specs.Prelude.{◌≡◌, ◌↔◌, ◌&&◌, ◌==◌, ◌+◌, ◌-◌, ◌/◌, ℕ, zero, suc, Bool, not, List, [], ◌∷◌, ◌++◌, map}
+use Rattle.std.specs.Prelude.{filter, flat_map, count_by, codes, length, bytes_eq, nat_le, if◌then◌else◌, Contains}
+use Rattle.std.specs.Prelude.{Option, Some, None, is_some}
 use Rattle.std.specs.Ordering.{nat_cmp}
 use Rattle.std.specs.Cmp.Lexicographic.{slice_cmp}
 use Rattle.std.specs.List.Sorted.{IsStrictlySortedBy}
@@ -57,6 +57,10 @@ refused_page filer number = codes "refused-" ++ file_code filer ++ page_number n
 abbrev pub report_file : ℕ → List ℕ
 report_file filing = codes "filing-" ++ decimal filing ++ codes ".json"
 
+-- the report of a refused request, by the place of that among the kept ones
+abbrev pub request_file : ℕ → List ℕ
+request_file place = codes "request-" ++ decimal place ++ codes ".json"
+
 -- ---- how many there are
 
 -- so many pages, from the first on
@@ -68,15 +72,20 @@ numbered page (suc n) = numbered page n ++ Page (page (suc n)) ∷ []
 abbrev pub pages_for : ℕ → ℕ → ℕ
 pages_for most rows = suc ((rows - 1) / most)
 
--- the kept requests of a filer
-abbrev pub sent_by : List ℕ → List Kept → List Kept
-sent_by filer ks = filter (λ k. bytes_eq k.request.filer filer) ks
+-- kept requests, each behind its place, if the first of them is at this one
+abbrev pub placed : ℕ → List Kept → List (ℕ × Kept)
+placed place [] = []
+placed place (k ∷ ks) = (place, k) ∷ placed (place + 1) ks
 
-abbrev pub is_filed : Kept → Bool
-is_filed k = is_some (number_of k.outcome)
+-- the kept requests of a filer, each behind its place
+abbrev pub sent_by : List ℕ → List Kept → List (ℕ × Kept)
+sent_by filer ks = filter (λ p. bytes_eq p.1.request.filer filer) (placed 1 ks)
 
-abbrev pub is_refused : Kept → Bool
-is_refused k = not (is_filed k)
+abbrev pub is_filed : ℕ × Kept → Bool
+is_filed p = is_some (number_of p.1.outcome)
+
+abbrev pub is_refused : ℕ × Kept → Bool
+is_refused p = not (is_filed p)
 
 -- the files of a filing: its pages, with at most 1,000 facts on each, and its report
 abbrev pub files_of_filing : Filing → List File
@@ -91,16 +100,24 @@ filing_files filings = flat_map files_of_filing filings
 abbrev pub refused_pages : List ℕ → ℕ → List File
 refused_pages filer reports = if reports == 0 then [] else numbered (refused_page filer) (pages_for 50 reports)
 
--- the pages of a filer: of its filings, at most 1,000 on each, and of its refused reports
-abbrev pub pages_of_filer : List Kept → List ℕ → List File
-pages_of_filer ks filer =
-    numbered (filer_page filer) (pages_for 1000 (count_by is_filed (sent_by filer ks)))
-    ++ refused_pages filer (count_by is_refused (sent_by filer ks))
+-- the report of a refused request
+abbrev pub refused_report : ℕ × Kept → List File
+refused_report p = Report (request_file p.0) p.1.request.body ∷ []
 
--- the pages of each filer, the one of the findings, and at last the one of all filers
-abbrev pub other_pages : List Kept → List (List ℕ) → List File
-other_pages ks filers =
-    flat_map (pages_of_filer ks) filers ++ Page (codes "findings.html") ∷ Page (codes "index.html") ∷ []
+-- what is written of a filer's refused requests: their pages, and the report of each
+abbrev pub refused_files : List ℕ → List (ℕ × Kept) → List File
+refused_files filer refused = refused_pages filer (length refused) ++ flat_map refused_report refused
+
+-- the files of a filer: the pages of its filings, at most 1,000 on each, and what is written of its refused requests
+abbrev pub files_of_filer : List Kept → List ℕ → List File
+files_of_filer ks filer =
+    numbered (filer_page filer) (pages_for 1000 (count_by is_filed (sent_by filer ks)))
+    ++ refused_files filer (filter is_refused (sent_by filer ks))
+
+-- the files of each filer, the page of the findings, and at last the one of all filers
+abbrev pub other_files : List Kept → List (List ℕ) → List File
+other_files ks filers =
+    flat_map (files_of_filer ks) filers ++ Page (codes "findings.html") ∷ Page (codes "index.html") ∷ []
 
 -- The codes of the filers of the kept requests, whether they were registered or refused: each once, in the order of
 -- their bytes.
@@ -112,4 +129,4 @@ pub record AreFilers (requests : List Request) (filers : List (List ℕ)) : Type
 abbrev pub WritesSite : List Request → Option (List File) → Option (List File) → Type 0
 WritesSite requests old new =
     (filers : List (List ℕ)) × AreFilers requests filers
-    × Adds old new (filing_files (register requests) ++ other_pages (kept requests) filers)
+    × Adds old new (filing_files (register requests) ++ other_files (kept requests) filers)

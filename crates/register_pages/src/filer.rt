@@ -4,24 +4,24 @@ ghost use Rattle.std.specs.Prelude.{◌≤◌, length, OnOk};
 ghost use Rattle.filing_model.specs.Register.{kept};
 ghost use Rattle.table_rows.specs.Leaving.{MayRead};
 ghost use Rattle.register_store.specs.Store.{ForRegister};
-ghost use Rattle.register_pages.specs.Pages.{Writes, filer_page, numbered, pages_for as pages_for_lem, pages_of_filer};
+ghost use Rattle.register_pages.specs.Pages.{Writes, filer_page, numbered, pages_for as pages_for_lem, files_of_filer};
 
 use crate::fault::WritingFault;
 use crate::folder::{Folder, put};
-use crate::frame::{
-    begin, begin_table, end, end_table, filing_cell, moment_cell, number_cell, text_cell,
-};
+use crate::frame::{Search, begin, end_by_table, filing_cell, moment_cell, number_cell, text_cell};
 use crate::own::{Filed, Own, own_of};
 use crate::parts::{MOST_ROWS, Part, behind, first, neighbours, pages_for};
 use crate::refused::write_refused;
+use crate::reports::write_reports;
 use crate::{Markup, names};
 use register_extracts::{Moment, moment_at};
 use register_rows::Catalogue;
 use sqlite::{Alter, Connection};
 use std::alloc::{AllocError, Global};
 
-/// The caption and the first row of the table of a filer's filings.
-const HEAD: &str = "<caption>Filings</caption>\n\
+/// The beginning of the table of a filer's filings: its caption and its first row.
+const HEAD: &str = "<table class=\"filings\">\n\
+    <caption>Filings</caption>\n\
     <thead><tr>\
     <th scope=\"col\" class=\"number\">Number</th>\
     <th scope=\"col\">Key</th>\
@@ -122,17 +122,14 @@ fn filings_page(
     rows: &Markup,
     refused: usize,
     part: Part,
+    about: &Markup,
 ) -> Result<Markup, AllocError> {
     let mut page = begin(alloc, filer)?;
     refused_line(&mut page, alloc, filer, refused)?;
     let before = names::of_filer(alloc, KIND, filer, part.before())?;
     let next = names::of_filer(alloc, KIND, filer, part.next())?;
     neighbours(&mut page, alloc, part, before.as_str(), next.as_str())?;
-    begin_table(&mut page, HEAD)?;
-    page.piece(rows)?;
-    end_table(&mut page)?;
-    end(&mut page)?;
-    Ok(page)
+    end_by_table(page, alloc, HEAD, rows, about, Search::Box)
 }
 
 /// Writes the pages of a filer's filings.
@@ -142,6 +139,7 @@ fn write_filings<S: Alter, F: Folder>(
     catalogue: &Catalogue,
     filer: &str,
     own: &Own,
+    about: &Markup,
     folder: &mut F,
     missed: &mut Option<WritingFault>,
 ) -> Result<(), WritingFault>
@@ -155,7 +153,7 @@ fn write_filings<S: Alter, F: Folder>(
     for at in 0..pages {
         let part = Part::new(at + 1, pages);
         let rows = read_rows(alloc, conn, catalogue, first(rest, MOST_ROWS))?;
-        let page = filings_page(alloc, filer, &rows, refused, part);
+        let page = filings_page(alloc, filer, &rows, refused, part, about);
         put(
             folder,
             missed,
@@ -167,21 +165,23 @@ fn write_filings<S: Alter, F: Folder>(
     Ok(())
 }
 
-/// Writes the pages of a filer.
+/// Writes the pages of a filer, and the reports that were refused.
 pub(crate) fn write_filer<S: Alter, F: Folder>(
     alloc: Global,
     conn: &mut Connection<S>,
     catalogue: &Catalogue,
     filer: &str,
+    about: &Markup,
     folder: &mut F,
     missed: &mut Option<WritingFault>,
 ) -> Result<(), WritingFault>
     ensures written { ForRegister S.Store conn.old conn.new (λ _ requests.
         OnOk result (Writes missed.old missed.new (F.pages folder.old) (F.pages folder.new)
-        (pages_of_filer (kept requests) filer.now))) }
+        (files_of_filer (kept requests) filer.now))) }
     ensures leaves { MayRead S.Store conn.old conn.new result }
 {
     let own = own_of(alloc, conn, filer)?;
-    write_filings(alloc, conn, catalogue, filer, &own, folder, missed)?;
-    write_refused(alloc, conn, catalogue, filer, &own.refused, folder, missed)
+    write_filings(alloc, conn, catalogue, filer, &own, about, folder, missed)?;
+    write_refused(alloc, conn, catalogue, filer, &own, about, folder, missed)?;
+    write_reports(alloc, conn, &own.refused, folder, missed)
 }

@@ -56,6 +56,14 @@ impl Filers {
         }
     }
 
+    /// How many reports of a filer were refused.
+    pub(crate) fn refused(&self, filer: &str) -> u64 {
+        match self.list.get(filer) {
+            Some(known) => known.refused,
+            None => 0,
+        }
+    }
+
     /// Takes out what is known of a filer.
     fn take(&mut self, filer: &str) -> Tally
         ensures { HaveSame (filer.now ∷ codes_of self.new) (filer.now ∷ codes_of self.old) }

@@ -35,12 +35,14 @@ fn next_number(number: u64, line: Option<Line>) -> u64 {
     }
 }
 
-/// Counts the codes that were found in the request at this place, if it was refused.
+/// Counts the codes that were found in the filer's request at this place, if it was refused.
 fn gather_codes<S: Alter>(
     alloc: Global,
     conn: &mut Connection<S>,
     place: u64,
     line: Option<Line>,
+    filer: &str,
+    before: u64,
     found: &mut Found,
 ) -> Result<(), StoreFault>
     ensures { MayRead S.Store conn.old conn.new result }
@@ -49,7 +51,7 @@ fn gather_codes<S: Alter>(
         Some(_) => Ok(()),
         None => {
             let findings = findings_at(alloc, conn, place)?;
-            found.add(&findings);
+            found.add(alloc, filer, before, place, &findings)?;
             Ok(())
         }
     }
@@ -70,8 +72,17 @@ fn gather_one<S: Alter>(
     ensures leaves { MayRead S.Store conn.old conn.new result }
 {
     let sent = sent_at(conn, place)?;
-    gather_codes(alloc, conn, place, line, found)?;
-    filers.add(alloc, sent.filer.as_str(), line)?;
+    let filer = sent.filer.as_str();
+    gather_codes(
+        alloc,
+        conn,
+        place,
+        line,
+        filer,
+        filers.refused(filer),
+        found,
+    )?;
+    filers.add(alloc, filer, line)?;
     Ok(())
 }
 

@@ -3,6 +3,7 @@
 //! are known here.
 #![tactic(auto)]
 
+mod about;
 mod chart;
 mod escaping;
 mod fault;
@@ -20,8 +21,10 @@ mod parts;
 mod piece;
 mod reads;
 mod refused;
+mod reports;
 mod short;
 mod site;
+mod words;
 
 pub use fault::{PagesFault, WritingFault};
 pub use folder::{Folder, NotWritten};

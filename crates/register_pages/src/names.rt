@@ -2,7 +2,7 @@
 
 ghost use Rattle.std.specs.Prelude.{◌≡◌, ◌++◌, codes, string_bytes, IfOk, OnOk};
 ghost use Rattle.register_pages.specs.Pages.{file_code as file_code_lem, file_letter, filing_page};
-ghost use Rattle.register_pages.specs.Pages.{page_number as page_number_lem, report_file};
+ghost use Rattle.register_pages.specs.Pages.{page_number as page_number_lem, report_file, request_file};
 
 use std::alloc::{AllocError, Global};
 
@@ -87,4 +87,11 @@ pub(crate) fn of_report(alloc: Global, filing: u64) -> Result<String, AllocError
     ensures { IfOk result (λ name. string_bytes name ≡ report_file filing) }
 {
     format!(in alloc; "filing-{filing}.json")
+}
+
+/// The file of the report of the refused request at this place.
+pub(crate) fn of_request(alloc: Global, place: u64) -> Result<String, AllocError>
+    ensures { IfOk result (λ name. string_bytes name ≡ request_file place) }
+{
+    format!(in alloc; "request-{place}.json")
 }

@@ -10,11 +10,12 @@ use crate::filer::refused_count;
 use crate::filers::{Filers, Tally};
 use crate::folder::{Folder, put};
 use crate::found::Found;
-use crate::frame::{begin, begin_table, end, end_table, filer_link, number_cell};
+use crate::frame::{Search, begin, end_by_table, filer_link, number_cell};
 use std::alloc::{AllocError, Global};
 
-/// The caption and the first row of the table of filers.
-const HEAD: &str = "<caption>Filers</caption>\n\
+/// The beginning of the table of filers: its caption and its first row.
+const HEAD: &str = "<table class=\"filers\">\n\
+    <caption>Filers</caption>\n\
     <thead><tr>\
     <th scope=\"col\">Filer</th>\
     <th scope=\"col\" class=\"number\">Filings</th>\
@@ -45,6 +46,7 @@ fn index_page(
     filings: u64,
     filers: &Filers,
     refused: u64,
+    about: &Markup,
 ) -> Result<Markup, AllocError> {
     let mut page = begin(alloc, "Register")?;
     page.constant("<p>Filings: ")?;
@@ -52,13 +54,11 @@ fn index_page(
     page.constant("; <a href=\"findings.html\">refused reports: ")?;
     page.number(alloc, refused)?;
     page.constant("</a></p>\n")?;
-    begin_table(&mut page, HEAD)?;
+    let mut rows = Markup::new(alloc);
     for (code, tally) in filers.list.iter() {
-        filer_row(&mut page, alloc, code.as_str(), *tally)?;
+        filer_row(&mut rows, alloc, code.as_str(), *tally)?;
     }
-    end_table(&mut page)?;
-    end(&mut page)?;
-    Ok(page)
+    end_by_table(page, alloc, HEAD, &rows, about, Search::Box)
 }
 
 /// Writes the page of the findings, and at last the one of all filers.
@@ -67,19 +67,20 @@ pub(crate) fn write_others<F: Folder>(
     filings: u64,
     filers: &Filers,
     found: &Found,
+    about: &Markup,
     folder: &mut F,
     missed: &mut Option<WritingFault>,
 )
     ensures { Writes missed.old missed.new (F.pages folder.old) (F.pages folder.new)
         (Page (codes "findings.html") ∷ Page (codes "index.html") ∷ []) }
 {
-    let page = findings_page(alloc, &found.codes);
+    let page = findings_page(alloc, &found.codes, about);
     put(
         folder,
         missed,
         String::from_str(alloc, "findings.html"),
         page,
     );
-    let page = index_page(alloc, filings, filers, found.reports);
+    let page = index_page(alloc, filings, filers, found.reports, about);
     put(folder, missed, String::from_str(alloc, "index.html"), page);
 }

@@ -1,13 +1,13 @@
 //! What one filer sent.
 
-ghost use Rattle.std.specs.Prelude.{◌≡◌, ℕ, List, count_by, is_some, length, IfOk, OnOk};
+ghost use Rattle.std.specs.Prelude.{◌≡◌, ℕ, List, is_some, length, map, IfOk, OnOk};
 ghost use Rattle.sqlite.specs.Order.{Row};
 ghost use Rattle.filing_model.specs.Register.{Kept, kept};
 ghost use Rattle.table_rows.specs.Leaving.{OnlyReads};
-ghost use Rattle.register_rows.specs.Register.{kept_row, number_of};
+ghost use Rattle.register_rows.specs.Register.{number_of};
 ghost use Rattle.register_store.specs.Store.{ForRegister};
-ghost use Rattle.register_pages.specs.Own.{AreOwn, GainsOne, own_columns};
-ghost use Rattle.register_pages.specs.Pages.{is_filed, is_refused, sent_by};
+ghost use Rattle.register_pages.specs.Own.{AreOwn, GainsOne, own_row};
+ghost use Rattle.register_pages.specs.Pages.{sent_by};
 
 use crate::reads::own_rows;
 use sqlite::{Alter, Connection, Row};
@@ -40,7 +40,7 @@ struct OwnRow {
 /// What such a row says.
 fn read_row(row: &Row) -> Result<OwnRow, StoreFault>
     ensures { IfOk result (λ own.
-        (seq : ℕ) (k : Kept) → row.now ≡ own_columns (kept_row seq k) → own.number ≡ number_of k.outcome) }
+        (p : ℕ × Kept) → row.now ≡ own_row p → (own.place ≡ p.0) × (own.number ≡ number_of p.1.outcome)) }
 {
     let place = row.get(0)?;
     let key = row.get(1)?;
@@ -51,8 +51,8 @@ fn read_row(row: &Row) -> Result<OwnRow, StoreFault>
 impl Own {
     /// Adds what a row says.
     fn add(&mut self, row: OwnRow) -> Result<(), AllocError>
-        ensures { OnOk result (GainsOne (is_some row.number) (length self.old.filings.items)
-            (length self.new.filings.items) (length self.old.refused.items) (length self.new.refused.items)) }
+        ensures { OnOk result (GainsOne (is_some row.number) row.place (length self.old.filings.items)
+            (length self.new.filings.items) self.old.refused.items self.new.refused.items) }
     {
         match row.number {
             Some(number) => self.filings.push(Filed {
@@ -69,8 +69,7 @@ impl Own {
 /// What such rows say.
 fn read_rows(alloc: Global, rows: &[Row]) -> Result<Own, StoreFault>
     ensures { IfOk result (λ own.
-        (ks : List Kept) → AreOwn rows.now ks
-        → (length own.filings.items ≡ count_by is_filed ks) × (length own.refused.items ≡ count_by is_refused ks)) }
+        (sent : List (ℕ × Kept)) → rows.now ≡ map own_row sent → AreOwn own sent) }
 {
     let mut own = Own {
         filings: Vec::new(alloc),
@@ -89,8 +88,7 @@ pub(crate) fn own_of<S: Alter>(
     filer: &str,
 ) -> Result<Own, StoreFault>
     ensures found { ForRegister S.Store conn.old conn.new (λ _ requests.
-        IfOk result (λ own. (length own.filings.items ≡ count_by is_filed (sent_by filer.now (kept requests)))
-        × (length own.refused.items ≡ count_by is_refused (sent_by filer.now (kept requests))))) }
+        IfOk result (λ own. AreOwn own (sent_by filer.now (kept requests)))) }
     ensures leaves { OnlyReads S.Store conn.old conn.new result }
 {
     let rows = own_rows(conn, filer)?;

@@ -43,6 +43,11 @@ pub(crate) fn pages_for(most: usize, rows: usize) -> usize
     rows.saturating_sub(1) / most + 1
 }
 
+/// The number of the page of a filer's refused reports that shows the one before which there are so many.
+pub(crate) fn page_of(before: u64) -> usize {
+    (before as usize / MOST_REPORTS).saturating_add(1)
+}
+
 /// The first rows, at most so many.
 pub(crate) fn first<T>(rows: &[T], most: usize) -> &[T]
     ensures value { result.now ≡ take most rows.now }
@@ -70,7 +75,7 @@ pub(crate) fn neighbours(
     if part.pages <= 1 {
         return Ok(());
     }
-    page.constant("<p>Page ")?;
+    page.constant("<p id=\"parts\">Page ")?;
     page.number(alloc, part.number as u64)?;
     page.constant(" of ")?;
     page.number(alloc, part.pages as u64)?;

@@ -2,12 +2,15 @@
 
 ghost use Rattle.std.specs.Prelude.{◌≡◌, ◌++◌, [], OnOk};
 ghost use Rattle.std.specs.Fmt.{decimal};
+ghost use Rattle.hex.specs.Hex.{encode_lower};
+ghost use Rattle.register_extracts.specs.Views.{bytes_of};
 ghost use Rattle.register_pages.specs.Reading.{AddsText};
 ghost use Rattle.register_pages.specs.Short.{shortened};
 ghost use Rattle.register_pages.specs.Visible.{visible};
 
 use crate::escaping::append_bytes;
 use crate::short::append_shortened;
+use register_extracts::Digest;
 use std::alloc::{AllocError, Global};
 use std::marker::Model;
 
@@ -63,6 +66,13 @@ impl Markup {
     {
         let text = format!(in alloc; "{number}")?;
         self.bytes.extend_from_slice(text.as_bytes())
+    }
+
+    /// Appends the hexadecimal digits of a digest.
+    pub(crate) fn digest(&mut self, digest: &Digest) -> Result<(), AllocError>
+        ensures { OnOk result (self.new ≡ self.old ++ encode_lower (bytes_of digest.now)) }
+    {
+        self.bytes.extend_from_slice(&digest.text())
     }
 
     /// Appends another piece.

@@ -1,6 +1,6 @@
 //! The pages of a register.
 
-ghost use Rattle.std.specs.Prelude.{◌≡◌, ◌++◌, Some, OnOk};
+ghost use Rattle.std.specs.Prelude.{◌≡◌, ◌≤◌, ◌++◌, ◌^◌, Some, OnOk};
 ghost use Rattle.std.specs.Ordering.{nat_cmp};
 ghost use Rattle.std.specs.Cmp.Lexicographic.{slice_cmp};
 ghost use Rattle.std.specs.List.Sorted.{IsStrictlySortedBy};
@@ -12,10 +12,12 @@ ghost use Rattle.register_rows.specs.Catalogue.{catalogue_of, view_lines};
 ghost use Rattle.register_store.specs.Numbered.{filing_numbered};
 ghost use Rattle.register_store.specs.Store.{ForRegister};
 ghost use Rattle.register_pages.specs.Gathering.{AreCountsOf, codes_of};
-ghost use Rattle.register_pages.specs.Pages.{Adds, Writes, WritesSite, filing_files, other_pages, pages_of_filer};
+ghost use Rattle.register_pages.specs.Pages.{Adds, Writes, WritesSite, filing_files, other_files, files_of_filer};
 ghost use Rattle.register_pages.specs.Pages.{files_of_filing};
 ghost use Rattle.register_pages.specs.Site.{WritesPages};
 
+use crate::Markup;
+use crate::about::about_register;
 use crate::fault::{PagesFault, WritingFault};
 use crate::filer::write_filer;
 use crate::filers::Filers;
@@ -32,9 +34,10 @@ use std::alloc::Global;
 
 /// Writes the register that the database is as pages into a folder: `index.html` with all filers, `filer-CODE.html` of
 /// each, `refused-CODE.html` of each whose reports were refused, `filing-NUMBER.html` of each filing, its report as it
-/// was filed in `filing-NUMBER.json`, and `findings.html`. A page has at most 1,000 rows, and one of refused reports at
-/// most 50 of these; what follows is on pages whose names have `~2` and so on. If a file is missed, the others are
-/// written. The register is read and checked first, and nothing is written to the database.
+/// was filed in `filing-NUMBER.json`, each refused report in `request-PLACE.json`, and `findings.html`. A page has at
+/// most 1,000 rows, and one of refused reports at most 50 of these; what follows is on pages whose names have `~2` and
+/// so on. If a file is missed, the others are written. The register is read and checked first, and nothing is written
+/// to the database.
 pub fn write_pages<S: Alter, F: Folder>(
     alloc: Global,
     conn: &mut Connection<S>,
@@ -55,6 +58,7 @@ fn write_all<S: Alter, F: Folder>(
     counts: &Counts,
     folder: &mut F,
 ) -> Result<(), WritingFault>
+    requires { counts.now.kept ≤ 2 ^ 62 }
     ensures written { ForRegister S.Store conn.old conn.new (λ _ requests.
         AreCountsOf requests counts.now
         → OnOk result (WritesSite requests (F.pages folder.old) (F.pages folder.new))) }
@@ -63,7 +67,8 @@ fn write_all<S: Alter, F: Folder>(
     let mut filers = Filers::new(alloc);
     let mut found = Found::new(alloc)?;
     gather(alloc, conn, counts, &mut filers, &mut found)?;
-    write_site(alloc, conn, counts, &filers, &found, folder)
+    let about = about_register(alloc, conn, counts.kept)?;
+    write_site(alloc, conn, counts, &filers, &found, &about, folder)
 }
 
 /// Writes the pages, once the filers are known. The page of all filers is written whatever comes before it.
@@ -73,18 +78,27 @@ fn write_site<S: Alter, F: Folder>(
     counts: &Counts,
     filers: &Filers,
     found: &Found,
+    about: &Markup,
     folder: &mut F,
 ) -> Result<(), WritingFault>
     ensures ascend { OnOk result (IsStrictlySortedBy (slice_cmp nat_cmp) (codes_of filers.now)) }
     ensures written { ForRegister S.Store conn.old conn.new (λ _ requests.
         AreCountsOf requests counts.now
         → OnOk result (Adds (F.pages folder.old) (F.pages folder.new)
-        (filing_files (register requests) ++ other_pages (kept requests) (codes_of filers.now)))) }
+        (filing_files (register requests) ++ other_files (kept requests) (codes_of filers.now)))) }
     ensures leaves { MayRead S.Store conn.old conn.new result }
 {
     let mut missed = None;
-    let reports = write_reports(alloc, conn, counts, filers, folder, &mut missed);
-    write_others(alloc, counts.filings, filers, found, folder, &mut missed);
+    let reports = write_reports(alloc, conn, counts, filers, about, folder, &mut missed);
+    write_others(
+        alloc,
+        counts.filings,
+        filers,
+        found,
+        about,
+        folder,
+        &mut missed,
+    );
     reports?;
     match missed {
         Some(fault) => Err(fault),
@@ -98,6 +112,7 @@ fn write_reports<S: Alter, F: Folder>(
     conn: &mut Connection<S>,
     counts: &Counts,
     filers: &Filers,
+    about: &Markup,
     folder: &mut F,
     missed: &mut Option<WritingFault>,
 ) -> Result<(), WritingFault>
@@ -105,11 +120,19 @@ fn write_reports<S: Alter, F: Folder>(
     ensures written { ForRegister S.Store conn.old conn.new (λ _ requests.
         AreCountsOf requests counts.now
         → OnOk result (Writes missed.old missed.new (F.pages folder.old) (F.pages folder.new)
-        (filing_files (register requests) ++ flat_map (pages_of_filer (kept requests)) (codes_of filers.now)))) }
+        (filing_files (register requests) ++ flat_map (files_of_filer (kept requests)) (codes_of filers.now)))) }
     ensures leaves { MayRead S.Store conn.old conn.new result }
 {
-    write_filings(alloc, conn, counts, folder, missed)?;
-    write_filers(alloc, conn, &counts.catalogue, filers, folder, missed)
+    write_filings(alloc, conn, counts, about, folder, missed)?;
+    write_filers(
+        alloc,
+        conn,
+        &counts.catalogue,
+        filers,
+        about,
+        folder,
+        missed,
+    )
 }
 
 /// Writes the pages and the report of each filing.
@@ -117,6 +140,7 @@ fn write_filings<S: Alter, F: Folder>(
     alloc: Global,
     conn: &mut Connection<S>,
     counts: &Counts,
+    about: &Markup,
     folder: &mut F,
     missed: &mut Option<WritingFault>,
 ) -> Result<(), StoreFault>
@@ -127,7 +151,15 @@ fn write_filings<S: Alter, F: Folder>(
     ensures leaves { MayRead S.Store conn.old conn.new result }
 {
     for at in 0..counts.filings {
-        write_numbered(alloc, conn, &counts.catalogue, at + 1, folder, missed)?;
+        write_numbered(
+            alloc,
+            conn,
+            &counts.catalogue,
+            at + 1,
+            about,
+            folder,
+            missed,
+        )?;
     }
     Ok(())
 }
@@ -138,6 +170,7 @@ fn write_numbered<S: Alter, F: Folder>(
     conn: &mut Connection<S>,
     catalogue: &Catalogue,
     number: u64,
+    about: &Markup,
     folder: &mut F,
     missed: &mut Option<WritingFault>,
 ) -> Result<(), StoreFault>
@@ -149,7 +182,7 @@ fn write_numbered<S: Alter, F: Folder>(
 {
     match filing_at(alloc, conn, catalogue, number)? {
         Some(filing) => {
-            write_filing(alloc, &filing, folder, missed);
+            write_filing(alloc, &filing, about, folder, missed);
             Ok(())
         }
         None => Ok(()),
@@ -162,17 +195,18 @@ fn write_filers<S: Alter, F: Folder>(
     conn: &mut Connection<S>,
     catalogue: &Catalogue,
     filers: &Filers,
+    about: &Markup,
     folder: &mut F,
     missed: &mut Option<WritingFault>,
 ) -> Result<(), WritingFault>
     ensures ascend { OnOk result (IsStrictlySortedBy (slice_cmp nat_cmp) (codes_of filers.now)) }
     ensures written { ForRegister S.Store conn.old conn.new (λ _ requests.
         OnOk result (Writes missed.old missed.new (F.pages folder.old) (F.pages folder.new)
-        (flat_map (pages_of_filer (kept requests)) (codes_of filers.now)))) }
+        (flat_map (files_of_filer (kept requests)) (codes_of filers.now)))) }
     ensures leaves { MayRead S.Store conn.old conn.new result }
 {
     for (code, _) in filers.list.iter() {
-        write_filer(alloc, conn, catalogue, code.as_str(), folder, missed)?;
+        write_filer(alloc, conn, catalogue, code.as_str(), about, folder, missed)?;
     }
     Ok(())
 }

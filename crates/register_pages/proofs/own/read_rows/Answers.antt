@@ -1,27 +1,27 @@
-use Rattle.std.proofs.Common.{◌<◌, ap, get_or, length, ◌∙◌, arith}
-use Rattle.std.specs.List.{count_by}
+use Rattle.std.proofs.Common.{◌≡◌, ◌<◌, ap, get_or, length, rules, subst, ◌∙◌, arith}
 use Rattle.std.specs.Prelude.{is_some}
-use Rattle.std.proofs.lemmas.List.{take_all}
-use Rattle.register_store.proofs.ReplaceLemmas.{no_kept}
-use Rattle.register_pages.specs.Pages.{is_filed, is_refused}
-use Rattle.register_pages.proofs.OwnReads.{as_many_own, own_at}
+use Rattle.std.proofs.lemmas.List.{length-map, take_all}
+use Rattle.register_pages.specs.Own.{AreOwn, own_row}
+use Rattle.register_pages.proofs.OwnReads.{no_request, own_at}
 use Rattle.register_pages.proofs.Counting.{one_more}
 use Rattle.register_pages.proofs.own.read_rows.Goals as goal
 
+pub loop-row-init : goal.loop-row-init
+loop-row-init c sent are = record { filings = search rules; refused = search rules }
+
 pub loop-row-preserved : goal.loop-row-preserved
-loop-row-preserved c ks are =
+loop-row-preserved c sent are =
     let i = c.loop-row.row-index in
-    let low : i < length ks = omega (arith, c.loop-row-test.true, as_many_own c.args.rows.now ks are) in
-    let its = own_at i c.args.rows.now ks c.row-item.result are c.loop-row-test.true c.row-item.is in
-    let number = c.in_ok-read_row.ensures its.0 (get_or ks i no_kept) its.1 in
-    one_more ks i low (ap is_some number) (c.loop-row.invariant ks are) c.in_ok-add.ensures
+    let many : length c.args.rows.now ≡ length sent = ap length are ∙ length-map sent own_row in
+    let low : i < length sent = omega (arith, c.loop-row-test.true, many) in
+    let its = own_at i c.args.rows.now sent c.row-item.result are low c.row-item.is in
+    let told = c.in_ok-read_row.ensures (get_or sent i no_request) its in
+    let had = c.loop-row.invariant sent are in
+    let more = one_more sent i low (ap is_some told.1) told.0 had.filings had.refused c.in_ok-add.ensures in
+    record { filings = more.0; refused = more.1 }
 
 pub returns : goal.returns
-returns c ks are =
-    let all = take_all c.loop-row.row-index ks (omega (
-      arith,
-      c.loop-row-test.false,
-      as_many_own c.args.rows.now ks are,
-    )) in
-    let had = c.loop-row.invariant ks are in
-    (had.0 ∙ ap (count_by is_filed) all, had.1 ∙ ap (count_by is_refused) all)
+returns c sent are =
+    let many : length c.args.rows.now ≡ length sent = ap length are ∙ length-map sent own_row in
+    let all = take_all c.loop-row.row-index sent (omega (arith, c.loop-row-test.false, many)) in
+    subst (AreOwn c.loop-row.own) all (c.loop-row.invariant sent are)

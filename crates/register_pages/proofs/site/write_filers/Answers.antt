@@ -5,7 +5,7 @@ use Rattle.table_rows.proofs.LeavingLemmas.{clean_before, passed_then, stands}
 use Rattle.std.specs.List.{flat_map}
 use Rattle.std.proofs.lemmas.Iterator.Consumers.{YieldsList-end, YieldsList-from_rest}
 use Rattle.register_pages.specs.Gathering.{codes_of}
-use Rattle.register_pages.specs.Pages.{Writes, pages_of_filer}
+use Rattle.register_pages.specs.Pages.{Writes, files_of_filer}
 use Rattle.register_pages.proofs.Adding.{pages_added}
 use Rattle.register_pages.proofs.Codes.{codes_among, codes_ascend, codes_shown, shown_more}
 use Rattle.register_pages.proofs.site.write_filers.Goals as goal
@@ -20,10 +20,10 @@ loop-code-preserved g c =
       written = λ clean old_style requests was.
           let before = clean_before more.leaves clean in
           let its = more.written clean old_style requests (stands had.leaves before was) in
-          pages_added _ _ _ _ _ _ (pages_of_filer (kept requests)) (codes_shown c.loop-code.yielded) _ code
+          pages_added _ _ _ _ _ _ (files_of_filer (kept requests)) (codes_shown c.loop-code.yielded) _ code
           (shown_more c.loop-code.yielded _) (had.written before old_style requests was)
           (subst (λ filer. Writes c.loop-code.missed c.write_filer.new.missed (g.F.Folder.pages c.loop-code.folder)
-          (g.F.Folder.pages c.write_filer.new.folder) (pages_of_filer (kept requests) filer)) named its);
+          (g.F.Folder.pages c.write_filer.new.folder) (files_of_filer (kept requests) filer)) named its);
     }
 
 pub returns-clause-ascend : goal.returns-clause-ascend
@@ -36,5 +36,5 @@ returns-clause-written g c clean old_style requests was =
     c.loop-code.yielded_by _ _ c.in-None.is c.next.ensures.steps in
     let all : codes_shown c.loop-code.yielded ≡ codes_of c.args.filers.now = ap codes_among shown.0 in
     subst (λ codes. Writes c.args.missed.now c.loop-code.missed (g.F.Folder.pages c.args.folder.now)
-    (g.F.Folder.pages c.loop-code.folder) (flat_map (pages_of_filer (kept requests)) codes)) all
+    (g.F.Folder.pages c.loop-code.folder) (flat_map (files_of_filer (kept requests)) codes)) all
     (c.loop-code.invariant.written clean old_style requests was)

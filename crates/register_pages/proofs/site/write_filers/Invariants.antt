@@ -8,7 +8,7 @@ use Rattle.table_rows.specs.Standing.{HasCommitted}
 use Rattle.filing_model.specs.Request.{Request}
 use Rattle.filing_model.specs.Register.{kept}
 use Rattle.register_tables.specs.Registers.{IsRegisterOf}
-use Rattle.register_pages.specs.Pages.{Writes, pages_of_filer}
+use Rattle.register_pages.specs.Pages.{Writes, files_of_filer}
 use Rattle.register_pages.proofs.Codes.{codes_shown}
 use Rattle.register_pages.proofs.site.write_filers.Given as goal
 
@@ -20,5 +20,5 @@ invariant-loop-code g l =
       written : HasCleanDisk now → (old_style : ℕ) (requests : List Request)
           → HasCommitted (IsRegisterOf old_style requests) old
           → Writes l.fn.missed l.missed (g.F.Folder.pages l.fn.folder) (g.F.Folder.pages l.folder)
-          (flat_map (pages_of_filer (kept requests)) (codes_shown l.yielded));
+          (flat_map (files_of_filer (kept requests)) (codes_shown l.yielded));
     }
