@@ -5,7 +5,7 @@ Build it first: (cd crates/intake && rt run -- --version).
 A request, a list and an opening cost instructions in user mode, by callgrind, if valgrind is installed: these come out
 the same at each run but for a few in a thousand, whatever else runs. So does the growth of a judgement and of requests
 on a register in memory, also where a small report fits a cache of the processor and a large one does not. Without
-valgrind a cost is told in time and held to no bound, and growth is that of time, as it is of a register in a file.
+valgrind a cost is measured in time and has no bound, and growth is that of time, as it is of a register in a file.
 
 Times are processor time, of the program and of the system for it, less that of a run on nothing, which is the start of
 the program. Each figure is the best of three runs. A register in a file lies in /dev/shm where there is one, so that no
@@ -170,7 +170,7 @@ def seconds_in_pieces(given, most):
 
 
 def within(what, figure, most, digits=0):
-    """Whether the figure is within its bound. Both are told."""
+    """Whether the figure is within its bound. Both are printed."""
     held = figure <= most
     print(f"{what}: {figure:,.{digits}f}, {'at most' if held else 'WHICH PASSES'} {most:,}", flush=True)
     return held

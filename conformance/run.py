@@ -1232,9 +1232,9 @@ class Tally:
             print(f"{how}: {case['name']} ({case['level']}): {case['rule']}\n  {told}", flush=True)
 
     def status(self):
-        passed = sum(counts["passed"] for counts in self.counts.values())
+        tried = sum(sum(counts.values()) for counts in self.counts.values())
         failed = {level: counts["failed"] + counts["timed out"] for level, counts in self.counts.items()}
-        if failed["must"] or not passed:
+        if failed["must"] or not tried:
             return 1
         return 4 if failed["strict"] else 0
 

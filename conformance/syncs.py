@@ -52,7 +52,7 @@ class Program(ctypes.Structure):
 
 
 def instructions(machine):
-    """The filter: these calls are told, and all others allowed."""
+    """The filter: these calls are reported, and all others allowed."""
     calls, opens, ring = CALLS[machine]
     found = [(LOAD, NEXT, NEXT, 4), (EQUALS, 1, NEXT, ARCHITECTURES[machine]), (RETURN, NEXT, NEXT, ALLOWED)]
     for number, word in opens.items():

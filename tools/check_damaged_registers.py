@@ -8,9 +8,9 @@
 
 An answer is the status, the output and the errors, without the name of the file. The registers are made by Python's
 sqlite3, as docs/PROTOCOL.md declares the tables, with the same random numbers each time. So two runs have to be of one
-version of Python and of SQLite: FILE has a hash of each register, and a register that is another one is told. The last
-line says which commands were asked, of how many registers, and with how many different answers. Status 1 if an answer
-differs, or if fewer than 20 kinds of answers came.
+version of Python and of SQLite: FILE has a hash of each register, and a register that is another one is reported. The
+last line says which commands were asked, of how many registers, and with how many different answers. Status 1 if an
+answer differs, or if fewer than 20 kinds of answers came.
 """
 import argparse
 import hashlib

@@ -289,7 +289,8 @@ VIEWS = [
     ("SELECT number FROM current", ["3", "4", "5"]),
     ("SELECT number FROM current WHERE filer = 'ACME'", ["4"]),
     ("SELECT * FROM replaced", ["1|ACME|2", "2|ACME|4"]),
-    ("SELECT * FROM facts", [f"4|ACME|1|f1|eg:A|2024-12-31T00:00:00|iso4217:EUR|100|0|{DIMENSIONS}"]),
+    ("SELECT * FROM facts WHERE filer = 'ACME'",
+     [f"4|ACME|1|f1|eg:A|2024-12-31T00:00:00|iso4217:EUR|100|0|{DIMENSIONS}"]),
     ("SELECT * FROM refused WHERE filer = 'ACME'",
      ["4|ACME|k-3|1|3|/documentInfo|document-info", "4|ACME|k-3|2|26||not-replaceable"]),
     ("SELECT code, word, findings, reports, filers FROM findings_by_code",
@@ -305,6 +306,15 @@ VIEWS = [
     ("SELECT * FROM late", []),
     ("INSERT INTO deadline VALUES ('2025-01-01T00:59:59.999+01:00')", []),
     ("SELECT * FROM late", ["5|BETA|k-2|2025-01-01T00:00:00.000Z|1"]),
+    # Of this period BETA has one filing, which came late, and ACME has one.
+    ("INSERT INTO asked VALUES ('2024-12-31T00:00:00')", []),
+    ("SELECT * FROM late", ["5|BETA|k-2|2025-01-01T00:00:00.000Z|0"]),
+    ("SELECT * FROM missing", ["DELTA|1", "GAMMA|1", "OMEGA|0", "PSI|0", "acme|0"]),
+    # Of this one only BETA has one, which came in time.
+    ("UPDATE asked SET period = '2024-09-30T00:00:00'", []),
+    ("SELECT * FROM late", []),
+    ("SELECT filer FROM missing", ["ACME", "DELTA", "GAMMA", "OMEGA", "PSI", "acme"]),
+    ("DELETE FROM asked", []),
     ("SELECT * FROM senders WHERE filer = 'BETA'",
      ["3|3|BETA|k-1|4|T1|agent", "5|8|BETA|k-2|4|2025-01-01T00:00:00.000Z|"]),
     ("SELECT * FROM entries", ["1|k-1|4|confirmed|1", "2|k-2|4|open|"]),
@@ -330,6 +340,8 @@ def try_views(folder):
         database.executemany("INSERT INTO finding VALUES (?, ?, ?, CAST(? AS BLOB))", FINDINGS)
         database.execute("INSERT INTO fact VALUES (4, 1, x'6631', x'65673a41', CAST(? AS BLOB), x'313030', 0)",
                          (DIMENSIONS,))
+        database.executemany("INSERT INTO fact VALUES (?, 1, x'6631', x'65673a41', CAST(? AS BLOB), x'313030', 0)",
+                             [(3, DIMENSIONS.replace("12-31", "09-30")), (5, DIMENSIONS)])
         database.execute("INSERT INTO receipt VALUES (3, 'S', 'T1', 'agent')")
         database.execute("INSERT INTO entry VALUES (1, 'k-1', x'626f6479', 1, 1), (2, 'k-2', x'626f6479', 0, NULL)")
         database.commit()

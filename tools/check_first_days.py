@@ -469,7 +469,8 @@ def certificates(page, supervisor, filer):
     hold("a round with a certificate of another authority", round_of(filer)[0], 1)
     said = f"outbox: {entry}: answered 403 Forbidden: no-certificate\n"
     hold("the filer sees that, too", said in filer.paste(page.steps(FILER)[6][1][0])[1], True)
-    filer.paste("cp -p /root/filer.* /etc/berruzpil/; systemctl restart nginx")
+    # As many rounds at once are more than systemd starts.
+    filer.paste(f"cp -p /root/filer.* /etc/berruzpil/; systemctl restart nginx; systemctl reset-failed {unit}")
     hold("the round with the right one", round_of(filer), (0, ""))
 
 
@@ -877,10 +878,12 @@ def taken(page, supervisor, filer):
     time.sleep(2)
     written = re.search(r"`(nginx-filer --remove FILE acme.pem)`", page.text)
     hold("what the page says of a stolen key", bool(written), True)
-    hold("a right is taken away",
-         supervisor.paste(f"{written[1].replace('FILE', FRONT)} && nginx -t -q && systemctl reload nginx"),
-         (0, '"~^CN=acme-filing,O=ACME$" acme;\n'))
-    hold("its certificate is in the list no more", supervisor.paste("nginx-filer --list | grep -c acme-filing,"),
+    status, printed = supervisor.paste(f"{written[1].replace('FILE', FRONT)} && nginx -t -q && systemctl reload nginx")
+    # The certificate has another name once it was renewed.
+    right = re.fullmatch(r'"~\^CN=(acme-filing(?:-2)?),O=ACME\$" acme;\n', printed)
+    hold("a right is taken away", (status, printed if right is None else "the right"), (0, "the right"))
+    name = "acme-filing" if right is None else right[1]
+    hold("its certificate is in the list no more", supervisor.paste(f"nginx-filer --list | grep -c {name},"),
          (1, "0\n"))
     sending.wait()
     hold("a report that was under way is not answered 201", "201" in filer.file("/run/answer").read_text(), False)
@@ -971,12 +974,13 @@ def lines(page, supervisor, filer):
     hold("no line is missing", lacking(), "0")
     hold("a small disk for the log, which has a page of lines already", supervisor.paste(
         f"mount -t tmpfs -o size=64k,mode=0751 tmpfs {log}; install -o www-data -g adm -m 0640 /dev/null "
-        f"{log}/filings.log; {{ echo '{{\"time\":\"'$(date -Is -d '1 hour ago')'\",\"status\":200}}'; "
+        f"{log}/filings.log; {{ echo '{{\"time\":\"'$(date -Is -d '1 minute ago')'\",\"status\":200}}'; "
         f"yes '{{\"status\":200}}' | head -c 4095; }} | head -c 4096 > {log}/filings.log; "
         "kill -USR1 $(cat /run/nginx.pid); sleep 1; "
         f"head -c 1M /dev/zero 2> /dev/null > {log}/fill; stat -c %s {log}/filings.log"), (0, "4096\n"))
     hold("a report while the log's disk is full", filed(page, filer, "line-1"), "confirmed N")
     hold("it has no line", supervisor.file(f"{log}/filings.log").stat().st_size, 4096)
+    time.sleep(1.1)  # A copy has what came up to the second before.
     hold("and the numbers say so", lacking(), "1")
     supervisor.paste(f"umount -l {log}; kill -USR1 $(cat /run/nginx.pid)")
 

@@ -48,6 +48,7 @@ PLACES = [
     ("usr/lib/berruzpil/", {"-rw-r--r--"}),
     ("usr/lib/sysusers.d/berruzpil.conf", {"-rw-r--r--"}),
     ("usr/lib/tmpfiles.d/berruzpil.conf", {"-rw-r--r--"}),
+    ("usr/share/berruzpil/filer/", {"-rw-r--r--"}),
     ("usr/share/lintian/overrides/berruzpil", {"-rw-r--r--"}),
     ("lib/systemd/system/", {"-rw-r--r--"}),
     ("usr/share/man/man1/", {"-rw-r--r--"}),
@@ -256,7 +257,7 @@ def check_fish(installed, name, commands, wanted):
 
 
 def check_pages_of(installed):
-    """The pages lead to each other as they do in the repository."""
+    """The pages lead to each other, and to nothing that the package lacks."""
     folder, faults = installed.file("usr/share/doc/berruzpil"), []
     for page in folder.rglob("*.md"):
         for target in re.findall(r"\]\(([^)\s#:]+)(?:#[^)]*)?\)",

@@ -7,9 +7,9 @@
 
 Links lead to files and headings that are there; nothing outside the repository is asked for. Each row of a table has as
 many cells as its head, and a cell of README.md at most CELL words. Each page has at most a handful of the phrases in
-PHRASES, those FOR_USERS none of the words in COINED, and those at the top and in docs/ have at most WORDS words
-together. No line of README.md is longer than 400 characters, and none of the code and the scripts than 120, but for
-strings in the code. docs/ARCHITECTURE.md has the table that tools/crate_table.py makes. docs/PROOF.md says how many
+PHRASES and, but for docs/GLOSSARY.md, none of the words in COINED, and those at the top and in docs/ have at most WORDS
+words together. No line of README.md is longer than 400 characters, and none of the code and the scripts than 120, but
+for strings in the code. docs/ARCHITECTURE.md has the table that tools/crate_table.py makes. docs/PROOF.md says how many
 wrong bodies there are, and those that it names are there. The contracts that README.md names are there, and each word
 of docs/GLOSSARY.md is defined where that page says. docs/PROTOCOL.md has a heading for each word of an error, and an
 anchor for each code of a finding; its programs that repeat a request are tried on tools/intake_stand_in.py, after peers
@@ -54,7 +54,7 @@ WIDTH = 120
 ANY_WIDTH = re.compile(r"\.(?:md|json|yaml|edit)$|^crates\.txt$|^tools/questions\.txt$|^conformance/cases/"
                        r"|^crates/\w+/(?:stdin|stdout|args)$")
 HANDFUL = 5
-WORDS = 44_000
+WORDS = 43_000
 CELL = 35
 FIRST = 300
 # Between these two lines docs/PROOF.md has how many wrong bodies there are.
@@ -77,10 +77,9 @@ PHRASES = {
     r"\b(?:is|are|was|were) to (?:be|come|replace|have|hold)\b": "has to, will, replaces",
     r"\b(?:take|takes|taken|taking) along\b": "converts, upgrades",
 }
-# Words of contracts, which pages for those who use the programs do without.
+# Words of contracts, which only the page that explains them has.
 COINED = r"\b(?:old-style|deeds?|hall|told|(?:a|the) front|fronts)\b"
-FOR_USERS = ("README.md", "CHANGELOG.md", "docs/FIRST_DAYS.md", "docs/OPERATIONS.md", "docs/OWN_CLIENT.md",
-             "docs/PROTOCOL.md", "docs/SPEED.md")  # fmt: skip
+EXPLAINED = "docs/GLOSSARY.md"
 # What an operator asks, as the index of docs/OPERATIONS.md has it, and the words of the answer.
 QUESTIONS = {
     "The disk is full": ("Make room", "No restart is needed", "503", "`outbox put`"),
@@ -190,8 +189,10 @@ def marks_of(page):
 
 
 def links_of(page):
-    """Each link of a page to a file: as it is written, the file, and what it names there."""
-    for target in re.findall(r"\[(?:[^\[\]]|\[[^\]]*\])*\]\(([^)\s]+)\)", without_code(text_of(page))):
+    """Each link of a page to a file, or a picture: as it is written, the file, and what it names there."""
+    text = without_code(text_of(page))
+    pictures = re.findall(r'<(?:img|source) [^>]*?src(?:set)?="([^"]+)"', text)
+    for target in re.findall(r"\[(?:[^\[\]]|\[[^\]]*\])*\]\(([^)\s]+)\)", text) + pictures:
         if not re.match(r"[a-z]+:", target):
             name, _, anchor = target.partition("#")
             file = (ROOT / page).parent / name if name else ROOT / page
@@ -238,8 +239,9 @@ def check_phrases(page):
                      for it, count in sorted(counts.items(), key=lambda one: -one[1])[:6])
     trials.tell(f"{page}: {len(found)} phrases that are hard to read, at most {HANDFUL}",
                 told if len(found) > HANDFUL else None)
-    if page in FOR_USERS:
-        trials.tell(f"{page}: words of contracts", ", ".join(re.findall(COINED, text)))
+    if page != EXPLAINED:
+        shown = re.sub(r"\]\([^)]*\)", "]", text)
+        trials.tell(f"{page}: words of contracts", ", ".join(re.findall(COINED, shown)))
 
 
 def section_of(page, anchor):

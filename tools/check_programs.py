@@ -201,7 +201,7 @@ PAUSED = (
 
 
 def told_up_to(serving, line):
-    """What was told up to this line, which is waited for."""
+    """What was written up to this line, which is waited for."""
     found = ""
     while f"{line}\n" not in found and (more := serving.process.stderr.readline().decode()):
         found += more
@@ -234,7 +234,7 @@ def check_full_register(folder):
         errors = before + after
         hold("serve ends", status, 0)
         failed, again = errors.count("the database failed,"), errors.count("the database is open again")
-        tell("a failure is told, and that it is over", None if failed == 3 and again == failed else errors)
+        tell("a failure is reported, and that it is over", None if failed == 3 and again == failed else errors)
         pauses = [line for line in errors.splitlines() if "at the earliest" in line]
         hold("and each pause", pauses, [PAUSED % 1, PAUSED % 2])
         hold("what was answered is kept", said(run(INTAKE, "check", "--db", database), folder)[:2],
@@ -242,8 +242,8 @@ def check_full_register(folder):
 
 
 def put_with_room(folder, left):
-    """Puts a report of 200,000 bytes into an outbox on a disk with so many bytes free. Whether it was told, and whether
-    it stands."""
+    """Puts a report of 200,000 bytes into an outbox on a disk with so many bytes free. Whether its entry was
+    printed, and whether it is there."""
     with SmallDisk(folder / f"disk-{left}", 4 << 20) as disk:
         database = disk.folder / "outbox.db"
         report = folder / "large.json"
@@ -272,7 +272,7 @@ def check_full_outbox(folder):
             tell(f"a put with {left} bytes free",
                  f"status {done.returncode}, {done.stdout!r}, {done.stderr!r}, then {stands!r}")
     least = min((left for left, is_told in told.items() if is_told), default=None)
-    tell(f"put tells what it committed, at each of {len(told)} sizes of free space; the least that suffices is {least}",
+    tell(f"put prints what it committed, at each of {len(told)} sizes of free space; the least that will do is {least}",
          None if least is not None and not all(told.values()) else "no size decides")
 
 
@@ -293,11 +293,11 @@ def check_limited_outbox(folder):
         if (done.returncode == 0) != (stands == b"entry 1 open\n"):
             tell(f"a put with files of at most {size} bytes",
                  f"status {done.returncode}, {done.stderr!r}, then {stands!r}")
-    tell("put tells what it committed, at each size of files")
+    tell("put prints what it committed, at each size of files")
 
 
 def check_puts_of_several(folder):
-    """Of four reports those are in the outbox whose entries were told, whatever the size at which no file may grow."""
+    """Of four reports those are in the outbox whose entries were printed, at whatever size no file may grow."""
     database, several = folder / "several.db", [folder / f"several-{it}.json" for it in range(4)]
     for it, report in enumerate(several):
         report.write_bytes(SMALLEST.ljust(100_000 + it))
@@ -323,7 +323,7 @@ def check_puts_of_several(folder):
         found = (status, output, refused not in errors, lengths)
         if found != wanted:
             tell(f"a put of four with files of at most {size} bytes", f"{found}, {errors!r}, where {wanted} is right")
-    tell("a put of four tells what it committed, and which it did not, at each size of files",
+    tell("a put of four prints what it committed, and which not, at each size of files",
          None if {0, 4} < counts else f"only {sorted(counts)} were put in")
 
 
@@ -428,7 +428,7 @@ CHANGED_MOMENTS = {
 
 
 def check_moments(folder):
-    """The row that is told is the one whose moment is missing."""
+    """The row that is reported is the one whose moment is missing."""
     register, changed = folder / "register.db", folder / "changed.db"
     serving = Serving(register, 1, "--new")
     exchange(serving.port, b"".join(request(f"k-{at}", SMALLEST, close=at == 9) for at in range(1, 10)))

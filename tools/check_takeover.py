@@ -7,8 +7,10 @@ file.
 
 INTAKE and OUTBOX are the built programs. The two machines are set up by the commands of docs/OPERATIONS.md, which are
 read out of the page, and have Debian's own kernel, DRBD and systemd (tools/mirrored_machines.py says what is virtual in
-them). So it needs root, /dev/net/tun, and the Debian packages iproute2, e2fsprogs and openssh-client. The first run
-makes the files of a machine from the mirror of this one, below ~/.cache/berruzpil (300 MB, a minute).
+them). So it needs root, /dev/net/tun, and the Debian packages iproute2, e2fsprogs, openssh-client and qemu-system-x86.
+The first run makes the files of a machine from the mirror of this one, below ~/.cache/berruzpil (400 MB, some minutes).
+Without /dev/kvm it is slow, and where KVM runs no kernel of Debian's the variable BERRUZPIL_ACCELERATORS has to be
+`tcg`: then a busy machine wants a BERRUZPIL_PATIENCE of 5.
 
 Each answer 201 that a client read whole is noted with its number and the digest of its report. After each take-over,
 with all clients at rest, the register is read by Python's sqlite3: it has to have each of these under its number and
@@ -58,7 +60,7 @@ SECTION = "How does a second machine take over?"
 REGISTER = "/var/lib/berruzpil/register.db"
 METRICS = "/var/lib/prometheus/node-exporter/berruzpil-mirror.prom"
 # What stands for what in the names of a site.
-NAMES = [("DISK=/dev/vdb", "DISK=/dev/ubdb")] + [
+NAMES = [
     (f'{name}_POWER_OFF="fence_ipmilan -a 192.0.2.10{number} -l fence -P SECRET --lanplus -o off"',
      f'{name}_POWER_OFF="curl -sSf -m 20 http://{mirrored_machines.SWITCH}:99/off/{machine}"')
     for number, (name, machine) in enumerate([("FIRST", "a"), ("SECOND", "b")], 1)]  # fmt: skip
@@ -325,7 +327,9 @@ class Play:
         for it in both:
             it.ssh("cat > /root/berruzpil/peer.pub", given=(self.lab.scratch / f"{it.other.name}.pub").read_bytes())
         for it in both:
-            self.paste(it, "ssh", page.block(SECTION, ". /etc/berruzpil/mirror\n    printf"))
+            self.paste(it, "keys", page.block(SECTION, ". /etc/berruzpil/mirror\n    printf"))
+        for it in both:
+            self.paste(it, "ssh", page.block(SECTION, ". /etc/berruzpil/mirror\n    ssh"))
         if self.given.prepare:
             self.given.prepare(self)
         self.paste(self.first, "the register", page.block(SECTION, "until mirror-state"))
@@ -672,8 +676,8 @@ class Play:
         """Requests a second with the mirror, on DRBD while the other machine is away, and on a disk without DRBD."""
         self.filers.pause()
         first = self.first
-        first.ssh("mkfs.ext4 -q -F -E nodiscard /dev/ubdc && mkdir -p /srv/plain && "
-                  "mount -o noatime /dev/ubdc /srv/plain")  # fmt: skip
+        first.ssh("mkfs.ext4 -q -F -E nodiscard /dev/vdc && mkdir -p /srv/plain && "
+                  "mount -o noatime /dev/vdc /srv/plain")  # fmt: skip
         serial = 0
         for turn in range(3):
             for where, folder in (("mirror", "/var/lib/berruzpil/price"), ("plain", "/srv/plain/price")):
@@ -946,7 +950,7 @@ def play_units(given, deploy):
 def plain_disk(play):
     """A disk without the mirror on each machine, with a file system."""
     for it in (play.lab.a, play.lab.b):
-        it.ssh("mkfs.ext4 -q -F -E nodiscard /dev/ubdc")
+        it.ssh("mkfs.ext4 -q -F -E nodiscard /dev/vdc")
 
 
 # The part that has to fail, a file of deploy/ (or what stands for what in the names of the site), which text in it
@@ -955,7 +959,7 @@ FAULTS = {
     "fencing that answers yes without doing it": ("isolated", "berruzpil-mirror.conf", "curl -sSf", "true", None),
     "protocol A": ("torn", "drbd-register.res", "protocol C;", "protocol A;", None),
     "a mount without the mirror": (
-        "kills", "berruzpil-mirror.service", "errors=panic /dev/drbd0", "errors=panic /dev/ubdc", plain_disk),
+        "kills", "berruzpil-mirror.service", "errors=panic /dev/drbd0", "errors=panic /dev/vdc", plain_disk),
     "a mirror that does not fence": (
         "cut_cable", "drbd-register.res", "fencing resource-and-stonith;", "fencing dont-care;", None),
     "a take-over of a disk that is out of date": (

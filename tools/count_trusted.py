@@ -1,9 +1,9 @@
 #!/usr/bin/env python3
 """Lists the definitions that the contract of `schedule::run` rests on, file by file, with their lines.
 
-    tools/count_trusted.py            the tables of docs/TRUST.md: the totals, and the lists
+    tools/count_trusted.py            what docs/TRUST.md has of it: the totals, and the lists
     tools/count_trusted.py --names    the same, each list by file, with the name of each definition
-    tools/count_trusted.py --check    whether docs/TRUST.md has these tables; status 1 if it has others
+    tools/count_trusted.py --check    whether docs/TRUST.md has just that; status 1 if not
 
 It reads the contracts of `run`, of the calls that show its world, of the law `any_programs`, of `perform_task` of both
 programs, and of `perform` of all three. It follows each name in them through `ghost use`, `use` and `pub use` to the
@@ -306,24 +306,37 @@ def totals(lists):
                       *(f"| {title} | {len(new):,} | {lines_of(new)} |" for title, new in rows)])  # fmt: skip
 
 
-def table(new_of, with_names, by_crate=False):
-    """A row for each file, or for each crate."""
-    rows = {}
+def table(number, new_of):
+    """A list with the names of its definitions, a row for each file."""
+    lines = [f"List {number}, by file:", "", "| file | lines | definitions |", "|---|---|---|"]
+    return lines + [f"| `{file.removeprefix('crates/')}` | {lines_of(new)} | {', '.join(d.name for d in new)} |"
+                    for file, new in new_of.items()]  # fmt: skip
+
+
+def sentence(begin, counts):
+    """A sentence that counts."""
+    return textwrap.wrap(f"{begin}: {', '.join(f'`{name}` {count}' for name, count in counts)}.", 120,
+                         break_long_words=False, break_on_hyphens=False)  # fmt: skip
+
+
+def by_file(number, new_of):
+    """A list, as a sentence with the lines of each file."""
+    return sentence(f"List {number}, by file",
+                    [(file.removeprefix("crates/"), lines_of(new)) for file, new in new_of.items()])  # fmt: skip
+
+
+def by_crate(number, new_of):
+    """A list, as a sentence with the lines of each crate."""
+    crates = {}
     for file, new in new_of.items():
-        rows.setdefault(crate_of(file) if by_crate else file.removeprefix("crates/"), []).extend(new)
-    head = ["crate" if by_crate else "file", "lines"] + ["definitions"] * with_names
-    lines = [f"| {' | '.join(head)} |", "|---" * len(head) + "|"]
-    for title, new in rows.items():
-        names = f" {', '.join(d.name for d in new)} |" if with_names else ""
-        lines.append(f"| `{title}` | {lines_of(new)} |{names}")
-    return lines
+        crates.setdefault(crate_of(file), []).extend(new)
+    return sentence(f"List {number}, by crate", [(it, lines_of(new)) for it, new in crates.items()])
 
 
 def kit_names(found):
     """A sentence: how many names of each library of the kit the definitions name."""
-    counts = [f"`{crate}` {sum(map(len, files.values()))}" for crate, files in sorted(found.kit.items())]
-    return textwrap.wrap(f"How many names of the kit's libraries they have: {', '.join(counts)}.", 120,
-                         break_long_words=False, break_on_hyphens=False)  # fmt: skip
+    return sentence("How many names of the kit's libraries they have",
+                    [(crate, sum(map(len, files.values()))) for crate, files in sorted(found.kit.items())])  # fmt: skip
 
 
 def kit_table(found):
@@ -353,8 +366,8 @@ def report(with_names):
     ]  # fmt: skip
     parts = []
     for number, (_, new_of) in enumerate(lists, 1):
-        by_crate = number > 1 and not with_names
-        parts += [[f"List {number}, by {'crate' if by_crate else 'file'}:"], table(new_of, with_names, by_crate)]
+        shown = table if with_names else by_file if number == 1 else by_crate
+        parts.append(shown(number, new_of))
     parts += [["What they name of the kit:"], kit_table(fifth)] if with_names else [kit_names(fifth)]
     return totals(lists), "\n\n".join("\n".join(part) for part in parts)
 
@@ -371,7 +384,7 @@ def main(words):
     if stand == texts:
         print("docs/TRUST.md has what is counted")
         return 0
-    print("docs/TRUST.md has other tables than tools/count_trusted.py prints", file=sys.stderr)
+    print("docs/TRUST.md has other counts than tools/count_trusted.py prints", file=sys.stderr)
     return 1
 
 

@@ -128,12 +128,25 @@ def files_of(programs):
             completions.scripts(name, program).values(),
         ):
             found[f"usr/share/{path.format(name)}"] = text.encode(), False
-    for name in subprocess.check_output(
-        ["git", "ls-files", "*.md", "docs", "conformance"], cwd=ROOT, text=True
-    ).split():
-        found[f"{DOCUMENTS}/{name}"] = (ROOT / name).read_bytes(), name.endswith("run.py")
+    names = subprocess.check_output(["git", "ls-files", "*.md", "docs", "conformance"], cwd=ROOT, text=True).split()
+    for name in names:
+        content = (ROOT / name).read_bytes()
+        if name.endswith(".md"):
+            content = within_package(name, content.decode(), names).encode()
+        found[f"{DOCUMENTS}/{name}"] = content, name.endswith("run.py")
     found[f"{DOCUMENTS}/copyright"] = COPYRIGHT.encode(), False
     return found
+
+
+def within_package(page, text, names):
+    """The text of a page. A link to a file that the package lacks, as one of the code, becomes its words alone."""
+    has = {*names, *(str(folder) for name in names for folder in pathlib.PurePath(name).parents)}
+
+    def link(found):
+        target = os.path.normpath(os.path.join(os.path.dirname(page), found[2]))
+        return found[0] if target in has else found[1]
+
+    return re.sub(r"\[([^][]*)\]\(([^)\s#:]+)(?:#[^)]*)?\)", link, text)
 
 
 def control(programs, version, files):

@@ -1,10 +1,10 @@
 """Two machines with a mirrored disk between them, on which tools/check_takeover.py plays take-overs.
 
-A machine is a Debian 12 with a kernel, a systemd and a power of its own: Debian's user-mode-linux, whose kernel is
-Debian's as a process, with its DRBD. Both are joined by a network of the filers, in which this program is, too, and by
-the cable of the mirror; both are bridges with addresses that nobody else sees. The power switch is this program: to
-take the power from a machine is to kill all its processes at once. What a machine wrote to its disk is in a file of
-this one and survives that, as on a disk whose cache has a battery.
+A machine is a Debian 12 with a kernel, a systemd and a power of its own: a virtual one of QEMU, by KVM if this machine
+lets it, else slowly, with Debian's kernel and its DRBD. Both are joined by a network of the filers, in which this
+program is, too, and by the cable of the mirror; both are bridges with addresses that nobody else sees. The power switch
+is this program: to take the power from a machine is to kill its process. What a machine wrote to its disk is in a file
+of this one and survives that, as on a disk whose cache has a battery.
 
 `apart` runs the caller in namespaces, so that nothing of it is left: no process, no mount, no network.
 """
@@ -29,16 +29,28 @@ from machines import PATIENCE, NotPossible, run
 
 ROOT = machines.ROOT
 ADDRESS, SWITCH = "192.0.2.10", "192.0.2.254"
-NEEDED = ["ip", "bridge", "unshare", "apt-get", "dpkg-deb", "mkfs.ext4", "e2fsck", "debugfs", "ssh", "ssh-keygen"]
+QEMU = "qemu-system-x86_64"
+# Where KVM is there but runs no kernel of Debian's, as inside some virtual machines, this says `tcg` alone.
+ACCELERATORS = os.environ.get("BERRUZPIL_ACCELERATORS", "kvm tcg").split()
+NEEDED = ["ip", "bridge", "unshare", "apt-get", "dpkg-deb", "mkfs.ext4", "e2fsck", "debugfs", "ssh", "ssh-keygen", QEMU]
 PACKAGES = """nginx-light drbd-utils systemd systemd-sysv kmod iproute2 iputils-arping openssh-server openssh-client
-    curl e2fsprogs procps netbase python3 user-mode-linux base-files base-passwd bash bsdutils coreutils dash
-    debianutils diffutils findutils grep gzip hostname libc-bin login mawk ncurses-base sed tar util-linux""".split()
+    curl e2fsprogs procps netbase python3 linux-image-amd64 busybox-static base-files base-passwd bash bsdutils
+    coreutils dash debianutils diffutils findutils grep gzip hostname libc-bin login mawk ncurses-base sed tar
+    util-linux""".split()
+# The modules of the kernel that a machine begins with, those that it loads later, and the program that loads the first.
+FIRST_MODULES = ["crc32c_generic", "virtio_pci", "virtio_blk", "virtio_net", "ext4"]
+LATER_MODULES = ["autofs4", "drbd"]
+INIT = """#!/bin/busybox sh
+/bin/busybox mount -t devtmpfs dev /dev
+for it in {}; do /bin/busybox insmod "/$it.ko"; done
+/bin/busybox mount -t ext4 /dev/vda /root
+exec /bin/busybox switch_root /root /sbin/init
+"""
 MEGABYTE = 1 << 20
 # What a machine does at its start, before ssh: its networks, as the kernel's words have its number.
 BEGIN = """#!/bin/sh
 number=$(sed 's/.*number=\\([12]\\).*/\\1/' /proc/cmdline)
 ip link set lo up
-for it in 0 1; do ip link set vec$it name eth$it; done
 ip address add 192.0.2.$number/24 dev eth0
 ip address add 198.51.100.$number/24 dev eth1
 ip link set eth0 up
@@ -81,7 +93,7 @@ def lacking():
     if os.geteuid() != 0:
         return "this needs root"
     if absent := machines.absent(NEEDED):
-        return f"not installed: {', '.join(absent)} (Debian: iproute2 e2fsprogs openssh-client)"
+        return f"not installed: {', '.join(absent)} (Debian: iproute2 e2fsprogs openssh-client qemu-system-x86)"
     return None if os.path.exists("/dev/net/tun") else "there is no /dev/net/tun"
 
 
@@ -145,11 +157,6 @@ def furnish(tree):
         (tree / path).write_text(text)
         (tree / path).chmod(mode)
 
-    modules = tree / "lib/modules"
-    modules.mkdir()
-    for it in (tree / "usr/lib/uml/modules").iterdir():
-        shutil.move(it, modules)
-    run("chroot", tree, "/sbin/depmod", "-a", next(modules.iterdir()).name)
     run("chroot", tree, "/sbin/ldconfig")
     users = (tree / "usr/share/base-passwd/passwd.master").read_text().replace("root:*:", "root::")
     write("etc/passwd", users + "sshd:x:101:65534::/run/sshd:/usr/sbin/nologin\n"
@@ -197,10 +204,51 @@ def furnish(tree):
         (tree / it).chmod(0o750)
 
 
+def with_what_they_need(modules, names):
+    """The files of these modules of the kernel, each after those that it needs."""
+    needs = dict(line.split(":") for line in (modules / "modules.dep").read_text().splitlines())
+    paths = {pathlib.Path(path).stem: path for path in needs}
+    # A name that is not there is built in.
+    wanted = [paths[name] for name in names if name in paths]
+    return list(dict.fromkeys(it for path in wanted for it in [*reversed(needs[path].split()), path]))
+
+
+def archive(files):
+    """An archive as the kernel takes it at its start (cpio, newc): folders, and files with their contents."""
+    parts = []
+    for number, (name, content) in enumerate([*files.items(), ("TRAILER!!!", b"")], 1):
+        mode = 0o040755 if content is None else 0o100755
+        content, name = content or b"", name.encode() + b"\0"
+        fields = [number, mode, 0, 0, 1, 0, len(content), 0, 0, 0, 0, len(name), 0]
+        parts.append(b"070701" + b"".join(b"%08X" % it for it in fields) + name)
+        parts += [b"\0" * (-(len(parts[-1])) % 4), content, b"\0" * (-len(content) % 4)]
+    return b"".join(parts)
+
+
+def take_kernel(tree, folder):
+    """Writes `linux` and `initrd` of a machine. The tree keeps the modules that it may need, and no others."""
+    [modules] = (tree / "usr/lib/modules").iterdir()
+    shutil.move(tree / "boot" / f"vmlinuz-{modules.name}", folder / "linux")
+    shutil.rmtree(tree / "boot")
+    run("chroot", tree, "/sbin/depmod", "-a", modules.name)
+    first = with_what_they_need(modules, FIRST_MODULES)
+    kept = with_what_they_need(modules, FIRST_MODULES + LATER_MODULES)
+    files = {f"{pathlib.Path(it).stem}.ko": (modules / it).read_bytes() for it in first}
+    names = " ".join(pathlib.Path(it).stem for it in first)
+    (folder / "initrd").write_bytes(archive({
+        "bin": None, "dev": None, "root": None, "bin/busybox": (tree / "usr/bin/busybox").read_bytes(),
+        "init": INIT.format(names).encode(), **files}))  # fmt: skip
+    for it in modules.rglob("*.ko"):
+        if str(it.relative_to(modules)) not in kept:
+            it.unlink()
+    run("chroot", tree, "/sbin/depmod", "-a", modules.name)
+
+
 def base():
-    """The folder with the files of a machine: `image`, its disk; `linux`, its kernel; `key`, to come in by. The first
-    call makes it, from Debian's mirror."""
-    recipe = repr((PACKAGES, BEGIN, BEGIN_UNIT, MANAGER, MASKED, inspect.getsource(unpack), inspect.getsource(furnish)))
+    """The folder with the files of a machine: `image`, its disk; `linux` and `initrd`, its kernel; `key`, to come in
+    by. The first call makes it, from Debian's mirror."""
+    sources = [inspect.getsource(it) for it in (unpack, furnish, take_kernel, archive, with_what_they_need)]
+    recipe = repr((PACKAGES, FIRST_MODULES, LATER_MODULES, INIT, BEGIN, BEGIN_UNIT, MANAGER, MASKED, sources))
     kept = machines.CACHE / f"mirrored-{hashlib.sha256(recipe.encode()).hexdigest()[:16]}"
     if kept.exists():
         return kept
@@ -209,7 +257,7 @@ def base():
     with tempfile.TemporaryDirectory(prefix="mirrored-", dir=machines.CACHE) as name:
         folder = pathlib.Path(name)
         tree = unpack(folder)
-        shutil.move(tree / "usr/bin/linux.uml", folder / "linux")
+        take_kernel(tree, folder)
         furnish(tree)
         shutil.copy(tree / "lab/key", folder / "key")
         with open(folder / "image", "wb") as file:
@@ -235,6 +283,8 @@ class Machine:
         for path in (self.disk, self.plain):
             with open(path, "wb") as file:
                 file.truncate(lab.size * MEGABYTE)
+        self.root = lab.scratch / f"{name}.root"
+        run("cp", "--sparse=always", lab.base / "image", self.root)
         for net in (0, 1):
             run("ip", "tuntap", "add", f"{name}{net}", "mode", "tap")
             run("ip", "link", "set", f"{name}{net}", "master", f"br{net}", "up")
@@ -243,12 +293,17 @@ class Machine:
         """Gives it power."""
         for net in (0, 1):
             self.plug(net, True)
-        words = [self.lab.base / "linux", f"umid={self.lab.scratch.name}-{self.name}", "mem=384M",
-                 f"ubd0={self.lab.scratch}/{self.name}.cow,{self.lab.base}/image", f"ubd1={self.disk}",
-                 f"ubd2={self.plain}", "root=/dev/ubda", "rw", f"number={self.number}",
-                 *(f"vec{net}:transport=tap,ifname={self.name}{net},mac=52:54:00:00:0{net}:0{self.number},gro=1"
-                   for net in (0, 1)),
-                 f"systemd.hostname={self.name}", "con=null", "con0=null,fd:1", "net.ifnames=0", "panic=1"]  # fmt: skip
+        kernel = f"console=ttyS0 quiet number={self.number} systemd.hostname={self.name} net.ifnames=0 panic=1"
+        words = [QEMU, "-cpu", "max", "-m", "384M", "-nodefaults", "-no-user-config", "-display", "none", "-monitor",
+                 "none", "-serial", "stdio", "-kernel", self.lab.base / "linux", "-initrd", self.lab.base / "initrd",
+                 "-append", kernel]  # fmt: skip
+        for it in ACCELERATORS:
+            words += ["-accel", it]
+        for path in (self.root, self.disk, self.plain):
+            words += ["-drive", f"file={path},if=virtio,format=raw"]
+        for net in (0, 1):
+            words += ["-netdev", f"tap,id=net{net},ifname={self.name}{net},script=no,downscript=no", "-device",
+                      f"virtio-net-pci,netdev=net{net},mac=52:54:00:00:0{net}:0{self.number},romfile="]  # fmt: skip
         with open(self.lab.scratch / f"{self.name}.console", "ab") as log:
             self.process = subprocess.Popen(list(map(str, words)), stdin=subprocess.DEVNULL, stdout=log, stderr=log,
                                             start_new_session=True)  # fmt: skip

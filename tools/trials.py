@@ -156,7 +156,7 @@ class Serving:
         self.ready = next((line for line in lines if not line.startswith("==")), "")
 
     def end(self):
-        """The status, what was printed, and what was told behind the first line, once all connections were served."""
+        """The status, what was printed, and what was reported after the first line, once all are served."""
         output, errors = self.process.communicate(timeout=PATIENCE)
         return self.process.returncode, output.decode(), errors.decode()
 
