@@ -106,7 +106,8 @@ pub(crate) fn write_decided<W: Sink>(
     }
 }
 
-fn refusal_reply(alloc: Global, refusal: Refusal) -> Result<Reply, AllocError>
+/// The reply to what was refused in the place of a message.
+pub fn refusal_reply(alloc: Global, refusal: Refusal) -> Result<Reply, AllocError>
     ensures { IfOk result (λ r. reply_parts r ≡ refusal_reply refusal) }
 {
     match refusal {

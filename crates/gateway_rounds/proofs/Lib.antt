@@ -1,0 +1,4 @@
+pub mod Verdicts
+pub mod Places
+pub mod Turns
+pub mod InOrder
