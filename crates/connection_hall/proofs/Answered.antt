@@ -1,6 +1,7 @@
 -- An answer on one connection changes nothing of the others.
-use Rattle.std.proofs.Common.{◌≡◌, ◌≢◌, ◌⊎◌, inl, inr, ℕ, zero, suc, ◌+◌, ◌<◌, ◌≤◌, Bool, true, false, List, [], ◌∷◌, ◌++◌}
-use Rattle.std.proofs.Common.{length, get_or, Option, Some, None, IfSome, refl, sym, ap, ◌∙◌, arith, subst}
+use Rattle.std.proofs.Common.{◌≡◌, ◌≢◌, inl, inr, ℕ, zero, suc, ◌+◌, ◌<◌, ◌≤◌, Bool, true, false, List, [], ◌∷◌}
+use Rattle.std.proofs.Common.{◌++◌}
+use Rattle.std.proofs.Common.{get_or, Option, Some, None, IfSome, refl, sym, ap, ◌∙◌, arith, subst}
 use Rattle.std.specs.Prelude.{nat_eq, nat_lt, option_map}
 use Rattle.std.proofs.Common.{vec_len, rules}
 use Rattle.std.proofs.lemmas.Bool.Decides.{leb_tells, nat_tests}
@@ -18,9 +19,8 @@ use Rattle.connection_hall.specs.Answers.{Answer, own}
 use Rattle.connection_hall.specs.Deadlines.{Awaits, patience}
 use Rattle.connection_hall.specs.Lending.{lent as lent_of, most_lent}
 use Rattle.connection_hall.specs.Comings.{Traffic, Gone, one_came}
-use Rattle.connection_hall.specs.Connections.{IsServed}
 use Rattle.connection_hall.specs.Places.{numbered, numbered_places, lent}
-use Rattle.connection_hall.specs.Running.{HasCome, IsBounded, IsInPlace, WasTold, gone_numbered, AreOver, AreRunning}
+use Rattle.connection_hall.specs.Running.{HasCome, IsInPlace, WasTold, gone_numbered, AreOver, AreRunning}
 use Rattle.connection_hall.specs.TurnsTaken.{WasServed}
 use Rattle.connection_hall.proofs.Told.{told_other}
 use Rattle.connection_hall.proofs.Hands.{longest_more}
@@ -166,7 +166,8 @@ module _ {S N : Type 0} (s : Ghosts S N) where
     | inr other ↦ rw other.0 (none_own hall number answers high all.1)
   ]
 
-  pub came : (answers : List Answer) (called called' : ℕ → Bool) (old new : Hall S) (traffic traffic' : Option (Traffic S))
+  pub came : (answers : List Answer) (called called' : ℕ
+      → Bool) (old new : Hall S) (traffic traffic' : Option (Traffic S))
       (c : Served S) → new.places.items ≡ old.places.items → new.bounds ≡ old.bounds → new.left + 1 ≡ old.left
       → new.loans ≡ old.loans → new.deadlines ≡ old.deadlines → new.owed ≡ old.owed
       → c.number + old.left ≡ old.bounds.connections → c.loan ≡ None → vec_len c.owed ≡ 0
@@ -201,7 +202,12 @@ module _ {S N : Type 0} (s : Ghosts S N) where
               → numbered c.number slot ≡ 0
           at i None h = refl
           at i (Some it) h =
-              counts_none it.number c.number (λ same. absurd (let come = h.hand.come in omega (arith, same, come, number)))
+              counts_none it.number c.number (λ same. absurd (let come = h.hand.come in omega (
+                arith,
+                same,
+                come,
+                number,
+              )))
 
       fewer : (n : ℕ) → numbered_places n old.places.items + numbered n (Some c) ≤ 1
       fewer n = elim (eqb_tells c.number n) [

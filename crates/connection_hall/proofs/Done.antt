@@ -1,5 +1,6 @@
 -- What a connection was told that is done.
-use Rattle.std.proofs.Common.{◌≡◌, ◌⊎◌, ◌||◌, inl, inr, ℕ, Bool, true, false, List, [], ◌∷◌, ◌++◌, drop, map, Option, Some}
+use Rattle.std.proofs.Common.{◌≡◌, ◌⊎◌, ◌||◌, inl, inr, ℕ, Bool, true, false, List, [], ◌∷◌, ◌++◌, drop, map, Option}
+use Rattle.std.proofs.Common.{Some}
 use Rattle.std.proofs.Common.{refl, sym, ap, ◌∙◌, subst, IfSome}
 use Rattle.std.proofs.lemmas.Bool.{cases_Bool}
 use Rattle.std.proofs.lemmas.List.{append-nil}

@@ -1,8 +1,9 @@
 -- What one thing that happens in a hall changes of what holds of all its connections.
-use Rattle.std.proofs.Common.{◌≡◌, ◌≢◌, ◌⊎◌, inl, inr, ℕ, zero, suc, ◌+◌, ◌-◌, ◌<◌, ◌≤◌, Bool, true, false, List, [], ◌∷◌}
+use Rattle.std.proofs.Common.{◌≡◌, ◌≢◌, ◌⊎◌, inl, inr, ℕ, zero, suc, ◌+◌, ◌-◌, ◌<◌, ◌≤◌, Bool, true, List, []}
+use Rattle.std.proofs.Common.{◌∷◌}
 use Rattle.std.proofs.Common.{◌++◌, length, get_or, set, take, Option, Some, None, IfSome, refl, sym, ap, ◌∙◌, arith}
-use Rattle.std.proofs.Common.{subst, length-append, vec_len}
-use Rattle.std.specs.Prelude.{option_map, is_some, min, IsSome, slice_index, if◌then◌else◌}
+use Rattle.std.proofs.Common.{subst, vec_len}
+use Rattle.std.specs.Prelude.{option_map, min, IsSome, slice_index, if◌then◌else◌}
 use Rattle.std.specs.List.{AllByRecursion, sum_by}
 use Rattle.std.proofs.lemmas.Bool.Decides.{eqb_tells, leb_tells}
 use Rattle.std.proofs.lemmas.List.{get_or-set_same, get_or-set_other, get_or-take, get_or_past, length-take-le}
@@ -16,12 +17,14 @@ use Rattle.connection_hall.specs.declared.stream.Stream.{Ghosts}
 use Rattle.connection_hall.specs.declared.why.Why.{Why}
 use Rattle.connection_hall.specs.Answers.{Answer}
 use Rattle.connection_hall.specs.Bounds.{most_lent as most_lent_of}
-use Rattle.connection_hall.specs.Comings.{Traffic, Gone, one_came, one_over}
+use Rattle.connection_hall.specs.Comings.{Traffic, Gone, one_over}
 use Rattle.connection_hall.specs.Deadlines.{Awaits, patience}
 use Rattle.connection_hall.specs.Lending.{lent as lent_of, most_lent, is_short}
-use Rattle.connection_hall.specs.Places.{taken, taken_places, numbered, numbered_places, lent, lent_places, owed, owed_places}
+use Rattle.connection_hall.specs.Places.{taken, taken_places, numbered, numbered_places, lent, lent_places, owed}
+use Rattle.connection_hall.specs.Places.{owed_places}
 use Rattle.connection_hall.specs.Rounds.{KeepsTurns, GivesTurn, has_turn, wait, count, most}
-use Rattle.connection_hall.specs.Running.{HasCome, IsShort, IsResting, IsInHand, IsInPlace, WasTold, gone_numbered, AreOver}
+use Rattle.connection_hall.specs.Running.{HasCome, IsShort, IsResting, IsInHand, IsInPlace, WasTold, gone_numbered}
+use Rattle.connection_hall.specs.Running.{AreOver}
 use Rattle.connection_hall.specs.Running.{AreRunning, MayEnd, AreCalled, DelaysNone, GivesOne, turns}
 
 -- 1 if it is so
@@ -350,7 +353,8 @@ module _ {S N : Type 0} (s : Ghosts S N) where
             sym (get_or-set_other old.places.items place i None None other.1) ∙ ap (λ l. get_or l i None) (sym places)
             ∙ is in
             place_on answers called called' old new i c f
-            (awake_on c (called i) (called' i) old new (turns i other.1) (λ short. inr (short_same old new c loans short)))
+            (awake_on c (called i) (called' i) old new (turns i other.1) (λ short. inr (short_same old new c loans
+            short)))
             (slot_at (IsInPlace s answers called old i) (get_or old.places.items i None) c there (running.in_place i))
       ]
 
@@ -373,7 +377,8 @@ module _ {S N : Type 0} (s : Ghosts S N) where
       sums : (f : Option (Served S) → ℕ)
           → sum_by f new.places.items + f None ≡ sum_by f old.places.items + f (Some c)
       sums f =
-          ap (λ l. sum_by f l + f None) places ∙ ap (λ o. sum_by f (set old.places.items place (Some c)) + f o) (sym free)
+          ap (λ l. sum_by f l + f None) places ∙ ap (λ o. sum_by f (set old.places.items place (Some c)) + f o) (sym
+          free)
           ∙ sum_by-set f old.places.items place (Some c) None low
 
       same_place : (i : ℕ) → i ≡ place → IsInPlace s answers called' new i c
@@ -461,7 +466,8 @@ module _ {S N : Type 0} (s : Ghosts S N) where
       numbers n = rw number refl
 
   -- what is in hand is over
-  pub ended : (answers : List Answer) (called called' : ℕ → Bool) (old new : Hall S) (traffic traffic' : Option (Traffic S))
+  pub ended : (answers : List Answer) (called called' : ℕ
+      → Bool) (old new : Hall S) (traffic traffic' : Option (Traffic S))
       (c : Served S) (why : Why) → new.places.items ≡ old.places.items → Frames old new → new.left ≡ old.left
       → lent_of new.loans ≡ lent_of old.loans - lent (Some c) → new.owed ≡ old.owed
       → traffic' ≡ option_map (one_over c.stream c.number why) traffic → MayEnd s answers old why c

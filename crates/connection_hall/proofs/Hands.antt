@@ -1,5 +1,5 @@
 -- What is changed of one connection that was taken out of its place.
-use Rattle.std.proofs.Common.{◌≡◌, ◌≢◌, ◌⊎◌, inl, inr, ℕ, ◌+◌, ◌<◌, ◌≤◌, Bool, true, false, List, [], ◌∷◌, ◌++◌, length}
+use Rattle.std.proofs.Common.{◌≡◌, ◌⊎◌, inl, inr, ℕ, ◌+◌, ◌≤◌, Bool, true, false, List, [], ◌∷◌, ◌++◌, length}
 use Rattle.std.proofs.Common.{Option, Some, None, IfSome, refl, sym, ap, ◌∙◌, arith, subst, vec_len}
 use Rattle.std.specs.Prelude.{IsSome, ◌&&◌, ◌||◌, is_none, is_some, if◌then◌else◌, min, nat_lt}
 use Rattle.std.proofs.lemmas.Bool.Decides.{nat_tests}
@@ -11,10 +11,10 @@ use Rattle.connection_hall.specs.declared.ready.Ready.{Ready}
 use Rattle.connection_hall.specs.declared.loan.Loan.{Loan}
 use Rattle.connection_hall.specs.declared.served.Served.{Served}
 use Rattle.connection_hall.specs.declared.stream.Stream.{Ghosts}
-use Rattle.connection_hall.specs.declared.why.Why.{Why}
-use Rattle.connection_hall.specs.declared.why.Why.TheVariants.{Done, Broken, NoMemory, Late}
+use Rattle.connection_hall.specs.declared.why.Why.TheVariants.{Late}
 use Rattle.connection_hall.specs.Answers.{Answer}
-use Rattle.connection_hall.specs.Connections.{HoldsRest, IsReady, IsTold, IsServed, IsCutOff, HoldsWithin, KeepsStanding}
+use Rattle.connection_hall.specs.Connections.{HoldsRest, IsReady, IsServed, IsCutOff, HoldsWithin}
+use Rattle.connection_hall.specs.Connections.{KeepsStanding}
 use Rattle.connection_hall.specs.Connections.{arrival, HasWritten, NeedsMore, IsWaiting, IsShortOfLoan, IsEnd}
 use Rattle.connection_hall.specs.Connections.{has_passed as has_passed_term}
 use Rattle.connection_hall.specs.Deadlines.{patience, has_passed}
@@ -136,7 +136,8 @@ both false b h = absurd (let e = h in cc)
 pub late_reason : {S : Type 0} (hall : Hall S) (c : Served S) (now : ℕ) → is_late hall c now ≡ true
     → patience hall.deadlines ≡ hall.bounds.patience → IsSome hall.bounds.patience ⊎ IsSome c.loan
 late_reason hall c now late limit =
-    elim (either (has_passed (patience hall.deadlines) c.since now) (is_short hall.loans && has_passed_term c now) late) [
+    elim (either (has_passed (patience hall.deadlines) c.since now) (is_short hall.loans && has_passed_term c now)
+    late) [
       | inl passed ↦ inl (subst (λ (o : Option ℕ). IsSome o) limit
           (limit_given (patience hall.deadlines) c.since now passed))
       | inr term ↦ inr (loan_given (is_none c.ready) c.loan _ (both (is_short hall.loans) (has_passed_term c now) term))
@@ -160,8 +161,10 @@ bounded_on answers c c' room small held owed bounded = record {
   owed = owed (longest answers) (longest_some answers) bounded.owed;
 }
 
-pub hand_after : {S N : Type 0} (s : Ghosts S N) (answers : List Answer) (old new : Hall S) (place : ℕ) (c c' : Served S)
-    → new.left ≡ old.left → new.bounds ≡ old.bounds → KeepsStanding s c c' → IsServed s answers c' → IsBounded answers c'
+pub hand_after : {S N : Type 0} (s : Ghosts S N) (answers : List Answer) (old new : Hall S) (place : ℕ) (c c' :
+    Served S)
+    → new.left ≡ old.left → new.bounds ≡ old.bounds → KeepsStanding s c c' → IsServed s answers c'
+    → IsBounded answers c'
     → IsInHand s answers old place c → IsInHand s answers new place c'
 hand_after s answers old new place c c' left bounds same served bounded hand = record {
   served = served;
@@ -188,7 +191,8 @@ served_noted s answers c stream came went ended told = record {
   ready = ready_noted c.ready told.ready;
 }
   where
-    ready_noted : (ready : Option Ready) → IfSome ready (IsReady c) → IfSome ready (IsReady (record c { stream = stream }))
+    ready_noted : (ready : Option Ready) → IfSome ready (IsReady c)
+        → IfSome ready (IsReady (record c { stream = stream }))
     ready_noted None h = tt
     ready_noted (Some ready) h = record {
       next = h.next;
@@ -240,17 +244,13 @@ pub slot_is : {S : Type 0} (P : Served S → Type 0) (slot : Option (Served S)) 
     → IfSome slot P
 slot_is P slot c is at = rw is at
 
-since_is : {S : Type 0} (c c' : Served S) → c' ≡ record c { since = c'.since }
-    → record c { since = c'.since } ≡ record c { loan = c'.loan; since = c'.since }
-since_is c c' is =
-    ap (λ (o : Option Loan). record c { loan = o; since = c'.since }) (sym (ap (λ (k : Served _). k.loan) is))
-
 -- it rests, since its peer is waited for
-pub goes_to_rest : {S N : Type 0} (s : Ghosts S N) (hall : Hall S) (was c : Served S) (slot : Option (Served S))
-    → IfSome slot (λ c'. c' ≡ record c { since = c'.since }) → IsWaiting s c → IfSome slot (Advances s hall was)
-goes_to_rest s hall was c None same waits = tt
-goes_to_rest s hall was c (Some c') same waits =
-    inr (inr (inl (waits_lent s c c' (same ∙ since_is c c' same) waits)))
+pub goes_to_rest : {S N : Type 0} (s : Ghosts S N) (hall : Hall S) (was c : Served S) (since : Option ℕ)
+    (slot : Option (Served S)) → IfSome slot (λ c'. c' ≡ record c { since = since }) → IsWaiting s c
+    → IfSome slot (Advances s hall was)
+goes_to_rest s hall was c since None same waits = tt
+goes_to_rest s hall was c since (Some c') same waits =
+    inr (inr (inl (waits_lent s c c' (lent_is c c' c.loan since same) waits)))
 
 -- it got a loan, or is short of one
 pub goes_with_loan : {S N : Type 0} (s : Ghosts S N) (hall : Hall S) (was c : Served S) (slot : Option (Served S))

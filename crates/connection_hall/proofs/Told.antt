@@ -11,7 +11,8 @@ use Rattle.std.proofs.lemmas.List.{append-nil, map-append}
 use Rattle.std.proofs.lemmas.List.Elements.{filter-append}
 use Rattle.std.proofs.lemmas.Grind.{flat_map-append}
 use Rattle.http_messages.specs.Head.{closes}
-use Rattle.http_messages.specs.Message.{Arrival, Read, Refused as RefusedArrival, ArrivalsThen, BeginsRequest, IsRefused}
+use Rattle.http_messages.specs.Message.{Arrival, Read, Refused as RefusedArrival, ArrivalsThen, BeginsRequest}
+use Rattle.http_messages.specs.Message.{IsRefused}
 use Rattle.http_messages.specs.Message.{Asks, IsRest, awaits, interim}
 use Rattle.http_messages.specs.Request.{Request as Message}
 use Rattle.http_messages.specs.declared.refusal.Refusal.{Refusal}
@@ -51,7 +52,8 @@ rest_same old new same early r = record {
 }
 
 -- the machine is another, which holds the same bytes
-pub told_same : {S : Type 0} (came went : Option (List ℕ)) (is_ended : Bool) (answers : List Answer) (old new : Served S)
+pub told_same : {S : Type 0} (came went : Option (List ℕ)) (is_ended : Bool) (answers : List Answer) (old new :
+    Served S)
     → new ≡ record old { machine = new.machine } → held_by new ≡ held_by old
     → is_over new.machine ≡ is_over old.machine → has_ended new.machine ≡ has_ended old.machine
     → (IsSound old.machine → IsSound new.machine) → old.ready ≡ None → IsTold came went is_ended answers old
@@ -98,7 +100,8 @@ told_interim came went is_ended answers old new rest none is once none_ready ope
           ≡ text_on old.number answers ++ early_text b)) once told.went_is);
       ends = told.ends;
       over = told.over;
-      shut = λ closing. absurd (let h : old.is_closing ≡ false = open' in let k : old.is_closing ≡ true = closing in cc);
+      shut = λ closing. absurd (let h : old.is_closing ≡ false = open' in let k : old.is_closing ≡ true = closing in
+          cc);
       ended = told.ended;
       rest = λ ended. record { rest = (told.rest ended).rest; interim = λ asks. refl };
       early = λ early. asks;
@@ -173,7 +176,8 @@ pub told_read : {S : Type 0} (came came' went went' : Option (List ℕ)) (before
     → held_by new ≡ held_by old ++ more → is_over new.machine ≡ is_over old.machine
     → has_ended new.machine ≡ has_ended old.machine → after ≡ false → came' ≡ append_known came more → went' ≡ went
     → NeedsMore old → IsTold came went before answers old → IsTold came' went' after answers new
-told_read came came' went went' before after answers old new more rest reads same over ended goes_on came_is went_is needs
+told_read came came' went went' before after answers old new more rest reads same over ended goes_on came_is went_is
+    needs
     told =
     let open' : has_ended new.machine ≡ false = ended ∙ needs.goes_on in
     subst (λ (c : Served _). IsTold came' went' after answers c) (sym rest) (record {
@@ -204,7 +208,8 @@ pub told_cut : {S : Type 0} (came came' went went' : Option (List ℕ)) (before 
     → came' ≡ append_known came more → went' ≡ went → NeedsMore old → IsTold came went before answers old
     → (first : List ℕ) × IfSome came' (λ known. (rest : List ℕ) × (known ≡ first ++ rest))
     × IsTold (Some first) went' after answers new
-told_cut came came' went went' before after answers old new more rest same over ended sound goes_on came_is went_is needs
+told_cut came came' went went' before after answers old new more rest same over ended sound goes_on came_is went_is
+    needs
     told = (
       told.bytes,
       subst (λ (came : Option (List ℕ)). IfSome came (λ known. (rest : List ℕ) × (known ≡ told.bytes ++ rest)))
@@ -240,7 +245,8 @@ pub told_idle : {S : Type 0} (came came' went went' : Option (List ℕ)) (before
     → (IsSound old.machine → IsSound new.machine) → has_ended new.machine ≡ after
     → came' ≡ append_known came (take 0 room) → went' ≡ went → NeedsMore old → IsTold came went before answers old
     → IsTold came' went' after answers new
-told_idle came came' went went' before after answers old new room rest same over sound ended came_is went_is needs told =
+told_idle came came' went went' before after answers old new room rest same over sound ended came_is went_is needs
+    told =
     let c : Served _ = record old { stream = new.stream; machine = new.machine } in
     subst (λ (c : Served _). IsTold came' went' after answers c) (sym rest) (record {
       bytes = told.bytes;
@@ -290,7 +296,8 @@ needs_same old new rest same ended needs =
 
 -- ---- what was to be answered is
 
-ends_push : (answers : List Answer) (last : Answer) → EndsBy answers false → EndsBy (answers ++ last ∷ []) (ends_with last)
+ends_push : (answers : List Answer) (last : Answer) → EndsBy answers false
+    → EndsBy (answers ++ last ∷ []) (ends_with last)
 ends_push [] last h = refl
 ends_push (one ∷ []) last h = (sym h, refl)
 ends_push (one ∷ next ∷ answers) last h = (h.0, ends_push (next ∷ answers) last h.1)
@@ -338,7 +345,8 @@ interim_once false asked early = refl
 
 text_answered : (went : Option (List ℕ)) (is_early : Bool) (owed text asked reply : List ℕ)
     → (is_early ≡ true → asked ≡ interim) → IfSome went (λ known. known ++ owed ≡ text ++ early_text is_early)
-    → IfSome went (λ known. known ++ (owed ++ (if is_early then [] else asked) ++ reply) ≡ (text ++ (asked ++ reply)) ++ [])
+    → IfSome went (λ known. known ++ (owed ++ (if is_early then [] else asked) ++ reply) ≡ (text ++ (asked ++ reply))
+    ++ [])
 text_answered None is_early owed text asked reply early h = tt
 text_answered (Some known) is_early owed text asked reply early h =
     let left : List ℕ = if is_early then [] else asked in
@@ -443,7 +451,8 @@ pub told_answer : {S : Type 0} (came went : Option (List ℕ)) (is_ended : Bool)
     → owed.items ≡ old.owed.items ++ (if old.is_early then [] else interim_of last) ++ text
     → is_closing ≡ (closes || is_over m)
     → ((bytes : List ℕ) (arrivals : List Arrival) → HasFinished bytes arrivals old.machine
-    → IfSome old.ready (StandsFirst old.machine) → HasFinished bytes (arrivals ++ last ∷ []) m × (is_over m ≡ is_last last))
+    → IfSome old.ready (StandsFirst old.machine)
+    → HasFinished bytes (arrivals ++ last ∷ []) m × (is_over m ≡ is_last last))
     → has_ended m ≡ has_ended old.machine → IsTold came went is_ended answers old
     → IsTold came went is_ended (answers ++ answer_to old.number last text closes ∷ []) (record old {
       machine = m;
@@ -454,10 +463,12 @@ pub told_answer : {S : Type 0} (came went : Option (List ℕ)) (is_ended : Bool)
       loan = loan;
       since = None;
     })
-told_answer came went is_ended answers old m owed is_closing loan last text closes is owed_is closing_is finishes ended told =
+told_answer came went is_ended answers old m owed is_closing loan last text closes is owed_is closing_is finishes
+    ended told =
     let answer : Answer = answer_to old.number last text closes in
     let here : nat_eq answer.on old.number ≡ true = nat_eq-refl old.number in
-    let finished = finishes told.bytes (arrivals_on old.number answers) told.read (stands_first old old.ready told.ready) in
+    let finished = finishes told.bytes (arrivals_on old.number answers) told.read (stands_first old old.ready
+    told.ready) in
     record {
       bytes = told.bytes;
       read = subst (λ (arrivals : List Arrival). HasFinished told.bytes arrivals m)
@@ -558,7 +569,11 @@ grows_self c = record {
 
 none_before : (before now : List ℕ) → length before ≤ length now → now ≡ [] → before ≡ []
 none_before [] now shorter none = refl
-none_before (x ∷ before) now shorter none = absurd (let l = ap (λ (l : List ℕ). length l) none in omega (arith, shorter, l))
+none_before (x ∷ before) now shorter none = absurd (let l = ap (λ (l : List ℕ). length l) none in omega (
+  arith,
+  shorter,
+  l,
+))
 
 pub grows_on : {S : Type 0} (old mid new : Served S) → Grows old mid → Grows mid new → Grows old new
 grows_on old mid new first second = record {

@@ -60,7 +60,8 @@ closes_last [] = false
 closes_last (last ∷ []) = last.closes
 closes_last (answer ∷ next ∷ answers) = closes_last (next ∷ answers)
 
--- Of all bytes that came, these answers are to all arrivals. What went is their text, and the interim response that less
+-- Of all bytes that came, these answers are to all arrivals. What went is their text, and the interim response that
+-- less
 -- than a request asks for behind them.
 pub record AnswersAll (came went : List ℕ) (answers : List Answer) : Type 0 where
   pub ending : Ending

@@ -37,7 +37,8 @@ pub record IsReady {S : Type 0} (c : Served S) (ready : Ready) : Type 0 where
   pub owes_nothing : c.owed.items ≡ []
   pub open_still : c.is_closing ≡ false
 
--- Of these answers the connection was told its own: if it is known what came on it, these are its arrivals, and the rest
+-- Of these answers the connection was told its own: if it is known what came on it, these are its arrivals, and the
+-- rest
 -- is held; if it is known what went, it is their text, with the interim response that the next one asks for, if that
 -- is early. The last of this is what is owed.
 pub record IsTold {S : Type 0} (came went : Option (List ℕ)) (is_ended : Bool) (answers : List Answer) (c : Served S)

@@ -1,5 +1,5 @@
 -- What is counted of the connections in places; own rules.
-use Rattle.std.specs.Prelude.{ℕ, Bool, List, Option, Some, None, vec_len, nat_eq, is_some, if◌then◌else◌}
+use Rattle.std.specs.Prelude.{ℕ, List, Option, Some, None, vec_len, nat_eq, is_some, if◌then◌else◌}
 use Rattle.std.specs.List.{sum_by}
 use Rattle.http_messages.specs.Message.{Arrival}
 use Rattle.connection_hall.specs.declared.served.Served.{Served}

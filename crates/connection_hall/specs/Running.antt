@@ -1,11 +1,11 @@
 -- What contracts see of all connections; own rules.
-use Rattle.std.specs.Prelude.{◌≡◌, ◌≢◌, ◌⊎◌, ◌≤◌, ◌<◌, ◌+◌, ◌||◌, ◌&&◌, ℕ, Bool, true, false, List, [], length, min, max, ◌∷◌}
-use Rattle.std.specs.Prelude.{Option, Some, None, IfSome, IsSome, slice_index, slice_index_or, nat_eq, nat_lt, is_some}
+use Rattle.std.specs.Prelude.{◌≡◌, ◌≢◌, ◌⊎◌, ◌≤◌, ◌<◌, ◌+◌, ◌||◌, ◌&&◌, ℕ, Bool, true, false, List, [], length, min}
+use Rattle.std.specs.Prelude.{max, ◌∷◌}
+use Rattle.std.specs.Prelude.{Option, Some, None, IfSome, IsSome, slice_index, slice_index_or, nat_eq, nat_lt}
 use Rattle.std.specs.Prelude.{vec_len, if◌then◌else◌}
 use Rattle.std.specs.List.{AllByRecursion, sum_by}
 use Rattle.http_messages.specs.Message.{Arrival, interim}
 use Rattle.connection_hall.specs.declared.hall.Hall.{Hall}
-use Rattle.connection_hall.specs.declared.round.Round.{Round}
 use Rattle.connection_hall.specs.declared.served.Served.{Served}
 use Rattle.connection_hall.specs.declared.stream.Stream.{Ghosts}
 use Rattle.connection_hall.specs.declared.why.Why.{Why}
@@ -19,7 +19,7 @@ use Rattle.connection_hall.specs.Deadlines.{Awaits, patience, has_passed}
 use Rattle.connection_hall.specs.Lending.{lent as lent_of, most_lent, is_short}
 use Rattle.connection_hall.specs.Places.{taken_places, numbered, numbered_places, lent, lent_places, owed, owed_places}
 use Rattle.connection_hall.specs.Places.{arrival_in, number_in}
-use Rattle.connection_hall.specs.Rounds.{has_turn, count, left, wait, KeepsTurns}
+use Rattle.connection_hall.specs.Rounds.{has_turn, count, left, wait}
 use Rattle.connection_hall.specs.TurnsTaken.{WasServed}
 
 -- the length of the longest text of these answers, with an interim response before it
@@ -134,7 +134,8 @@ pub record GivesOne {S : Type 0} (old new : Hall S) (place : ℕ) : Type 0 where
       → wait new.round i < wait old.round i
   pub left : left new.round + 1 ≡ left old.round
 
--- A connection went on: bytes came, or the end of its input, or the interim response became early; or it has a loan now;
+-- A connection went on: bytes came, or the end of its input, or the interim response became early; or it has a loan
+-- now;
 -- or it rests for a reason.
 abbrev pub Advances : {S N : Type 0} → Ghosts S N → Hall S → Served S → Served S → Type 0
 Advances s hall old new =
@@ -153,9 +154,15 @@ AreCalled named hall =
 
 -- No place that is taken becomes free, or loses its turn, or waits longer for it.
 pub record DelaysNone {S : Type 0} (old new : Hall S) : Type 0 where
-  pub taken : (i : ℕ) → IsSome (slice_index_or old.places.items i None) → IsSome (slice_index_or new.places.items i None)
+  pub taken : (i : ℕ) → IsSome (slice_index_or old.places.items i None)
+      → IsSome (slice_index_or new.places.items i None)
   pub turns : (i : ℕ) → IsSome (slice_index_or old.places.items i None) → turns old i ≡ true → turns new i ≡ true
   pub waits : (i : ℕ) → IsSome (slice_index_or old.places.items i None) → wait new.round i ≤ wait old.round i
+
+-- each other place has what it had
+abbrev pub KeepsOtherPlaces : {S : Type 0} → ℕ → Hall S → Hall S → Type 0
+KeepsOtherPlaces place old new =
+    (i : ℕ) → i ≢ place → slice_index_or new.places.items i None ≡ slice_index_or old.places.items i None
 
 -- each other place that is called has its turn
 abbrev pub KeepsOthers : ℕ → (ℕ → Bool) → (ℕ → Bool) → Type 0

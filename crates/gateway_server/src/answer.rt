@@ -106,8 +106,7 @@ pub(crate) fn write_decided<W: Sink>(
     }
 }
 
-/// The reply to what was refused in the place of a message.
-pub fn refusal_reply(alloc: Global, refusal: Refusal) -> Result<Reply, AllocError>
+fn refusal_reply(alloc: Global, refusal: Refusal) -> Result<Reply, AllocError>
     ensures { IfOk result (λ r. reply_parts r ≡ refusal_reply refusal) }
 {
     match refusal {

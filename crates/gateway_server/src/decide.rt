@@ -29,7 +29,7 @@ pub struct Decided {
 }
 
 /// Answers a message with this body and this route.
-pub fn decide<S: Alter>(
+pub(crate) fn decide<S: Alter>(
     alloc: Global,
     intake: &mut Intake<S>,
     route: Route<'_>,

@@ -14,8 +14,7 @@ mod serving;
 mod stop;
 
 pub use ahead::{decide_ahead, files_first};
-pub use answer::refusal_reply;
-pub use decide::{Decided, decide as decide_route};
+pub use decide::Decided;
 pub use filing_model::{Ended, Mark};
 pub use gateway_requests::completed;
 pub use group::file_all;

@@ -1,10 +1,8 @@
-use Rattle.std.proofs.Common.{◌≡◌, ◌<◌, ◌≤◌, ◌+◌, ◌-◌, ◌∙◌, inl, inr, Bool, true, not, ℕ, List, Option, Some, None, get_or, sym, refl}
+use Rattle.std.proofs.Common.{◌≡◌, ◌+◌, ◌-◌, ◌∙◌, inl}
+use Rattle.std.proofs.Common.{refl}
 use Rattle.std.proofs.Common.{length, arith, ap, vec_len}
-use Rattle.std.specs.Prelude.{is_some}
-use Rattle.std.proofs.lemmas.Grind.{common_steps}
-use Rattle.connection_hall.specs.Running.{turns, IsInHand}
+use Rattle.connection_hall.specs.Running.{turns}
 use Rattle.connection_hall.proofs.Halls.{called_too, delays_after, delays_came}
-use Rattle.connection_hall.proofs.Hands.{longest_some}
 use Rattle.connection_hall.proofs.Answered.{came, none_own}
 use Rattle.connection_hall.proofs.hall.Hall.admit.Goals as goal
 use Rattle.connection_hall.proofs.hall.Hall.admit.Goals.{then-is_none+in_ok-stream+in-Some, else-is_none}
@@ -47,7 +45,8 @@ loop-place-preserved g c =
             next = let there = c.grow.ensures.there in let len = w.enter.ensures.len in omega (arith, there, len);
             named = w.in_ok-stream.ensures.named ∙ inv.named;
             called = λ named called.
-                called_too mid w.enter.new.self named c.loop-place.place w.enter.ensures.others (w.enter.ensures.turn refl)
+                called_too mid w.enter.new.self named c.loop-place.place w.enter.ensures.others (w.enter.ensures.turn
+                refl)
                 w.enter.ensures.round.turns (c.grow.ensures.called named (inv.called named called));
             delays = delays_after _ _ _ (delays_after _ _ _ inv.delays c.grow.ensures.delays)
                 (delays_came mid w.enter.new.self c.loop-place.place is w.enter.ensures.here w.enter.ensures.others

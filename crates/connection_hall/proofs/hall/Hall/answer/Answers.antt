@@ -1,12 +1,10 @@
-use Rattle.std.proofs.Common.{◌≡◌, ◌≢◌, ◌⊎◌, inl, inr, ◌∙◌, ap, sym, refl, ℕ, [], ◌∷◌, ◌++◌, Some, None, length, vec_len, subst, arith}
+use Rattle.std.proofs.Common.{◌≡◌, inl, inr, ◌∙◌, ap, sym, refl, ℕ, [], ◌∷◌, ◌++◌, Some, None, length}
+use Rattle.std.proofs.Common.{vec_len, subst, arith}
 use Rattle.http_messages.specs.Message.{interim}
-use Rattle.connection_hall.specs.declared.round.Round.{Round}
 use Rattle.connection_hall.specs.declared.served.Served.{Served}
-use Rattle.connection_hall.specs.declared.why.Why.TheVariants.{NoMemory, Late}
 use Rattle.connection_hall.specs.Answers.{answer_to}
 use Rattle.connection_hall.specs.Connections.{arrival}
 use Rattle.connection_hall.specs.Places.{arrival_in, number_in}
-use Rattle.connection_hall.specs.Rounds.{has_turn}
 use Rattle.connection_hall.specs.Running.{turns, number_at, AreRunning, IsInHand}
 use Rattle.connection_hall.proofs.Halls.{changed, frames_same, turns_after, turns_same}
 use Rattle.connection_hall.proofs.Hands.{served_noted, ready_owes, longest_last, cut_off}
@@ -40,7 +38,8 @@ returns-then-is_empty-clause-answered g c answers running = λ x is.
     let none_owed = ready_owes g.S.Stream answers it x arrived hand.served in
     let longest = longest_last answers last in
     let again : IsInHand g.S.Stream (answers ++ last ∷ []) c.settle.new.self c.args.place noted = record {
-      served = served_noted g.S.Stream (answers ++ last ∷ []) done c.note.new.self c.note.ensures.came c.note.ensures.went
+      served = served_noted g.S.Stream (answers ++ last ∷ []) done c.note.new.self c.note.ensures.came
+          c.note.ensures.went
           c.note.ensures.ended told;
       watched = c.note.ensures.place ∙ ap g.S.Stream.place c.answer.ensures.stream ∙ hand.watched;
       bounded = record {
@@ -55,7 +54,8 @@ returns-then-is_empty-clause-answered g c answers running = λ x is.
 
 pub returns-then-is_empty-clause-round : goal.returns-then-is_empty-clause-round
 returns-then-is_empty-clause-round g c =
-    turns_after _ _ _ (turns_same _ _ c.leave.ensures.round) (turns_after _ _ _ c.settle.ensures.round c.enter.ensures.round)
+    turns_after _ _ _ (turns_same _ _ c.leave.ensures.round) (turns_after _ _ _ c.settle.ensures.round
+    c.enter.ensures.round)
 
 pub returns-else-is_empty-clause-answered : goal.returns-else-is_empty-clause-answered
 returns-else-is_empty-clause-answered g c answers running = λ x is.
@@ -81,7 +81,8 @@ returns-else-is_empty-clause-answered g c answers running = λ x is.
     let none_owed = ready_owes g.S.Stream answers it x arrived hand.served in
     let longest = longest_last answers last in
     let again : IsInHand g.S.Stream (answers ++ last ∷ []) c.settle.new.self c.args.place noted = record {
-      served = served_noted g.S.Stream (answers ++ last ∷ []) done c.note.new.self c.note.ensures.came c.note.ensures.went
+      served = served_noted g.S.Stream (answers ++ last ∷ []) done c.note.new.self c.note.ensures.came
+          c.note.ensures.went
           c.note.ensures.ended told;
       watched = c.note.ensures.place ∙ ap g.S.Stream.place c.answer.ensures.stream ∙ hand.watched;
       bounded = record {
@@ -96,7 +97,8 @@ returns-else-is_empty-clause-answered g c answers running = λ x is.
 
 pub returns-else-is_empty-clause-round : goal.returns-else-is_empty-clause-round
 returns-else-is_empty-clause-round g c =
-    turns_after _ _ _ (turns_same _ _ c.leave.ensures.round) (turns_after _ _ _ c.settle.ensures.round c.turn.ensures.round)
+    turns_after _ _ _ (turns_same _ _ c.leave.ensures.round) (turns_after _ _ _ c.settle.ensures.round
+    c.turn.ensures.round)
 
 pub returns-in_default-answer-clause-lost : goal.returns-in_default-answer-clause-lost
 returns-in_default-answer-clause-lost g c answers running =
@@ -117,9 +119,12 @@ returns-in_default-answer-clause-lost g c answers running =
       late = λ late. absurd (let h = late in cc);
       come = let h = hand.come in omega (arith, h, number);
     })
-    (changed g.S.Stream answers (turns mid) (turns mid) mid mid traffic it done refl (frames_same mid mid refl refl refl refl)
-    refl number (λ all. rw (ap (λ (k : Served g.row.S.Denot). k.loan) same) all) (λ h. omega (arith, h, owed)) (λ i is. is)
+    (changed g.S.Stream answers (turns mid) (turns mid) mid mid traffic it done refl (frames_same mid mid refl refl
+    refl refl)
+    refl number (λ all. rw (ap (λ (k : Served g.row.S.Denot). k.loan) same) all) (λ h. omega (arith, h, owed)) (λ i
+    is. is)
     (λ i other low short. inr short) left)
 
 pub returns-in_default-answer-clause-round : goal.returns-in_default-answer-clause-round
-returns-in_default-answer-clause-round g c = turns_after _ _ _ (turns_same _ _ c.leave.ensures.round) c.end.ensures.round
+returns-in_default-answer-clause-round g c = turns_after _ _ _ (turns_same _ _ c.leave.ensures.round)
+    c.end.ensures.round

@@ -1,4 +1,4 @@
-use Rattle.std.proofs.Common.{◌≡◌, ◌∙◌, ap, sym, refl, List, ℕ, None, get_or, slice_index, subst, arith}
+use Rattle.std.proofs.Common.{◌∙◌, ap, sym, refl, List, ℕ, None, get_or, slice_index, subst, arith}
 use Rattle.connection_hall.specs.declared.round.Round.{Round}
 use Rattle.connection_hall.specs.Rounds.{has_turn, wait}
 use Rattle.connection_hall.specs.Running.{turns, AreCalled}
@@ -27,7 +27,8 @@ returns-clause-named g c = λ k at there.
 
 pub returns-clause-delays : goal.returns-clause-delays
 returns-clause-delays g c =
-    let named = delays_turns c.trim.new.self c.call_named.new.self c.call_named.ensures.places c.call_named.ensures.round in
+    let named = delays_turns c.trim.new.self c.call_named.new.self c.call_named.ensures.places
+    c.call_named.ensures.round in
     let late = delays_turns c.call_named.new.self c.call_late.new.self c.call_late.ensures.places
     c.call_late.ensures.round in
     let all = delays_after _ _ _ (delays_after _ _ _ (delays_after _ _ _ c.trim.ensures.delays named) late)

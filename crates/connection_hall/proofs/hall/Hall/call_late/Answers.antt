@@ -1,4 +1,4 @@
-use Rattle.std.proofs.Common.{◌≡◌, ◌<◌, ◌∙◌, ap, sym, refl, ℕ, Some, None, get_or, length, subst, arith, Option, vec_len}
+use Rattle.std.proofs.Common.{◌≡◌, ◌<◌, ◌∙◌, ap, Some, None, get_or, length, subst, arith, Option}
 use Rattle.std.proofs.lemmas.Grind.{common_steps}
 use Rattle.connection_hall.specs.declared.served.Served.{Served}
 use Rattle.connection_hall.specs.Deadlines.{Awaits}

@@ -1,4 +1,4 @@
-use Rattle.std.proofs.Common.{◌≡◌, ◌∙◌, ◌≤◌, below_more, refl, ap, sym, Some, None, get_or, length, true, arith, IsSome}
+use Rattle.std.proofs.Common.{◌∙◌, ◌≤◌, below_more, refl, None, get_or, length, arith}
 use Rattle.std.proofs.lemmas.List.{get_or_past}
 use Rattle.std.proofs.lemmas.Grind.{common_steps}
 use Rattle.connection_hall.specs.Running.{turns}

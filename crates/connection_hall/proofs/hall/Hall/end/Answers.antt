@@ -1,9 +1,9 @@
-use Rattle.std.proofs.Common.{◌≡◌, ◌≢◌, ◌<◌, ◌-◌, ◌⊎◌, inl, inr, ◌∙◌, ap, sym, refl, ℕ, Bool, true, false, Some, length, arith}
-use Rattle.std.proofs.lemmas.Grind.{common_steps}
+use Rattle.std.proofs.Common.{◌≡◌, ◌-◌, inl, inr, ◌∙◌, ap, sym, refl, Some}
+use Rattle.std.proofs.Common.{arith}
 use Rattle.connection_hall.specs.Lending.{lent as lent_of}
 use Rattle.connection_hall.specs.Places.{lent}
 use Rattle.connection_hall.specs.Running.{turns}
-use Rattle.connection_hall.proofs.Halls.{ended, short_same, frames_same}
+use Rattle.connection_hall.proofs.Halls.{ended, frames_same}
 use Rattle.connection_hall.proofs.hall.Hall.end.Goals as goal
 
 pub returns-then-had_loan-clause-running : goal.returns-then-had_loan-clause-running

@@ -1,7 +1,8 @@
-use Rattle.std.proofs.Common.{◌≡◌, ◌<◌, ◌⊎◌, inl, inr, ◌∙◌, ap, sym, refl, ℕ, Bool, true, Some, None, set, length, arith}
+use Rattle.std.proofs.Common.{◌≡◌, ◌<◌, ◌⊎◌, inl, inr, ◌∙◌, sym, refl, true, length}
+use Rattle.std.proofs.Common.{arith}
 use Rattle.std.proofs.lemmas.Grind.{common_steps}
 use Rattle.connection_hall.specs.Running.{turns, IsResting}
-use Rattle.connection_hall.proofs.Halls.{Frames, entered}
+use Rattle.connection_hall.proofs.Halls.{entered}
 use Rattle.connection_hall.proofs.hall.Hall.enter.Goals as goal
 
 pub returns-then-goes_on-clause-running : goal.returns-then-goes_on-clause-running

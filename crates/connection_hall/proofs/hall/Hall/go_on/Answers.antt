@@ -1,9 +1,10 @@
-use Rattle.std.proofs.Common.{◌≡◌, ◌≢◌, ◌∙◌, ◌⊎◌, inl, inr, ap, sym, refl, ℕ, Bool, Some, None, true, Option, subst, get_or, arith, ◌/◌}
+use Rattle.std.proofs.Common.{◌∙◌, ap, sym, None, Option, subst}
+use Rattle.std.proofs.Common.{get_or, arith, ◌/◌}
 use Rattle.connection_hall.specs.declared.bounds.Bounds.{Bounds}
 use Rattle.connection_hall.specs.declared.hall.Hall.{Hall}
 use Rattle.connection_hall.specs.declared.served.Served.{Served}
 use Rattle.connection_hall.specs.Rounds.{has_turn}
-use Rattle.connection_hall.specs.Running.{turns, AreRunning, IsInHand}
+use Rattle.connection_hall.specs.Running.{turns, AreRunning}
 use Rattle.connection_hall.proofs.Halls.{gives_one, counted_more, called_again, turns_after, turns_same}
 use Rattle.connection_hall.proofs.hall.Hall.go_on.Goals as goal
 

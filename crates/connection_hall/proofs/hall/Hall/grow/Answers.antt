@@ -1,7 +1,6 @@
-use Rattle.std.proofs.Common.{◌≡◌, ◌≤◌, ◌<◌, ◌∙◌, ap, ℕ, None, get_or, length, refl, sum_by, slice_index, arith}
-use Rattle.std.proofs.lemmas.Grind.{common_steps}
+use Rattle.std.proofs.Common.{◌∙◌, ap, None, get_or, refl, sum_by, slice_index, arith}
 use Rattle.connection_hall.specs.Running.{turns}
-use Rattle.connection_hall.proofs.Halls.{lined, one_more, sum_more, called_still}
+use Rattle.connection_hall.proofs.Halls.{lined, one_more, sum_more}
 use Rattle.connection_hall.proofs.hall.Hall.grow.Goals as goal
 
 pub returns-then-place-len-clause-running : goal.returns-then-place-len-clause-running

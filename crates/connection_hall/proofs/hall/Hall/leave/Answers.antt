@@ -1,6 +1,6 @@
-use Rattle.std.proofs.Common.{◌≡◌, ◌<◌, ◌∙◌, ap, sym, subst, refl, Option, Some, None, get_or, set, length, arith}
+use Rattle.std.proofs.Common.{◌≡◌, ◌<◌, ap, refl, None, get_or, set, length, arith}
 use Rattle.std.proofs.lemmas.Grind.{common_steps}
-use Rattle.connection_hall.specs.Running.{AreRunning, turns}
+use Rattle.connection_hall.specs.Running.{turns}
 use Rattle.connection_hall.proofs.Halls.{frames_same, left_place}
 use Rattle.connection_hall.proofs.hall.Hall.leave.Goals as goal
 

@@ -1,4 +1,5 @@
-use Rattle.std.proofs.Common.{◌≡◌, ◌<◌, ◌≤◌, ◌+◌, ◌∙◌, inl, inr, ap, sym, refl, Some, None, vec_len, arith, false, ◌⊎◌, IsSome}
+use Rattle.std.proofs.Common.{◌≡◌, ◌∙◌, inl, inr, ap, refl, Some, None, vec_len, arith}
+use Rattle.std.proofs.Common.{◌⊎◌, IsSome}
 use Rattle.connection_hall.specs.declared.served.Served.{Served}
 use Rattle.connection_hall.specs.Lending.{lent as lent_of, is_short, most_lent}
 use Rattle.connection_hall.specs.Places.{lent}

@@ -1,5 +1,6 @@
-use Rattle.std.proofs.Common.{◌≡◌, ◌⊎◌, inl, inr, ◌∙◌, ap, sym, refl, ℕ, ◌+◌, Bool, true, false, not, Some, None, Option, arith}
-use Rattle.std.specs.Prelude.{is_some, is_none}
+use Rattle.std.proofs.Common.{◌≡◌, ◌⊎◌, inl, inr, ◌∙◌, ap, sym, refl, ◌+◌, Bool, true, false, not, Some, None}
+use Rattle.std.proofs.Common.{Option, arith}
+use Rattle.std.specs.Prelude.{is_some}
 use Rattle.connection_hall.specs.declared.loan.Loan.{Loan}
 use Rattle.connection_hall.specs.Places.{lent, lent_places}
 use Rattle.connection_hall.specs.Running.{turns}
@@ -12,7 +13,8 @@ none_lent : (loan : Option Loan) (b : Bool) → is_some loan ≡ not b → b ≡
 none_lent None b is none = refl
 none_lent (Some loan) b is none = absurd (let h : true ≡ not true = rw none at is in cc)
 
-lent_still : (loan loan' : Option Loan) → (loan' ≡ None) ⊎ (loan' ≡ loan) → (is_some loan ≡ false) ⊎ (is_some loan' ≡ true)
+lent_still : (loan loan' : Option Loan) → (loan' ≡ None) ⊎ (loan' ≡ loan)
+    → (is_some loan ≡ false) ⊎ (is_some loan' ≡ true)
     → count_if (is_some loan') ≡ count_if (is_some loan)
 lent_still None loan' same has = elim same [ inl none ↦ rw none refl | inr is ↦ rw is refl ]
 lent_still (Some loan) loan' same has = elim has [
@@ -52,12 +54,14 @@ returns-else-had_loan-clause-running g c answers traffic it number had loan owes
       | else-had_loan-via-then-had_loan+else-is_none w ↦ rw w.self-is
           (let same = lent_still it.loan on.loan loan
           (inr (some_of on.loan w.is_none.result w.is_none.ensures w.if-is_none.false)) in
-          changed g.S.Stream answers (turns old) (turns old) old _ traffic it on refl (frames_same old _ refl refl refl refl)
+          changed g.S.Stream answers (turns old) (turns old) old _ traffic it on refl (frames_same old _ refl refl
+          refl refl)
           refl number (λ all. all ∙ ap (λ n. lent_places old.places.items + n) (sym same))
           (λ h. omega (arith, h, owes, first, both)) (λ i is. is) (λ i other low short. inr short) running)
       | else-had_loan-via-else-had_loan w ↦ rw w.self-is
           (let same = lent_still it.loan on.loan loan (inl (had ∙ w.if-had_loan.false)) in
-          changed g.S.Stream answers (turns old) (turns old) old _ traffic it on refl (frames_same old _ refl refl refl refl)
+          changed g.S.Stream answers (turns old) (turns old) old _ traffic it on refl (frames_same old _ refl refl
+          refl refl)
           refl number (λ all. all ∙ ap (λ n. lent_places old.places.items + n) (sym same))
           (λ h. omega (arith, h, owes, first, both)) (λ i is. is) (λ i other low short. inr short) running)
     ]

@@ -1,9 +1,8 @@
-use Rattle.std.proofs.Common.{◌≡◌, ◌⊎◌, ◌≤◌, inl, inr, refl, length, arith, Some, ap, sym, ◌∙◌, subst, vec_len, List, ℕ, Option}
-use Rattle.std.proofs.Common.{None, get_or, IfSome, ◌/◌}
-use Rattle.connection_hall.specs.declared.served.Served.{Served}
-use Rattle.connection_hall.specs.Connections.{HasWritten}
+use Rattle.std.proofs.Common.{◌≤◌, inl, inr, refl, length, arith, ap, sym, ◌∙◌}
+use Rattle.std.proofs.Common.{None, get_or, ◌/◌}
 use Rattle.connection_hall.specs.Running.{turns, Advances}
-use Rattle.connection_hall.proofs.Hands.{bounded_on, hand_after, went_on, written_lent, slot_is, goes_to_rest, goes_with_loan, not_laden}
+use Rattle.connection_hall.proofs.Hands.{bounded_on, hand_after, went_on, written_lent, slot_is, goes_to_rest}
+use Rattle.connection_hall.proofs.Hands.{goes_with_loan, not_laden}
 use Rattle.connection_hall.proofs.hall.Hall.turn.Goals as goal
 
 pub returns-in-Again-clause-running : goal.returns-in-Again-clause-running
@@ -17,7 +16,8 @@ returns-in-Again-clause-running g c answers hand running =
     c.enter.ensures.running answers (g.P.Sockets.traffic c.args.sockets.now)
     (hand_after g.S.Stream answers old _ c.args.place it on refl refl c.take_turn.ensures.same after bounded hand)
     (inl refl)
-    (went_on g.S.Stream answers (turns old) _ old _ (g.P.Sockets.traffic c.args.sockets.now) it on refl refl refl refl refl
+    (went_on g.S.Stream answers (turns old) _ old _ (g.P.Sockets.traffic c.args.sockets.now) it on refl refl refl
+    refl refl
     c.saturating_add-self.ensures (λ i is. is) c.take_turn.ensures.same c.take_turn.ensures.owed running)
 
 pub returns-in-Ready-clause-running : goal.returns-in-Ready-clause-running
@@ -31,7 +31,8 @@ returns-in-Ready-clause-running g c answers hand running =
     c.enter-in-Ready.ensures.running answers (g.P.Sockets.traffic c.args.sockets.now)
     (hand_after g.S.Stream answers old _ c.args.place it on refl refl c.take_turn.ensures.same after.0 bounded hand)
     (inr (inr (inr after.1)))
-    (went_on g.S.Stream answers (turns old) _ old _ (g.P.Sockets.traffic c.args.sockets.now) it on refl refl refl refl refl
+    (went_on g.S.Stream answers (turns old) _ old _ (g.P.Sockets.traffic c.args.sockets.now) it on refl refl refl
+    refl refl
     c.saturating_add-self.ensures (λ i is. is) c.take_turn.ensures.same c.take_turn.ensures.owed running)
 
 pub returns-in-Waits-clause-running : goal.returns-in-Waits-clause-running
@@ -45,7 +46,8 @@ returns-in-Waits-clause-running g c answers hand running =
     c.rest.ensures.running answers
     (hand_after g.S.Stream answers old _ c.args.place it on refl refl c.take_turn.ensures.same after.0 bounded hand)
     after.1
-    (went_on g.S.Stream answers (turns old) _ old _ (g.P.Sockets.traffic c.args.sockets.now) it on refl refl refl refl refl
+    (went_on g.S.Stream answers (turns old) _ old _ (g.P.Sockets.traffic c.args.sockets.now) it on refl refl refl
+    refl refl
     c.saturating_add-self.ensures (λ i is. is) c.take_turn.ensures.same c.take_turn.ensures.owed running)
 
 pub returns-in-Short-clause-running : goal.returns-in-Short-clause-running
@@ -59,7 +61,8 @@ returns-in-Short-clause-running g c answers hand running =
     c.lend.ensures.running answers (g.P.Sockets.traffic c.args.sockets.now)
     (hand_after g.S.Stream answers old _ c.args.place it on refl refl c.take_turn.ensures.same after.0 bounded hand)
     after.1
-    (went_on g.S.Stream answers (turns old) _ old _ (g.P.Sockets.traffic c.args.sockets.now) it on refl refl refl refl refl
+    (went_on g.S.Stream answers (turns old) _ old _ (g.P.Sockets.traffic c.args.sockets.now) it on refl refl refl
+    refl refl
     c.saturating_add-self.ensures (λ i is. is) c.take_turn.ensures.same c.take_turn.ensures.owed running)
 
 pub returns-in-Short-clause-owes : goal.returns-in-Short-clause-owes
@@ -78,7 +81,8 @@ returns-in-Over-clause-running g c answers hand running =
       late = λ late. absurd (after.2 late);
       come = let h = hand.come in let number = c.take_turn.ensures.same.number in omega (arith, h, number);
     })
-    (went_on g.S.Stream answers (turns old) _ old _ (g.P.Sockets.traffic c.args.sockets.now) it on refl refl refl refl refl
+    (went_on g.S.Stream answers (turns old) _ old _ (g.P.Sockets.traffic c.args.sockets.now) it on refl refl refl
+    refl refl
     c.saturating_add-self.ensures (λ i is. is) c.take_turn.ensures.same c.take_turn.ensures.owed running)
 
 pub returns-in-Again-clause-goes_on : goal.returns-in-Again-clause-goes_on
@@ -98,7 +102,7 @@ returns-in-Ready-clause-goes_on g c answers served light none =
 pub returns-in-Waits-clause-goes_on : goal.returns-in-Waits-clause-goes_on
 returns-in-Waits-clause-goes_on g c answers served light none =
     let after = c.in-Waits.ensures.served answers served in
-    goes_to_rest g.S.Stream c.rest.new.self c.args.served c.take_turn.new.self _ c.rest.ensures.here after.1
+    goes_to_rest g.S.Stream c.rest.new.self c.args.served c.take_turn.new.self _ _ c.rest.ensures.here after.1
 
 pub returns-in-Short-clause-goes_on : goal.returns-in-Short-clause-goes_on
 returns-in-Short-clause-goes_on g c answers served light none =

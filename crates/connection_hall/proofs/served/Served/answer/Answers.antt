@@ -49,6 +49,7 @@ returns-clause-answered g c answers served = λ last is.
     subst (λ (new : Served g.row.S.Denot). IsServed g.S.Stream
     (answers ++ answer_to now.number last c.args.text.now c.args.closes ∷ []) new) (sym is_new)
     (told_same (g.S.Stream.came now.stream) (g.S.Stream.went now.stream) (g.S.Stream.is_ended now.stream)
-    (answers ++ answer_to now.number last c.args.text.now c.args.closes ∷ []) mid (record mid { machine = machine }) refl
+    (answers ++ answer_to now.number last c.args.text.now c.args.closes ∷ []) mid (record mid { machine = machine })
+    refl
     c.give_loan_back.ensures.machine.bytes c.give_loan_back.ensures.machine.over c.give_loan_back.ensures.machine.ended
     c.give_loan_back.ensures.sound refl told)

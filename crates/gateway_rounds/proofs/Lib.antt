@@ -1,4 +1,0 @@
-pub mod Verdicts
-pub mod Places
-pub mod Turns
-pub mod InOrder
