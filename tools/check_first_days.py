@@ -968,7 +968,7 @@ def lines(page, supervisor, filer):
     number = 'berruzpil_filings_without_line{register="register"}'
 
     def lacking():
-        supervisor.paste("systemctl start berruzpil-snapshot@register berruzpil-metrics")
+        supervisor.paste("systemctl start berruzpil-snapshot@register && systemctl start berruzpil-metrics")
         return dict(line.rsplit(" ", 1) for line in supervisor.file(METRICS).read_text().splitlines()).get(number)
 
     hold("no line is missing", lacking(), "0")
