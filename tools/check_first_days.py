@@ -1035,7 +1035,9 @@ def expiry(page, supervisor, filer):
     issued = "/etc/berruzpil/issued"
     supervisor.paste(f"{make.format(300, 'twice', f'{issued}/twice-aa.pem')}; "
                      f"{make.format(9, 'twice', f'{issued}/twice-bb.pem')}; systemctl start berruzpil-metrics")
-    ends = supervisor.paste(f"for it in {issued}/twice-aa.pem {issued}/acme-*.pem; do date +%s -d "
+    # A certificate that was renewed has another name.
+    ends = supervisor.paste(f"for it in {issued}/twice-aa.pem {issued}/acme-*.pem; do "
+                            "openssl x509 -in $it -noout -subject | grep -q acme-filing-2 || date +%s -d "
                             "\"$(openssl x509 -in $it -noout -enddate | cut -d= -f2)\"; done")[1].split()
     found = dict(line.rsplit(" ", 1) for line in supervisor.file(METRICS).read_text().splitlines())
     name = 'berruzpil_filer_certificate_expiry_timestamp_seconds{{subject="CN={},O=ACME",user="{}"}}'
