@@ -87,7 +87,7 @@ QUESTIONS = {
     "A filer gets 403": ("`no-certificate`", "`not-yours`", "`nginx-filer`"),
     "A filer gets 413": ("`too-large`", "1,048,576 bytes"),
     "The intake does not start": ("`not a register of this version`", "`serve` ends with 1", "`serve` ends with 3"),
-    "A register is damaged": ("`intake check`", "restore a copy", "`lost-filings`", "`MemoryMax`"),
+    "A register is damaged": ("`intake check`", "restore a copy", "`lost-filings`"),
     "Another program has the file open": ("`another program has it open`", "`database is locked`", "`--wait SECONDS`"),
     "A client is slow": ("A slow client keeps nobody waiting", "`--patience`", "`--at-once`"),
     "A key was stolen": ("A key was stolen", "`nginx-filer --remove FILE acme.pem`", "`ssl_crl`"),
