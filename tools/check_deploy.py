@@ -239,6 +239,7 @@ def try_instances():
         ("berruzpil-intake",
          {"registers xBRL-JSON reports once": "of the register %i", "intake: of": "intake of", "register.db": "%i.db",
           "PORT=8080 ": "", "Identifier=intake": "Identifier=intake-%i",
+          "RuntimeDirectory=berruzpil-intake": "RuntimeDirectory=berruzpil-intake-%i",
           "EnvironmentFile=-/etc/default/berruzpil": "EnvironmentFile=/etc/berruzpil/%i.env"},
          []),
         ("berruzpil-outbox", {"outbox: sends": "outbox %i: sends", "outbox.db 8081": "%i.db ${PORT}"},

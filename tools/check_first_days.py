@@ -824,6 +824,27 @@ def health(page, supervisor, filer):
     hold("a POST to the health check files nothing", supervisor.paste(sent), (0, '{"filings":[]}'))
 
 
+def stops(page, supervisor, filer):
+    """A restart reads the register once, as it is opened; a kill and a stop are followed by a reading."""
+    unit, direct = "berruzpil-intake", ask_health(page, supervisor)
+
+    def read_after(command):
+        """How often `intake check` has read the register once the command is done."""
+        begun = supervisor.paste("date +%s.%N")[1].strip()
+        supervisor.paste(command)
+        return supervisor.paste(f"journalctl -q -u {unit} -t intake -o cat --since=@{begun} | grep -c ^sound:")[1]
+
+    if not supervisor.is_booted:
+        print("not tried: a stand-in has no journal")
+        return
+    wait = f"timeout {patience()} sh -c 'until {direct}; do sleep 0.5; done'"
+    hold("a restart", read_after(f"systemctl restart {unit}; {wait}"), "0\n")
+    hold("a kill", read_after(f"systemctl kill --signal=KILL {unit}; sleep 1; {wait}"), "1\n")
+    hold("a stop", read_after(f"systemctl stop {unit}"), "1\n")
+    hold("it closes the register", supervisor.paste("stat -c %s /var/lib/berruzpil/register.db-wal"), (0, "41\n"))
+    hold("it serves again", start_intake(page, supervisor), 0)
+
+
 def power(page, supervisor, filer):
     """Both machines lose their power and start again: nobody does anything, and the next report is filed."""
     if not supervisor.is_booted:
@@ -1092,8 +1113,8 @@ def man_pages(page, supervisor, filer):
 # The parts, in the order in which they are played. Each after the first can be played on its own after the days.
 PARTS = {it.__name__: it for it in [
     days, units, restore, disk, clock, hang, timers, metrics, readers, officers, slow, abort, certificates,
-    stunnel, damaged, upgrade, outbox_upgrade, health, power, taken, many, lines, names, expiry, own_client, several,
-    man_pages,
+    stunnel, damaged, upgrade, outbox_upgrade, health, stops, power, taken, many, lines, names, expiry, own_client,
+    several, man_pages,
 ]}  # fmt: skip
 
 

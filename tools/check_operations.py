@@ -24,6 +24,7 @@ import os
 import pathlib
 import re
 import runpy
+import shlex
 import shutil
 import signal
 import socket
@@ -36,6 +37,7 @@ import time
 
 import check_deploy
 import check_first_days as first_days
+import systemctl_stand_in
 import trials
 from check_programs import SmallDisk, listing
 from trials import (INTAKE, OUTBOX, PATIENCE, REPORT, ROOT, SMALLEST, Serving, exchange, free_port, request, run,
@@ -1508,6 +1510,51 @@ def check_front(folder):
     hold("lost-filings of the copy", (status, said.partition(" ")[2], errors), (1, 'ACME "k-2" 2\n', ""))
 
 
+# ---- what the unit does behind a stop
+
+# In the place of `systemctl`: the job of the unit.
+JOBS = """#!/bin/sh
+[ "$1" != list-jobs ] || [ -z "$JOB" ] || echo "7 $3 $JOB running"
+"""
+# What ended `serve`: how many connections it was to serve, the signal, what systemd says of its end, and of its job;
+# and whether the register is read behind it.
+ENDS = [
+    ("a stop", 9, signal.SIGTERM, ("success", "killed", "TERM"), "stop", True),
+    ("a restart", 9, signal.SIGTERM, ("success", "killed", "TERM"), "restart", False),
+    ("a kill", 9, signal.SIGKILL, ("signal", "killed", "KILL"), "", True),
+    ("a kill, since a restart takes too long", 9, signal.SIGKILL, ("timeout", "killed", "KILL"), "restart", True),
+    ("its last connection", 2, None, ("success", "exited", "0"), "", False),
+    # As of a close that failed: what was answered is in the log still.
+    ("its last connection, without a close", 9, signal.SIGKILL, ("success", "exited", "0"), "", True),
+]
+
+
+def check_stops(folder):
+    """The register is read behind a stop, a kill and a failed close, and not once more if it was closed, or if `serve`
+    begins again at once; no log is left but in that case."""
+    systemctl_stand_in.FOLDERS[:] = [DEPLOY]
+    check_deploy.write_program(folder / "systemctl", JOBS)
+    unit = systemctl_stand_in.Unit("berruzpil-intake.service")
+    for what, connections, number, (result, code, status), job, is_read in ENDS:
+        (folder / what / "run").mkdir(parents=True)
+        serving = Serving(folder / what / "register.db", connections, "--new")
+        for key in ("k-1", "k-2"):
+            exchange(serving.port, request(key, REPORT))
+        if number:
+            serving.process.send_signal(number)
+        serving.end()
+        env = {**PATHS, "PATH": f"{folder}:{PATHS['PATH']}", "SERVICE_RESULT": result, "EXIT_CODE": code,
+               "EXIT_STATUS": status, "JOB": job, "RUNTIME_DIRECTORY": str(folder / what / "run")}  # fmt: skip
+        said = ""
+        for line in unit.all_of("ExecStopPost"):
+            command = systemctl_stand_in.PREFIX.fullmatch(line)[2].replace("$$", "$")
+            words = shlex.split(command.replace("/usr/local/bin/intake", str(INTAKE)))
+            said += run(*words, cwd=folder / what, env=env).stdout.decode()
+        hold(f"what is read behind {what}", said, "sound: 2 kept, 2 filings\n" if is_read else "")
+        size = (folder / what / "register.db-wal").stat().st_size
+        hold(f"whether the log has anything behind {what}", size > 41, job == "restart" and not is_read)
+
+
 # ---- a full disk
 
 # What is asked of a register whose disk is full, and the statuses of the replies.
@@ -1569,6 +1616,7 @@ TRIALS = [
     check_lost,
     check_again,
     check_front,
+    check_stops,
     check_full_disk,
 ]
 

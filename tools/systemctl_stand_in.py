@@ -96,6 +96,9 @@ class Unit:
         prefix, line = PREFIX.fullmatch(line).groups()
         for name in self.all_of("StateDirectory"):
             pathlib.Path("/var/lib", name).mkdir(exist_ok=True)
+        for name in self.all_of("RuntimeDirectory"):
+            pathlib.Path("/run", name).mkdir(exist_ok=True)
+            environment["RUNTIME_DIRECTORY"] = f"/run/{name}"
         STATE.mkdir(exist_ok=True)
         with open(self.log, "ab") as log:
             return subprocess.Popen(
@@ -118,11 +121,13 @@ class Unit:
             begin_own("start", name)
 
 
-def result_of(status):
+def result_of(status, is_stopped):
     """What the commands after a service see of its end."""
     if status < 0:
-        return {"SERVICE_RESULT": "signal", "EXIT_STATUS": signal.Signals(-status).name.removeprefix("SIG")}
-    return {"SERVICE_RESULT": "exit-code" if status else "success", "EXIT_STATUS": str(status)}
+        name = signal.Signals(-status).name.removeprefix("SIG")
+        is_asked = is_stopped or name == "TERM"
+        return {"SERVICE_RESULT": "success" if is_asked else "signal", "EXIT_CODE": "killed", "EXIT_STATUS": name}
+    return {"SERVICE_RESULT": "exit-code" if status else "success", "EXIT_CODE": "exited", "EXIT_STATUS": str(status)}
 
 
 def keep(unit):
@@ -134,7 +139,7 @@ def keep(unit):
         current.append(unit.begin(unit.one("ExecStart")))
         (STATE / f"{unit.name}.main").write_text(str(current[-1].pid))
         status = current[-1].wait()
-        unit.run_all("ExecStopPost", result_of(0 if ends else status))
+        unit.run_all("ExecStopPost", result_of(status, bool(ends)))
         if not ends and (
             unit.one("Restart") != "always" or str(status) in unit.one("RestartPreventExitStatus").split()
         ):
@@ -185,8 +190,18 @@ def send_signal(unit):
 
 
 def restart(unit):
+    job = STATE / f"{unit.name}.job"
+    job.write_text(f"1 {unit.name} restart running\n")
     stop(unit)
+    job.unlink()
     return start(unit)
+
+
+def list_jobs(unit):
+    """`systemctl list-jobs --no-legend UNIT`"""
+    job = STATE / f"{unit.name}.job"
+    print(job.read_text() if job.exists() else "", end="")
+    return 0
 
 
 def enable(unit):
@@ -212,7 +227,7 @@ def show(unit):
 COMMANDS = {
     "start": start, "stop": stop, "restart": restart, "keep": keep, "kill": send_signal,
     "reload": lambda unit: unit.run_all("ExecReload"), "enable": enable,
-    "is-failed": is_state("failed"), "is-active": is_state("active"), "show": show,
+    "is-failed": is_state("failed"), "is-active": is_state("active"), "show": show, "list-jobs": list_jobs,
 }  # fmt: skip
 
 
