@@ -1137,7 +1137,7 @@ class Fault:
 
     def misfit(self):
         """What is wrong with the line, or nothing."""
-        if self.part not in PARTS and not self.part.startswith(("package_", "operations_")):
+        if self.part not in PARTS and not self.part.startswith(("package_", "operations_", "openapi")):
             return f"there is no part {self.part}"
         count = (ROOT / self.file).read_text(encoding="utf-8").count(self.old)
         return None if count == 1 else f"this text is there {count} times"

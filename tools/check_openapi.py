@@ -5,10 +5,13 @@
                                                             docs/PROTOCOL.md
     tools/check_openapi.py crates/intake/out/intake         that, and the replies of this program over a register of
                                                             its own
+    tools/check_openapi.py --planted                        the file with the faults in tools/planted_faults.txt whose
+                                                            part is `openapi`: each has to make a check fail
 
 Values are held to schemas by jsonschema where python3 has it, and else by the few rules that the file uses. Status 1 if
 something does not agree; what could not be tried is said, and is no failure.
 """
+import contextlib
 import json
 import pathlib
 import re
@@ -18,6 +21,7 @@ import sys
 import tempfile
 import time
 
+import check_first_days as first_days
 from trials import PATIENCE
 
 try:
@@ -381,16 +385,35 @@ def check_program(document, program, requests, *options):
                 server.kill()
 
 
-def main(words):
-    if yaml is None:
-        print("not tried: python3 has no yaml")
-        return 0
-    document = yaml.safe_load(FILE.read_text())
+def check_file(file):
+    document = yaml.safe_load(file.read_text())
     check_references(document, document)
     check_examples(document)
     check_paths(document)
     check_protocol(document)
     check_fields(document)
+    return document
+
+
+def try_faults():
+    """Plants each fault in the file: whether a check fails."""
+    for fault in first_days.faults("openapi: "):
+        with first_days.repository_with(fault) as top, contextlib.redirect_stdout(None):
+            check_file(top / "docs" / FILE.name)
+        seen = [failures.pop() for _ in range(len(failures))][-1:]
+        print(f"{'ok' if seen else 'failed'}: {fault.line}: seen by: {''.join(seen)}")
+        if not seen:
+            return 1
+    return 0
+
+
+def main(words):
+    if yaml is None:
+        print("not tried: python3 has no yaml")
+        return 0
+    if words == ["--planted"]:
+        return try_faults()
+    document = check_file(FILE)
     if words:
         program = str(pathlib.Path(words[0]).resolve())
         check_program(document, program, REQUESTS)

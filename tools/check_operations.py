@@ -16,6 +16,7 @@ A further trial is a function in TRIALS, which gets a folder. A further kind of 
 that a round may meet a row in ROUNDS, a further request to nginx a row in FRONT, and one to a full disk a row in FULL.
 """
 import contextlib
+import datetime
 import fcntl
 import gzip
 import hashlib
@@ -1370,6 +1371,17 @@ def check_lost(folder):
     unread = f"lost-filings: {log}: 1 lines can't be read, the first is line 6\n"
     found = script("lost-filings", "--host", "intake.example", folder / "copy.db", log)
     hold("lost-filings of a log with odd lines", found, (*wanted[:2], unread))
+    for ago, said in [(3600, "filings without a line: 1; lost ones may have none either\n"), (0, "")]:
+        # The first line is of that time, and the second filing has none.
+        write_log(log, [log_line(iso(time.time() - ago), "k-0", status="403"), log_line(iso(time.time()), "k-1")])
+        found = script("lost-filings", database, log)
+        hold(f"lost-filings, if lines are missing since {ago} s", found,
+             (0, "", f"lost-filings: {database}: {said}" if said else ""))  # fmt: skip
+
+
+def iso(second):
+    """A time as nginx writes it."""
+    return datetime.datetime.fromtimestamp(second, datetime.timezone.utc).isoformat(timespec="seconds")
 
 
 def listed(port, filer="ACME"):
