@@ -989,8 +989,25 @@ berruzpil_restore_ok{register="register"} 0
 """
 
 
+# What has an alert, beside what else the page has.
+ALERTED = {f"berruzpil_{it}" for it in (
+    "requests_total", "resets_sent_total", "nginx_dropped_total", "listen_drops_total", "nginx_up",
+    "filings_without_line", "copy_timestamp_seconds", "restore_ok", "certificate_expiry_timestamp_seconds",
+    "filer_certificate_expiry_timestamp_seconds", "metrics_timestamp_seconds")}  # fmt: skip
+
+
+def check_alerts():
+    """The alerts of the page go by numbers that are written."""
+    page = (DEPLOY.parent / "docs" / "OPERATIONS.md").read_text(encoding="utf-8")
+    alerts = page.partition("\nAlerts to begin with:\n")[2].partition("\n\nWhen ")[0]
+    used = set(re.findall(r"berruzpil_\w+", alerts))
+    written = set(runpy.run_path(str(DEPLOY / "register-metrics"))["HELP"])
+    hold("the numbers of the alerts", (ALERTED - used, used - written), (set(), set()))
+
+
 def check_numbers(folder):
     """The numbers of logs with known lines, one packed and some odd, and of copies and a restore of known moments."""
+    check_alerts()
     kept, file = folder / "copies", folder / "numbers" / "berruzpil.prom"
     kept.mkdir()
     file.parent.mkdir()
