@@ -15,11 +15,11 @@ use Rattle.register_rows.specs.Schema.{migrated_table, amends_table}
 use Rattle.register_rows.specs.declared.dates.Dates.{Dates}
 use Rattle.register_tables.specs.declared.opening.form.Earlier.{Earlier}
 use Rattle.register_tables.specs.declared.opening.form.Earlier.TheVariants.{Second, Third, Fourth}
-use Rattle.register_tables.specs.Earlier.{tables_in}
+use Rattle.register_tables.specs.Earlier.{tables_in, SaysAmends}
 use Rattle.register_tables.specs.Faults.{table_fault}
-use Rattle.register_tables.specs.Opening.{all_migrated, all_amends, all_received, HasInOrder, IsKnown, KnowsAmends}
-use Rattle.register_tables.specs.Opening.{KnowsMigrated, SaysAmends, SaysDates, SaysMigrated}
-use Rattle.register_tables.specs.Reads.{AsksOurs, Never, ReadsOurs}
+use Rattle.register_tables.specs.Opening.{all_migrated, all_amends, all_received, KnowsAmends}
+use Rattle.register_tables.specs.Opening.{KnowsMigrated, SaysDates, SaysMigrated}
+use Rattle.register_tables.specs.Reads.{AsksOurs, HasInOrder, IsKnown, Never, ReadsOurs}
 use Rattle.register_tables.proofs.FailLemmas.{received_fail}
 use Rattle.register_tables.proofs.OpenLemmas.{got_third, third_fails, third_in, got_fourth, fourth_fails, fourth_in}
 use Rattle.register_tables.proofs.OpenLemmas.{got_received, known}

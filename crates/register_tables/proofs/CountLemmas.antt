@@ -50,7 +50,7 @@ many_mapped f p q alike (x ∷ xs) = go (q (f x)) refl (many_mapped f p q alike 
     go false is same = rw (alike x, is) same
 
 -- as COUNT(*) shows so many
-abbrev as_counted : ℕ → Value
+abbrev pub as_counted : ℕ → Value
 as_counted n = Int (pos (min n 9223372036854775807))
 
 abbrev all_rows : Grouping
@@ -127,23 +127,16 @@ module _ (tree : ℕ) (test : List Term) (db : Trees) (rows : List Row)
         as_counted many ∷ [],
       ) a.ordered (subst (λ k. IsPermutation k a.ordered) kept_is a.same))
 
-as_many : (n m : ℕ) → min n 9223372036854775807 ≡ m → m < 2 ^ 63 - 1 → m ≡ n
-as_many n m is low = omega (arith, is, low)
-
 module _ (ours : List Table) (table : Table) (sql : List ℕ) (test : List Term) (asks : (s : Schema) → BeginsWith ours s
     → Asks s sql (counting (one_table table.tree test [] []))) (old new : State) (d : BeginsWith ours old.now.schema)
     (keep : Row → Bool) (keep_is : (r : Row) → list_all (holds ([] ∷ r ∷ [])) test ≡ keep (shown table r))
     (rows : List Row) (h : Shown sql [] old new rows) where
   -- the count is that of the rows that pass
-  pub counts_passing : (count : ℕ) → count < 2 ^ 63 - 1 → rows ≡ (Int (pos count) ∷ []) ∷ []
-      → count ≡ length (filter keep (rows_in old.now table))
-  counts_passing count low is =
+  pub counts_passing : rows ≡ (as_counted (length (filter keep (rows_in old.now table))) ∷ []) ∷ []
+  counts_passing =
       let it = asks old.now.schema d in
       let answer = (reads_as sql [] old new old.now.schema refl _ it.is it.plain it.listing rows h).answer in
       let all = old.now.trees table.tree in
-      let some = length (filter (λ r. list_all (holds ([] ∷ r ∷ [])) test) all) in
-      let told : (Int (pos count) ∷ []) ∷ [] ≡ (as_counted some ∷ []) ∷ [] =
-      sym is ∙ counted table.tree test old.now.trees rows answer in
-      let same : count ≡ min some 9223372036854775807 = cc in
-      as_many some count (sym same) low
-      ∙ many_mapped (shown table) (λ r. list_all (holds ([] ∷ r ∷ [])) test) keep keep_is all
+      counted table.tree test old.now.trees rows answer
+      ∙ ap (λ n. (as_counted n ∷ []) ∷ [])
+      (many_mapped (shown table) (λ r. list_all (holds ([] ∷ r ∷ [])) test) keep keep_is all)

@@ -12,7 +12,7 @@ use Rattle.sqlite.specs.declared.error.Error.{Error}
 use Rattle.sqlite_tied.specs.Compute.{everything}
 use Rattle.table_rows.specs.Causes.{cause_of}
 use Rattle.table_rows.specs.declared.cause.Cause.TheVariants.{Other}
-use Rattle.table_rows.specs.Tables.{schema_with}
+use Rattle.table_rows.specs.Tables.{BeginsWith, schema_with}
 use Rattle.table_rows.proofs.SelectLemmas.{one_table}
 use Rattle.table_rows.proofs.ReadingLemmas.{by_each}
 use Rattle.table_rows.proofs.FailLemmas.{IsWhole, failure_cause}
@@ -29,16 +29,17 @@ module _ (tables : List Table) (indexes : List Index) (views : List View) where
   unfolding understood everything
   meta_whole = record { tail = le_refl _; unnamed = refl; typed = refl }
 
-on_ours : (text : List ℕ) (q : Query) → ((tables : List Table) (indexes : List Index) (views : List View)
-    → IsWhole (schema_with common_tables tables indexes views) text q) → (s : Schema) → HasCommon s → IsWhole s text q
-on_ours text q whole s d = subst (λ t. IsWhole t text q) (sym d.is) (whole d.tables d.indexes d.views)
+pub whole_begun : (ours : List Table) (text : List ℕ) (q : Query)
+    → ((tables : List Table) (indexes : List Index) (views : List View)
+    → IsWhole (schema_with ours tables indexes views) text q) → (s : Schema) → BeginsWith ours s → IsWhole s text q
+whole_begun ours text q whole s d = subst (λ t. IsWhole t text q) (sym d.is) (whole d.tables d.indexes d.views)
 
 -- the query fails for no other cause
 module _ (old new : State) (d : HasCommon old.now.schema) (unlimited : old.step_limit ≡ None) (e : Error) where
   pub meta_fails : FailsToQuery all_meta [] old new e → cause_of e ≡ Other → ⊥
   meta_fails =
       failure_cause all_meta 0 [] _ _ old new (asks_meta old.now.schema d)
-      (on_ours all_meta _ meta_whole old.now.schema d) unlimited e
+      (whole_begun common_tables _ _ meta_whole old.now.schema d) unlimited e
 
 -- ---- the table that the present form alone has
 
@@ -53,5 +54,4 @@ module _ (tables : List Table) (indexes : List Index) (views : List View) where
 module _ (old new : State) (d : IsDeclared old.now.schema) (unlimited : old.step_limit ≡ None) (e : Error) where
   pub received_fail : FailsToQuery all_received [] old new e → cause_of e ≡ Other → ⊥
   received_fail = failure_cause all_received 11 [] _ _ old new (asks_received old.now.schema d)
-      (subst (λ t. IsWhole t all_received (one_table 11 [] (columns (0 ∷ 2 ∷ [])) (by_each (col 1 0 ∷ [])))) (sym d.is)
-      (received_whole d.tables d.indexes d.views)) unlimited e
+      (whole_begun register_tables _ _ received_whole old.now.schema d) unlimited e

@@ -24,17 +24,37 @@ use Rattle.register_tables.specs.declared.opening.form.Earlier.{Earlier}
 use Rattle.register_tables.specs.declared.opening.form.Earlier.TheVariants.{Second, Third, Fourth}
 use Rattle.register_tables.specs.declared.opening.walk.Totals.{Totals}
 use Rattle.register_tables.specs.Earlier.{form_number, tables_of, HasOldStyleIn, HasTargetsIn, HasMomentsIn, HoldsIn}
-use Rattle.register_tables.specs.Earlier.{IsDamaged, StandsForEarlier}
-use Rattle.register_tables.specs.Opening.{AreCountsOf, AreWithin, CountsIn, HasInOrder, IsDamagedIn, IsHeldIn}
-use Rattle.register_tables.specs.Opening.{SaysAmends}
+use Rattle.register_tables.specs.Earlier.{IsDamaged, SaysAmends, StandsForEarlier}
+use Rattle.register_tables.specs.Opening.{AreCountsOf, AreWithin, CountsIn, IsDamagedIn, IsHeldIn}
 use Rattle.register_tables.specs.Opening.{SaysBeside, SaysDates, SaysMigrated, SaysNothing, SaysOldStyle}
-use Rattle.register_tables.specs.Reads.{by_first}
+use Rattle.register_tables.specs.Reads.{HasInOrder, by_first}
 use Rattle.register_tables.specs.Registers.{IsRegisterOf}
 use Rattle.register_tables.specs.Walk.{AreAllOf, Amounts, IsUnsound}
 use Rattle.register_tables.proofs.KeptOrder.{only_these}
 use Rattle.register_tables.proofs.ListLemmas.{amends_rise}
 
 -- ---- the rows beside those of kept requests, where the tables hold requests
+
+module _ (db : Database) (old_style kept_are : ℕ) where
+  one_row : (rows : List Row) → HasInOrder migrated_table rows db
+      → TableHas db migrated_table (migrated_row old_style ∷ []) × (old_style ≤ kept_are)
+      → SaysOldStyle kept_are old_style rows
+  one_row rows says has =
+      record { migrated_is = says.ordered (migrated_row old_style ∷ []) has.0 (tt, tt); within = has.1 }
+
+  -- the row of `migrated` fits
+  old_style_fits : (form : Option Earlier) (migrated : Option (Vec Row Global)) → SaysMigrated form migrated db
+      → HasOldStyleIn form db old_style kept_are
+      → MatchOption migrated (old_style ≡ kept_are) (λ rows. SaysOldStyle kept_are old_style rows.items)
+  old_style_fits (Some Second) migrated says h =
+      subst (λ m. MatchOption m (old_style ≡ kept_are) (λ rows. SaysOldStyle kept_are old_style rows.items)) (sym says)
+      h
+  old_style_fits (Some Third) None says h = absurd says
+  old_style_fits (Some Third) (Some rows) says h = one_row rows.items says h
+  old_style_fits (Some Fourth) None says h = absurd says
+  old_style_fits (Some Fourth) (Some rows) says h = one_row rows.items says h
+  old_style_fits None None says h = absurd says
+  old_style_fits None (Some rows) says h = one_row rows.items says h
 
 module _ (db : Database) (old_style : ℕ) (F : List Request) where
   pub amends_same : (form : Option Earlier) (amends : List Row) → SaysAmends form amends db
@@ -52,28 +72,6 @@ module _ (db : Database) (old_style : ℕ) (F : List Request) where
       → AreAllOf F amends db
   all_of form amends says h =
       subst (λ l. AreAllOf F l db) (h.are.amends_is ∙ sym (amends_same form amends says h)) h.are
-
-  one_row : (rows : List Row) (kept_are : ℕ) → HasInOrder migrated_table rows db
-      → TableHas db migrated_table (migrated_row old_style ∷ []) × (old_style ≤ length F) → length F ≡ kept_are
-      → SaysOldStyle kept_are old_style rows
-  one_row rows kept_are says has same = record {
-    migrated_is = says.ordered (migrated_row old_style ∷ []) has.0 (tt, tt);
-    within = subst (λ n. old_style ≤ n) same has.1;
-  }
-
-  -- the row of `migrated` fits
-  old_style_fits : (form : Option Earlier) (migrated : Option (Vec Row Global)) (kept_are : ℕ)
-      → SaysMigrated form migrated db → HoldsIn form db old_style F → length F ≡ kept_are
-      → MatchOption migrated (old_style ≡ kept_are) (λ rows. SaysOldStyle kept_are old_style rows.items)
-  old_style_fits (Some Second) migrated kept_are says h same =
-      subst (λ m. MatchOption m (old_style ≡ kept_are) (λ rows. SaysOldStyle kept_are old_style rows.items)) (sym says)
-      (h.old_style_is ∙ same)
-  old_style_fits (Some Third) None kept_are says h same = absurd says
-  old_style_fits (Some Third) (Some rows) kept_are says h same = one_row rows.items kept_are says h.old_style_is same
-  old_style_fits (Some Fourth) None kept_are says h same = absurd says
-  old_style_fits (Some Fourth) (Some rows) kept_are says h same = one_row rows.items kept_are says h.old_style_is same
-  old_style_fits None None kept_are says h same = absurd says
-  old_style_fits None (Some rows) kept_are says h same = one_row rows.items kept_are says h.old_style_is same
 
   -- and so do those of `received`
   moments_fit : (rows : List Row) → HasInOrder received_table rows db → (moments : List (Option ℕ))
@@ -129,21 +127,27 @@ module _ (form : Option Earlier) (beside : Beside) (totals : Totals) (db : Datab
   many_as : (old_style : ℕ) (F : List Request) → HoldsIn form db old_style F → length F ≡ totals.kept
   many_as old_style F h = ap length (sym (same_requests_as old_style F h)) ∙ sym amounts.kept_is
 
-  module _ (counts : Counts) (fits : CountsIn totals beside counts) where
-    row_held : (rows : List Row) → HasInOrder migrated_table rows db
-        → SaysOldStyle totals.kept counts.old_style rows
-        → TableHas db migrated_table (migrated_row counts.old_style ∷ []) × (counts.old_style ≤ length R)
+  -- the row of `migrated` that fits
+  fits_as : (old_style : ℕ) (F : List Request) → HoldsIn form db old_style F
+      → MatchOption beside.migrated (old_style ≡ totals.kept) (λ rows. SaysOldStyle totals.kept old_style rows.items)
+  fits_as old_style F h =
+      old_style_fits db old_style totals.kept form beside.migrated says.0
+      (subst (HasOldStyleIn form db old_style) (many_as old_style F h) h.old_style_is)
+
+  module _ (old_style : ℕ) where
+    row_held : (rows : List Row) → HasInOrder migrated_table rows db → SaysOldStyle totals.kept old_style rows
+        → TableHas db migrated_table (migrated_row old_style ∷ []) × (old_style ≤ length R)
     row_held rows has told = (
       subst (TableHas db migrated_table) told.migrated_is has.held,
-      subst (λ n. counts.old_style ≤ n) amounts.kept_is told.within,
+      subst (λ n. old_style ≤ n) amounts.kept_is told.within,
     )
 
     old_style_held : (f : Option Earlier) (migrated : Option (Vec Row Global)) → SaysMigrated f migrated db
-        → MatchOption migrated (counts.old_style ≡ totals.kept)
-        (λ rows. SaysOldStyle totals.kept counts.old_style rows.items) → HasOldStyleIn f db counts.old_style (length R)
+        → MatchOption migrated (old_style ≡ totals.kept) (λ rows. SaysOldStyle totals.kept old_style rows.items)
+        → HasOldStyleIn f db old_style (length R)
     old_style_held (Some Second) migrated has told =
-        subst (λ m. MatchOption m (counts.old_style ≡ totals.kept)
-        (λ rows. SaysOldStyle totals.kept counts.old_style rows.items)) has told ∙ amounts.kept_is
+        subst (λ m. MatchOption m (old_style ≡ totals.kept)
+        (λ rows. SaysOldStyle totals.kept old_style rows.items)) has told ∙ amounts.kept_is
     old_style_held (Some Third) None has told = absurd has
     old_style_held (Some Third) (Some rows) has told = row_held rows.items has told
     old_style_held (Some Fourth) None has told = absurd has
@@ -151,6 +155,14 @@ module _ (form : Option Earlier) (beside : Beside) (totals : Totals) (db : Datab
     old_style_held None None has told = absurd has
     old_style_held None (Some rows) has told = row_held rows.items has told
 
+  -- where it fits, it says a number of old style
+  old_style_said : (migrated : Option (Vec Row Global)) → SaysMigrated form migrated db
+      → IfSome migrated (λ rows. (old_style : ℕ) × SaysOldStyle totals.kept old_style rows.items)
+      → (old_style : ℕ) × HasOldStyleIn form db old_style (length R)
+  old_style_said None has told = (totals.kept, old_style_held totals.kept form None has refl)
+  old_style_said (Some rows) has told = (told.0, old_style_held told.0 form (Some rows) has told.1)
+
+  module _ (counts : Counts) (fits : CountsIn totals beside counts) where
     moments_held : (f : Option Earlier) (dates : Option Dates) → SaysDates f dates db
         → IfSome dates (λ it. (rows : List Row) → AreDates rows it
         → (moments : List (Option ℕ)) × SaysMoments totals.kept rows moments) → HasMomentsIn f db (length R)
@@ -193,14 +205,12 @@ module _ (form : Option Earlier) (beside : Beside) (totals : Totals) (db : Datab
         amends = beside.amends.items;
         targets = targets_in form beside.amends.items db says.1;
         are = amounts.are;
-        old_style_is = old_style_held form beside.migrated says.0 fits.old_style_is;
+        old_style_is = old_style_held counts.old_style form beside.migrated says.0 fits.old_style_is;
         moments = moments_held form beside.received says.2 fits.moments_are;
       };
       counts_are = counts_of_them;
       only = λ old_style F h. (
-        same_old_style old_style beside.migrated
-            (old_style_fits db old_style F form beside.migrated totals.kept says.0 h (many_as old_style F h))
-            fits.old_style_is,
+        same_old_style old_style beside.migrated (fits_as old_style F h) fits.old_style_is,
         subst (AreCountsOf counts) (same_requests_as old_style F h) counts_of_them,
       );
     }
@@ -208,11 +218,19 @@ module _ (form : Option Earlier) (beside : Beside) (totals : Totals) (db : Datab
   -- the rows beside those of kept requests do not fit
   pub damaged_beside : (row : ℕ) → IsDamagedIn totals.kept beside row → IsDamaged form db row
   damaged_beside row (inl none) = record {
-    none = λ old_style F h. refuted beside.migrated none.1 old_style
-        (old_style_fits db old_style F form beside.migrated totals.kept says.0 h (many_as old_style F h));
+    none = λ old_style F h. refuted beside.migrated none.1 old_style (fits_as old_style F h);
     amends_are = beside.amends.items;
-    targets = targets_in form beside.amends.items db says.1;
-    told = inr (R, amounts.are, inl none.0);
+    targets = says.1;
+    told = inr (
+      R,
+      amounts.are,
+      inl (
+        none.0,
+        λ old_style has. refuted beside.migrated none.1 old_style
+            (old_style_fits db old_style totals.kept form beside.migrated says.0
+            (subst (HasOldStyleIn form db old_style) (sym amounts.kept_is) has)),
+      ),
+    );
   }
     where
       refuted : (migrated : Option (Vec Row Global)) → IsSomeAnd migrated (λ rows. SaysNothing totals.kept rows.items)
@@ -220,7 +238,7 @@ module _ (form : Option Earlier) (beside : Beside) (totals : Totals) (db : Datab
           (λ rows. SaysOldStyle totals.kept old_style rows.items) → ⊥
       refuted None nothing old_style told = nothing
       refuted (Some rows) nothing old_style told = nothing old_style told
-  damaged_beside row (inr undated) = go form beside.received says.2 undated
+  damaged_beside row (inr undated) = go form beside.received says.2 undated.1
       (λ old_style F h. (h.moments, many_as old_style F h))
     where
       go : (f : Option Earlier) (dates : Option Dates) → SaysDates f dates db
@@ -239,11 +257,16 @@ module _ (form : Option Earlier) (beside : Beside) (totals : Totals) (db : Datab
                 told.0 m.0.0 (subst (λ n. SaysMoments n has.0 m.0.0) m.1
                 (moments_fit db old_style F has.0 has.1 m.0.0 m.0.1 m.0.2));
             amends_are = beside.amends.items;
-            targets = targets_in form beside.amends.items db says.1;
+            targets = says.1;
             told = inr (
               R,
               amounts.are,
-              inr (has.0, has.1.held, subst (λ n. IsUndatedAt n has.0 row) amounts.kept_is told.1),
+              inr (
+                old_style_said beside.migrated says.0 undated.0,
+                has.0,
+                has.1,
+                subst (λ n. IsUndatedAt n has.0 row) amounts.kept_is told.1,
+              ),
             );
           }
 
@@ -253,7 +276,7 @@ pub damaged_among : (form : Option Earlier) (beside : Beside) (db : Database) �
 damaged_among form beside db says row bad = record {
   none = λ old_style F h. bad.none F (all_of db old_style F form beside.amends.items says.1 h);
   amends_are = beside.amends.items;
-  targets = targets_in form beside.amends.items db says.1;
+  targets = says.1;
   told = inl bad;
 }
 

@@ -28,11 +28,12 @@ use Rattle.register_rows.specs.Schema.{received_table}
 use Rattle.register_tables.specs.declared.opening.form.Earlier.{Earlier}
 use Rattle.register_tables.specs.declared.opening.form.Earlier.TheVariants.{Second, Third, Fourth}
 use Rattle.register_tables.specs.Earlier.{tables_in, tables_of}
-use Rattle.register_tables.specs.Opening.{all_meta, all_migrated, all_amends, all_received, HasInOrder, IsKnown, IsRead}
-use Rattle.register_tables.specs.Reads.{every, whole, by_first}
+use Rattle.register_tables.specs.Opening.{all_meta, all_migrated, all_amends, all_received, IsRead}
+use Rattle.register_tables.specs.Reads.{HasInOrder, IsKnown, every, whole, by_first}
 use Rattle.register_tables.proofs.CommonLemmas.{has_common}
 use Rattle.register_tables.proofs.ListLemmas.{filter_every, map_whole}
-use Rattle.register_tables.proofs.ReadTexts.{columns, asks_meta, asks_received}
+use Rattle.register_tables.proofs.FailLemmas.{whole_begun}
+use Rattle.register_tables.proofs.ReadTexts.{columns, on_begun, asks_meta, asks_received}
 
 pub is_read : {S : Type 0} (g : Ghosts S) (text : List ℕ) (old new : Held S) (rows : List Row)
     → Shown text [] (state g old) (state g new) rows → new.step_limit ≡ old.step_limit → IsRead g text old new rows
@@ -105,9 +106,7 @@ module _ (tables : List Table) (indexes : List Index) (views : List View) where
 
 asks_third : (s : Schema) → BeginsWith (tables_of Third) s
     → Asks s all_migrated (one_table 9 [] (columns (0 ∷ 2 ∷ [])) (by_each (col 1 0 ∷ [])))
-asks_third s d =
-    subst (λ t. Asks t all_migrated (one_table 9 [] (columns (0 ∷ 2 ∷ [])) (by_each (col 1 0 ∷ [])))) (sym d.is)
-    (migrated_text d.tables d.indexes d.views)
+asks_third = on_begun (tables_of Third) _ _ migrated_text
 
 module _ (old new : State) (d : BeginsWith (tables_of Third) old.now.schema) where
   pub got_third : (rows : List Row) → Shown all_migrated [] old new rows → HasInOrder migrated_table rows old.now
@@ -118,8 +117,7 @@ module _ (old new : State) (d : BeginsWith (tables_of Third) old.now.schema) whe
 
   pub third_fails : old.step_limit ≡ None → (e : Error) → FailsToQuery all_migrated [] old new e → cause_of e ≢ Other
   third_fails unlimited e = failure_cause all_migrated 9 [] _ _ old new (asks_third old.now.schema d)
-      (subst (λ t. IsWhole t all_migrated (one_table 9 [] (columns (0 ∷ 2 ∷ [])) (by_each (col 1 0 ∷ [])))) (sym d.is)
-      (migrated_whole d.tables d.indexes d.views)) unlimited e
+      (whole_begun (tables_of Third) _ _ migrated_whole old.now.schema d) unlimited e
 
 -- ---- the table `amends`, from the fourth form on
 
@@ -137,9 +135,7 @@ module _ (tables : List Table) (indexes : List Index) (views : List View) where
 
 asks_fourth : (s : Schema) → BeginsWith (tables_of Fourth) s
     → Asks s all_amends (one_table 10 [] (columns (0 ∷ 2 ∷ [])) (by_each (col 1 0 ∷ [])))
-asks_fourth s d =
-    subst (λ t. Asks t all_amends (one_table 10 [] (columns (0 ∷ 2 ∷ [])) (by_each (col 1 0 ∷ [])))) (sym d.is)
-    (amends_text d.tables d.indexes d.views)
+asks_fourth = on_begun (tables_of Fourth) _ _ amends_text
 
 module _ (old new : State) (d : BeginsWith (tables_of Fourth) old.now.schema) where
   pub got_fourth : (rows : List Row) → Shown all_amends [] old new rows → HasInOrder amends_table rows old.now
@@ -150,8 +146,7 @@ module _ (old new : State) (d : BeginsWith (tables_of Fourth) old.now.schema) wh
 
   pub fourth_fails : old.step_limit ≡ None → (e : Error) → FailsToQuery all_amends [] old new e → cause_of e ≢ Other
   fourth_fails unlimited e = failure_cause all_amends 10 [] _ _ old new (asks_fourth old.now.schema d)
-      (subst (λ t. IsWhole t all_amends (one_table 10 [] (columns (0 ∷ 2 ∷ [])) (by_each (col 1 0 ∷ [])))) (sym d.is)
-      (amends_whole d.tables d.indexes d.views)) unlimited e
+      (whole_begun (tables_of Fourth) _ _ amends_whole old.now.schema d) unlimited e
 
 -- ---- the table `received`, in the present form
 

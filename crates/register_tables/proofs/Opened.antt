@@ -1,6 +1,7 @@
 -- What an opening finds, and why it refuses.
 use Rattle.std.proofs.Common.{◌≡◌, ◌≢◌, ◌⊎◌, inl, inr, ℕ, false, List, [], ◌∷◌, length, Option, Some, None, IsTrue}
-use Rattle.std.proofs.Common.{Result, Ok, Err, IfOk, IfErr, refl, sym, subst, arith}
+use Rattle.std.proofs.Common.{Result, Ok, Err, IfOk, IfErr, OnOk, refl, sym, subst, arith}
+use Rattle.sqlite.specs.Effect.{Database}
 use Rattle.sqlite.specs.Store.{Ghosts}
 use Rattle.sqlite.specs.Held.{Held, state}
 use Rattle.sqlite.specs.State.{HasCleanDisk, IsLive, IsUnchanged}
@@ -9,7 +10,7 @@ use Rattle.table_rows.specs.Leaving.{Leaves, OnlyReads}
 use Rattle.table_rows.specs.Leaving.Ending.{Asked, Ended}
 use Rattle.table_rows.specs.Rows.{TableHas}
 use Rattle.table_rows.specs.Standing.{HasCommitted}
-use Rattle.table_rows.proofs.LeavingLemmas.{asked_then, clean_before, keeps_commit}
+use Rattle.table_rows.proofs.LeavingLemmas.{asked_then, clean_before, keeps_commit, passed}
 use Rattle.table_rows.proofs.StandLemmas.{stands_on}
 use Rattle.register_rows.specs.Register.{form_row, meta_row}
 use Rattle.register_rows.specs.Schema.{IsDeclared, HasCommon, meta_table, register_tables}
@@ -24,13 +25,13 @@ use Rattle.filing_model.specs.Register.{register}
 use Rattle.register_rows.specs.Catalogue.{catalogue_of, view_lines}
 use Rattle.register_tables.specs.Opening.{all_meta, HasNoForm, IsCounted, IsHeldIn, IsRead, IsRefused, ReadsIn}
 use Rattle.register_tables.specs.Opening.{ReadsRegister, SaysForm}
-use Rattle.register_tables.specs.Reads.{IsOurs}
+use Rattle.register_tables.specs.Reads.{CanBeRead, IsOurs, StopsForDisk}
 use Rattle.register_tables.specs.Registers.{ForRows, IsRegisterOf}
 use Rattle.register_tables.proofs.Calls.{kept_on_err, same_on_ok, then_ok}
 use Rattle.register_tables.proofs.CommonLemmas.{has_common}
 use Rattle.register_tables.proofs.FailLemmas.{meta_fails}
 use Rattle.register_tables.proofs.Holding.{holds_register, register_of}
-use Rattle.register_tables.proofs.Ours.{ours_then}
+use Rattle.register_tables.proofs.Ours.{disk_fails, disk_then, ours_then}
 use Rattle.register_tables.proofs.OpenLemmas.{got_meta}
 
 pub same_number : (m n : ℕ) → form_row m ∷ [] ≡ form_row n ∷ [] → m ≡ n
@@ -104,7 +105,7 @@ module _ {S : Type 0} (g : Ghosts S) (a last : Held S) (unlimited : a.step_limit
   no_form fault.NotOurs h = inl h
   no_form (fault.Damaged row) h = absurd h
   no_form fault.Memory h = tt
-  no_form fault.Disk h = tt
+  no_form fault.Disk h = h
 
 module _ {S : Type 0} (g : Ghosts S) (a b e : Held S) (live : IsLive (state g a)) (idle : a.in_transaction ≡ false)
     (unlimited : a.step_limit ≡ None) (settled : IsTrue (state g a).is_open
@@ -141,30 +142,33 @@ module _ {S : Type 0} (g : Ghosts S) (a b e : Held S) (live : IsLive (state g a)
       (record { autocommit = idle; now = λ _. here; committed = λ alive. sym (settled alive) })
 
   refused_then : HasCleanDisk (state g e) → (why : OpenFault) → why ≢ fault.NotOurs
+      → (why ≡ fault.Disk → StopsForDisk (state g b) (state g e))
       → (IsDeclared (state g a).now.schema → IsFailure why ⊎ ((row : ℕ) × (why ≡ fault.Damaged row)
       × IsDamaged None (state g a).now row)) → IsRefused g why a e
-  refused_then clean fault.NotOurs named h = absurd (named refl)
-  refused_then clean (fault.Damaged row) named h = (says clean, λ d. go (h d))
+  refused_then clean fault.NotOurs named stops h = absurd (named refl)
+  refused_then clean (fault.Damaged row) named stops h = (says clean, λ d. go (h d))
     where
       go : IsFailure (fault.Damaged row) ⊎ ((at : ℕ) × (fault.Damaged row ≡ fault.Damaged at)
           × IsDamaged None (state g a).now at) → IsDamaged None (state g a).now row
       go (inl (inl is)) = cc
       go (inl (inr is)) = cc
       go (inr bad) = let same : row ≡ bad.0 = cc in subst (IsDamaged None (state g a).now) (sym same) bad.2
-  refused_then clean fault.Memory named h = tt
-  refused_then clean fault.Disk named h = tt
+  refused_then clean fault.Memory named stops h = tt
+  refused_then clean fault.Disk named stops h = disk_fails clean (disk_then (passed first) (stops refl))
 
   refused_all : HasCleanDisk (state g e) → IfErr result (λ why. IsRefused g why a e)
-  refused_all clean = go result r.reads.refused r.reads.ours
+  refused_all clean = go result r.reads.refused r.reads.ours r.reads.disk
     where
       go : (result : Result Counts OpenFault)
           → (HasCleanDisk (state g e) → IsOurs (tables_in None) (state g b)
           → IfErr result (λ why. IsFailure why ⊎ ((row : ℕ) × (why ≡ fault.Damaged row)
           × IsDamaged None (state g b).now row)))
-          → IfErr result (λ why. why ≢ fault.NotOurs) → IfErr result (λ why. IsRefused g why a e)
-      go (Ok counts) bad named = tt
-      go (Err why) bad named =
-          refused_then clean why named (λ d. subst (λ db. IsFailure why ⊎ ((row : ℕ) × (why ≡ fault.Damaged row)
+          → IfErr result (λ why. why ≢ fault.NotOurs)
+          → IfErr result (λ why. why ≡ fault.Disk → StopsForDisk (state g b) (state g e))
+          → IfErr result (λ why. IsRefused g why a e)
+      go (Ok counts) bad named stops = tt
+      go (Err why) bad named stops =
+          refused_then clean why named stops (λ d. subst (λ db. IsFailure why ⊎ ((row : ℕ) × (why ≡ fault.Damaged row)
           × IsDamaged None db row)) (mid_same clean).0.now_is (bad clean (ours clean d)))
 
   held : HasCleanDisk (state g e) → IsDeclared (state g a).now.schema
@@ -189,6 +193,8 @@ module _ {S : Type 0} (g : Ghosts S) (a b e : Held S) (live : IsLive (state g a)
     keeps = kept_on_err result all_leaves;
     mode = all_leaves.mode idle;
     survives = all_leaves.survives;
+    known = λ clean. subst (λ (db : Database). OnOk result (CanBeRead db.schema)) (mid_same clean).0.now_is
+        (r.known clean);
   }
     where
       found_ok : HasCleanDisk (state g e) → IsDeclared (state g a).now.schema → (result : Result Counts OpenFault)
@@ -237,4 +243,5 @@ not_opened g a last unlimited idle why refused leaves = record {
   keeps = λ clean. keeps_commit leaves clean;
   mode = leaves.mode idle;
   survives = leaves.survives;
+  known = λ clean. tt;
 }

@@ -4,7 +4,7 @@ use Rattle.std.proofs.lemmas.Result.{IfOk-weaker, IfErr-weaker}
 use Rattle.sqlite.specs.Effect.{Database}
 use Rattle.sqlite.specs.Store.{Ghosts}
 use Rattle.sqlite.specs.Held.{Held, state}
-use Rattle.sqlite.specs.State.{State, IsUnchanged}
+use Rattle.sqlite.specs.State.{State, HasCleanDisk, IsUnchanged}
 use Rattle.sqlite.specs.Schema.{Schema}
 use Rattle.sqlite.specs.Table.{Table}
 use Rattle.sqlite.specs.declared.error.Error.{Error}
@@ -12,12 +12,14 @@ use Rattle.table_rows.specs.Causes.{cause_of}
 use Rattle.table_rows.specs.declared.cause.Cause.{Cause}
 use Rattle.table_rows.specs.declared.cause.Cause.TheVariants as cause
 use Rattle.table_rows.specs.Tables.{BeginsWith}
+use Rattle.table_rows.specs.Leaving.{IsLeft, Leaves}
+use Rattle.table_rows.specs.Leaving.Ending.{Passed, Stopped}
 use Rattle.table_rows.proofs.LeavingLemmas.{asked_then, clean_before, ended, passed, passed_then}
 use Rattle.table_rows.proofs.OutcomeLemmas.{concluded}
 use Rattle.register_tables.specs.declared.fault.OpenFault.{OpenFault}
 use Rattle.register_tables.specs.declared.fault.OpenFault.TheVariants as fault
 use Rattle.register_tables.specs.Faults.{table_fault, table_fault_by, IsFailure}
-use Rattle.register_tables.specs.Reads.{AsksOurs, IsOurs, Never, ReadsOurs}
+use Rattle.register_tables.specs.Reads.{AsksOurs, DiskFails, IsOurs, Never, ReadsOurs, StopsForDisk}
 
 pub ours_then : {tables : List Table} {a b : State} → IsUnchanged a b → b.step_limit ≡ a.step_limit → IsOurs tables a
     → IsOurs tables b
@@ -45,6 +47,31 @@ a_fault_of_ours error = go (cause_of error)
     go cause.Disk is = cc
     go cause.Other is = cc
 
+-- ---- the disk, as the cause
+
+disk_by : (error : Error) → table_fault error ≡ fault.Disk → cause_of error ≡ cause.Disk
+disk_by error is = go (cause_of error) is
+  where
+    go : (why : Cause) → table_fault_by why ≡ fault.Disk → why ≡ cause.Disk
+    go cause.Memory is = cc
+    go cause.Disk is = refl
+    go cause.Other is = cc
+
+pub disk_then : {a b c : State} → Leaves Passed a b → StopsForDisk b c → StopsForDisk a c
+disk_then p stops = (stops.0, stops.1, passed_then p stops.2)
+
+pub disk_fails : {a b : State} → HasCleanDisk b → StopsForDisk a b → DiskFails a b
+disk_fails {a} {b} clean stops = go (stops.2.left clean)
+  where
+    go : IsLeft (Stopped stops.0) a b → DiskFails a b
+    go (inl not_run) = let other = sym stops.1 ∙ not_run.1 in cc
+    go (inr fails) = (stops.0, stops.1, fails)
+
+disk_after : {X : Type 0} {a b : State} (c : State) (result : Result X OpenFault) → Leaves Passed a b
+    → IfErr result (λ why. why ≡ fault.Disk → StopsForDisk b c)
+    → IfErr result (λ why. why ≡ fault.Disk → StopsForDisk a c)
+disk_after c result p stops = IfErr-weaker result _ _ (λ why h is. disk_then p (h is)) stops
+
 -- the answer says this of the tables, and a refusal that
 abbrev pub Tells : {X : Type 0} → Result X OpenFault → (X → Database → Type 0) → (ℕ → Database → Type 0) → Database
     → Type 0
@@ -71,7 +98,8 @@ module _ {S : Type 0} (g : Ghosts S) {tables : List Table} {a b : Held S} where
 
   pub asked : {X : Type 0} {P : X → Database → Type 0} (x : X) → AsksOurs tables g a b (Ok x) P
       → ReadsOurs tables g a b (Ok x) P Never
-  asked x p = record { told = p.told; refused = λ clean ours. tt; ours = tt; leaves = passed p.leaves }
+  asked x p =
+      record { told = p.told; refused = λ clean ours. tt; ours = tt; leaves = passed p.leaves; disk = tt }
 
   pub not_read : {X Y : Type 0} {P : X → Database → Type 0} (Q : Y → Database → Type 0) (IsBad : ℕ → Database → Type 0)
       (error : Error) → AsksOurs tables g a b (Err error) P → ReadsOurs tables g a b (Err (table_fault error)) Q IsBad
@@ -80,19 +108,22 @@ module _ {S : Type 0} (g : Ghosts S) {tables : List Table} {a b : Held S} where
     refused = λ clean ours. inl (failed error (p.fails clean ours));
     ours = a_fault_of_ours error;
     leaves = ended p.leaves;
+    disk = λ is. (error, disk_by error is, p.leaves);
   }
 
   -- ---- what is concluded of a reading
 
   pub concludes : {X Y : Type 0} {P : X → Database → Type 0} {Bad : ℕ → Database → Type 0}
       (Q : Y → Database → Type 0) (IsBad : ℕ → Database → Type 0) (x : X) (result : Result Y OpenFault)
-      → IfErr result (λ why. why ≢ fault.NotOurs) → ((db : Database) → P x db → Tells result Q IsBad db)
+      → IfErr result (λ why. (why ≢ fault.NotOurs) × (why ≢ fault.Disk))
+      → ((db : Database) → P x db → Tells result Q IsBad db)
       → ReadsOurs tables g a b (Ok x) P Bad → ReadsOurs tables g a b result Q IsBad
   concludes Q IsBad x result named so p = record {
     told = λ clean ours. (so (state g a).now (p.told clean ours)).0;
     refused = λ clean ours. (so (state g a).now (p.told clean ours)).1;
-    ours = named;
+    ours = IfErr-weaker result _ _ (λ why other. other.0) named;
     leaves = concluded result p.leaves;
+    disk = IfErr-weaker result _ _ (λ why other is. absurd (other.1 is)) named;
   }
 
   -- its answer says less
@@ -104,6 +135,7 @@ module _ {S : Type 0} (g : Ghosts S) {tables : List Table} {a b : Held S} where
     refused = p.refused;
     ours = p.ours;
     leaves = p.leaves;
+    disk = p.disk;
   }
 
   -- with what an answer says by itself
@@ -116,12 +148,14 @@ module _ {S : Type 0} (g : Ghosts S) {tables : List Table} {a b : Held S} where
     refused = λ clean ours. tt;
     ours = tt;
     leaves = p.leaves;
+    disk = tt;
   }
   answers_with Own Q (Err why) own so p = record {
     told = λ clean ours. tt;
     refused = p.refused;
     ours = p.ours;
     leaves = p.leaves;
+    disk = p.disk;
   }
 
   -- a refusal is handed on
@@ -137,6 +171,7 @@ module _ {S : Type 0} (g : Ghosts S) {tables : List Table} {a b : Held S} where
     ];
     ours = p.ours;
     leaves = p.leaves;
+    disk = p.disk;
   }
 
   -- ---- a reading after another
@@ -180,6 +215,7 @@ module _ {S : Type 0} (g : Ghosts S) {tables : List Table} {a b : Held S} where
           (q.refused clean (ours_then same p.leaves.survives.limit ours));
       ours = q.ours;
       leaves = passed_then p.leaves q.leaves;
+      disk = disk_after (state g c) result p.leaves q.disk;
     }
 
     -- which says nothing
@@ -201,6 +237,7 @@ module _ {S : Type 0} (g : Ghosts S) {tables : List Table} {a b : Held S} where
           (q.refused clean (ours_then same p.leaves.survives.limit ours));
       ours = q.ours;
       leaves = passed_then p.leaves q.leaves;
+      disk = disk_after (state g c) result p.leaves q.disk;
     }
 
 -- ---- what it says, in other words
@@ -219,6 +256,7 @@ says_so g {a = a} Q IsBad result so worse p = record {
       (p.refused clean ours);
   ours = p.ours;
   leaves = p.leaves;
+  disk = p.disk;
 }
 
 -- of more tables
@@ -237,4 +275,5 @@ of_more g {tables = tables} {more = more} {a = a} result fewer p =
       refused = λ clean ours. p.refused clean (some ours);
       ours = p.ours;
       leaves = p.leaves;
+      disk = p.disk;
     }

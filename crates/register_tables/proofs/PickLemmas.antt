@@ -1,7 +1,9 @@
 -- What the statements of a walk pick.
 use Rattle.std.proofs.Common.{◌≡◌, ◌<◌, ◌^◌, ◌-◌, ℕ, pos, Bool, List, [], ◌∷◌, map, filter, length, refl, subst, ◌∙◌}
-use Rattle.std.proofs.Common.{IsPermutation, Result, Err, IfOk, IfErr, arith}
-use Rattle.std.proofs.Common.{◌++◌, append-nil, not, true, false, sym, ap, ap₂}
+use Rattle.std.proofs.Common.{IsPermutation, Result, Ok, Err, IfOk, IfErr, OnOk, arith}
+use Rattle.std.specs.Prelude.{Vec}
+use Rattle.std.specs.declared.alloc.Global.{Global}
+use Rattle.std.proofs.Common.{◌++◌, ◌↔◌, append-nil, not, true, false, sym, ap, ap₂, min, zero, suc}
 use Rattle.std.specs.List.{AllByRecursion}
 use Rattle.std.proofs.lemmas.List.Elements.{All-from_recursion, filter-append, recursion_from_All}
 use Rattle.std.proofs.lemmas.List.Sorted.{All-permutation, IsPermutation-append_left, IsPermutation-filter_both}
@@ -30,10 +32,10 @@ use Rattle.table_rows.proofs.QueryLemmas.{Asks}
 use Rattle.table_rows.proofs.StopLemmas.{length_mapped}
 use Rattle.table_rows.proofs.ReadingLemmas.{reads_rows}
 use Rattle.register_tables.specs.Reads.{AsksOurs, PicksInOrder, has_second, has_texts, whole, by_first, by_second}
-use Rattle.register_tables.specs.Reads.{is_early, HasEarly}
+use Rattle.register_tables.specs.Reads.{is_early, HasEarly, IsKnown}
 use Rattle.table_rows.specs.Picking.{has_number, rows_in, Picks}
 use Rattle.register_rows.specs.Schema.{common_tables, HasCommon, kept_table, finding_table, filing_table, fact_table}
-use Rattle.register_tables.proofs.CountLemmas.{counts_passing}
+use Rattle.register_tables.proofs.CountLemmas.{as_counted, counts_passing}
 use Rattle.register_tables.proofs.PickFails.{failure_cause_with, IsWholeWith}
 use Rattle.register_tables.proofs.PickTexts.{same_filer_and_key, kept_at_text, asks_kept_at, findings_at_text}
 use Rattle.register_tables.proofs.PickTexts.{asks_findings_at, filings_of_text, asks_filings_of, below_first}
@@ -134,14 +136,36 @@ module _ (old new : State) (d : HasCommon old.now.schema) (rows : List Row) wher
       length_permutation (map by_first (filter (has_texts filer key) all)) rows (r.any all (IsPermutation-refl all))
       ∙ length_mapped by_first (filter (has_texts filer key) all)
 
-  -- where they are counted, and one is there
-  pub counts_early : (count : ℕ) → count < 2 ^ 63 - 1 → Shown count_early_text [] old new rows
-      → rows ≡ (Int (pos count) ∷ []) ∷ [] → 0 < count → HasEarly old.now
-  counts_early count low h is some =
-      let told = counts_passing common_tables kept_table count_early_text below_first asks_count_early old new d
-      is_early
-      (λ _. refl) rows h count low is in
-      omega (arith, told, some)
+  module _ (h : Shown count_early_text [] old new rows) where
+    abbrev early : ℕ
+    early = length (filter is_early (rows_in old.now kept_table))
+
+    early_shown : rows ≡ (as_counted early ∷ []) ∷ []
+    early_shown =
+        counts_passing common_tables kept_table count_early_text below_first asks_count_early old new d is_early
+        (λ _. refl) rows h
+
+    -- a count says whether there is one
+    pub counts_early : (count : ℕ) → rows ≡ (Int (pos count) ∷ []) ∷ [] → (0 < count) ↔ HasEarly old.now
+    counts_early count is =
+        let told : (Int (pos count) ∷ []) ∷ [] ≡ (as_counted early ∷ []) ∷ [] = sym is ∙ early_shown in
+        let same : count ≡ min early 9223372036854775807 = cc in
+        (λ some. omega (arith, same, some), λ some. omega (arith, same, some))
+
+    -- and so does one that is too great
+    pub many_early : ((count : ℕ) → count < 2 ^ 63 - 1 → rows ≡ (Int (pos count) ∷ []) ∷ [] → ⊥) → HasEarly old.now
+    many_early none = go early refl
+      where
+        go : (n : ℕ) → early ≡ n → 0 < n
+        go zero is = absurd (none 0 (omega arith) (early_shown ∙ ap (λ n. (as_counted n ∷ []) ∷ []) is))
+        go (suc n) is = omega arith
+
+-- an answer says that the text is one of tables that are declared
+pub knows_on_ok : (text : List ℕ) (params : Row) (old new : State) (result : Result (Vec Row Global) Error)
+    → IfOk result (λ rows. Shown text params old new rows.items) → OnOk result (IsKnown old.now.schema text)
+unfolding Shown
+knows_on_ok text params old new (Ok rows) h = (h.0, h.1.is)
+knows_on_ok text params old new (Err e) h = tt
 
 -- ---- a question to the tables of every form
 

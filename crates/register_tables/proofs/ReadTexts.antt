@@ -11,7 +11,7 @@ use Rattle.sqlite_sql.specs.declared.ops.CompareOp.TheVariants.{Eq}
 use Rattle.sqlite_tied.specs.Compute.{everything}
 use Rattle.sqlite.specs.Listing.{understood}
 use Rattle.sqlite.specs.Query.{Query}
-use Rattle.table_rows.specs.Tables.{schema_with}
+use Rattle.table_rows.specs.Tables.{BeginsWith, schema_with}
 use Rattle.table_rows.proofs.SelectLemmas.{one_table}
 use Rattle.table_rows.proofs.ReadingLemmas.{by_each}
 use Rattle.table_rows.proofs.QueryLemmas.{Asks}
@@ -82,22 +82,24 @@ module _ (tables : List Table) (indexes : List Index) (views : List View) where
   unfolding understood everything
   received_text = record { names = codes "seq" ∷ codes "moment" ∷ []; is = refl; plain = (refl, refl); listing = refl }
 
+-- what these tables make of a text holds of any schema that begins with them
+pub on_begun : (ours : List Table) (text : List ℕ) (q : Query)
+    → ((tables : List Table) (indexes : List Index) (views : List View)
+    → Asks (schema_with ours tables indexes views) text q) → (s : Schema) → BeginsWith ours s → Asks s text q
+on_begun ours text q asks s d = subst (λ t. Asks t text q) (sym d.is) (asks d.tables d.indexes d.views)
+
 pub asks_amends : (s : Schema) → IsDeclared s
     → Asks s all_amends (one_table 10 [] (columns (0 ∷ 2 ∷ [])) (by_each (col 1 0 ∷ [])))
-asks_amends s d =
-    subst (λ t. Asks t all_amends (one_table 10 [] (columns (0 ∷ 2 ∷ [])) (by_each (col 1 0 ∷ [])))) (sym d.is)
-    (amends_text d.tables d.indexes d.views)
+asks_amends = on_begun register_tables _ _ amends_text
 
 pub asks_received : (s : Schema) → IsDeclared s
     → Asks s all_received (one_table 11 [] (columns (0 ∷ 2 ∷ [])) (by_each (col 1 0 ∷ [])))
-asks_received s d =
-    subst (λ t. Asks t all_received (one_table 11 [] (columns (0 ∷ 2 ∷ [])) (by_each (col 1 0 ∷ [])))) (sym d.is)
-    (received_text d.tables d.indexes d.views)
+asks_received = on_begun register_tables _ _ received_text
 
 -- the same of any schema that begins with the tables of every form
 pub on_ours : (text : List ℕ) (q : Query) → ((tables : List Table) (indexes : List Index) (views : List View)
     → Asks (schema_with common_tables tables indexes views) text q) → (s : Schema) → HasCommon s → Asks s text q
-on_ours text q asks s d = subst (λ t. Asks t text q) (sym d.is) (asks d.tables d.indexes d.views)
+on_ours = on_begun common_tables
 
 pub asks_meta : (s : Schema) → HasCommon s
     → Asks s all_meta (one_table 0 [] (columns (0 ∷ 2 ∷ 3 ∷ [])) (by_each (col 1 0 ∷ [])))

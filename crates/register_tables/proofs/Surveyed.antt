@@ -18,7 +18,7 @@ use Rattle.filing_model.specs.Request.{Request}
 use Rattle.filing_model.specs.Register.{register}
 use Rattle.table_rows.specs.Leaving.{Ending, IsLeft, Leaves}
 use Rattle.table_rows.specs.Leaving.Ending.{Asked, Ended}
-use Rattle.table_rows.proofs.LeavingLemmas.{asked_then, clean_before, ended}
+use Rattle.table_rows.proofs.LeavingLemmas.{asked_then, clean_before, ended, passed}
 use Rattle.table_rows.specs.Standing.{AddsNothing, HasCommitted}
 use Rattle.table_rows.specs.Statements.{begun, AreDone, AreTreesOf}
 use Rattle.table_rows.specs.Tables.{BeginsWith}
@@ -32,11 +32,11 @@ use Rattle.register_tables.specs.Earlier.{IsEarlierOf}
 use Rattle.register_tables.specs.Faults.{IsFailure}
 use Rattle.register_tables.specs.Migrating.{IsNotSurveyed, IsSurveyed, IsMigrated, Migrates, MigratesTo, migrating}
 use Rattle.register_tables.specs.Opening.{all_meta, all_migrated, all_amends, AreCountsOf, HasBeside, HasNoForm}
-use Rattle.register_tables.specs.Opening.{IsHeldIn, IsKnown}
+use Rattle.register_tables.specs.Opening.{IsHeldIn}
 use Rattle.register_tables.specs.Opening.{IsRead, ReadsIn}
-use Rattle.register_tables.specs.Reads.{IsOurs}
+use Rattle.register_tables.specs.Reads.{IsKnown, IsOurs, StopsForDisk}
 use Rattle.register_rows.specs.Register.{form_row}
-use Rattle.register_tables.proofs.Ours.{ours_then}
+use Rattle.register_tables.proofs.Ours.{disk_fails, disk_then, ours_then}
 use Rattle.register_rows.specs.Catalogue.{catalogue_of, view_lines}
 use Rattle.register_rows.specs.Received.{Received}
 use Rattle.register_tables.specs.Registers.{IsRegisterOf, LeavesRegister, LeavesReceived}
@@ -121,16 +121,17 @@ module _ {S : Type 0} (g : Ghosts S) (a b e : Held S) (form : Earlier) (unlimite
 
   pub not_surveyed : (why : OpenFault) → ReadsIn g (Some form) b e (Err why) → HasCleanDisk (state g e)
       → IsNotSurveyed g why a e
-  not_surveyed why r clean = go why r.reads.ours (λ d. r.reads.refused clean (ours mid d))
+  not_surveyed why r clean = go why r.reads.ours r.reads.disk (λ d. r.reads.refused clean (ours mid d))
     where
       mid : HasCleanDisk (state g b)
       mid = clean_before r.leaves clean
 
-      go : (why : OpenFault) → why ≢ fault.NotOurs → (BeginsWith (tables_of form) (state g a).now.schema
+      go : (why : OpenFault) → why ≢ fault.NotOurs → (why ≡ fault.Disk → StopsForDisk (state g b) (state g e))
+          → (BeginsWith (tables_of form) (state g a).now.schema
           → IsFailure why ⊎ ((row : ℕ) × (why ≡ fault.Damaged row) × IsDamaged (Some form) (state g b).now row))
           → IsNotSurveyed g why a e
-      go fault.NotOurs named h = absurd (named refl)
-      go (fault.Damaged row) named h = (form, (b, one mid), λ d. told (h d))
+      go fault.NotOurs named stops h = absurd (named refl)
+      go (fault.Damaged row) named stops h = (form, (b, one mid), λ d. told (h d))
         where
           told : IsFailure (fault.Damaged row) ⊎ ((at : ℕ) × (fault.Damaged row ≡ fault.Damaged at)
               × IsDamaged (Some form) (state g b).now at) → IsDamaged (Some form) (state g a).now row
@@ -140,8 +141,8 @@ module _ {S : Type 0} (g : Ghosts S) (a b e : Held S) (form : Earlier) (unlimite
               let same : row ≡ bad.0 = cc in
               subst (λ n. IsDamaged (Some form) (state g a).now n) (sym same)
               (subst (λ db. IsDamaged (Some form) db bad.0) (first.left mid).0.now_is bad.2)
-      go fault.Memory named h = tt
-      go fault.Disk named h = tt
+      go fault.Memory named stops h = tt
+      go fault.Disk named stops h = disk_fails clean (disk_then (passed first) (stops refl))
 
 -- and where none was read
 pub without_form : {S : Type 0} (g : Ghosts S) (a b : Held S) (why : OpenFault) → HasNoForm g why a b
@@ -149,7 +150,7 @@ pub without_form : {S : Type 0} (g : Ghosts S) (a b : Held S) (why : OpenFault) 
 without_form g a b fault.NotOurs h = inl h
 without_form g a b (fault.Damaged row) h = absurd h
 without_form g a b fault.Memory h = tt
-without_form g a b fault.Disk h = tt
+without_form g a b fault.Disk h = h
 
 -- ---- a register in an earlier form
 

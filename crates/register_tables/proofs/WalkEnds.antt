@@ -244,19 +244,19 @@ early_stands_not amends_are db early all are =
 
 -- ---- why no amounts are found
 
-pub unsound_first : (amends_are : List Row) (row : ℕ) (db : Database) → IsFirstUnsound (of_requests amends_are) row db
-    → IsUnsound amends_are row db
-unsound_first amends_are row db first = record {
+pub unsound_first : (amends_are : List Row) (row : ℕ) (db : Database) → (HasEarly db → ⊥)
+    → IsFirstUnsound (of_requests amends_are) row db → IsUnsound amends_are row db
+unsound_first amends_are row db late first = record {
   none = λ all are. none_stand (of_requests amends_are) row db first all (all_of_requests amends_are db all are);
-  told = inr (inr first);
+  told = inr (late, inr first);
 }
 
 pub unsound_early : (amends_are : List Row) (db : Database) → HasEarly db → IsUnsound amends_are 1 db
 unsound_early amends_are db early =
-    record { none = early_stands_not amends_are db early; told = inr (inl (refl, early)) }
+    record { none = early_stands_not amends_are db early; told = inl (refl, early) }
 
-module _ (amends_are : List Row) (total : ℕ) (left : Left) (db : Database) (F : List Request)
-    (w : Walked (of_requests amends_are) total total left db F) where
+module _ (amends_are : List Row) (total : ℕ) (left : Left) (db : Database) (late : HasEarly db → ⊥)
+    (F : List Request) (w : Walked (of_requests amends_are) total total left db F) where
   all_passed : AreAllPassed (of_requests amends_are) db
   all_passed = record {
     requests = F;
@@ -274,12 +274,12 @@ module _ (amends_are : List Row) (total : ℕ) (left : Left) (db : Database) (F 
         let none = over end.0 end.1 end.2 end.3 in
         let next = w.number_is in
         omega (arith, none, next);
-    told = inl (refl, all_passed);
+    told = inr (late, inl (refl, all_passed));
   }
 
   -- rows of `amends` lie before the first place
   pub unsound_stray : length (of_requests amends_are) < length amends_are → IsUnsound amends_are 0 db
   unsound_stray fewer = record {
     none = λ all are. let same = ap length (stands_without amends_are db all are) in omega (arith, fewer, same);
-    told = inl (refl, all_passed);
+    told = inr (late, inl (refl, all_passed));
   }

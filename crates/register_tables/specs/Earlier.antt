@@ -19,6 +19,7 @@ use Rattle.register_rows.specs.Received.{Received}
 use Rattle.register_rows.specs.Register.{form_row, migrated_row}
 use Rattle.register_rows.specs.Schema.{common_tables, register_tables, meta_table, migrated_table, amends_table}
 use Rattle.register_rows.specs.Schema.{received_table}
+use Rattle.register_tables.specs.Reads.{HasInOrder}
 use Rattle.register_tables.specs.Walk.{AreAllOf, IsUnsound}
 
 -- the number in the row of `intake_meta`
@@ -103,6 +104,12 @@ abbrev pub HasTargetsIn : Option Earlier → Database → List Row → Type 0
 HasTargetsIn (Some form) db amends_are = HasTargets form db amends_are
 HasTargetsIn None db amends_are = TableHas db amends_table amends_are
 
+-- of the table `amends`, these are the rows, in the order of its key, as far as this form has it
+abbrev pub SaysAmends : Option Earlier → List Row → Database → Type 0
+SaysAmends (Some Second) rows db = rows ≡ []
+SaysAmends (Some Third) rows db = rows ≡ []
+SaysAmends form rows db = HasInOrder amends_table rows db
+
 -- there is a list of moments, with a place for each kept request; an earlier form has none
 abbrev pub HasMomentsIn : Option Earlier → Database → ℕ → Type 0
 HasMomentsIn (Some form) db kept = Unit {0}
@@ -116,12 +123,20 @@ pub record HoldsIn (form : Option Earlier) (db : Database) (old_style : ℕ) (F 
   pub old_style_is : HasOldStyleIn form db old_style (length F)
   pub moments : HasMomentsIn form db (length F)
 
+-- For so many kept requests `migrated` says no number of old style, and the row to report is 0; or it says one, and by
+-- the rows of `received`, in the order of its key, this is the row to report.
+abbrev pub IsUnfit : Option Earlier → Database → ℕ → ℕ → Type 0
+IsUnfit form db kept row =
+    ((row ≡ 0) × ((old_style : ℕ) → HasOldStyleIn form db old_style kept → ⊥))
+    ⊎ (((old_style : ℕ) × HasOldStyleIn form db old_style kept) × (dates : List Row)
+    × HasInOrder received_table dates db × IsUndatedAt kept dates row)
+
 -- the rows stand for no requests, in this form, and this is the row to report: that of a kept request that is not
 -- sound, or 0; 0 also if the rows of kept requests are sound, but not `migrated`; or, if that is sound too, the first
 -- that has no moment and should have one
 pub record IsDamaged (form : Option Earlier) (db : Database) (row : ℕ) : Type 0 where
   pub none : (old_style : ℕ) (F : List Request) → HoldsIn form db old_style F → ⊥
   pub amends_are : List Row
-  pub targets : HasTargetsIn form db amends_are
-  pub told : IsUnsound amends_are row db ⊎ ((F : List Request) × AreAllOf F amends_are db
-      × ((row ≡ 0) ⊎ ((dates : List Row) × TableHas db received_table dates × IsUndatedAt (length F) dates row)))
+  pub targets : SaysAmends form amends_are db
+  pub told : IsUnsound amends_are row db
+      ⊎ ((F : List Request) × AreAllOf F amends_are db × IsUnfit form db (length F) row)

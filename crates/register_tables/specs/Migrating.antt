@@ -27,6 +27,7 @@ use Rattle.register_tables.specs.Faults.{IsFailure}
 use Rattle.register_tables.specs.Making.{create_migrated, create_amends, create_received}
 use Rattle.register_tables.specs.Opening as opening
 use Rattle.register_tables.specs.Opening.{AreWithin, HasBeside, HasNoForm, IsHeldIn, SaysForm}
+use Rattle.register_tables.specs.Reads.{DiskFails}
 use Rattle.register_rows.specs.Received.{Received}
 use Rattle.register_tables.specs.Registers.{ForRows, IsRegisterOf, LeavesOnly, LeavesOnlyReceived}
 
@@ -47,7 +48,8 @@ IsNotSurveyed g fault.NotOurs old new = HasNoForm g fault.NotOurs old new ⊎ Sa
 IsNotSurveyed g (fault.Damaged row) old new =
     (form : Earlier) × SaysForm g (Some form) old
     × (BeginsWith (tables_of form) (state g old).now.schema → IsDamaged (Some form) (state g old).now row)
-IsNotSurveyed g why old new = Unit {0}
+IsNotSurveyed g fault.Memory old new = Unit {0}
+IsNotSurveyed g fault.Disk old new = DiskFails (state g old) (state g new)
 
 -- ---- what is written
 

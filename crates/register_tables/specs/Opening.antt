@@ -6,16 +6,11 @@ use Rattle.sqlite.specs.Effect.{Database}
 use Rattle.sqlite.specs.Schema.{Schema}
 use Rattle.sqlite.specs.Store.{Ghosts}
 use Rattle.sqlite.specs.Held.{Held, state}
-use Rattle.sqlite.specs.Listing.{understood}
 use Rattle.sqlite.specs.State.{HasCleanDisk, Shown, FailsToQuery}
-use Rattle.sqlite.specs.Table.{Table}
 use Rattle.sqlite.specs.declared.error.Error.{Error}
-use Rattle.sqlite_resolve.specs.declared.compiled.Compiled.{Compiled}
 use Rattle.table_rows.specs.Causes.{cause_of}
 use Rattle.table_rows.specs.declared.cause.Cause.TheVariants as cause
 use Rattle.table_rows.specs.Leaving.{OnlyReads}
-use Rattle.table_rows.specs.Reading.{RisesBy}
-use Rattle.table_rows.specs.Rows.{TableHas}
 use Rattle.table_rows.specs.Standing.{HasCommitted, CommitsNothing, StaysOnOk, KeepsOnErr}
 use Rattle.filing_model.specs.Request.{Request}
 use Rattle.filing_model.specs.Register.{register}
@@ -25,7 +20,7 @@ use Rattle.register_rows.specs.declared.dates.Dates.{Dates}
 use Rattle.std.specs.declared.alloc.Global.{Global}
 use Rattle.std.specs.declared.vec.Vec.{Vec}
 use Rattle.register_rows.specs.Register.{form_row, migrated_row}
-use Rattle.register_rows.specs.Schema.{IsDeclared, migrated_table, amends_table, received_table}
+use Rattle.register_rows.specs.Schema.{IsDeclared, migrated_table, received_table}
 use Rattle.register_tables.specs.declared.select.reads.TheConstants.{ALL_AMENDS, ALL_KEPT, ALL_META, ALL_MIGRATED}
 use Rattle.register_tables.specs.declared.select.reads.TheConstants.{ALL_RECEIVED}
 use Rattle.register_tables.specs.declared.opening.Counts.{Counts}
@@ -35,9 +30,9 @@ use Rattle.register_tables.specs.declared.opening.form.Earlier.TheVariants.{Seco
 use Rattle.register_tables.specs.declared.opening.walk.Totals.{Totals}
 use Rattle.register_tables.specs.declared.fault.OpenFault.{OpenFault}
 use Rattle.register_tables.specs.declared.fault.OpenFault.TheVariants as fault
-use Rattle.register_tables.specs.Earlier.{number_of_form, tables_in, HoldsIn, IsDamaged}
+use Rattle.register_tables.specs.Earlier.{number_of_form, tables_in, HoldsIn, IsDamaged, SaysAmends}
 use Rattle.register_tables.specs.Faults.{IsFailure}
-use Rattle.register_tables.specs.Reads.{by_first, ReadsOurs}
+use Rattle.register_tables.specs.Reads.{CanBeRead, DiskFails, HasInOrder, IsKnown, ReadsOurs}
 use Rattle.register_tables.specs.Registers.{ForRows, IsRegisterOf}
 
 -- ---- the rows of the tables, each in the order of its key
@@ -64,14 +59,16 @@ pub record IsRead {S : Type 0} (g : Ghosts S) (text : List ℕ) (old new : Held 
 
 -- ---- in which form
 
--- `intake_meta` cannot be read, for another cause than memory or disk, or its rows are not the one row of a form
+-- `intake_meta` cannot be read, for another cause than memory or disk, or its rows are not the one row of a form; or
+-- memory or the disk failed
 abbrev pub HasNoForm : {S : Type 0} → Ghosts S → OpenFault → Held S → Held S → Type 0
 HasNoForm g fault.NotOurs old new =
     ((error : Error) × FailsToQuery all_meta [] (state g old) (state g new) error × (cause_of error ≡ cause.Other))
     ⊎ ((rows : List Row) × IsRead g all_meta old new rows
     × ((form : Option Earlier) → rows ≢ form_row (number_of_form form) ∷ []))
 HasNoForm g (fault.Damaged row) old new = ⊥
-HasNoForm g why old new = Unit {0}
+HasNoForm g fault.Memory old new = Unit {0}
+HasNoForm g fault.Disk old new = DiskFails (state g old) (state g new)
 
 -- whatever else the database has, and however its tables are declared, the rows of `intake_meta` are the one row of
 -- this form
@@ -83,11 +80,6 @@ abbrev pub SaysRegister : {S : Type 0} → Ghosts S → Held S → Type 0
 SaysRegister g conn = SaysForm g None conn
 
 -- ---- the rows beside those of kept requests
-
--- the table has these rows, and where it has rows that rise by their first column, it has them in this order
-pub record HasInOrder (table : Table) (rows : List Row) (db : Database) : Type 0 where
-  pub held : TableHas db table rows
-  pub ordered : (wanted : List Row) → TableHas db table wanted → RisesBy by_first wanted → rows ≡ wanted
 
 -- these rows of `migrated` say that of so many kept requests the first `old_style` keep the answers of an earlier
 -- version
@@ -104,11 +96,6 @@ SaysNothing kept migrated = (old_style : ℕ) → SaysOldStyle kept old_style mi
 abbrev pub SaysMigrated : Option Earlier → Option (Vec Row Global) → Database → Type 0
 SaysMigrated (Some Second) rows db = rows ≡ None
 SaysMigrated form rows db = IsSomeAnd rows (λ it. HasInOrder migrated_table it.items db)
-
-abbrev pub SaysAmends : Option Earlier → List Row → Database → Type 0
-SaysAmends (Some Second) rows db = rows ≡ []
-SaysAmends (Some Third) rows db = rows ≡ []
-SaysAmends form rows db = HasInOrder amends_table rows db
 
 abbrev pub SaysDates : Option Earlier → Option Dates → Database → Type 0
 SaysDates (Some form) dates db = dates ≡ None
@@ -130,13 +117,14 @@ pub record CountsIn (totals : Totals) (beside : Beside) (counts : Counts) : Type
   pub moments_are : IfSome beside.received (λ dates. (rows : List Row) → AreDates rows dates
       → (moments : List (Option ℕ)) × SaysMoments totals.kept rows moments)
 
--- The row of `migrated` fits no such totals, and the row to report is 0; or those of `received` are those of no
--- moments.
+-- The row of `migrated` fits no such totals, and the row to report is 0; or it does, if there is that table, and those
+-- of `received` are those of no moments.
 abbrev pub IsDamagedIn : ℕ → Beside → ℕ → Type 0
 IsDamagedIn kept beside row =
     ((row ≡ 0) × IsSomeAnd beside.migrated (λ rows. SaysNothing kept rows.items))
-    ⊎ IsSomeAnd beside.received (λ dates. (rows : List Row) → AreDates rows dates
-    → SaysNoMoments kept rows × IsUndatedAt kept rows row)
+    ⊎ (IfSome beside.migrated (λ rows. (old_style : ℕ) × SaysOldStyle kept old_style rows.items)
+    × IsSomeAnd beside.received (λ dates. (rows : List Row) → AreDates rows dates
+    → SaysNoMoments kept rows × IsUndatedAt kept rows row))
 
 -- ---- a register in this form
 
@@ -155,10 +143,6 @@ pub record IsHeldIn (form : Option Earlier) (counts : Counts) (db : Database) : 
   pub counts_are : AreCountsOf counts requests
   pub only : (old_style : ℕ) (F : List Request) → HoldsIn form db old_style F
       → (counts.old_style ≡ old_style) × AreCountsOf counts F
-
--- it is a text of tables that are declared
-abbrev pub IsKnown : Schema → List ℕ → Type 0
-IsKnown schema text = (found : Compiled) × (understood schema text ≡ Ok found)
 
 -- the tables that this form has beside those of every form are declared, in one way or another
 
@@ -180,6 +164,7 @@ pub record ReadsIn {S : Type 0} (g : Ghosts S) (form : Option Earlier) (old new 
   pub reads : ReadsOurs (tables_in form) g old new result (λ counts db. IsHeldIn form counts db)
       (λ row db. IsDamaged form db row)
   pub has : HasCleanDisk (state g new) → OnOk result (HasBeside form (state g old).now.schema)
+  pub known : HasCleanDisk (state g new) → OnOk result (CanBeRead (state g old).now.schema)
   pub few : IfOk result AreWithin
   pub leaves : OnlyReads g old new result
 
@@ -197,7 +182,8 @@ IsRefused g fault.NotOurs old new =
     HasNoForm g fault.NotOurs old new ⊎ ((form : Earlier) × SaysForm g (Some form) old)
 IsRefused g (fault.Damaged row) old new =
     SaysRegister g old × (IsDeclared (state g old).now.schema → IsDamaged None (state g old).now row)
-IsRefused g why old new = Unit {0}
+IsRefused g fault.Memory old new = Unit {0}
+IsRefused g fault.Disk old new = DiskFails (state g old) (state g new)
 
 -- ---- what is reported of a register
 
@@ -230,3 +216,5 @@ pub record ReadsRegister {S : Type 0} (g : Ghosts S) (old new : Held S) (result 
   pub keeps : KeepsOnErr (state g old) (state g new) result
   pub mode : new.in_transaction ≡ false
   pub survives : CommitsNothing (state g old) (state g new)
+  -- However the tables are declared, each of those with the rows of kept requests can be read.
+  pub known : HasCleanDisk (state g new) → OnOk result (CanBeRead (state g old).now.schema)

@@ -145,10 +145,11 @@ pub record AreAllPassed (amends_are : List Row) (db : Database) : Type 0 where
   pub left : Left
   pub walked : Walked amends_are (length requests) (length requests) left db requests
 
--- The tables have the rows of no requests, and this is the row to report: the first that is not sound, or the first if
--- a kept row lies before it, or 0 if each is sound, and rows are left over. Of `amends` only the rows that are of a
--- request are walked over.
+-- The tables have the rows of no requests, and this is the row to report: the first, if a kept row lies before it; or
+-- else the first that is not sound, or 0 if each is sound, and rows are left over. Of `amends` only the rows that are
+-- of a request are walked over.
 pub record IsUnsound (amends_are : List Row) (row : ℕ) (db : Database) : Type 0 where
   pub none : (requests : List Request) → AreAllOf requests amends_are db → ⊥
-  pub told : ((row ≡ 0) × AreAllPassed (of_requests amends_are) db)
-      ⊎ (((row ≡ 1) × HasEarly db) ⊎ IsFirstUnsound (of_requests amends_are) row db)
+  pub told : ((row ≡ 1) × HasEarly db)
+      ⊎ ((HasEarly db → ⊥)
+      × (((row ≡ 0) × AreAllPassed (of_requests amends_are) db) ⊎ IsFirstUnsound (of_requests amends_are) row db))

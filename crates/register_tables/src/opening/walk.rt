@@ -1,8 +1,9 @@
 //! Whether the rows of a register's tables stand for requests, found with one kept request in memory at a time.
 
 ghost use Rattle.std.specs.Prelude.{◌≡◌, ◌↔◌, ◌⊎◌, ◌<◌, ◌≤◌, ◌^◌, ◌+◌, ◌++◌, ℕ, pos, List, length, filter, [], ◌∷◌};
-ghost use Rattle.std.specs.Prelude.{Option, None, Some, IsTrue, IfOk, IfSome, OnSome, MatchOption};
+ghost use Rattle.std.specs.Prelude.{Option, None, Some, IsTrue, IfOk, IfSome, OnOk, OnSome, MatchOption};
 ghost use Rattle.sqlite.specs.Held.{state};
+ghost use Rattle.sqlite.specs.State.{HasCleanDisk};
 ghost use Rattle.sqlite.specs.declared.types.Value.TheVariants.{Int};
 ghost use Rattle.table_rows.specs.Leaving.{OnlyReads};
 ghost use Rattle.table_rows.specs.Rows.{counted_from};
@@ -16,7 +17,7 @@ ghost use Rattle.register_rows.specs.Columns.{request_in};
 ghost use Rattle.register_rows.specs.Filed.{AreFiled};
 ghost use Rattle.register_rows.specs.Register.{finding_row, fact_row};
 ghost use Rattle.register_rows.specs.Schema.{common_tables, kept_table, finding_table, filing_table, fact_table};
-ghost use Rattle.register_tables.specs.Reads.{AsksOurs, ReadsOurs, Never, has_second, has_texts};
+ghost use Rattle.register_tables.specs.Reads.{AsksOurs, CanBeRead, ReadsOurs, Never, has_second, has_texts};
 ghost use Rattle.register_tables.specs.Walk.{Amounts, IsBehind, IsBeyond, IsFirstUnsound, IsNext, IsPast, IsUnsound};
 ghost use Rattle.register_tables.specs.Walk.{NonePasses, Passes, Walked, is_stray, of_requests};
 ghost use Rattle.table_rows.specs.Picking.{has_number, Picks, rows_in};
@@ -365,7 +366,9 @@ struct Sizes<'a> {
 
 /// Asks each table once for rows that no register has, so that one that cannot be read is told before any row.
 fn try_tables<S: Alter>(conn: &mut Connection<S>) -> Result<(), Error>
-    ensures { AsksOurs common_tables S.Store conn.old conn.new result (λ _ _. Unit {0}) }
+    ensures asks { AsksOurs common_tables S.Store conn.old conn.new result (λ _ _. Unit {0}) }
+    ensures known { HasCleanDisk (state S.Store conn.new)
+        → OnOk result (CanBeRead (state S.Store conn.old).now.schema) }
 {
     picks::kept_at(conn, 0)?;
     picks::findings_at(conn, 0)?;
@@ -422,7 +425,7 @@ pub(crate) struct Totals {
 }
 
 /// How much was walked past, if nothing is left.
-fn counts_of(kept: u64, left: Left<'_>, catalogue: Catalogue) -> Option<Totals>
+fn totals_of(kept: u64, left: Left<'_>, catalogue: Catalogue) -> Option<Totals>
     ensures { MatchOption result
         ((left.entry.findings ≡ 0) → (left.entry.filings ≡ 0) → (left.entry.facts ≡ 0) → (left.entry.amends.now ≡ [])
         → left.entry.number ≡ 0)
@@ -473,6 +476,8 @@ pub(crate) fn count_by_walk<S: Alter, W: Watch>(
     ensures reads { ReadsOurs common_tables S.Store conn.old conn.new result (λ counts db. Amounts counts amends.now db)
         (λ row db. IsUnsound amends.now row db) }
     ensures few { IfOk result (λ counts. (counts.kept ≤ 2 ^ 62) × (counts.filings ≤ counts.kept)) }
+    ensures known { HasCleanDisk (state S.Store conn.new)
+        → OnOk result (CanBeRead (state S.Store conn.old).now.schema) }
     ensures leaves { OnlyReads S.Store conn.old conn.new result }
 {
     try_tables(conn)?;
@@ -492,7 +497,7 @@ pub(crate) fn count_by_walk<S: Alter, W: Watch>(
     if targets.len() < amends.len() {
         return Err(OpenFault::Damaged { row: 0 });
     }
-    let Some(totals) = counts_of(sizes.kept, left, catalogue) else {
+    let Some(totals) = totals_of(sizes.kept, left, catalogue) else {
         return Err(OpenFault::Damaged { row: 0 });
     };
     Ok(totals)

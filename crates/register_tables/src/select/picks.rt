@@ -1,9 +1,9 @@
 //! The SELECTs of a walk over a register's tables: the rows of one table with one number in a column, or how many rows
 //! it has.
 
-ghost use Rattle.std.specs.Prelude.{◌≡◌, ◌<◌, ◌^◌, length, filter, IfSome, IsTrue};
+ghost use Rattle.std.specs.Prelude.{◌≡◌, ◌↔◌, ◌<◌, ◌^◌, length, filter, IfSome, IsTrue};
 ghost use Rattle.sqlite.specs.Held.{state};
-ghost use Rattle.register_tables.specs.Reads.{AsksOurs, PicksInOrder, has_second, has_texts, HasEarly};
+ghost use Rattle.register_tables.specs.Reads.{AsksOurs, KnowsOnOk, PicksInOrder, has_second, has_texts, HasEarly};
 ghost use Rattle.table_rows.specs.Picking.{has_number, CountsTo, Picks, rows_in};
 ghost use Rattle.register_rows.specs.Schema.{common_tables, kept_table, finding_table, filing_table, fact_table};
 
@@ -16,8 +16,9 @@ const KEPT_AT: &str = "SELECT seq, filer, idem, body, number FROM kept WHERE seq
 /// The kept rows with this place.
 pub(crate) fn kept_at<S: Alter>(conn: &mut Connection<S>, seq: u64) -> Result<Vec<Row>, Error>
     requires { seq < 2 ^ 63 }
-    ensures { AsksOurs common_tables S.Store conn.old conn.new result (λ rows db.
+    ensures asks { AsksOurs common_tables S.Store conn.old conn.new result (λ rows db.
         Picks kept_table (has_number seq) rows.items db) }
+    ensures known { KnowsOnOk KEPT_AT.now (state S.Store conn.old) (state S.Store conn.new) result }
 {
     select(conn, KEPT_AT, params![seq as i64])
 }
@@ -27,8 +28,9 @@ const FINDINGS_AT: &str = "SELECT seq, pos, code, place FROM finding WHERE seq =
 /// The findings of the request at this place, by `pos`.
 pub(crate) fn findings_at<S: Alter>(conn: &mut Connection<S>, seq: u64) -> Result<Vec<Row>, Error>
     requires { seq < 2 ^ 63 }
-    ensures { AsksOurs common_tables S.Store conn.old conn.new result (λ rows db.
+    ensures asks { AsksOurs common_tables S.Store conn.old conn.new result (λ rows db.
         PicksInOrder finding_table (has_number seq) rows.items db) }
+    ensures known { KnowsOnOk FINDINGS_AT.now (state S.Store conn.old) (state S.Store conn.new) result }
 {
     select(conn, FINDINGS_AT, params![seq as i64])
 }
@@ -38,8 +40,9 @@ const FILINGS_OF: &str = "SELECT number, seq FROM filing WHERE seq = ?1 ORDER BY
 /// The filings of the request at this place.
 pub(crate) fn filings_of<S: Alter>(conn: &mut Connection<S>, seq: u64) -> Result<Vec<Row>, Error>
     requires { seq < 2 ^ 63 }
-    ensures { AsksOurs common_tables S.Store conn.old conn.new result (λ rows db.
+    ensures asks { AsksOurs common_tables S.Store conn.old conn.new result (λ rows db.
         Picks filing_table (has_second seq) rows.items db) }
+    ensures known { KnowsOnOk FILINGS_OF.now (state S.Store conn.old) (state S.Store conn.new) result }
 {
     select(conn, FILINGS_OF, params![seq as i64])
 }
@@ -53,8 +56,9 @@ pub(crate) fn facts_numbered<S: Alter>(
     number: u64,
 ) -> Result<Vec<Row>, Error>
     requires { number < 2 ^ 63 }
-    ensures { AsksOurs common_tables S.Store conn.old conn.new result (λ rows db.
+    ensures asks { AsksOurs common_tables S.Store conn.old conn.new result (λ rows db.
         PicksInOrder fact_table (has_number number) rows.items db) }
+    ensures known { KnowsOnOk FACTS_NUMBERED.now (state S.Store conn.old) (state S.Store conn.new) result }
 {
     select(conn, FACTS_NUMBERED, params![number as i64])
 }
@@ -124,13 +128,14 @@ pub(crate) fn count_facts<S: Alter>(conn: &mut Connection<S>) -> Result<Option<u
 
 const COUNT_EARLY: &str = "SELECT count(*) FROM kept WHERE seq < 1";
 
-/// Whether a kept row lies before the first place. If not, that is not said.
+/// Whether a kept row lies before the first place.
 pub(crate) fn has_early<S: Alter>(conn: &mut Connection<S>) -> Result<bool, Error>
-    ensures { AsksOurs common_tables S.Store conn.old conn.new result (λ found db. IsTrue found → HasEarly db) }
+    ensures { AsksOurs common_tables S.Store conn.old conn.new result (λ found db. IsTrue found ↔ HasEarly db) }
 {
     let rows = select(conn, COUNT_EARLY, &[])?;
     match count_in(&rows) {
         Some(count) => Ok(count > 0),
-        None => Ok(false),
+        // There are more than SQLite counts.
+        None => Ok(true),
     }
 }

@@ -1,9 +1,11 @@
-use Rattle.std.proofs.Common.{◌≡◌, inr, Ok, Err, refl, rules}
+use Rattle.std.proofs.Common.{◌≡◌, inr, Ok, Err, refl, rules, subst}
+use Rattle.sqlite.specs.Effect.{Database}
 use Rattle.sqlite.specs.Held.{state}
 use Rattle.sqlite.specs.State.{HasCleanDisk}
 use Rattle.table_rows.proofs.LeavingLemmas.{clean_before, ended, passed_then}
 use Rattle.register_tables.specs.Earlier.{IsDamaged}
 use Rattle.register_tables.specs.Opening.{IsHeldIn}
+use Rattle.register_tables.specs.Reads.{CanBeRead}
 use Rattle.register_tables.proofs.Holding.{damaged_among, damaged_beside, held_so, within_so}
 use Rattle.register_tables.proofs.OpenLemmas.{common_in}
 use Rattle.register_tables.proofs.Ours.{concludes, of_more, reads_then, refuses_so}
@@ -26,6 +28,11 @@ returns-in-Ok g c =
           let mid : HasCleanDisk (state g.S.Store c.read_beside.new.conn) =
           clean_before c.in_ok-totals.ensures.leaves clean in
           c.in_ok-beside.ensures.known mid (whole.left clean).0.was_open;
+      known = λ clean.
+          let mid : HasCleanDisk (state g.S.Store c.read_beside.new.conn) =
+          clean_before c.in_ok-totals.ensures.leaves clean in
+          let same = (c.in_ok-beside.ensures.reads.leaves.left mid).same (whole.left clean).0.was_open in
+          subst (λ (db : Database). CanBeRead db.schema) same.0.now_is (c.in_ok-totals.ensures.known clean);
       few = within_so totals beside counts c.in-Ok.ensures.told c.in_ok-totals.ensures.few.0
           c.in_ok-totals.ensures.few.1;
       leaves = whole;
@@ -42,7 +49,7 @@ returns g c =
     (of_more g.S.Store (Ok totals) (common_in form) (rw c.deref.ensures.value at c.in_ok-totals.ensures.reads)) in
     record {
       reads = concludes g.S.Store (λ counts db. IsHeldIn form counts db) (λ row db. IsDamaged form db row) totals
-          (Err _) (λ is. cc) (λ db h. (
+          (Err _) (λ is. cc, λ is. cc) (λ db h. (
             tt,
             inr (
               c.in-Err.row,
@@ -52,6 +59,7 @@ returns g c =
             ),
           )) both;
       has = λ clean. tt;
+      known = λ clean. tt;
       few = tt;
       leaves = ended whole;
     }
@@ -68,6 +76,7 @@ returns-in_err-totals g c =
           (of_more g.S.Store (Err c.in_err-totals.field-0.0) (common_in form)
           (rw c.deref.ensures.value at c.in_err-totals.ensures.reads)));
       has = λ clean. tt;
+      known = λ clean. tt;
       few = tt;
       leaves = passed_then c.in_ok-beside.ensures.reads.leaves c.in_err-totals.ensures.leaves;
     })
@@ -80,6 +89,7 @@ returns-in_err-beside g c =
       reads = refuses_so g.S.Store (λ counts db. IsHeldIn form counts db) (λ row db. IsDamaged form db row)
           c.in_err-beside.field-0.0 (λ row db never. absurd never) c.in_err-beside.ensures.reads;
       has = λ clean. tt;
+      known = λ clean. tt;
       few = tt;
       leaves = c.in_err-beside.ensures.reads.leaves;
     })

@@ -16,9 +16,9 @@ returns g c =
     asked_so g.S.Store _ c.in_ok-rows.rows c.are_items.result
     (found_few filing_table (has_second c.args.seq) (counted_from made 1 c.args.numbers.now) c.in_ok-rows.rows.items
     c.are_items.result (omega (arith, many, c.requires.few)) (rw c.deref.ensures.value at c.are_items.ensures))
-    c.in_ok-rows.ensures
+    c.in_ok-rows.ensures.asks
 
 pub returns-in_err-rows : goal.returns-in_err-rows
 returns-in_err-rows g c =
     let told : c.from_residual.result ≡ Err c.in_err-rows.field-0.0 = search rules in
-    rw told (not_asked g.S.Store _ c.in_err-rows.field-0.0 c.in_err-rows.ensures)
+    rw told (not_asked g.S.Store _ c.in_err-rows.field-0.0 c.in_err-rows.ensures.asks)

@@ -1,8 +1,9 @@
-use Rattle.std.proofs.Common.{◌≡◌, ◌∷◌, ◌∙◌, [], false, subst, sym, Ok, IsTrue, rules}
+use Rattle.std.proofs.Common.{◌≡◌, ◌∷◌, ◌∙◌, [], false, subst, sym, Ok, Err, IsTrue, rules}
 use Rattle.table_rows.specs.Picking.{has_number, Picks}
 use Rattle.register_rows.specs.Schema.{kept_table}
+use Rattle.register_tables.specs.Faults.{table_fault}
 use Rattle.register_tables.specs.Reads.{Never}
-use Rattle.register_tables.proofs.Ours.{asked, concludes, reads_then, says_so}
+use Rattle.register_tables.proofs.Ours.{after, asked, concludes, not_read, reads_then, says_so}
 use Rattle.register_tables.proofs.WalkLemmas.{alone_row, none_passes, not_found, passes_row}
 use Rattle.register_tables.proofs.opening.walk.pass.Goals as goal
 
@@ -20,7 +21,7 @@ returns-clause-reads g c =
     passed (h.0.1.0 so) (h.1 F at)) (λ row db never. never.1)
     (reads_then g.S.Store c.in_ok-is_alone.field-0 c.pass_judged.result
     (reads_then g.S.Store c.in_ok-rows.rows (Ok c.in_ok-is_alone.field-0)
-    (asked g.S.Store c.in_ok-rows.rows c.in_ok-rows.ensures)
+    (asked g.S.Store c.in_ok-rows.rows c.in_ok-rows.ensures.asks)
     (asked g.S.Store c.in_ok-is_alone.field-0 c.in_ok-is_alone.ensures)) c.pass_judged.ensures.reads)
 
 pub returns-then-not-branch-clause-reads : goal.returns-then-not-branch-clause-reads
@@ -38,7 +39,7 @@ returns-then-not-branch-clause-reads g c =
       tt,
     ))
     (reads_then g.S.Store c.in_ok-rows.rows (Ok c.in_ok-is_alone.field-0)
-    (asked g.S.Store c.in_ok-rows.rows c.in_ok-rows.ensures)
+    (asked g.S.Store c.in_ok-rows.rows c.in_ok-rows.ensures.asks)
     (asked g.S.Store c.in_ok-is_alone.field-0 c.in_ok-is_alone.ensures))
 
 pub returns-in_default-clause-reads : goal.returns-in_default-clause-reads
@@ -46,4 +47,11 @@ returns-in_default-clause-reads g c =
     let many = rw (c.in_default.is, c.deref.ensures.value) at c.only_row.ensures in
     concludes g.S.Store _ Never c.in_ok-rows.rows (Ok _) tt
     (λ db picked. (λ F at. none_passes F c.args.seq c.args.left db c.in_ok-rows.rows.items picked many, tt))
-    (asked g.S.Store c.in_ok-rows.rows c.in_ok-rows.ensures)
+    (asked g.S.Store c.in_ok-rows.rows c.in_ok-rows.ensures.asks)
+
+pub returns-in_err-is_alone-clause-reads : goal.returns-in_err-is_alone-clause-reads
+returns-in_err-is_alone-clause-reads g c =
+    let why = table_fault c.in_err-is_alone.field-0.0 in
+    let told : c.from_residual-in_err-is_alone.result ≡ Err why = search rules in
+    rw told (after g.S.Store c.in_ok-rows.rows (Err why) (asked g.S.Store c.in_ok-rows.rows c.in_ok-rows.ensures.asks)
+    (not_read g.S.Store _ Never c.in_err-is_alone.field-0.0 c.in_err-is_alone.ensures))

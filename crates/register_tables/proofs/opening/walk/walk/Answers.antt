@@ -5,7 +5,7 @@ use Rattle.sqlite.specs.Effect.{Database}
 use Rattle.filing_model.specs.Register.{kept}
 use Rattle.register_rows.proofs.MoreRequests.{kept_length}
 use Rattle.register_tables.specs.Walk.{NonePasses, Passes, Walked}
-use Rattle.register_tables.proofs.Ours.{ours_then}
+use Rattle.register_tables.proofs.Ours.{disk_then, ours_then}
 use Rattle.register_tables.proofs.WalkLemmas.{walked_on, filed_on, none_filed}
 use Rattle.table_rows.proofs.LeavingLemmas.{clean_before, ended, none_yet, passed_then}
 use Rattle.register_tables.proofs.opening.walk.walk.Goals as goal
@@ -86,6 +86,7 @@ returns-in_default-clause-reads g c =
                 },
           );
       ours = λ is. cc;
+      disk = λ is. cc;
       leaves = ended (passed_then was.leaves c.in_ok-tail.ensures.reads.leaves);
     }
 
@@ -105,5 +106,6 @@ returns-in_err-tail-clause-reads g c =
             | inr never ↦ absurd never.2
           ];
       ours = c.in_err-tail.ensures.reads.ours;
+      disk = λ is. disk_then was.leaves (c.in_err-tail.ensures.reads.disk is);
       leaves = passed_then was.leaves c.in_err-tail.ensures.reads.leaves;
     })

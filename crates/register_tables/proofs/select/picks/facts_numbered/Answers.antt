@@ -3,12 +3,12 @@ use Rattle.std.proofs.lemmas.Int.{to_z-of_z}
 use Rattle.sqlite.specs.Held.{state}
 use Rattle.sqlite.specs.declared.types.Value.TheVariants.{Int}
 use Rattle.register_tables.proofs.PickTexts.{query_facts_numbered, asks_facts_numbered, calm_facts_numbered}
-use Rattle.register_tables.proofs.PickTexts.{takes_facts_numbered}
-use Rattle.register_tables.proofs.PickLemmas.{picks_facts_numbered, asks_ours}
+use Rattle.register_tables.proofs.PickTexts.{facts_numbered_text, takes_facts_numbered}
+use Rattle.register_tables.proofs.PickLemmas.{picks_facts_numbered, asks_ours, knows_on_ok}
 use Rattle.register_tables.proofs.select.picks.facts_numbered.Goals as goal
 
-pub returns : goal.returns
-returns g c =
+pub returns-clause-asks : goal.returns-clause-asks
+returns-clause-asks g c =
     asks_ours g.S.Store c.args.conn.now c.select.new.conn _ (Int (pos c.args.number) ∷ []) _ asks_facts_numbered
     (takes_facts_numbered c.args.number) (calm_facts_numbered (Int (pos c.args.number) ∷ []))
     (λ rows. rows.items) _ c.select.result
@@ -25,6 +25,11 @@ returns g c =
           (record { sfits = omega (arith, c.requires) }),
     ) at c.select.ensures.failed clean)
     c.select.ensures.leaves
+
+pub returns-clause-known : goal.returns-clause-known
+returns-clause-known g c clean =
+    knows_on_ok facts_numbered_text _ (state g.S.Store c.args.conn.now) (state g.S.Store c.select.new.conn)
+    c.select.result (c.select.ensures.shown clean)
 
 pub select-requires : goal.select-requires
 select-requires g c = query_facts_numbered

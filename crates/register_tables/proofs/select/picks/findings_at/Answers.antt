@@ -3,11 +3,12 @@ use Rattle.std.proofs.lemmas.Int.{to_z-of_z}
 use Rattle.sqlite.specs.Held.{state}
 use Rattle.sqlite.specs.declared.types.Value.TheVariants.{Int}
 use Rattle.register_tables.proofs.PickTexts.{query_findings_at, asks_findings_at, calm_findings_at, takes_findings_at}
-use Rattle.register_tables.proofs.PickLemmas.{picks_findings_at, asks_ours}
+use Rattle.register_tables.proofs.PickTexts.{findings_at_text}
+use Rattle.register_tables.proofs.PickLemmas.{picks_findings_at, asks_ours, knows_on_ok}
 use Rattle.register_tables.proofs.select.picks.findings_at.Goals as goal
 
-pub returns : goal.returns
-returns g c =
+pub returns-clause-asks : goal.returns-clause-asks
+returns-clause-asks g c =
     asks_ours g.S.Store c.args.conn.now c.select.new.conn _ (Int (pos c.args.seq) ∷ []) _ asks_findings_at
     (takes_findings_at c.args.seq) (calm_findings_at (Int (pos c.args.seq) ∷ [])) (λ rows. rows.items) _ c.select.result
     (λ d rows h. picks_findings_at (state g.S.Store c.args.conn.now) (state g.S.Store c.select.new.conn) d rows.items
@@ -23,6 +24,11 @@ returns g c =
           (record { sfits = omega (arith, c.requires) }),
     ) at c.select.ensures.failed clean)
     c.select.ensures.leaves
+
+pub returns-clause-known : goal.returns-clause-known
+returns-clause-known g c clean =
+    knows_on_ok findings_at_text _ (state g.S.Store c.args.conn.now) (state g.S.Store c.select.new.conn)
+    c.select.result (c.select.ensures.shown clean)
 
 pub select-requires : goal.select-requires
 select-requires g c = query_findings_at
