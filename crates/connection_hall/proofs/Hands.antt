@@ -245,12 +245,12 @@ pub slot_is : {S : Type 0} (P : Served S → Type 0) (slot : Option (Served S)) 
 slot_is P slot c is at = rw is at
 
 -- it rests, since its peer is waited for
-pub goes_to_rest : {S N : Type 0} (s : Ghosts S N) (hall : Hall S) (was c : Served S) (since : Option ℕ)
-    (slot : Option (Served S)) → IfSome slot (λ c'. c' ≡ record c { since = since }) → IsWaiting s c
+pub goes_to_rest : {S N : Type 0} (s : Ghosts S N) (hall : Hall S) (was c : Served S) (since : ℕ)
+    (slot : Option (Served S)) → IfSome slot (λ c'. c' ≡ record c { since = Some since }) → IsWaiting s c
     → IfSome slot (Advances s hall was)
 goes_to_rest s hall was c since None same waits = tt
 goes_to_rest s hall was c since (Some c') same waits =
-    inr (inr (inl (waits_lent s c c' (lent_is c c' c.loan since same) waits)))
+    inr (inr (inl (waits_lent s c c' (lent_is c c' c.loan (Some since) same) waits, rw same refl)))
 
 -- it got a loan, or is short of one
 pub goes_with_loan : {S N : Type 0} (s : Ghosts S N) (hall : Hall S) (was c : Served S) (slot : Option (Served S))

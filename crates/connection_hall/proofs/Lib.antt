@@ -3,3 +3,5 @@ pub mod Done
 pub mod Halls
 pub mod Hands
 pub mod Answered
+pub mod Waits
+pub mod InTime

@@ -1,7 +1,8 @@
 -- What one thing that a connection does changes of what it was told.
 use Rattle.std.proofs.Common.{◌≡◌, ◌||◌, ℕ, Bool, true, false, List, [], ◌∷◌, ◌++◌, take, Option, Some, None, refl, sym}
 use Rattle.std.proofs.Common.{ap, ap₂, ◌∙◌, subst, subst₂, append_assoc, IfSome, map, rules, Vec, Global, is_some}
-use Rattle.std.proofs.Common.{vec_len, ◌==◌, ◌<◌, ◌≤◌, length, inl, inr, arith}
+use Rattle.std.proofs.Common.{vec_len, ◌==◌, ◌<◌, length, inl, inr, arith}
+use Rattle.std.proofs.lemmas.Bool.Decides.{leb_tells}
 use Rattle.std.proofs.lemmas.Grind.{common_steps}
 use Rattle.std.specs.Prelude.{if◌then◌else◌, nat_eq}
 use Rattle.std.specs.Option.{ForSome, option_map_or}
@@ -564,29 +565,23 @@ grows_self c = record {
   held = omega arith;
   ended = λ ended. ended;
   early = λ early. early;
-  since = inl refl;
+  idle = λ none. refl;
+  first = λ none some. absurd (omega (arith, none, some));
+  more = λ some. refl;
 }
-
-none_before : (before now : List ℕ) → length before ≤ length now → now ≡ [] → before ≡ []
-none_before [] now shorter none = refl
-none_before (x ∷ before) now shorter none = absurd (let l = ap (λ (l : List ℕ). length l) none in omega (
-  arith,
-  shorter,
-  l,
-))
 
 pub grows_on : {S : Type 0} (old mid new : Served S) → Grows old mid → Grows mid new → Grows old new
 grows_on old mid new first second = record {
   held = let a = first.held in let b = second.held in omega (arith, a, b);
   ended = λ ended. second.ended (first.ended ended);
   early = λ early. second.early (first.early early);
-  since = elim first.since [
-    | inl same ↦ elim second.since [
-      | inl still ↦ inl (still ∙ same)
-      | inr anew ↦ inr (none_before (held_by old) (held_by mid) first.held anew.0, anew.1)
-    ]
-    | inr anew ↦ inr (anew.0, let a = anew.1 in let b = second.held in omega (arith, a, b))
+  idle = λ none. let b = second.held in second.idle none ∙ first.idle (omega (arith, b, none));
+  first = λ none some. elim (leb_tells (length (held_by mid)) 0) [
+    | inl still ↦ second.first (let h = still.1 in omega (arith, h)) some
+    | inr came ↦ second.more (let h = came.1 in omega (arith, h))
+        ∙ first.first none (let h = came.1 in omega (arith, h))
   ];
+  more = λ some. let a = first.held in second.more (omega (arith, a, some)) ∙ first.more some;
 }
 
 pub standing_on : {S N : Type 0} (s : Ghosts S N) (a b c : Served S) → KeepsStanding s a b → KeepsStanding s b c

@@ -83,12 +83,15 @@ pub record KeepsStanding {S N : Type 0} (s : Ghosts S N) (old new : Served S) : 
   pub closing : new.is_closing ≡ old.is_closing
 
 -- No byte that is held is dropped, no end of the input is forgotten, and no interim response that went. The peer of a
--- connection is waited for from the same moment on, until the first bytes of a request come.
+-- connection is waited for from the same moment on while nothing is held, and while more of a request comes. Once the
+-- first bytes of a request came, it is waited for anew.
 pub record Grows {S : Type 0} (old new : Served S) : Type 0 where
   pub held : length (held_by old) ≤ length (held_by new)
   pub ended : has_ended old.machine ≡ true → has_ended new.machine ≡ true
   pub early : old.is_early ≡ true → new.is_early ≡ true
-  pub since : (new.since ≡ old.since) ⊎ ((held_by old ≡ []) × (0 < length (held_by new)))
+  pub idle : length (held_by new) ≡ 0 → new.since ≡ old.since
+  pub first : length (held_by old) ≡ 0 → 0 < length (held_by new) → new.since ≡ None
+  pub more : 0 < length (held_by old) → new.since ≡ old.since
 
 -- bytes came, or the end of the input, or the interim response became early
 abbrev pub MovesOn : {S : Type 0} → Served S → Served S → Type 0

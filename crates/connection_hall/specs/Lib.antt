@@ -13,3 +13,4 @@ pub mod Deadlines
 pub mod Bounds
 pub mod Places
 pub mod Running
+pub mod Waiting

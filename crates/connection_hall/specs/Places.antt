@@ -1,9 +1,9 @@
 -- What is counted of the connections in places; own rules.
-use Rattle.std.specs.Prelude.{ℕ, List, Option, Some, None, vec_len, nat_eq, is_some, if◌then◌else◌}
+use Rattle.std.specs.Prelude.{ℕ, Bool, false, List, Option, Some, None, vec_len, nat_eq, is_some, if◌then◌else◌}
 use Rattle.std.specs.List.{sum_by}
 use Rattle.http_messages.specs.Message.{Arrival}
 use Rattle.connection_hall.specs.declared.served.Served.{Served}
-use Rattle.connection_hall.specs.Connections.{arrival}
+use Rattle.connection_hall.specs.Connections.{arrival, has_passed}
 
 -- how many connections are in a place, and in these
 abbrev pub taken : {S : Type 0} → Option (Served S) → ℕ
@@ -51,3 +51,8 @@ number_in (Some c) = c.number
 abbrev pub since_of : {S : Type 0} → Option (Served S) → Option ℕ
 since_of None = None
 since_of (Some c) = c.since
+
+-- the connection in a place has a loan whose term has passed, and nothing on it is to be answered
+abbrev pub has_passed_in : {S : Type 0} → Option (Served S) → ℕ → Bool
+has_passed_in None now = false
+has_passed_in (Some c) now = has_passed c now

@@ -1,5 +1,6 @@
 -- What contracts see of all connections; own rules.
-use Rattle.std.specs.Prelude.{◌≡◌, ◌≢◌, ◌⊎◌, ◌≤◌, ◌<◌, ◌+◌, ◌||◌, ◌&&◌, ℕ, Bool, true, false, List, [], length, min}
+use Rattle.std.specs.Prelude.{◌≡◌, ◌≢◌, ◌⊎◌, ◌≤◌, ◌<◌, ◌+◌, ◌-◌, ◌*◌, ◌||◌, ◌&&◌, ℕ, Bool, true, false, List, []}
+use Rattle.std.specs.Prelude.{length, min}
 use Rattle.std.specs.Prelude.{max, ◌∷◌}
 use Rattle.std.specs.Prelude.{Option, Some, None, IfSome, IsSome, slice_index, slice_index_or, nat_eq, nat_lt}
 use Rattle.std.specs.Prelude.{vec_len, if◌then◌else◌}
@@ -42,9 +43,10 @@ abbrev pub IsShort : {S : Type 0} → Hall S → Served S → Type 0
 IsShort hall c =
     IsShortOfLoan c × (is_short hall.loans ≡ true) × (lent_of hall.loans ≡ most_lent hall.loans)
 
--- Why a connection may rest: it waits for the system, is short of a loan while all are lent, or waits for an answer.
+-- Why a connection may rest: it waits for the system, and it is known since when; or it is short of a loan while all
+-- are lent; or it waits for an answer.
 abbrev pub IsResting : {S N : Type 0} → Ghosts S N → Hall S → Served S → Type 0
-IsResting s hall c = IsWaiting s c ⊎ (IsShort hall c ⊎ IsSome (arrival c))
+IsResting s hall c = (IsWaiting s c × IsSome c.since) ⊎ (IsShort hall c ⊎ IsSome (arrival c))
 
 -- A connection that was taken out of its place is served, as in its place.
 pub record IsInHand {S N : Type 0} (s : Ghosts S N) (answers : List Answer) (hall : Hall S) (place : ℕ) (c : Served S)
@@ -178,9 +180,15 @@ pub record KeepsAll {S : Type 0} (old new : Hall S) : Type 0 where
   pub count : count new.round ≡ count old.round
 
 -- the peer of a connection was waited for as long as the patience is, or as its loan is given while others are short
+abbrev pub is_late_by : {S : Type 0} → Option ℕ → Bool → Option (Served S) → ℕ → Bool
+is_late_by limit are_short None now = false
+is_late_by limit are_short (Some c) now = has_passed limit c.since now || are_short && has_passed_term c now
+
+abbrev pub is_late_at : {S : Type 0} → Hall S → Option (Served S) → ℕ → Bool
+is_late_at hall slot now = is_late_by (patience hall.deadlines) (is_short hall.loans) slot now
+
 abbrev pub is_late : {S : Type 0} → Hall S → Served S → ℕ → Bool
-is_late hall c now =
-    has_passed (patience hall.deadlines) c.since now || is_short hall.loans && has_passed_term c now
+is_late hall c now = is_late_at hall (Some c) now
 
 -- a connection may be over: it was told its answers, or a first part, and there is a reason
 pub record MayEnd {S N : Type 0} (s : Ghosts S N) (answers : List Answer) (hall : Hall S) (why : Why) (c : Served S)
@@ -190,11 +198,20 @@ pub record MayEnd {S N : Type 0} (s : Ghosts S N) (answers : List Answer) (hall 
   pub late : why ≡ Late → IsSome hall.bounds.patience ⊎ IsSome c.loan
   pub come : HasCome hall c.number
 
-abbrev pub is_late_at : {S : Type 0} → Hall S → Option (Served S) → ℕ → Bool
-is_late_at hall None now = false
-is_late_at hall (Some c) now = is_late hall c now
+-- a wait from now on, of so many nanoseconds, ends no later than at the moment at which a peer was waited for too long
+abbrev pub EndsInTime : {S : Type 0} → Hall S → ℕ → ℕ → Type 0
+EndsInTime hall now nanos =
+    (i late : ℕ) → is_late_at hall (slice_index_or hall.places.items i None) late ≡ true
+    → nanos ≤ (late - now) * 1000000
 
--- each of them that is waited for too long has its turn
-abbrev pub AreLateCalled : {S : Type 0} → Hall S → Hall S → ℕ → Type 0
-AreLateCalled old new now =
-    (i : ℕ) → is_late_at old (slice_index_or old.places.items i None) now ≡ true → turns new i ≡ true
+-- each place whose peer was waited for too long by now has its turn
+abbrev pub AreLateCalled : {S : Type 0} → Hall S → ℕ → Type 0
+AreLateCalled hall now =
+    (i : ℕ) → is_late_at hall (slice_index_or hall.places.items i None) now ≡ true → turns hall i ≡ true
+
+-- No peer is kept waiting: the place has its turn, or waits for an answer, or its peer was not waited for too long by
+-- now.
+abbrev pub IsInTime : {S : Type 0} → Hall S → ℕ → ℕ → Type 0
+IsInTime hall place now =
+    (turns hall place ≡ true) ⊎ (IsSome (arrival_at hall place)
+    ⊎ (is_late_at hall (slice_index_or hall.places.items place None) now ≡ false))

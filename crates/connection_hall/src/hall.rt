@@ -1,5 +1,6 @@
 //! All connections that are served at once, each in its place.
-ghost use Rattle.std.specs.Prelude.{◌≡◌, ◌≢◌, ◌⊎◌, ◌<◌, ◌≤◌, ◌+◌, ◌/◌, ◌∷◌, ◌++◌, [], ℕ, Bool, List, Option, Some};
+ghost use Rattle.std.specs.Prelude.{◌≡◌, ◌≢◌, ◌⊎◌, ◌<◌, ◌≤◌, ◌+◌, ◌-◌, ◌*◌, ◌/◌, ◌∷◌, ◌++◌, [], ℕ, Bool, List, Option};
+ghost use Rattle.std.specs.Prelude.{Some};
 ghost use Rattle.std.specs.Prelude.{None};
 ghost use Rattle.std.specs.Prelude.{IsSome, IfSome, IfNone, IfOk, OnOk, OnErr, IsTrue, option_map, min, length, true};
 ghost use Rattle.std.specs.Prelude.{false};
@@ -7,11 +8,12 @@ ghost use Rattle.std.specs.Prelude.{nat_eq, is_some, slice_index, slice_index_or
 ghost use Rattle.std.specs.Duration.{as_nanos};
 ghost use Rattle.std.specs.Option.{ForSome, unwrap_or};
 ghost use Rattle.connection_hall.specs.Answers.{Answer, answer_to};
-ghost use Rattle.connection_hall.specs.Arriving.{arrival_seen};
+ghost use Rattle.connection_hall.specs.Arriving.{arrival_seen, HasShortBody};
 ghost use Rattle.connection_hall.specs.Comings.{Traffic};
 ghost use Rattle.connection_hall.specs.Connections.{IsServed, IsWaiting, IsShortOfLoan, HasWritten};
+ghost use Rattle.connection_hall.specs.Deadlines.{patience, has_passed, Awaits};
 ghost use Rattle.connection_hall.specs.Rounds.{count, most, left, called, KeepsTurns};
-ghost use Rattle.connection_hall.specs.Places.{taken_places, owed, owed_places, arrival_in, since_of};
+ghost use Rattle.connection_hall.specs.Places.{taken_places, owed, owed_places, arrival_in, since_of, has_passed_in};
 
 use crate::bounds::Bounds;
 use crate::deadlines::Deadlines;
@@ -62,7 +64,7 @@ impl<S: Stream + Drop> Hall<S> {
     ghost use Rattle.connection_hall.specs.Running.{AreRunning, IsInHand, KeepsOthers, KeepsOtherPlaces, KeepsAll};
     ghost use Rattle.connection_hall.specs.Running.{GoesOn, IsShort};
     ghost use Rattle.connection_hall.specs.Running.{GivesOne, AreCalled, DelaysNone, MayEnd, IsOver, IsResting};
-    ghost use Rattle.connection_hall.specs.Running.{is_late, is_late_at, AreLateCalled};
+    ghost use Rattle.connection_hall.specs.Running.{is_late, is_late_at, AreLateCalled, IsInTime, EndsInTime};
 
     /// A hall in which no connection came yet, and all places are free.
     pub fn new(alloc: Global, bounds: Bounds) -> Result<Hall<S>, AllocError>
@@ -96,6 +98,7 @@ impl<S: Stream + Drop> Hall<S> {
         ensures found { IfSome result (λ place. (from ≤ place) × IsSome (arrival_at self.now place)) }
         ensures first { IfSome result (λ place. (i : ℕ) → from ≤ i → i < place → arrival_at self.now i ≡ None) }
         ensures none { IfNone result ((i : ℕ) → from ≤ i → arrival_at self.now i ≡ None) }
+        ensures bound { IfSome result (λ place. place < 18446744073709551615) }
     {
         for place in from..self.places.len() {
             if is_ready(&self.places[place]) {
@@ -107,7 +110,8 @@ impl<S: Stream + Drop> Hall<S> {
 
     /// What is to be answered in a place, lent where it came.
     pub fn request(&self, place: usize) -> Option<Arrived<'_>>
-        ensures { arrival_at self.now place ≡ option_map arrival_seen result }
+        ensures seen { arrival_at self.now place ≡ option_map arrival_seen result }
+        ensures bound { IfSome result HasShortBody }
     {
         self.places.get(place)?.as_ref()?.arrived()
     }
@@ -127,6 +131,8 @@ impl<S: Stream + Drop> Hall<S> {
             → owed_places self.old.places.items ≤ self.old.bounds.memory / 2
             → IfSome result (λ place. GoesOn S.Stream self.new (slice_index_or self.old.places.items place None)
             (slice_index_or self.new.places.items place None)) }
+        ensures in_time { (answers : List Answer) → IsRunning S.Stream answers self.old (P.traffic sockets.old)
+            → IfSome result (λ place. IsInTime self.new place (P.clock sockets.new)) }
         ensures over { IfNone result (IsOver self.old × (self.new ≡ self.old)) }
         ensures bounds { self.new.bounds ≡ self.old.bounds }
     {
@@ -195,6 +201,7 @@ impl<S: Stream + Drop> Hall<S> {
         ensures left { self.new.left ≡ self.old.left }
         ensures round { KeepsTurns self.old.round self.new.round }
         ensures loans { self.new.loans ≡ self.old.loans }
+        ensures patience { patience self.new.deadlines ≡ patience self.old.deadlines }
         ensures bounds { self.new.bounds ≡ self.old.bounds }
     {
         self.deadlines.note(served.since);
@@ -210,6 +217,7 @@ impl<S: Stream + Drop> Hall<S> {
             → AreRunning S.Stream answers (Some served) (turns self.old) self.old (P.traffic sockets.old)
             → IsRunning S.Stream answers self.new (P.traffic sockets.new) }
         ensures places { self.new.places ≡ self.old.places }
+        ensures clock { P.clock sockets.new ≡ P.clock sockets.old }
         ensures round { KeepsTurns self.old.round self.new.round }
         ensures bounds { self.new.bounds ≡ self.old.bounds }
     {
@@ -233,6 +241,8 @@ impl<S: Stream + Drop> Hall<S> {
         ensures goes_on { (answers : List Answer) → IsServed S.Stream answers served
             → self.old.owed ≤ self.old.bounds.memory / 2
             → GoesOn S.Stream self.new (Some served) (slice_index_or self.new.places.items place None) }
+        ensures in_time { (answers : List Answer) → IsServed S.Stream answers served
+            → IsInTime self.new place (P.clock sockets.new) }
         ensures others { KeepsOtherPlaces place self.old self.new }
         ensures round { KeepsTurns self.old.round self.new.round }
         ensures bounds { self.new.bounds ≡ self.old.bounds }
@@ -244,10 +254,7 @@ impl<S: Stream + Drop> Hall<S> {
         match served.take_turn(&mut self.room.bytes, is_laden) {
             Turn::Again => self.enter(place, served, true),
             Turn::Ready => self.enter(place, served, false),
-            Turn::Waits => {
-                let now = sockets.now();
-                self.rest(place, served, now, sockets);
-            }
+            Turn::Waits => self.rest(place, served, sockets),
             Turn::Short => self.lend(place, served, sockets.now()),
             Turn::Over(why) => self.end(served, why, sockets),
         }
@@ -255,13 +262,7 @@ impl<S: Stream + Drop> Hall<S> {
 
     /// Lets a connection rest until the system says that it may go on. It is over if its peer was waited for long
     /// enough. Its peer is waited for from now on, if it was not before.
-    fn rest<P: Sockets<Stream = S>>(
-        &mut self,
-        place: usize,
-        served: Served<S>,
-        now: u64,
-        sockets: &mut P,
-    )
+    fn rest<P: Sockets<Stream = S>>(&mut self, place: usize, served: Served<S>, sockets: &mut P)
         requires place { place < vec_len self.old.places }
         requires free { slice_index_or self.old.places.items place None ≡ None }
         ensures running { (answers : List Answer) → IsInHand S.Stream answers self.old place served
@@ -269,14 +270,14 @@ impl<S: Stream + Drop> Hall<S> {
             → AreRunning S.Stream answers (Some served) (turns self.old) self.old (P.traffic sockets.old)
             → IsRunning S.Stream answers self.new (P.traffic sockets.new) }
         ensures here { IfSome (slice_index_or self.new.places.items place None)
-            (λ c. c ≡ record served { since = Some (unwrap_or served.since now) }) }
-        ensures in_time { IfSome (slice_index_or self.new.places.items place None)
-            (λ c. is_late self.old c now ≡ false) }
+            (λ c. c ≡ record served { since = Some (unwrap_or served.since (P.clock sockets.old)) }) }
+        ensures in_time { IsInTime self.new place (P.clock sockets.new) }
         ensures others { KeepsOtherPlaces place self.old self.new }
         ensures round { KeepsTurns self.old.round self.new.round }
         ensures bounds { self.new.bounds ≡ self.old.bounds }
     {
         let mut served = served;
+        let now = sockets.now();
         served.since = Some(served.since.unwrap_or(now));
         if self.is_late(&served, now) {
             self.end(served, Why::Late, sockets);
@@ -307,6 +308,7 @@ impl<S: Stream + Drop> Hall<S> {
             (λ c. c ≡ record served { loan = c.loan; since = c.since }) }
         ensures lent { IsShortOfLoan served → IfSome (slice_index_or self.new.places.items place None)
             (λ c. IsSome c.loan ⊎ IsShort self.new c) }
+        ensures in_time { IsShortOfLoan served → IsInTime self.new place now }
         ensures others { KeepsOtherPlaces place self.old self.new }
         ensures round { KeepsTurns self.old.round self.new.round }
         ensures bounds { self.new.bounds ≡ self.old.bounds }
@@ -340,6 +342,9 @@ impl<S: Stream + Drop> Hall<S> {
             → OnErr result (IsRunning S.Stream answers self.new (P.traffic sockets.new)) }
         ensures written { OnOk result (IfSome (slice_index_or self.new.places.items place None)
             (HasWritten S.Stream)) }
+        ensures over { OnErr result (slice_index_or self.new.places.items place None ≡ None) }
+        ensures in_time { (answers : List Answer) → IsRunning S.Stream answers self.old (P.traffic sockets.old)
+            → IsInTime self.new place (P.clock sockets.new) }
         ensures others { KeepsOtherPlaces place self.old self.new }
         ensures round { KeepsTurns self.old.round self.new.round }
         ensures bounds { self.new.bounds ≡ self.old.bounds }
@@ -354,12 +359,45 @@ impl<S: Stream + Drop> Hall<S> {
         };
         served.stream.note(note);
         self.settle(&served, had_loan, text.len());
+        self.resume(place, served, sockets);
+        Ok(())
+    }
+
+    /// Lets a connection go on that was answered: by a turn if it owes something, and else with the others.
+    fn resume<P: Sockets<Stream = S>>(&mut self, place: usize, served: Served<S>, sockets: &mut P)
+        requires place { place < vec_len self.old.places }
+        requires free { slice_index_or self.old.places.items place None ≡ None }
+        ensures running { (answers : List Answer) → IsInHand S.Stream answers self.old place served
+            → AreRunning S.Stream answers (Some served) (turns self.old) self.old (P.traffic sockets.old)
+            → IsRunning S.Stream answers self.new (P.traffic sockets.new) }
+        ensures written { IfSome (slice_index_or self.new.places.items place None) (HasWritten S.Stream) }
+        ensures in_time { (answers : List Answer) → IsServed S.Stream answers served
+            → IsInTime self.new place (P.clock sockets.new) }
+        ensures others { KeepsOtherPlaces place self.old self.new }
+        ensures round { KeepsTurns self.old.round self.new.round }
+        ensures bounds { self.new.bounds ≡ self.old.bounds }
+    {
         if served.owed.is_empty() {
             self.enter(place, served, true);
         } else {
             self.turn(place, served, sockets);
         }
-        Ok(())
+    }
+
+    /// Takes leave of the connection in a place, since there is no memory for a reply to what is to be answered.
+    pub fn give_up<P: Sockets<Stream = S>>(&mut self, sockets: &mut P, place: usize)
+        requires { IsSome (arrival_at self.old place) }
+        ensures running { (answers : List Answer) → IsRunning S.Stream answers self.old (P.traffic sockets.old)
+            → IsRunning S.Stream answers self.new (P.traffic sockets.new) }
+        ensures over { slice_index_or self.new.places.items place None ≡ None }
+        ensures others { KeepsOtherPlaces place self.old self.new }
+        ensures round { KeepsTurns self.old.round self.new.round }
+        ensures bounds { self.new.bounds ≡ self.old.bounds }
+    {
+        let Some(served) = self.leave(place) else {
+            return;
+        };
+        self.end(served, Why::NoMemory, sockets);
     }
 
     /// Counts what a connection owes more since it was answered, and takes its loan back if it has none any more.
@@ -389,6 +427,8 @@ impl<S: Stream + Drop> Hall<S> {
             → IsRunning S.Stream answers self.new (P.traffic sockets.new) }
         ensures named { IfOk result (λ _. AreCalled (P.named sockets.new) self.new) }
         ensures delays { IfOk result (λ _. DelaysNone self.old self.new) }
+        ensures late { (answers : List Answer) → IsRunning S.Stream answers self.old (P.traffic sockets.old)
+            → IfOk result (λ _. AreLateCalled self.new (P.clock sockets.new)) }
         ensures begun { IfOk result (λ _. left self.new.round ≡ called self.new.round) }
         ensures bounds { self.new.bounds ≡ self.old.bounds }
     {
@@ -415,10 +455,13 @@ impl<S: Stream + Drop> Hall<S> {
     }
 
     /// How long to wait at most: not at all if a connection has its turn, and a little if those that have it wait until
-    /// less is owed.
+    /// less is owed; and never past a moment at which a peer was waited for too long.
     fn wait_at_most(&self, now: u64, wait: Duration) -> Duration
-        ensures { (i : ℕ) → turns self.now i ≡ true → self.now.owed ≤ self.now.bounds.memory / 2
+        ensures turn { (i : ℕ) → turns self.now i ≡ true → self.now.owed ≤ self.now.bounds.memory / 2
             → as_nanos result ≡ 0 }
+        ensures late { (answers : List Answer) (traffic : Option (Traffic S))
+            → IsRunning S.Stream answers self.now traffic → EndsInTime self.now now (as_nanos result) }
+        ensures within { as_nanos result ≤ as_nanos wait }
     {
         if !self.round.any() {
             return self.until_late(now, wait);
@@ -426,21 +469,45 @@ impl<S: Stream + Drop> Hall<S> {
         if self.owed <= self.bounds.memory / 2 {
             return Duration::ZERO;
         }
-        wait.min(Duration::from_millis(PAUSE))
+        self.until_late(now, at_most(wait, PAUSE))
     }
 
     /// How long to wait at most, so that no deadline passes, and no term of a loan of which others are short.
-    fn until_late(&self, now: u64, wait: Duration) -> Duration {
-        let mut wait = wait;
-        if let Some(soonest) = self.deadlines.soonest() {
-            wait = wait.min(Duration::from_millis(soonest.saturating_sub(now)));
-        }
+    fn until_late(&self, now: u64, wait: Duration) -> Duration
+        ensures late { (answers : List Answer) (traffic : Option (Traffic S))
+            → IsRunning S.Stream answers self.now traffic → EndsInTime self.now now (as_nanos result) }
+        ensures within { as_nanos result ≤ as_nanos wait }
+    {
+        let wait = self.until_deadline(now, wait);
         if !self.loans.is_short() {
             return wait;
         }
+        self.until_term(now, wait)
+    }
+
+    /// How long to wait at most, so that no deadline passes.
+    fn until_deadline(&self, now: u64, wait: Duration) -> Duration
+        ensures deadlines { (since : Option ℕ) (late : ℕ) → Awaits self.now.deadlines since
+            → has_passed (patience self.now.deadlines) since late ≡ true
+            → as_nanos result ≤ (late - now) * 1000000 }
+        ensures within { as_nanos result ≤ as_nanos wait }
+    {
+        match self.deadlines.soonest() {
+            Some(soonest) => at_most(wait, soonest.saturating_sub(now)),
+            None => wait,
+        }
+    }
+
+    /// How long to wait at most, so that no term of a loan passes.
+    fn until_term(&self, now: u64, wait: Duration) -> Duration
+        ensures terms { (i late : ℕ) → has_passed_in (slice_index_or self.now.places.items i None) late ≡ true
+            → as_nanos result ≤ (late - now) * 1000000 }
+        ensures within { as_nanos result ≤ as_nanos wait }
+    {
+        let mut wait = wait;
         for place in 0..self.places.len() {
             if let Some(term) = term_in(&self.places[place]) {
-                wait = wait.min(Duration::from_millis(term.saturating_sub(now)));
+                wait = at_most(wait, term.saturating_sub(now));
             }
         }
         wait
@@ -468,7 +535,7 @@ impl<S: Stream + Drop> Hall<S> {
         ensures running { (answers : List Answer) (traffic : Option (Traffic S))
             → IsRunning S.Stream answers self.old traffic → IsRunning S.Stream answers self.new traffic }
         ensures late { (answers : List Answer) (traffic : Option (Traffic S))
-            → IsRunning S.Stream answers self.old traffic → AreLateCalled self.old self.new now }
+            → IsRunning S.Stream answers self.old traffic → AreLateCalled self.new now }
         ensures places { self.new.places ≡ self.old.places }
         ensures round { KeepsTurns self.old.round self.new.round }
         ensures rest { KeepsAll self.old self.new }
@@ -500,7 +567,9 @@ impl<S: Stream + Drop> Hall<S> {
         ensures running { (answers : List Answer) → IsRunning S.Stream answers self.old (P.traffic sockets.old)
             → IsRunning S.Stream answers self.new (P.traffic sockets.new) }
         ensures named { P.named sockets.new ≡ P.named sockets.old }
+        ensures clock { P.clock sockets.new ≡ P.clock sockets.old }
         ensures called { (named : List ℕ) → AreCalled named self.old → AreCalled named self.new }
+        ensures late { (now : ℕ) → AreLateCalled self.old now → AreLateCalled self.new now }
         ensures delays { DelaysNone self.old self.new }
         ensures bounds { self.new.bounds ≡ self.old.bounds }
     {
@@ -529,6 +598,7 @@ impl<S: Stream + Drop> Hall<S> {
         ensures running { (answers : List Answer) (traffic : Option (Traffic S))
             → IsRunning S.Stream answers self.old traffic → IsRunning S.Stream answers self.new traffic }
         ensures called { (named : List ℕ) → AreCalled named self.old → AreCalled named self.new }
+        ensures late { (now : ℕ) → AreLateCalled self.old now → AreLateCalled self.new now }
         ensures delays { DelaysNone self.old self.new }
         ensures left { self.new.left ≡ self.old.left }
         ensures bounds { self.new.bounds ≡ self.old.bounds }
@@ -581,11 +651,28 @@ fn since_in<S>(place: &Option<Served<S>>) -> Option<u64>
     }
 }
 
-/// Up to which moment the connection in a place has its loan while others are short of one.
-fn term_in<S: Stream>(place: &Option<Served<S>>) -> Option<u64> {
-    let served = place.as_ref()?;
-    let loan = served.loan?;
-    Some(loan.term(served.machine.len()))
+/// Up to which moment the connection in a place has its loan while others are short of one, if it has one and nothing
+/// on it is to be answered.
+fn term_in<S: Stream>(place: &Option<Served<S>>) -> Option<u64>
+    ensures some { IfSome result (λ term. (late : ℕ) → has_passed_in place.now late ≡ true → term ≤ late) }
+    ensures none { IfNone result ((late : ℕ) → has_passed_in place.now late ≡ false) }
+{
+    match place {
+        Some(served) => served.term(),
+        None => None,
+    }
+}
+
+/// This long, and at most so many milliseconds.
+fn at_most(wait: Duration, millis: u64) -> Duration
+    ensures { as_nanos result ≡ min (as_nanos wait) (millis * 1_000_000) }
+{
+    let other = Duration::from_millis(millis);
+    if wait.as_nanos() <= other.as_nanos() {
+        wait
+    } else {
+        other
+    }
 }
 
 /// How many places there are up to the last one that has a connection.

@@ -1,9 +1,7 @@
-//! Connections that one thread serves at once, by readiness. What may live here: what is read of each, owed and
-//! written,
-//! in whatever order the connections may go on and in whatever parts their bytes come and go, and whose turn is next.
-//! Which event comes next on one connection is known by `http_connection`; what an arrival is answered with is not
-//! known
-//! here.
+//! Connections that one thread serves at once, each driven by `http_connection`. What may live here: what is read of
+//! each, owed and written, in whatever order the connections may go on and in whatever parts their bytes come and go,
+//! and whose turn is next. Which event comes next on one connection is known by `http_connection`; what an arrival is
+//! answered with is not known here.
 #![tactic(auto)]
 
 mod bounds;

@@ -1,5 +1,5 @@
 //! Room that is lent to a connection for a long request.
-ghost use Rattle.std.specs.Prelude.{◌≡◌, min, nat_le};
+ghost use Rattle.std.specs.Prelude.{◌≡◌, ◌+◌, min, nat_le};
 ghost use Rattle.connection_hall.specs.Loans.{term_of};
 
 /// For how many milliseconds a loan is held if no bytes come, and for how many more for each part of so many that come.
@@ -22,18 +22,21 @@ impl Loan {
     pub(crate) fn term(&self, held: usize) -> u64
         ensures { result ≡ min (term_of self.now held) 18446744073709551615 }
     {
-        let parts = held.saturating_sub(self.held) / PART;
-        self.since
-            .saturating_add(FIRST_TERM)
-            .saturating_add((parts as u64).saturating_mul(MORE_TERM))
+        self.since.saturating_add(self.term_len(held))
     }
 
     /// Whether the term has passed by now.
     pub(crate) fn has_passed(&self, held: usize, now: u64) -> bool
         ensures { result ≡ nat_le (term_of self.now held) now }
     {
+        self.since <= now && self.term_len(held) <= now - self.since
+    }
+
+    /// For how many milliseconds it is held while others are short of one.
+    fn term_len(&self, held: usize) -> u64
+        ensures { self.now.since + result ≡ term_of self.now held }
+    {
         let parts = held.saturating_sub(self.held) / PART;
-        let term = FIRST_TERM + MORE_TERM * parts as u64;
-        self.since <= now && term <= now - self.since
+        FIRST_TERM + MORE_TERM * parts as u64
     }
 }

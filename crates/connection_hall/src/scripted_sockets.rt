@@ -54,6 +54,8 @@ impl<'a> Sockets for ScriptedSockets<'a> {
 
     ghost named = { λ sockets. sockets.named.items };
 
+    ghost clock = { λ sockets. sockets.now };
+
     fn listen(&mut self) -> io::Result<()> {
         Ok(())
     }

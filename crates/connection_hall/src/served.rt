@@ -1,13 +1,14 @@
 //! One connection: what came and was not answered yet, and what is owed to it.
 ghost use Rattle.std.specs.Prelude.{◌≡◌, ◌⊎◌, ◌≤◌, ◌<◌, ◌+◌, ℕ, true, false, List, [], ◌∷◌, ◌++◌, length, drop};
 ghost use Rattle.std.specs.Prelude.{vec_len};
-ghost use Rattle.std.specs.Prelude.{Some, None, IsSome, IfSome, is_some, OnOk, OnErr, option_map, if◌then◌else◌};
+ghost use Rattle.std.specs.Prelude.{Some, None, IsSome, IfSome, IfNone, is_some, OnOk, OnErr, option_map};
+ghost use Rattle.std.specs.Prelude.{if◌then◌else◌};
 ghost use Rattle.std.specs.Option.{ForSome};
 ghost use Rattle.http_messages.specs.Message.{Arrival, Asks, interim};
 ghost use Rattle.http_connection.specs.Connection.{has_ended, is_over, memory, HasFinished, IsSound, KeepsState};
 ghost use Rattle.http_connection.specs.Connection.{TellsNext};
 ghost use Rattle.connection_hall.specs.Answers.{Answer, answer_to, own, interim_of, is_last};
-ghost use Rattle.connection_hall.specs.Arriving.{IsFresh, arrival_seen};
+ghost use Rattle.connection_hall.specs.Arriving.{IsFresh, arrival_seen, HasShortBody};
 ghost use Rattle.connection_hall.specs.Connections.{held_by, arrival, IsServed, HoldsWithin, HasWritten};
 ghost use Rattle.connection_hall.specs.Connections.{Grows, KeepsStanding, MovesOn, NeedsMore, has_passed, most_held};
 ghost use Rattle.connection_hall.specs.Ready.{StandsFirst};
@@ -306,7 +307,8 @@ impl<S: Stream> Served<S> {
 
     /// From when on its peer is waited for once more bytes come: anew, if they are the first ones of a request.
     fn since_more(&self) -> Option<u64>
-        ensures { 0 < length (held_by self.now) → result ≡ self.now.since }
+        ensures anew { held_by self.now ≡ [] → result ≡ None }
+        ensures kept { 0 < length (held_by self.now) → result ≡ self.now.since }
     {
         if self.machine.len() == 0 {
             None
@@ -328,7 +330,8 @@ impl<S: Stream> Served<S> {
 
     /// What is to be answered, lent where it came.
     pub(crate) fn arrived(&self) -> Option<Arrived<'_>>
-        ensures { arrival self.now ≡ option_map arrival_seen result }
+        ensures seen { arrival self.now ≡ option_map arrival_seen result }
+        ensures bound { IfSome result HasShortBody }
     {
         match self.ready? {
             Ready::Request if self.machine.lends() => {
@@ -434,6 +437,18 @@ impl<S: Stream> Served<S> {
             held: self.machine.len(),
         });
         self.since = None;
+    }
+
+    /// Up to which moment it has its loan while others are short of one, if it has one and nothing on it is to be
+    /// answered.
+    pub(crate) fn term(&self) -> Option<u64>
+        ensures some { IfSome result (λ term. (late : ℕ) → has_passed self.now late ≡ true → term ≤ late) }
+        ensures none { IfNone result ((late : ℕ) → has_passed self.now late ≡ false) }
+    {
+        match self.loan {
+            Some(loan) if self.ready.is_none() => Some(loan.term(self.machine.len())),
+            _ => None,
+        }
     }
 
     /// Whether it has a loan whose term has passed, and nothing on it is to be answered.

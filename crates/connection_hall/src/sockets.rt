@@ -18,6 +18,9 @@ pub trait Sockets {
     // The places whose connections may go on, as the system said when it was asked last.
     ghost named: { Self → List ℕ };
 
+    // How many milliseconds had passed since some moment when the system was asked last.
+    ghost clock: { Self → ℕ };
+
     /// Begins to listen. No connection comes before that.
     fn listen(&mut self) -> io::Result<()>
         ensures { traffic self.new ≡ traffic self.old };
@@ -25,7 +28,8 @@ pub trait Sockets {
     /// A connection for this place, if one came. It is watched under the number of the place from then on.
     fn accept(&mut self, place: usize) -> io::Result<Option<Self::Stream>>
         ensures came { Arrives Self.Stream.Stream place (traffic self.old) (traffic self.new) result }
-        ensures named { named self.new ≡ named self.old };
+        ensures named { named self.new ≡ named self.old }
+        ensures clock { clock self.new ≡ clock self.old };
 
     /// Asks the system which connections may go on, and waits up to so long for one. `named` says which.
     fn ask(&mut self, wait: Duration) -> io::Result<()>
@@ -35,8 +39,9 @@ pub trait Sockets {
     fn named(&self) -> &[usize]
         ensures { result.now ≡ named self.now };
 
-    /// How many milliseconds passed since some moment.
-    fn now(&self) -> u64;
+    /// How many milliseconds had passed since some moment when the system was asked last.
+    fn now(&self) -> u64
+        ensures { result ≡ clock self.now };
 
     /// How many milliseconds passed since 1970-01-01T00:00:00Z by the clock of the system; 0 if it has none. No clause
     /// says that the clock is right, or that it goes forward.
@@ -47,5 +52,6 @@ pub trait Sockets {
     /// Takes back a connection that is over, and so many came before.
     fn end(&mut self, stream: Self::Stream, number: u32, why: Why)
         ensures over { traffic self.new ≡ option_map (one_over stream number why) (traffic self.old) }
-        ensures named { named self.new ≡ named self.old };
+        ensures named { named self.new ≡ named self.old }
+        ensures clock { clock self.new ≡ clock self.old };
 }

@@ -4,8 +4,8 @@ ghost use Rattle.std.specs.Prelude.{IfOk, IsOk, OnOk};
 
 use std::alloc::{AllocError, Global};
 
-/// The most bytes that are held, and that there is memory for: the length of the longest request, a
-/// skipped CRLF, 16,384 bytes of a block and 1,048,576 of a body.
+/// The most bytes that are held, and that there is memory for: the length of the longest request, a skipped CRLF
+/// (RFC 9112, section 2.2), 16,384 bytes of a block and 1,048,576 of a body.
 pub const MAX_HELD: usize = 1_064_962;
 
 /// The bytes from `start` to `end`, and room after them. The room keeps its length, so that it is zeroed only as it

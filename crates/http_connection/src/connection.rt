@@ -1,6 +1,7 @@
-//! The machine: bytes in, events out.
+//! The machine: bytes in, events out. A message is as in RFC 9112, with the length of its body in front (section 6.2);
+//! 100-continue as in RFC 9110, section 10.1.1.
 ghost use Rattle.std.specs.Prelude.{◌≡◌, ◌≤◌, ◌+◌, ◌∷◌, ◌++◌, ◌||◌, [], List, ℕ, length, drop, Some, true, false};
-ghost use Rattle.std.specs.Prelude.{IfOk, IsSome, OnOk, OnErr, is_some};
+ghost use Rattle.std.specs.Prelude.{IfOk, IsOk, IsSome, OnOk, OnErr, is_some};
 ghost use Rattle.std.specs.Option.{ForSome};
 ghost use Rattle.http_messages.specs.Block.{from_block, HasNoEndUpTo, IsBlock, HoldsBlock};
 ghost use Rattle.http_messages.specs.Message.{Arrival, Read, Refused as RefusedArrival, IsRefused};
@@ -8,7 +9,7 @@ ghost use Rattle.http_connection.specs.Buffer.{buffered};
 ghost use Rattle.http_messages.specs.declared.refusal.Refusal.{Refusal};
 ghost use Rattle.http_connection.specs.Parsed.{IsPlaced};
 
-use crate::buffer::Buffer;
+use crate::buffer::{Buffer, MAX_HELD};
 use crate::event::{Event, Request};
 use crate::parsed::{Parsed, parse_at};
 use http_messages::{Block, Head, HeadFault, HeldSpans, Refusal, find_block_from, searched_len};
@@ -47,7 +48,7 @@ impl Connection {
 
     /// A connection on which nothing came, with memory for so many bytes.
     pub fn with_room(alloc: Global, count: usize) -> Result<Connection, AllocError>
-        requires { count ≤ 1064962 }
+        requires { count ≤ MAX_HELD }
         ensures is_new { IfOk result IsNew }
         ensures memory { IfOk result (λ c. memory c ≡ count) }
     {
@@ -77,14 +78,14 @@ impl Connection {
     /// How many bytes are held.
     pub fn len(&self) -> usize
         ensures value { result ≡ length (held self.now) }
-        ensures bound { result ≤ 1064962 }
+        ensures bound { result ≤ MAX_HELD }
     {
         self.held.len()
     }
 
     /// Makes room for so many bytes, if there is memory for it.
     pub fn reserve(&mut self, count: usize) -> Result<(), AllocError>
-        requires { length (held self.old) + count ≤ 1064962 }
+        requires { length (held self.old) + count ≤ MAX_HELD }
         ensures state { KeepsState self.old self.new }
         ensures sound { IsSound self.old → IsSound self.new }
         ensures more { (came : List ℕ) (arrivals : List Arrival) → HasFinished came arrivals self.old
@@ -101,6 +102,7 @@ impl Connection {
         ensures more { (came : List ℕ) (arrivals : List Arrival) → HasFinished came arrivals self.old
             → HasFinished (came ++ bytes.now) arrivals self.new }
         ensures sound { IsSound self.old → IsSound self.new }
+        ensures parsed { self.new.parsed ≡ self.old.parsed }
         ensures over { is_over self.new ≡ is_over self.old }
         ensures ended { has_ended self.new ≡ has_ended self.old }
     {
@@ -109,12 +111,13 @@ impl Connection {
 
     /// Takes bytes that came. Without memory for them none is taken.
     pub fn receive_data(&mut self, bytes: &[u8]) -> Result<(), AllocError>
-        requires { length (held self.old) + length bytes.now ≤ 1064962 }
+        requires { length (held self.old) + length bytes.now ≤ MAX_HELD }
         ensures taken { OnOk result (held self.new ≡ held self.old ++ bytes.now) }
         ensures refused { OnErr result (held self.new ≡ held self.old) }
         ensures more { (came : List ℕ) (arrivals : List Arrival) → HasFinished came arrivals self.old
             → OnOk result (HasFinished (came ++ bytes.now) arrivals self.new) }
         ensures sound { IsSound self.old → IsSound self.new }
+        ensures parsed { self.new.parsed ≡ self.old.parsed }
         ensures over { is_over self.new ≡ is_over self.old }
         ensures ended { has_ended self.new ≡ has_ended self.old }
     {
@@ -138,6 +141,7 @@ impl Connection {
     /// Takes note that nothing comes any more.
     pub fn receive_end(&mut self)
         ensures held { held self.new ≡ held self.old }
+        ensures parsed { self.new.parsed ≡ self.old.parsed }
         ensures over { is_over self.new ≡ is_over self.old }
         ensures ended { has_ended self.new ≡ true }
         ensures sound { IsSound self.old → IsSound self.new }
@@ -146,11 +150,13 @@ impl Connection {
     }
 
     /// What comes next. It stays the same until bytes come or `finish` is called. `Err` is a want of memory for a head
-    /// that was not parsed before, and changes nothing.
+    /// that was not parsed before. Then, and where a head was parsed, nothing is changed.
     pub fn next_event(&mut self) -> Result<Event, AllocError>
         ensures event { IsSound self.old → IfOk result (TellsNext self.new) }
         ensures sound { IsSound self.old → IsSound self.new }
         ensures memory { OnErr result (HoldsBlock (held self.new)) }
+        ensures kept { has_head self.old ≡ true → IsOk result × KeepsState self.old self.new }
+        ensures refused { OnErr result (KeepsState self.old self.new) }
         ensures held { held self.new ≡ held self.old }
         ensures over { is_over self.new ≡ is_over self.old }
         ensures ended { has_ended self.new ≡ has_ended self.old }
@@ -274,6 +280,7 @@ impl Connection {
             → HasFinished came arrivals self.old → is_over self.old ≡ false → IsRefused (held self.old) refusal
             → HasFinished came (arrivals ++ RefusedArrival refusal ∷ []) self.new }
         ensures held { held self.new ≡ held self.old }
+        ensures parsed { self.new.parsed ≡ self.old.parsed }
         ensures lent { lent self.new ≡ lent self.old }
         ensures length { lent_len self.new ≡ lent_len self.old }
         ensures over { is_over self.new ≡ true }

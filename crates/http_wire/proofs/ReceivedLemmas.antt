@@ -1,14 +1,14 @@
 -- What several reads come to.
 use Rattle.std.proofs.Common.{◌≡◌, ℕ, ◌+◌, ◌<◌, ◌≤◌, Bool, true, false, List, [], ◌++◌, length, drop, Option, Result}
 use Rattle.std.proofs.Common.{Ok, Err, is_ok, refl, sym, ap, ◌∙◌, subst, append-nil, arith}
-use Rattle.std.proofs.KnownBytes.{Consumes-nil, Consumes-trans, Consumes-kept}
+use Rattle.std.proofs.KnownBytes.{Consumes-nil, Consumes-trans}
 use Rattle.std.proofs.lemmas.Bool.{false≢true}
 use Rattle.std.proofs.lemmas.Grind.{common_steps}
-use Rattle.std.specs.Io.KnownBytes.{Consumes, Keeps}
+use Rattle.std.specs.Io.KnownBytes.{Consumes}
 use Rattle.http_messages.specs.declared.refusal.ConnFault.{ConnFault}
 use Rattle.http_messages.specs.declared.refusal.ConnFault.TheVariants.{Read, Write, ReadLimit, Memory}
 use Rattle.http_wire.specs.Fill.{IsFillFault}
-use Rattle.http_wire.specs.Received.{Held, Receives, ReceivesNothing, IsReadFault}
+use Rattle.http_wire.specs.Received.{Held, Receives, IsReadFault}
 use Rattle.http_messages.specs.Reads.{max_reads}
 
 -- what was added in two steps
@@ -51,15 +51,6 @@ Receives-nil a x =
       idle = λ _. refl;
     }
 
--- two times nothing
-pub ReceivesNothing-join : {R : Type 0} (a b c : R) (x y z : Held) → ReceivesNothing a b x y
-    → ReceivesNothing b c y z → ReceivesNothing a c x z
-ReceivesNothing-join a b c x y z first second = record {
-  reader = second.reader ∙ first.reader;
-  bytes = second.bytes ∙ first.bytes;
-  reads = second.reads ∙ first.reads;
-}
-
 -- a read of these bytes, which is counted only if there are some
 pub Receives-got : (a b : Option (List ℕ)) (x y : Held) (got : List ℕ) → y.bytes ≡ x.bytes ++ got → Consumes a b got
     → x.reads ≤ y.reads → y.reads ≤ x.reads + length got → (y.reads ≡ x.reads → got ≡ []) → Receives a b x y
@@ -73,20 +64,13 @@ Receives-got a b x y got grown given low high none =
       idle = λ count. grown ∙ ap (λ l. x.bytes ++ l) (none count) ∙ append-nil x.bytes;
     }
 
--- a read that failed
-pub Receives-kept : (a b : Option (List ℕ)) (x y : Held) → y.bytes ≡ x.bytes → y.reads ≡ x.reads → Keeps a b
-    → Receives a b x y
-Receives-kept a b x y same count keeps =
-    Receives-got a b x y [] (same ∙ sym (append-nil x.bytes)) (Consumes-kept a a b [] (Consumes-nil a) keeps)
-    (omega (arith, count)) (omega (arith, count)) (λ _. refl)
-
 -- why a read failed, where one more may give bytes
 pub IsReadFault-fill : (a b reads : ℕ) (fault : ConnFault) → reads < max_reads → IsFillFault a b fault
     → IsReadFault a b reads fault
 IsReadFault-fill a b r Read low f = f
 IsReadFault-fill a b r (Write sent) low f = f
 IsReadFault-fill a b r ReadLimit low f = absurd f
-IsReadFault-fill a b r Memory low f = (f, low)
+IsReadFault-fill a b r Memory low f = absurd f
 
 -- the exit of a `?` gives no answer
 pub no_answer : {T E : Type 0} {r : Result T E} {x : T} {e : E} → r ≡ Err e → r ≡ Ok x → ⊥
@@ -96,10 +80,6 @@ no_answer failed given = false≢true (sym (ap is_ok failed) ∙ ap is_ok given)
 pub no_more : {E : Type 0} {r : Result Bool E} → r ≡ Ok false → r ≡ Ok true → ⊥
 no_more none some = grind (arith, none, some)
 
--- a result has one error
-pub one_error : {T E : Type 0} {r : Result T E} {x y : E} → r ≡ Err x → r ≡ Err y → x ≡ y
-one_error first second = cc
-
--- and one answer
+-- a result has one answer
 pub one_answer : {T E : Type 0} {r : Result T E} {x y : T} → r ≡ Ok x → r ≡ Ok y → x ≡ y
 one_answer first second = cc

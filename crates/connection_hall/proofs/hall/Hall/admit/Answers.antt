@@ -1,9 +1,11 @@
 use Rattle.std.proofs.Common.{◌≡◌, ◌+◌, ◌-◌, ◌∙◌, inl}
 use Rattle.std.proofs.Common.{refl}
 use Rattle.std.proofs.Common.{length, arith, ap, vec_len}
+use Rattle.connection_hall.specs.Lending.{is_short}
 use Rattle.connection_hall.specs.Running.{turns}
 use Rattle.connection_hall.proofs.Halls.{called_too, delays_after, delays_came}
 use Rattle.connection_hall.proofs.Answered.{came, none_own}
+use Rattle.connection_hall.proofs.InTime.{late_too}
 use Rattle.connection_hall.proofs.hall.Hall.admit.Goals as goal
 use Rattle.connection_hall.proofs.hall.Hall.admit.Goals.{then-is_none+in_ok-stream+in-Some, else-is_none}
 
@@ -44,10 +46,15 @@ loop-place-preserved g c =
                 one_less refl refl refl number w.new.ensures.loan none_owed comes.2 (λ i is. is) were);
             next = let there = c.grow.ensures.there in let len = w.enter.ensures.len in omega (arith, there, len);
             named = w.in_ok-stream.ensures.named ∙ inv.named;
+            clock = w.in_ok-stream.ensures.clock ∙ inv.clock;
             called = λ named called.
                 called_too mid w.enter.new.self named c.loop-place.place w.enter.ensures.others (w.enter.ensures.turn
                 refl)
                 w.enter.ensures.round.turns (c.grow.ensures.called named (inv.called named called));
+            late = λ now called.
+                late_too mid w.enter.new.self now c.loop-place.place w.enter.ensures.others (w.enter.ensures.turn refl)
+                w.enter.ensures.patience (ap is_short w.enter.ensures.loans) w.enter.ensures.round.turns
+                (c.grow.ensures.late now (inv.late now called));
             delays = delays_after _ _ _ (delays_after _ _ _ inv.delays c.grow.ensures.delays)
                 (delays_came mid w.enter.new.self c.loop-place.place is w.enter.ensures.here w.enter.ensures.others
                 w.enter.ensures.round);
@@ -57,6 +64,8 @@ loop-place-preserved g c =
         running = λ answers running. c.grow.ensures.running answers before (inv.running answers running);
         next = let there = c.grow.ensures.there in omega (arith, there);
         named = inv.named;
+        clock = inv.clock;
+        late = λ now called. c.grow.ensures.late now (inv.late now called);
         called = λ named called. c.grow.ensures.called named (inv.called named called);
         delays = delays_after _ _ _ inv.delays c.grow.ensures.delays;
         bounds = c.grow.ensures.bounds ∙ inv.bounds;
@@ -65,3 +74,6 @@ loop-place-preserved g c =
 
 pub returns-in_default-clause-delays : goal.returns-in_default-clause-delays
 returns-in_default-clause-delays g c = delays_after _ _ _ c.loop-place.invariant.delays c.grow.ensures.delays
+
+pub returns-in_default-clause-late : goal.returns-in_default-clause-late
+returns-in_default-clause-late g c now called = c.grow.ensures.late now (c.loop-place.invariant.late now called)

@@ -40,3 +40,12 @@ returns-clause-delays g c =
           let same = ap (λ (r : Round). wait r i) c.begin.ensures.rest in
           let h = all.waits i some in omega (arith, same, h);
     }
+
+pub returns-clause-late : goal.returns-clause-late
+returns-clause-late g c answers running = λ i late.
+    let traffic = g.P.Sockets.traffic c.args.sockets.now in
+    let now = g.P.Sockets.clock c.admit.new.sockets in
+    let called = c.call_late.ensures.late answers traffic (c.call_named.ensures.running answers traffic
+    (c.trim.ensures.running answers traffic running)) in
+    ap (λ (r : Round). has_turn r i) c.begin.ensures.rest
+    ∙ c.admit.ensures.late now (rw (c.now-2.ensures ∙ sym c.admit.ensures.clock) at called) i late

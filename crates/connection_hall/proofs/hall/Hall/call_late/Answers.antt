@@ -2,10 +2,11 @@ use Rattle.std.proofs.Common.{◌≡◌, ◌<◌, ◌∙◌, ap, Some, None, get
 use Rattle.std.proofs.lemmas.Grind.{common_steps}
 use Rattle.connection_hall.specs.declared.served.Served.{Served}
 use Rattle.connection_hall.specs.Deadlines.{Awaits}
-use Rattle.connection_hall.specs.Lending.{most_lent}
+use Rattle.connection_hall.specs.Lending.{most_lent, is_short}
 use Rattle.connection_hall.specs.Places.{since_of}
 use Rattle.connection_hall.specs.Running.{turns}
 use Rattle.connection_hall.proofs.Halls.{renoted, within}
+use Rattle.connection_hall.proofs.InTime.{was_late, late_within}
 use Rattle.connection_hall.proofs.hall.Hall.call_late.Goals as goal
 
 pub returns-clause-running : goal.returns-clause-running
@@ -26,3 +27,14 @@ returns-clause-running g c answers traffic running =
     let low : i < c.loop-place.place = grind (arith, common_steps, there_is, inv.all, c.loop-place-test.false) in
     subst (λ (slot : Option (Served g.row.S.Denot)). Awaits new.deadlines (since_of slot)) there (inv.noted i low))
     inv.round.turns running
+
+pub returns-clause-late : goal.returns-clause-late
+returns-clause-late g c answers traffic running i late =
+    let old = c.args.self.now in
+    let new = c.loop-place.self in
+    let inv = c.loop-place.invariant in
+    let was = was_late old new _ _ c.args.now inv.limit (ap is_short inv.rest.loans)
+    (ap (λ v. get_or v.items i None) inv.places) late in
+    let there_is = late_within new i c.args.now late in
+    let low : i < c.loop-place.place = grind (arith, common_steps, there_is, inv.all, c.loop-place-test.false) in
+    inv.late i low was

@@ -1,4 +1,4 @@
-use Rattle.std.proofs.Common.{◌∙◌, ap, sym, None, Option, subst}
+use Rattle.std.proofs.Common.{◌∙◌, ap, sym, inl, None, Option, subst}
 use Rattle.std.proofs.Common.{get_or, arith, ◌/◌}
 use Rattle.connection_hall.specs.declared.bounds.Bounds.{Bounds}
 use Rattle.connection_hall.specs.declared.hall.Hall.{Hall}
@@ -6,6 +6,7 @@ use Rattle.connection_hall.specs.declared.served.Served.{Served}
 use Rattle.connection_hall.specs.Rounds.{has_turn}
 use Rattle.connection_hall.specs.Running.{turns, AreRunning}
 use Rattle.connection_hall.proofs.Halls.{gives_one, counted_more, called_again, turns_after, turns_same}
+use Rattle.connection_hall.proofs.InTime.{free_in_time}
 use Rattle.connection_hall.proofs.hall.Hall.go_on.Goals as goal
 
 pub returns-then-must_wait-clause-running : goal.returns-then-must_wait-clause-running
@@ -118,3 +119,23 @@ returns-in_default-clause-goes_on g c answers running light =
     let places = ap (λ (hall : Hall g.row.S.Denot). get_or hall.places.items c.in_ok-place.place None)
     c.must_wait.ensures.kept in
     rw (sym places ∙ sym c.leave.ensures.was ∙ c.in_default.is) tt
+
+pub returns-then-must_wait-clause-in_time : goal.returns-then-must_wait-clause-in_time
+returns-then-must_wait-clause-in_time g c answers running = inl c.call.ensures.called
+
+pub returns-in-Some-clause-in_time : goal.returns-in-Some-clause-in_time
+returns-in-Some-clause-in_time g c answers running =
+    let old = c.args.self.now in
+    let mid = c.must_wait.new.self in
+    let traffic = g.P.Sockets.traffic c.args.sockets.now in
+    let same = c.must_wait.ensures.kept in
+    let counted : AreRunning g.S.Stream answers None (turns old) mid traffic =
+    counted_more g.S.Stream answers (turns old) (turns old) old mid traffic
+    (ap (λ (hall : Hall g.row.S.Denot). hall.places) same) (ap (λ (hall : Hall g.row.S.Denot). hall.bounds) same)
+    (ap (λ (hall : Hall g.row.S.Denot). hall.left) same) (ap (λ (hall : Hall g.row.S.Denot). hall.loans) same)
+    (ap (λ (hall : Hall g.row.S.Denot). hall.deadlines) same) c.must_wait.ensures.counted (λ i is. is) running in
+    c.turn.ensures.in_time answers (c.in-Some.ensures.hand answers traffic (turns old) counted).served
+
+pub returns-in_default-clause-in_time : goal.returns-in_default-clause-in_time
+returns-in_default-clause-in_time g c answers running =
+    free_in_time c.leave.new.self c.in_ok-place.place _ c.leave.ensures.free

@@ -1,5 +1,5 @@
-use Rattle.std.proofs.Common.{◌∙◌, ap, None, get_or, refl, sum_by, slice_index, arith}
-use Rattle.connection_hall.specs.Running.{turns}
+use Rattle.std.proofs.Common.{◌∙◌, ap, sym, None, get_or, refl, sum_by, slice_index, arith}
+use Rattle.connection_hall.specs.Running.{turns, is_late_at}
 use Rattle.connection_hall.proofs.Halls.{lined, one_more, sum_more}
 use Rattle.connection_hall.proofs.hall.Hall.grow.Goals as goal
 
@@ -27,3 +27,9 @@ returns-then-place-len-clause-delays g c =
       turns = λ i some is. c.grow.ensures.turns i ∙ is;
       waits = λ i some. let same = c.grow.ensures.waits i in omega (arith, same);
     }
+
+pub returns-then-place-len-clause-late : goal.returns-then-place-len-clause-late
+returns-then-place-len-clause-late g c now called i late =
+    let old = c.args.self.now in
+    let same = ap (λ l. get_or l i None) c.push_reserved.ensures.items ∙ one_more old.places.items None i in
+    c.grow.ensures.turns i ∙ called i (ap (λ slot. is_late_at old slot now) (sym same) ∙ late)

@@ -6,6 +6,7 @@ use Rattle.connection_hall.specs.Places.{lent}
 use Rattle.connection_hall.specs.Running.{turns, IsShort}
 use Rattle.connection_hall.proofs.Halls.{changed}
 use Rattle.connection_hall.proofs.Hands.{served_lent, short_since, lent_is, slot_is}
+use Rattle.connection_hall.proofs.InTime.{short_in_time}
 use Rattle.connection_hall.proofs.hall.Hall.lend.Goals as goal
 
 pub returns-then-lend-clause-running : goal.returns-then-lend-clause-running
@@ -81,3 +82,12 @@ returns-else-lend-clause-lent g c short =
     let new_most = ap most_lent (loans ∙ refused) in
     slot_is (λ k. IsSome k.loan ⊎ IsShort c.enter-else-lend.new.self k) _ rests c.enter-else-lend.ensures.here
     (inr (short_since it rests refl refl short, ap is_short (loans ∙ refused), omega (arith, new_lent, new_most, full)))
+
+pub returns-then-lend-clause-in_time : goal.returns-then-lend-clause-in_time
+returns-then-lend-clause-in_time g c short = inl (c.enter.ensures.turn refl)
+
+pub returns-else-lend-clause-in_time : goal.returns-else-lend-clause-in_time
+returns-else-lend-clause-in_time g c short =
+    let rests : Served g.row.S.Denot = record c.args.served { since = None } in
+    short_in_time c.enter-else-lend.new.self c.args.place c.args.now rests c.enter-else-lend.ensures.here refl
+    short.not_lent

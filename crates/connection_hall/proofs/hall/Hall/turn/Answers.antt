@@ -3,6 +3,7 @@ use Rattle.std.proofs.Common.{None, get_or, ◌/◌}
 use Rattle.connection_hall.specs.Running.{turns, Advances}
 use Rattle.connection_hall.proofs.Hands.{bounded_on, hand_after, went_on, written_lent, slot_is, goes_to_rest}
 use Rattle.connection_hall.proofs.Hands.{goes_with_loan, not_laden}
+use Rattle.connection_hall.proofs.InTime.{free_in_time, ready_in_time}
 use Rattle.connection_hall.proofs.hall.Hall.turn.Goals as goal
 
 pub returns-in-Again-clause-running : goal.returns-in-Again-clause-running
@@ -113,3 +114,23 @@ returns-in-Short-clause-goes_on g c answers served light none =
 pub returns-in-Over-clause-goes_on : goal.returns-in-Over-clause-goes_on
 returns-in-Over-clause-goes_on g c answers served light none =
     rw (ap (λ v. get_or v.items c.args.place None) c.end.ensures.places ∙ c.requires.free) tt
+
+pub returns-in-Again-clause-in_time : goal.returns-in-Again-clause-in_time
+returns-in-Again-clause-in_time g c answers served = inl (c.enter.ensures.turn refl)
+
+pub returns-in-Ready-clause-in_time : goal.returns-in-Ready-clause-in_time
+returns-in-Ready-clause-in_time g c answers served =
+    ready_in_time c.enter-in-Ready.new.self c.args.place _ c.take_turn.new.self c.enter-in-Ready.ensures.here
+    (c.in-Ready.ensures.served answers served).1
+
+pub returns-in-Waits-clause-in_time : goal.returns-in-Waits-clause-in_time
+returns-in-Waits-clause-in_time g c answers served = c.rest.ensures.in_time
+
+pub returns-in-Short-clause-in_time : goal.returns-in-Short-clause-in_time
+returns-in-Short-clause-in_time g c answers served =
+    rw c.now.ensures at (c.lend.ensures.in_time (c.in-Short.ensures.served answers served).1)
+
+pub returns-in-Over-clause-in_time : goal.returns-in-Over-clause-in_time
+returns-in-Over-clause-in_time g c answers served =
+    free_in_time c.end.new.self c.args.place _
+    (ap (λ v. get_or v.items c.args.place None) c.end.ensures.places ∙ c.requires.free)

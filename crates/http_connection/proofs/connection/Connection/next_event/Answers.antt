@@ -25,6 +25,8 @@ returns-in-Err c = record {
   );
   sound = λ sound. sound;
   memory = tt;
+  kept = λ has. (refl, record { bytes = refl; parsed = refl; over = refl; ended = refl });
+  refused = tt;
   held = refl;
   over = refl;
   ended = refl;
