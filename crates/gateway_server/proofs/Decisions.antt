@@ -1,5 +1,7 @@
 -- What could not be answered changes nothing.
-use Rattle.std.proofs.Common.{◌≡◌, ℕ, Bool, true, false, List, Option, refl, sym, subst, IfOk, Result}
+use Rattle.std.proofs.Common.{◌≡◌, ℕ, Bool, true, false, List, Option, refl, sym, subst, ◌∙◌, IfOk, Result, Ok, Err}
+use Rattle.std.proofs.Common.{inl, inr}
+use Rattle.sqlite.specs.Store.{Ghosts}
 use Rattle.std.specs.declared.alloc.AllocError.{AllocError}
 use Rattle.http_messages.specs.declared.reply.Reply.{Reply}
 use Rattle.http_messages.specs.Replies.{reply_parts}
@@ -8,10 +10,13 @@ use Rattle.filing_model.specs.declared.served.Mark.TheVariants.{Unavailable, Not
 use Rattle.filing_model.specs.Request.{Request}
 use Rattle.filing_model.specs.Serving.{kept_by}
 use Rattle.filing_model.specs.Text.{Route, ListFilings, FileReport, RouteFits, requests_of_route, bare}
+use Rattle.intake_core.specs.declared.intake.Intake.{Intake}
+use Rattle.intake_core.specs.declared.intake.Unavailable.{Unavailable as Refused}
+use Rattle.intake_core.specs.Calls.{TellsOfRequests}
 use Rattle.gateway_server.specs.declared.decide.Decided.{Decided}
 use Rattle.gateway_requests.specs.declared.route.Route.TheVariants as asked
 use Rattle.gateway_requests.specs.declared.route.Rejection.{Rejection}
-use Rattle.gateway_server.specs.Decided.{Decides, IsUnavailable, marked_reply, rejection_reply}
+use Rattle.gateway_server.specs.Decided.{Decides, DecidesNothing, IsUnavailable, marked_reply, rejection_reply}
 use Rattle.gateway_requests.specs.Route.{view_route}
 
 decides : (limit : ℕ) (old_style requests : List Request) (to : Route) (d : Decided) → IsUnavailable d
@@ -40,3 +45,35 @@ pub Decides-told : (limit : ℕ) (old_style requests : List Request) (why : Reje
     (record { mark = NotFiled; reply = reply })
 Decides-told limit old_style requests why body true reply is = record { fit = tt; kept = refl; reply = is }
 Decides-told limit old_style requests why body false reply is = record { fit = tt; kept = refl; reply = is }
+
+-- what is filed has a reply with content
+pub bare_filing : (is_bare : Bool) (r : Request) → bare is_bare (FileReport r) ≡ FileReport r
+bare_filing true r = refl
+bare_filing false r = refl
+
+-- what only tells of requests decides nothing
+pub DecidesNothing-told : {S X : Type 0} {g : Ghosts S} {Tells : List Request → X → Type 0} (old new : Intake S) (x : X)
+    (d : Decided) → d.mark ≡ NotFiled → TellsOfRequests g old new (Ok x) Tells → DecidesNothing g old new d
+DecidesNothing-told old new x d marked t = record {
+  same = t.kept;
+  moments = t.moments;
+  crash = t.crash;
+  durable = λ clean requests h _. t.durable clean requests h;
+  down = λ stopped. absurd (let e = (t.down stopped).0 in cc);
+  stops = λ stopped. absurd (elim (t.stops.0 stopped) [
+    | inl was ↦ (let e = (t.down was).0 in cc)
+    | inr failed ↦ cc
+  ]);
+}
+
+pub DecidesNothing-refused : {S X : Type 0} {g : Ghosts S} {Tells : List Request → X → Type 0} (old new : Intake S)
+    (e : Refused) (d : Decided) → d.mark ≡ Unavailable → TellsOfRequests g old new (Err e) Tells
+    → DecidesNothing g old new d
+DecidesNothing-refused old new e d marked t = record {
+  same = t.kept;
+  moments = t.moments;
+  crash = t.crash;
+  durable = λ clean requests h told. absurd (let same : Unavailable ≡ NotFiled = sym marked ∙ told in cc);
+  down = λ stopped. (marked, (t.down stopped).1);
+  stops = λ _. marked;
+}

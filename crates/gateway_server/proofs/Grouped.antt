@@ -1,8 +1,9 @@
 -- Requests that were decided together were decided in turn.
-use Rattle.std.proofs.Common.{◌≡◌, ℕ, true, false, List, [], ◌∷◌, ◌++◌, length, Ok, Err, refl, sym, subst}
+use Rattle.std.proofs.Common.{◌≡◌, ℕ, true, false, List, [], ◌∷◌, ◌++◌, length, take, Ok, Err, refl, sym, ap, subst}
 use Rattle.std.proofs.Common.{inl, inr, ⊎_elim, arith, IfOk}
 use Rattle.std.specs.List.{AllZip, zip}
 use Rattle.std.proofs.lemmas.Bool.{cases_Bool}
+use Rattle.sqlite.specs.Store.{Ghosts}
 use Rattle.http_messages.specs.Replies.{reply_parts}
 use Rattle.filing_model.specs.Answer.{Answer}
 use Rattle.filing_model.specs.Reply.{reply_as}
@@ -12,9 +13,13 @@ use Rattle.filing_model.specs.Style.{style_of}
 use Rattle.filing_model.specs.Text.{FileReport, RouteFits, requests_of_route}
 use Rattle.filing_model.specs.declared.served.Mark.{Mark}
 use Rattle.filing_model.proofs.Firsts.{firsts_short}
+use Rattle.intake_core.specs.declared.intake.Intake.{Intake}
+use Rattle.intake_core.specs.Calls.{DecidesRequest}
+use Rattle.intake_core.specs.Held.{IsTransition, limit_of, old_style_in, with_request}
+use Rattle.intake_core.proofs.Deciding.{old_style_in-after}
 use Rattle.intake_core.specs.Group.{AreDecidedInTurn, Given, IsDecidedAfter, after, after_one}
-use Rattle.gateway_server.specs.Decided.{Decides, marked_reply}
-use Rattle.gateway_server.specs.Group.{DecideInTurn, IsOfGiven}
+use Rattle.gateway_server.specs.Decided.{Decides, IsOfGiven, marked_reply}
+use Rattle.gateway_server.specs.Group.{DecideInTurn}
 use Rattle.gateway_server.specs.declared.decide.Decided.{Decided}
 use Rattle.gateway_server.proofs.Decisions.{Decides-filed_unavailable}
 
@@ -33,6 +38,27 @@ decides_one limit old_style F r (Ok a) d told by = record {
       told.answer.0 (by.1 (style_of old_style r) told.answer.1));
 }
 decides_one limit old_style F r (Err e) d told by = Decides-filed_unavailable limit old_style F r d by
+
+-- one that was submitted by itself
+pub files : {S : Type 0} (g : Ghosts S) (r : Request) (old new : Intake S) (given : Given) (d : Decided)
+    → DecidesRequest g r old new given → IsOfGiven given d
+    → IsTransition g old new (λ old_style before after. Decides (limit_of old) old_style before after (FileReport r) d)
+files g r old new (Ok a) d told by = λ clean before h. (
+  with_request before r,
+  (told.answer clean before h).1,
+  old_style_in-after before r old new told.setting.old_style h,
+  decides_one (limit_of old) (old_style_in old before) before r (Ok a) d (record {
+    answer = (told.answer clean before h).0;
+    full = told.full clean before h;
+    room = told.room clean before h;
+  }) by,
+)
+files g r old new (Err e) d told by = λ clean before h. (
+  before,
+  told.err clean before h,
+  ap (λ n. take n before) told.setting.old_style,
+  Decides-filed_unavailable (limit_of old) (old_style_in old before) before r d by,
+)
 
 -- ---- all of them
 

@@ -11,7 +11,7 @@ pub mod Ending
 pub mod Stopping
 pub mod Transitions
 pub mod Written
-pub mod Unanswered
 pub mod FirstBytes
 pub mod Steps
 pub mod Grouped
+pub mod Kept

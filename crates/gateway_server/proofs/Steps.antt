@@ -26,8 +26,8 @@ use Rattle.filing_model.proofs.Alike.{firsts_alike, marks_fit_alike, text_alike}
 use Rattle.filing_model.proofs.Appending.{firsts-kept_by, kept_by-append}
 use Rattle.filing_model.proofs.Lists.{append_nil}
 use Rattle.filing_model.proofs.Steps.{completed_more}
-use Rattle.gateway_server.specs.InTurn.{ServeInTurn}
-use Rattle.gateway_server.specs.Ports.{Connection}
+use Rattle.gateway_server.specs.Connections.{ServeInTurn}
+use Rattle.gateway_server.specs.Connections.{Connection}
 use Rattle.gateway_server.specs.Steps.{AreOfSteps, BeginsArrival, GetsText, end_behind}
 use Rattle.gateway_server.proofs.FirstBytes.{BeginsRequest-spells}
 
@@ -89,7 +89,7 @@ module _ (bytes : List ℕ) (n : ℕ) where
     refl,
   )
 
-  arrives_first : (arrival : Arrival) → BeginsArrival bytes arrival n
+  pub arrives_first : (arrival : Arrival) → BeginsArrival bytes arrival n
       → ArrivalsThen AnyFollows (take n bytes) (arrival ∷ []) Ending.Closed
   arrives_first (Read message) begins =
       (length (take n bytes), BeginsRequest-spells bytes message n begins, (λ closed. (refl, refl)), λ open'. tt)

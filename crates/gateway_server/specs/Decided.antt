@@ -1,14 +1,24 @@
 -- What a message gets.
-use Rattle.std.specs.Prelude.{◌≡◌, ℕ, Bool, List, [], IfOk, IsSome, if◌then◌else◌}
+use Rattle.std.specs.Prelude.{◌≡◌, ℕ, Bool, List, [], Ok, Err, true, IfOk, IsSome, if◌then◌else◌}
+use Rattle.sqlite.specs.Store.{Ghosts}
 use Rattle.http_messages.specs.Replies.{reply_parts}
 use Rattle.http_messages.specs.declared.reply.Kind.TheVariants.{Problem}
 use Rattle.http_messages.specs.Reply.{ReplyParts, phrase}
 use Rattle.filing_model.specs.declared.served.Mark.{Mark}
 use Rattle.filing_model.specs.declared.served.Mark.TheVariants.{Done, Unavailable, NotFiled}
-use Rattle.filing_model.specs.Reply.{word_reply, unavailable}
+use Rattle.filing_model.specs.declared.served.Style.{Style}
+use Rattle.filing_model.specs.Reply.{reply_as, word_reply, unavailable}
 use Rattle.filing_model.specs.Request.{Request}
 use Rattle.filing_model.specs.Serving.{kept_by}
-use Rattle.filing_model.specs.Text.{Route, RouteFits, reply_on, requests_of_route}
+use Rattle.filing_model.specs.Style.{HasStyle}
+use Rattle.filing_model.specs.Text.{Route, Reject, ListFilings, FileReport, RouteFits, reply_on, requests_of_route}
+use Rattle.filing_model.specs.Views.{view_answer}
+use Rattle.table_rows.specs.Standing.{CommitsNothing}
+use Rattle.intake_core.specs.declared.intake.Intake.{Intake}
+use Rattle.intake_core.specs.Calls.{DecidesRequest}
+use Rattle.intake_core.specs.Group.{Given}
+use Rattle.intake_core.specs.Held.{ForRequests, HoldsRequests, IsDurableAs, has_stopped, old_style_of, shows}
+use Rattle.intake_core.specs.Moments.{DatesRequest, KeepsMoments, moment_of}
 use Rattle.gateway_server.specs.declared.decide.Decided.{Decided}
 use Rattle.gateway_requests.specs.declared.route.Rejection.{Rejection as Why}
 use Rattle.gateway_requests.specs.Route.{rejection_status, rejection_word}
@@ -39,3 +49,37 @@ pub record IsUnavailable (d : Decided) : Type 0 where
 -- the status of the reply has a phrase
 abbrev pub IsPhrased : Decided → Type 0
 IsPhrased d = IfOk d.reply (λ r. IsSome (phrase r.status))
+
+-- ---- what a stop leaves, and the moments
+
+-- the mark and the reply of a request to which the intake gave this
+abbrev pub IsOfGiven : Given → Decided → Type 0
+IsOfGiven (Ok a) d = (d.mark ≡ Done) × ((style : Style) → HasStyle style a
+    → IfOk d.reply (λ r. reply_parts r ≡ reply_as style (view_answer a)))
+IsOfGiven (Err e) d = IsUnavailable d
+
+-- The intake gave the request something, as `submit` does at this moment, and these are the mark and the reply for it.
+pub record IsSubmitted {S : Type 0} (g : Ghosts S) (r : Request) (moment : ℕ) (old new : Intake S) (d : Decided)
+    : Type 0 where
+  pub given : Given
+  pub is : IsOfGiven given d
+  pub decides : DecidesRequest g r old new given
+  pub dates : DatesRequest g r moment old new given
+
+-- Nothing is decided: what is held stays, with its moments.
+pub record DecidesNothing {S : Type 0} (g : Ghosts S) (old new : Intake S) (d : Decided) : Type 0 where
+  pub same : ForRequests g old new (HoldsRequests g new)
+  pub moments : KeepsMoments g old new
+  -- A stop leaves what it could leave before, and after an answer what is held.
+  pub crash : CommitsNothing (shows g old) (shows g new)
+  pub durable : ForRequests g old new (λ requests. d.mark ≡ NotFiled
+      → IsDurableAs g new (old_style_of old) requests)
+  -- After a refusal of the database nothing is asked of it.
+  pub down : has_stopped old ≡ true → (d.mark ≡ Unavailable) × (new ≡ old)
+  pub stops : has_stopped new ≡ true → d.mark ≡ Unavailable
+
+-- What a stop leaves, and which moments are kept, by what was asked for.
+abbrev pub Leaves : {S : Type 0} → Ghosts S → Route → Intake S → Intake S → Decided → Type 0
+Leaves g (Reject reply) old new d = new ≡ old
+Leaves g (ListFilings filer number) old new d = DecidesNothing g old new d
+Leaves g (FileReport r) old new d = IsSubmitted g r (moment_of old) old new d

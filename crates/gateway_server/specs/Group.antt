@@ -1,19 +1,14 @@
 -- What several requests get that are decided together; own rules.
-use Rattle.std.specs.Prelude.{◌≡◌, ℕ, List, [], ◌∷◌, Ok, Err, IfOk}
+use Rattle.std.specs.Prelude.{◌≡◌, ℕ, List, [], ◌∷◌}
 use Rattle.std.specs.List.{AllZip, zip}
 use Rattle.sqlite.specs.Store.{Ghosts}
-use Rattle.http_messages.specs.Replies.{reply_parts}
-use Rattle.filing_model.specs.declared.served.Mark.TheVariants.{Done}
-use Rattle.filing_model.specs.declared.served.Style.{Style}
-use Rattle.filing_model.specs.Reply.{reply_as}
 use Rattle.filing_model.specs.Request.{Request}
-use Rattle.filing_model.specs.Style.{HasStyle}
 use Rattle.filing_model.specs.Text.{FileReport}
-use Rattle.filing_model.specs.Views.{view_answer}
 use Rattle.intake_core.specs.declared.intake.Intake.{Intake}
 use Rattle.intake_core.specs.Group.{DecidesEach, Given}
+use Rattle.intake_core.specs.Looked.{DatesNew, DecidesNew}
 use Rattle.intake_core.specs.Moments.{DatesEach}
-use Rattle.gateway_server.specs.Decided.{Decides, IsUnavailable}
+use Rattle.gateway_server.specs.Decided.{Decides, IsOfGiven}
 use Rattle.gateway_server.specs.declared.decide.Decided.{Decided}
 
 -- each of these requests gets what it gets after those before it
@@ -25,12 +20,6 @@ DecideInTurn limit old_style before after (r ∷ rs) (d ∷ ds) =
     (between : List Request) × Decides limit old_style before between (FileReport r) d
     × DecideInTurn limit old_style between after rs ds
 
--- the mark and the reply of a request to which the intake gave this
-abbrev pub IsOfGiven : Given → Decided → Type 0
-IsOfGiven (Ok a) d = (d.mark ≡ Done) × ((style : Style) → HasStyle style a
-    → IfOk d.reply (λ r. reply_parts r ≡ reply_as style (view_answer a)))
-IsOfGiven (Err e) d = IsUnavailable d
-
 -- The intake gave each of these requests something, as `submit_all` does at these moments, and these are the marks and
 -- the replies for that. So it is known what a stop leaves of them, and when each came that is kept.
 pub record AreSubmitted {S : Type 0} (g : Ghosts S) (requests : List Request) (ms : List ℕ) (old new : Intake S)
@@ -39,3 +28,12 @@ pub record AreSubmitted {S : Type 0} (g : Ghosts S) (requests : List Request) (m
   pub are : AllZip IsOfGiven given all
   pub decides : DecidesEach g (zip requests given) old new
   pub dates : DatesEach g (zip requests given) ms old new
+
+-- As `submit_new` does: what is said of rows holds if each is new to what was held, and what is said of a stop, if the
+-- register was open too.
+pub record AreSubmittedNew {S : Type 0} (g : Ghosts S) (requests : List Request) (ms : List ℕ) (old new : Intake S)
+    (all : List Decided) : Type 0 where
+  pub given : List Given
+  pub are : AllZip IsOfGiven given all
+  pub decides : DecidesNew g requests (zip requests given) old new
+  pub dates : DatesNew g requests (zip requests given) ms old new

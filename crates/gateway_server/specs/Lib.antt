@@ -1,10 +1,8 @@
-pub mod InTurn
-pub mod Ports
+pub mod Connections
 pub mod Progress
 pub mod Stopping
 pub mod Decided
 pub mod Answered
 pub mod Written
-pub mod Ahead
 pub mod Steps
 pub mod Group

@@ -9,7 +9,7 @@ use Rattle.filing_model.specs.Request.{Request}
 use Rattle.filing_model.specs.Serving.{Keeping, keeping, kept_by}
 use Rattle.filing_model.specs.Steps.{Step, all_completed, text_of_step}
 use Rattle.filing_model.specs.Text.{completed_at}
-use Rattle.gateway_server.specs.Ports.{Connection}
+use Rattle.gateway_server.specs.Connections.{Connection}
 
 -- The bytes begin with this arrival, which ends after n of them. What is refused has no end of its own, and takes them
 -- all.

@@ -1,11 +1,11 @@
 //! One arrival answered: it is decided and marked, and then its reply is written.
 
 ghost use Rattle.std.specs.Prelude.{◌≡◌, ◌<◌, ◌≤◌, ◌+◌, ℕ, List, length, vec_len, vec_capacity, IfOk, IfErr, OnOk};
-ghost use Rattle.std.specs.Prelude.{MatchResult};
+ghost use Rattle.std.specs.Prelude.{IsSome, MatchResult};
 ghost use Rattle.http_messages.specs.Head.{max_body_len};
 ghost use Rattle.http_messages.specs.Message.{Read as ReadArrival, Refused as RefusedArrival};
 ghost use Rattle.http_messages.specs.Replies.{reply_parts};
-ghost use Rattle.http_messages.specs.Reply.{render};
+ghost use Rattle.http_messages.specs.Reply.{phrase, render};
 ghost use Rattle.filing_model.specs.Request.{Request};
 ghost use Rattle.filing_model.specs.Text.{route, bare, is_head, refusal_reply, fault_reply};
 ghost use Rattle.intake_core.specs.Held.{limit_of, KeepsSetting, IsTransition};
@@ -13,7 +13,7 @@ ghost use Rattle.gateway_server.specs.Decided.{IsPhrased};
 ghost use Rattle.gateway_server.specs.Answered.{IsDecided, Marks, WritesText, IsReplyFault};
 ghost use Rattle.gateway_requests.specs.Route.{view_message, view_route, HasFiler};
 
-use crate::decide::{Decided, decide};
+use crate::decide::{Decided, decide_route};
 use filing_model::Mark;
 use gateway_requests::{Route, is_head, route_of};
 use http_wire::{ConnFault, HeadFault, Message, Refusal, Reply, Sink, write_reply};
@@ -62,7 +62,7 @@ fn mark_route<S: Alter>(
     ensures counted { vec_len marks.new ≡ vec_len marks.old + 1 }
     ensures setting { KeepsSetting S.Store intake.old intake.new }
 {
-    let decided = decide(alloc, intake, asked, message.body, is_head(message));
+    let decided = decide_route(alloc, intake, asked, message.body, is_head(message));
     marks.push_reserved(decided.mark);
     decided
 }
@@ -106,8 +106,10 @@ pub(crate) fn write_decided<W: Sink>(
     }
 }
 
-fn refusal_reply(alloc: Global, refusal: Refusal) -> Result<Reply, AllocError>
-    ensures { IfOk result (λ r. reply_parts r ≡ refusal_reply refusal) }
+/// The reply to what was refused in the place of a message.
+pub fn refusal_reply(alloc: Global, refusal: Refusal) -> Result<Reply, AllocError>
+    ensures parts { IfOk result (λ r. reply_parts r ≡ refusal_reply refusal) }
+    ensures phrase { IfOk result (λ r. IsSome (phrase r.status)) }
 {
     match refusal {
         Refusal::HeadTooLarge => word_reply(alloc, 431, "head-too-large"),

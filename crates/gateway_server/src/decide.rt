@@ -11,12 +11,14 @@ ghost use Rattle.filing_model.specs.Reply.{list_reply as listed_reply};
 ghost use Rattle.filing_model.specs.Views.{the_request, view_row};
 ghost use Rattle.gateway_requests.specs.Route.{view_route, HasFiler};
 ghost use Rattle.intake_core.specs.Held.{limit_of, KeepsSetting, IsTransition};
-ghost use Rattle.gateway_server.specs.Decided.{rejection_reply, Decides, IsUnavailable, IsPhrased};
+ghost use Rattle.intake_core.specs.Moments.{moment_of};
+ghost use Rattle.gateway_server.specs.Decided.{rejection_reply, Decides, IsOfGiven, IsUnavailable, IsPhrased};
+ghost use Rattle.gateway_server.specs.Decided.{DecidesNothing, IsSubmitted, Leaves};
 
 use filing_model::{FilingRow, Mark};
 use gateway_requests::{Rejection, Route};
 use http_wire::{Kind, Reply};
-use intake_core::{Intake, list_reply, reply_of, word_reply};
+use intake_core::{Answer, Intake, Unavailable, list_reply, reply_of, word_reply};
 use key_string::KeyText;
 use sqlite::Alter;
 use std::alloc::{AllocError, Global};
@@ -28,8 +30,9 @@ pub struct Decided {
     pub reply: Result<Reply, AllocError>,
 }
 
-/// Answers a message with this body and this route.
-pub(crate) fn decide<S: Alter>(
+/// Answers a message with this body and this route. A request to file has the moment that `Intake::date` said last, and
+/// of anything else nothing is decided.
+pub fn decide_route<S: Alter>(
     alloc: Global,
     intake: &mut Intake<S>,
     route: Route<'_>,
@@ -40,6 +43,7 @@ pub(crate) fn decide<S: Alter>(
     requires body { length body.now ≤ max_body_len }
     ensures decided { IsTransition S.Store intake.old intake.new (λ old_style before after.
         Decides (limit_of intake.old) old_style before after (bare is_bare (view_route route.entry body.now)) result) }
+    ensures leaves { Leaves S.Store (view_route route.entry body.now) intake.old intake.new result }
     ensures phrase { IsPhrased result }
     ensures setting { KeepsSetting S.Store intake.old intake.new }
 {
@@ -72,6 +76,7 @@ fn rejection_reply(alloc: Global, why: Rejection, is_bare: bool) -> Result<Reply
 fn list<S: Alter>(alloc: Global, intake: &mut Intake<S>, filer: &str) -> Decided
     ensures decided { IsTransition S.Store intake.old intake.new (λ old_style before after.
         Decides (limit_of intake.old) old_style before after (AsksList filer.now None) result) }
+    ensures leaves { DecidesNothing S.Store intake.old intake.new result }
     ensures phrase { IsPhrased result }
     ensures setting { KeepsSetting S.Store intake.old intake.new }
 {
@@ -98,6 +103,7 @@ fn row_reply(alloc: Global, row: Option<FilingRow>) -> Result<Reply, AllocError>
 fn show<S: Alter>(alloc: Global, intake: &mut Intake<S>, filer: &str, number: u64) -> Decided
     ensures decided { IsTransition S.Store intake.old intake.new (λ old_style before after.
         Decides (limit_of intake.old) old_style before after (AsksList filer.now (Some number)) result) }
+    ensures leaves { DecidesNothing S.Store intake.old intake.new result }
     ensures phrase { IsPhrased result }
     ensures setting { KeepsSetting S.Store intake.old intake.new }
 {
@@ -110,6 +116,7 @@ fn show<S: Alter>(alloc: Global, intake: &mut Intake<S>, filer: &str, number: u6
     }
 }
 
+/// Files a report.
 fn file<S: Alter>(
     alloc: Global,
     intake: &mut Intake<S>,
@@ -124,19 +131,29 @@ fn file<S: Alter>(
     ensures decided { IsTransition S.Store intake.old intake.new (λ old_style before after.
         Decides (limit_of intake.old) old_style before after
         (AsksFiling (the_request filer.now key.now target body.now)) result) }
+    ensures leaves { IsSubmitted S.Store (the_request filer.now key.now target body.now) (moment_of intake.old)
+        intake.old intake.new result }
     ensures phrase { IsPhrased result }
     ensures setting { KeepsSetting S.Store intake.old intake.new }
 {
-    match intake.submit(filer, target, key, body) {
+    decided_by(alloc, &intake.submit(filer, target, key, body))
+}
+
+/// What a request gets to which the intake answered so.
+pub(crate) fn decided_by(alloc: Global, given: &Result<Answer, Unavailable>) -> Decided
+    ensures given { IsOfGiven given.now result }
+    ensures phrase { IsPhrased result }
+{
+    match given {
         Ok(answer) => Decided {
             mark: Mark::Done,
-            reply: reply_of(alloc, &answer),
+            reply: reply_of(alloc, answer),
         },
         Err(_) => unavailable(alloc),
     }
 }
 
-pub(crate) fn unavailable(alloc: Global) -> Decided
+fn unavailable(alloc: Global) -> Decided
     ensures { IsUnavailable result }
 {
     Decided {

@@ -6,8 +6,8 @@ ghost use Rattle.filing_model.specs.Prefix.{IsPrefixOf};
 ghost use Rattle.filing_model.specs.Request.{Request};
 ghost use Rattle.filing_model.specs.Serving.{IsCutShort, Serves, keeping, kept_by};
 ghost use Rattle.filing_model.specs.Steps.{Step, StepsFit, all_completed, text_of_step};
-ghost use Rattle.gateway_server.specs.InTurn.{ServeInTurn};
-ghost use Rattle.gateway_server.specs.Ports.{Connection};
+ghost use Rattle.gateway_server.specs.Connections.{ServeInTurn};
+ghost use Rattle.gateway_server.specs.Connections.{Connection};
 ghost use Rattle.gateway_server.specs.Steps.{AreOfSteps, BeginsArrival, end_behind, keeping_at};
 
 /// A step is a connection on which its arrival came alone, after all requests that were completed before it: the

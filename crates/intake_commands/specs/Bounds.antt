@@ -1,6 +1,6 @@
 -- How much of a port `intake serve` serves at once.
 use Rattle.std.specs.Prelude.{◌*◌, option_map}
-use Rattle.ready_connections.specs.declared.bounds.Bounds.{Bounds}
+use Rattle.connection_hall.specs.declared.bounds.Bounds.{Bounds}
 use Rattle.intake_commands.specs.declared.options.Serving.{Serving}
 
 -- as many as the command line says, with its patience in milliseconds and its memory in bytes

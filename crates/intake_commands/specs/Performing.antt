@@ -9,7 +9,9 @@ use Rattle.command_line.specs.Status.{IsRefusalStatus}
 use Rattle.command_line.specs.Words.{IsRead, IsUnread}
 use Rattle.database_places.specs.Accesses.{OpensBy}
 use Rattle.http_wire.specs.Wire.{Wire}
-use Rattle.gateway_server.specs.Ports.{Traffic}
+use Rattle.connection_hall.specs.declared.stream.Stream.{Ghosts as Streams}
+use Rattle.gateway_rounds.specs.Ports.{Port, Runs, is_shut}
+use Rattle.intake_commands.specs.Bounds.{bounds_of}
 use Rattle.intake_process.specs.Process.{Parts}
 use Rattle.intake_commands.specs.declared.fault.NotDone.{NotDone}
 use Rattle.intake_commands.specs.declared.fault.NotDone.TheVariants as fault
@@ -30,52 +32,48 @@ closed lying = record { intake = None; lying = lying; is_certain = true; refused
 
 -- The task was performed on the register that lies there, over this port. The system alone knows what comes and goes on
 -- the connection of the standard streams, and what a folder has.
-pub record PerformsOver {D : Type 0} (g : Ghosts D) (task : Task) (lying : Option (Option (Files D)))
-    (port port' : Traffic) (out out' : Option (List ℕ)) (status : ℕ) : Type 0 where
+pub record PerformsOver {D S N : Type 0} (g : Ghosts D) (s : Streams S N) (task : Task)
+    (lying : Option (Option (Files D))) (port port' : Option (Port S)) (out out' : Option (List ℕ)) (status : ℕ)
+    : Type 0 where
   pub wire : Wire
   pub wire' : Wire
   pub new : Parts g
-  pub performs : Performs task (means wire out None port (closed lying)) (means wire' out' None port' new) status
+  pub performs : Performs s task (means wire out None port (closed lying)) (means wire' out' None port' new) status
 
 -- ---- a task on the register of a file
 
--- the port of a task that serves none
-abbrev pub no_port : Traffic
-no_port = record { coming = None; given = None; over = None; is_shut = true; ahead = None; asked = None }
-
--- A port on which nothing came yet, and which records each connection that is over and how often it was asked. It is
--- shut only if no connection is to come.
-pub record IsFresh (serving : Serving) (port : Traffic) : Type 0 where
-  pub given : port.given ≡ None
-  pub over : port.over ≡ Some []
-  pub ahead : port.ahead ≡ Some []
-  pub asked : port.asked ≡ Some 0
-  pub shut : port.is_shut ≡ nat_eq serving.connections 0
+-- A port on which nothing came yet, and which was not asked, or none for want of memory. It is shut only if no
+-- connection is to come.
+abbrev pub IsFresh : {S N : Type 0} → Streams S N → Serving → Option (Port S) → Type 0
+IsFresh s serving None = Unit {0}
+IsFresh s serving (Some port) =
+    Runs s [] port × (port.asked ≡ 0) × (is_shut port ≡ nat_eq serving.connections 0)
+    × (port.hall.bounds ≡ bounds_of serving)
 
 -- the task was performed on the register of a file, which is opened for writing or for reading alone, by what the task
--- does to it; one that serves, over a port of the system, or memory ran out before there was one, and nothing was done
-abbrev pub PerformsTask : {D R : Type 0} → Ghosts D → Ghosts R → Task → Option (List ℕ) → Option (List ℕ) → ℕ → Type 0
-PerformsTask written read (Serve serving) out out' status =
-    ((port : Traffic) × (port' : Traffic) × IsFresh serving port
-    × PerformsOver written (Serve serving) None port port' out out' status)
-    ⊎ ((status ≡ 3) × (out' ≡ out))
-PerformsTask written read other out out' status =
-    OpensBy (access_of other) (PerformsOver written other None no_port no_port out out' status)
-    (PerformsOver read other None no_port no_port out out' status)
+-- does to it; one that serves, over a port of the system
+abbrev pub PerformsTask : {D R S N : Type 0} → Ghosts D → Ghosts R → Streams S N → Task → Option (List ℕ)
+    → Option (List ℕ) → ℕ → Type 0
+PerformsTask {S = S} written read s (Serve serving) out out' status =
+    (port : Option (Port S)) × (port' : Option (Port S)) × IsFresh s serving port
+    × PerformsOver written s (Serve serving) None port port' out out' status
+PerformsTask written read s other out out' status =
+    OpensBy (access_of other) (PerformsOver written s other None None None out out' status)
+    (PerformsOver read s other None None None out out' status)
 
 -- ---- what the words ask for
 
 -- the task was performed; or nothing is asked for, and the status says why
-abbrev pub PerformsAsked : {D R : Type 0} → Ghosts D → Ghosts R → Result Asked NotDone → Option (List ℕ)
-    → Option (List ℕ) → ℕ → Type 0
-PerformsAsked written read (Ok asked) out out' status = PerformsTask written read asked.task out out' status
-PerformsAsked written read (Err why) out out' status = (status ≡ fault_status why) × (out' ≡ out)
+abbrev pub PerformsAsked : {D R S N : Type 0} → Ghosts D → Ghosts R → Streams S N → Result Asked NotDone
+    → Option (List ℕ) → Option (List ℕ) → ℕ → Type 0
+PerformsAsked written read s (Ok asked) out out' status = PerformsTask written read s asked.task out out' status
+PerformsAsked written read s (Err why) out out' status = (status ≡ fault_status why) × (out' ≡ out)
 
 -- what the words ask for was performed; or `clap` does not take them, and the status says why; or they ask for `init`,
 -- which is refused, and nothing is done then
-abbrev pub PerformsAll : {D R : Type 0} → Ghosts D → Ghosts R → List Text → Option (List ℕ) → Option (List ℕ) → ℕ
-    → Type 0
-PerformsAll written read words out out' status =
+abbrev pub PerformsAll : {D R S N : Type 0} → Ghosts D → Ghosts R → Streams S N → List Text → Option (List ℕ)
+    → Option (List ℕ) → ℕ → Type 0
+PerformsAll written read s words out out' status =
     MatchBool (asks_for_init words) ((status ≡ fault_status fault.NoInit) × (out' ≡ out))
-    (((asked : Result Asked NotDone) × IsRead IsAsked words asked × PerformsAsked written read asked out out' status)
+    (((asked : Result Asked NotDone) × IsRead IsAsked words asked × PerformsAsked written read s asked out out' status)
     ⊎ ((error : Error) × IsUnread words error × IsRefusalStatus (kind_of error) status))

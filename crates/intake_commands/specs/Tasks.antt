@@ -10,8 +10,8 @@ use Rattle.key_string.specs.Filer.{is_filer}
 use Rattle.http_wire.specs.Wire.{Wire}
 use Rattle.filing_model.specs.declared.served.Ended.{Ended}
 use Rattle.filing_model.specs.declared.served.Ended.TheVariants as ended
-use Rattle.gateway_server.specs.Ports.{Traffic}
-use Rattle.gateway_server.specs.declared.port_fault.PortFault.TheVariants as network
+use Rattle.connection_hall.specs.declared.stream.Stream.{Ghosts as Streams}
+use Rattle.gateway_rounds.specs.Ports.{Port}
 use Rattle.command_line.specs.declared.fault.CommandFault.{CommandFault}
 use Rattle.command_line.specs.declared.fault.CommandFault.TheVariants as command
 use Rattle.finding_lines.specs.Linting.{LintsReports}
@@ -39,17 +39,17 @@ use Rattle.intake_commands.specs.Status.{status_of, fault_verdict}
 use Rattle.intake_commands.specs.ReportedFault.{IsErrandTold, IsOpeningTold}
 
 -- What contracts see of what a task works with, as far as it is known: the connection on standard input and output,
--- what else the output has, which pages the folder has, the port, and the process of the register.
-pub record Means {D : Type 0} (g : Ghosts D) : Type 0 where
+-- what else the output has, which pages the folder has, the port, if there is one, and the process of the register.
+pub record Means {D : Type 0} (g : Ghosts D) (S : Type 0) : Type 0 where
   pub wire : Wire
   pub out : Option (List ℕ)
   pub pages : Option (List File)
-  pub port : Traffic
+  pub port : Option (Port S)
   pub process : Parts g
 
 -- these
-abbrev pub means : {D : Type 0} {g : Ghosts D} → Wire → Option (List ℕ) → Option (List File) → Traffic → Parts g
-    → Means g
+abbrev pub means : {D S : Type 0} {g : Ghosts D} → Wire → Option (List ℕ) → Option (List File) → Option (Port S)
+    → Parts g → Means g S
 means wire out pages port process = record { wire = wire; out = out; pages = pages; port = port; process = process }
 
 -- ---- run: one connection is served on a register in memory
@@ -74,19 +74,17 @@ abbrev pub IsServingTold : Serving → Result ℕ ServingFault → Result ℕ No
 IsServingTold task (Ok taken) result = result ≡ Ok 0
 IsServingTold task (Err (refused.Register why)) result =
     (told : NotDone) × IsOpeningTold task.database why told × (result ≡ Err told)
-IsServingTold task (Err (refused.Port (network.Network error))) result = result ≡ Err (fault.Network task.port error)
-IsServingTold task (Err (refused.Port network.Memory)) result = result ≡ Err (fault.Command command.Memory)
+IsServingTold task (Err (refused.Port error)) result = result ≡ Err (fault.Network task.port error)
 
 -- this fault says that this port is not to be had
 abbrev pub IsPortRefused : ℕ → Result ℕ NotDone → Type 0
 IsPortRefused port (Err (fault.Network number error)) = number ≡ port
 IsPortRefused port other = ⊥
 
--- the port of a new register is not to be had, and nothing is made; only the system refuses a port
-pub record IsWithoutPort {D : Type 0} {g : Ghosts D} (task : Serving) (port port' : Traffic) (old new : Parts g)
+-- the port of a new register is not to be had, and nothing is made
+pub record IsWithoutPort {D S : Type 0} {g : Ghosts D} (task : Serving) (port port' : Port S) (old new : Parts g)
     (result : Result ℕ NotDone) : Type 0 where
   pub new_one : task.new ≡ true
-  pub unknown : port.coming ≡ None
   pub same : port' ≡ port
   pub kept : new ≡ old
   pub told : IsPortRefused task.port result
@@ -96,14 +94,23 @@ abbrev pub most_asked : ℕ
 most_asked = 2 ^ 64 - 1
 
 -- the port is served with the task's limit until it is shut, on a register that is new or not
-abbrev pub Serves : {D : Type 0} {g : Ghosts D} → Serving → Traffic → Traffic → Parts g → Parts g → Result ℕ NotDone
-    → Type 0
-Serves task port port' old new result =
+abbrev pub ServesPort : {D S N : Type 0} {g : Ghosts D} → Streams S N → Serving → Port S → Port S → Parts g → Parts g
+    → Result ℕ NotDone → Type 0
+ServesPort s task port port' old new result =
     ((2 ^ 62 < task.limit) × (port' ≡ port) × (new ≡ old) × (result ≡ Err fault.Limit))
     ⊎ (IsWithoutPort task port port' old new result
     ⊎ ((task.limit ≤ 2 ^ 62) × (served : Result ℕ ServingFault)
-    × ServesRegister (not task.new) task.limit most_asked port port' None None old new served
+    × ServesRegister s (not task.new) task.limit most_asked port port' None None old new served
     × IsServingTold task served result))
+
+-- so is the port that there is; without memory for one nothing is done
+abbrev pub Serves : {D S N : Type 0} {g : Ghosts D} → Streams S N → Serving → Option (Port S) → Option (Port S)
+    → Parts g
+    → Parts g → Result ℕ NotDone → Type 0
+Serves s task None port' old new result =
+    (port' ≡ None) × (new ≡ old) × (result ≡ Err (fault.Command command.Memory))
+Serves {S = S} s task (Some port) port' old new result =
+    (after : Port S) × (port' ≡ Some after) × ServesPort s task port after old new result
 
 -- ---- list, show, check, migrate, export, pages and digest: the register of a file is visited
 
@@ -188,7 +195,7 @@ Visits {D} {g} name errand out out' old new result =
 -- ---- a task
 
 -- the fault that a code is no filer's is reported, and nothing is done
-abbrev pub IsNoFiler : {D : Type 0} {g : Ghosts D} → Means g → Means g → Result ℕ NotDone → Type 0
+abbrev pub IsNoFiler : {D S : Type 0} {g : Ghosts D} → Means g S → Means g S → Result ℕ NotDone → Type 0
 IsNoFiler old new result = (new ≡ old) × (result ≡ Err (fault.Command command.Filer))
 
 -- a fault of the command is reported as it is
@@ -197,20 +204,22 @@ as_command (Ok status) = Ok status
 as_command (Err why) = Err (fault.Command why)
 
 -- what each task does; nothing changes but what is named
-abbrev pub Does : {D : Type 0} {g : Ghosts D} → Task → Means g → Means g → Result ℕ NotDone → Type 0
-Does (task.Run limit) old new result = (new ≡ record old { wire = new.wire }) × Runs limit old.wire new.wire result
-Does (task.Serve serving) old new result =
+abbrev pub Does : {D S N : Type 0} {g : Ghosts D} → Streams S N → Task → Means g S → Means g S → Result ℕ NotDone
+    → Type 0
+Does s (task.Run limit) old new result = (new ≡ record old { wire = new.wire }) × Runs limit old.wire new.wire result
+Does s (task.Serve serving) old new result =
     (new ≡ record old { port = new.port; process = new.process })
-    × Serves serving old.port new.port old.process new.process result
-Does (task.Visit name errand) old new result =
+    × Serves s serving old.port new.port old.process new.process result
+Does s (task.Visit name errand) old new result =
     MatchBool (is_wanted errand) ((new ≡ record old { out = new.out; pages = new.pages; process = new.process })
     × Visits name errand (outputs old.out old.pages) (outputs new.out new.pages) old.process new.process result)
     (IsNoFiler old new result)
-Does (task.Lint filer form files) old new result =
+Does s (task.Lint filer form files) old new result =
     (new ≡ record old { out = new.out }) × (linted : Result ℕ CommandFault)
     × LintsReports form filer.now (map (λ file. file.now) files.items) old.out new.out linted
     × (result ≡ as_command linted)
 
 -- What performing a task does, and which status it answers.
-abbrev pub Performs : {D : Type 0} {g : Ghosts D} → Task → Means g → Means g → ℕ → Type 0
-Performs task old new status = (result : Result ℕ NotDone) × Does task old new result × (status ≡ status_of result)
+abbrev pub Performs : {D S N : Type 0} {g : Ghosts D} → Streams S N → Task → Means g S → Means g S → ℕ → Type 0
+Performs s task old new status =
+    (result : Result ℕ NotDone) × Does s task old new result × (status ≡ status_of result)

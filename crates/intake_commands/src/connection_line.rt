@@ -9,6 +9,7 @@ use std::fmt::Write;
 /// were filed, how many requests and refusals there were, and the statuses of the first replies.
 #[derive(Clone, Copy)]
 pub(crate) struct ConnectionLine<'a> {
+    pub(crate) number: u32,
     pub(crate) record: &'a Record,
     pub(crate) ended: Ended,
 }
@@ -40,7 +41,7 @@ fn write_statuses<W: fmt::Write>(list: &[u16], f: &mut fmt::Formatter<W>) -> fmt
 
 impl fmt::Display for ConnectionLine<'_> {
     fn fmt<W: fmt::Write>(&self, f: &mut fmt::Formatter<W>) -> fmt::Result {
-        write!(f, "{{\"connection\":{},\"ended\":\"", self.record.number)?;
+        write!(f, "{{\"connection\":{},\"ended\":\"", self.number)?;
         write_ended(self.ended, f)?;
         f.write_str("\",\"filers\":[")?;
         write_filers(&self.record.filers, f)?;

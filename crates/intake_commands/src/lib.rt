@@ -5,7 +5,6 @@
 #![tactic(auto)]
 
 mod asked;
-mod capacity;
 mod clocked;
 mod connection_line;
 mod fault;
@@ -14,7 +13,6 @@ mod limit;
 mod log_message;
 mod options;
 mod pause;
-mod port;
 mod program;
 mod progress;
 mod published;

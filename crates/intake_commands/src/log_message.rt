@@ -29,7 +29,7 @@ pub(crate) enum LogMessage {
     Paused {
         seconds: u64,
     },
-    /// The register keeps as many keys as it may, and a new one was turned away.
+    /// The register keeps as many keys as it may.
     Full {
         limit: u64,
     },

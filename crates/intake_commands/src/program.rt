@@ -1,9 +1,9 @@
 //! The program: it makes what a task works with, and performs the task.
 
-ghost use Rattle.std.specs.Prelude.{◌≡◌, true, [], map, nat_eq, string_bytes, Some, None, IfOk};
-ghost use Rattle.ready_connections.specs.Running.{is_shut};
+ghost use Rattle.std.specs.Prelude.{◌≡◌, true, map, string_bytes, Some, None, option_map};
+ghost use Rattle.gateway_rounds.specs.Ports.{port as view_port};
 ghost use Rattle.intake_commands.specs.Bounds.{bounds_of};
-ghost use Rattle.intake_commands.specs.Performing.{PerformsOver, PerformsAll};
+ghost use Rattle.intake_commands.specs.Performing.{IsFresh, PerformsOver, PerformsAll};
 ghost use Rattle.intake_commands.specs.Words.{database_of, folder_of, asks_for_init};
 
 use crate::asked::read;
@@ -11,21 +11,19 @@ use crate::clocked::Clocked;
 use crate::fault::NotDone;
 use crate::folder::SystemFolder;
 use crate::options::{Asked, Serving, Task};
-use crate::port::NoPort;
 use crate::record::Recorded;
 use crate::sockets::ReportedSockets;
 use crate::tasks::perform_task;
-use command_line::{CommandFault, refuse, words};
+use command_line::{refuse, words};
+use connection_hall::{Bounds, Sockets, Stream};
 use database_places::{Place, ReadingPlace, SystemFile, SystemPlace, WaitingPlace};
 use found_files::Found;
-use gateway_server::Port;
+use gateway_rounds::{Note, Port};
 use http_wire::Device;
 use intake_process::IntakeProcess;
-use many_connections::{Many, TcpLine, TcpSockets};
-use ready_connections::Bounds;
 use sqlite_disk::Disk;
-use std::alloc::AllocError;
 use std::io::{IsTerminal, Stderr, Stdout, Write};
+use tcp_sockets::{TcpLine, TcpSockets};
 
 /// The text if requests are read from a terminal.
 const READING: &str = concat!(
@@ -33,8 +31,14 @@ const READING: &str = concat!(
     "Ctrl-D ends it, and intake --help lists the other commands",
 );
 
-/// A port of this machine, whose connections are reported on the standard streams.
-type SystemPort<'r> = Many<Recorded<TcpLine>, ReportedSockets<TcpSockets<'r>, Stdout, Stderr>>;
+/// A connection of this machine, with what is noted of it.
+type Line = Recorded<TcpLine>;
+
+/// The sockets of this machine, whose connections are reported on the standard streams.
+type SystemSockets<'r> = ReportedSockets<TcpSockets<'r>, Stdout, Stderr>;
+
+/// A port of this machine, or none.
+type SystemPort<'r> = Option<Port<Line, SystemSockets<'r>>>;
 
 /// How much of a port is served at once, and how many connections in all.
 fn bounds_of(serving: &Serving<'_>) -> Bounds
@@ -48,18 +52,19 @@ fn bounds_of(serving: &Serving<'_>) -> Bounds
     }
 }
 
-/// The port that is served, which does not listen yet.
-fn port_of<'r>(rt: &'r HostRuntime, serving: &Serving<'_>) -> Result<SystemPort<'r>, AllocError>
-    ensures bounds { IfOk result (λ port. port.hall.bounds ≡ bounds_of serving.now) }
-    ensures fresh { IfOk result (λ port. (port.events.items ≡ []) × (port.handed.items ≡ [])
-        × (port.asked.items ≡ [])) }
-    ensures shut { IfOk result (λ port. is_shut port.hall ≡ nat_eq serving.now.connections 0) }
+/// The port that is served, which does not listen yet; none if there is no memory for it.
+fn port_of<'r>(rt: &'r HostRuntime, serving: &Serving<'_>) -> SystemPort<'r>
+    ensures { IsFresh ⟦<Line as Stream>⟧ serving.now
+        (option_map (view_port ⟦<SystemSockets<'r> as Sockets>⟧.traffic) result) }
 {
     let bounds = bounds_of(serving);
     let log = if serving.log { Some(rt.stdout()) } else { None };
     let sockets = TcpSockets::new(rt, serving.port, bounds.places);
     let reported = ReportedSockets::new(rt.alloc(), sockets, log, rt.stderr(), serving.patience);
-    Many::new(rt.alloc(), reported, bounds)
+    match Port::new(rt.alloc(), reported, bounds) {
+        Ok(port) => Some(port),
+        Err(_) => None,
+    }
 }
 
 /// The disks of the files of the system. A clause reads each lifetime as this one.
@@ -69,19 +74,26 @@ type ReadingFile = database_places::ReadingFile<'static>;
 
 /// Performs a task over the register of this place, this port, this folder and the standard streams, and answers the
 /// status. The place is that of the task's file, and the folder the one that it names.
-fn perform_in<D: Disk + Drop, P: Place<D> + Drop, L: Port, O: Write, E: Write>(
+fn perform_in<
+    D: Disk + Drop,
+    P: Place<D> + Drop,
+    T: Stream<Note = Note> + Drop,
+    K: Sockets<Stream = T> + Drop,
+    O: Write,
+    E: Write,
+>(
     rt: &HostRuntime,
     asked: &Asked<'_>,
     place: P,
-    port: &mut L,
+    port: &mut Option<Port<T, K>>,
     folder: &mut SystemFolder<'_, '_>,
     output: &mut O,
     errors: &mut E,
 ) -> u8
     requires file { P.file place ≡ Some (database_of asked.now.task) }
     requires folder { folder.old.path.now ≡ folder_of asked.now.task }
-    ensures { PerformsOver D.Disk asked.now.task (P.lying place) (L.traffic port.old) (L.traffic port.new)
-        (O.contents output.old) (O.contents output.new) result }
+    ensures { PerformsOver D.Disk T.Stream asked.now.task (P.lying place) (option_map (view_port K.traffic) port.old)
+        (option_map (view_port K.traffic) port.new) (O.contents output.old) (O.contents output.new) result }
 {
     perform_task(
         rt,
@@ -115,7 +127,7 @@ fn perform<O: Write, E: Write>(
     output: &mut O,
     errors: &mut E,
 ) -> u8
-    ensures { PerformsAll ⟦<File as Disk>⟧ ⟦<ReadingFile as Disk>⟧ (map string_bytes words.now)
+    ensures { PerformsAll ⟦<File as Disk>⟧ ⟦<ReadingFile as Disk>⟧ ⟦<Line as Stream>⟧ (map string_bytes words.now)
         (O.contents output.old) (O.contents output.new) result }
 {
     if asks_for_init(words) {
@@ -128,21 +140,20 @@ fn perform<O: Write, E: Write>(
     };
     let database = asked.task.database();
     let mut folder = SystemFolder::new(rt, asked.task.folder());
+    let mut no_port: SystemPort<'_> = None;
     match &asked.task {
-        Task::Serve(serving) => match port_of(rt, serving) {
-            Ok(mut port) => {
-                let place = SystemPlace::new(rt, database, found);
-                perform_in(rt, &asked, place, &mut port, &mut folder, output, errors)
-            }
-            Err(_) => CommandFault::Memory.tell("intake", errors),
-        },
+        Task::Serve(serving) => {
+            let mut port = port_of(rt, serving);
+            let place = SystemPlace::new(rt, database, found);
+            perform_in(rt, &asked, place, &mut port, &mut folder, output, errors)
+        }
         task if task.access().opens_for_reading(rt, database) => {
             let place = ReadingPlace::new(rt, database, found);
-            perform_in(rt, &asked, place, &mut NoPort, &mut folder, output, errors)
+            perform_in(rt, &asked, place, &mut no_port, &mut folder, output, errors)
         }
         _ => {
             let place = SystemPlace::new(rt, database, found);
-            perform_in(rt, &asked, place, &mut NoPort, &mut folder, output, errors)
+            perform_in(rt, &asked, place, &mut no_port, &mut folder, output, errors)
         }
     }
 }

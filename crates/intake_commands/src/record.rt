@@ -1,13 +1,13 @@
 //! What is noted of a connection until it is over.
 
-ghost use Rattle.std.specs.Prelude.{◌≡◌};
+ghost use Rattle.std.specs.Prelude.{◌≡◌, map, option_map, string_bytes};
+ghost use Rattle.intake_commands.specs.Reported.{AddsFiler};
 
 use crate::fault::ConnectionFault;
-use gateway_requests::completed;
-use gateway_server::{Ended, Mark};
+use connection_hall::{Broken, Got, Stream, Why};
+use gateway_rounds::Note;
+use gateway_server::Ended;
 use http_wire::ConnFault;
-use many_connections::Note;
-use ready_connections::{Broken, Got, Stream, Why};
 use std::alloc::Global;
 
 /// How many filers a line of the log has at most, and how many statuses.
@@ -16,68 +16,71 @@ const MOST: usize = 64;
 /// What is noted of a connection.
 #[derive(Drop)]
 pub(crate) struct Record {
-    alloc: Global,
-    /// Its number, from 1, in the order in which connections came.
-    pub(crate) number: u32,
     is_logged: bool,
-    /// How many requests and refusals there were.
+    /// How many requests and refusals were answered.
     pub(crate) places: u64,
     /// The filers of the first requests that were filed.
     pub(crate) filers: Vec<String>,
     /// The statuses of the first final responses.
     pub(crate) statuses: Vec<u16>,
-    /// How its last piece ended.
-    ended: Ended,
-    /// How many bytes were written since its last piece was over, and whether the last write took less than it was
-    /// given.
+    /// Whether its last reply says that it closes.
+    is_closed: bool,
+    /// How many bytes were written since its last reply began, and whether the last write took less than it was given.
     sent: usize,
     is_stuck: bool,
 }
 
 impl Record {
     /// The record of a connection on which nothing came. Filers and statuses are noted only for the log.
-    fn new(alloc: Global, number: u32, is_logged: bool) -> Record {
+    fn new(alloc: Global, is_logged: bool) -> Record {
         Record {
-            alloc,
-            number,
             is_logged,
             places: 0,
             filers: Vec::new(alloc),
             statuses: Vec::new(alloc),
-            ended: Ended::InputEnded,
+            is_closed: false,
             sent: 0,
             is_stuck: false,
         }
     }
 
-    /// Notes a piece that is over. If memory is short, its filer or its status is left out.
-    fn add(&mut self, note: &Note) {
-        self.ended = note.ended;
+    /// Notes what was answered. If memory is short, its filer or its status is left out.
+    fn add(&mut self, note: &Note)
+        ensures filer { AddsFiler (option_map string_bytes note.now.filer)
+            (map string_bytes self.old.filers.items) (map string_bytes self.new.filers.items) }
+        ensures closed { self.new.is_closed ≡ note.now.closes }
+    {
+        self.places = self.places.saturating_add(1);
+        self.is_closed = note.closes;
         self.sent = 0;
-        if let Some(mark) = note.mark {
-            self.places = self.places.saturating_add(1);
-            self.add_filer(&note.read, mark);
-        }
-        if let Some(status) = note.status {
-            self.add_status(status);
+        if self.is_logged {
+            self.add_filer(&note.filer);
+            self.add_status(note.status);
         }
     }
 
-    /// Notes the filer of a request with these bytes, if it was filed, and the line has room for it.
-    fn add_filer(&mut self, read: &[u8], mark: Mark) {
-        if !self.is_logged || self.filers.len() >= MOST {
+    /// Notes the filer of a request, if it was filed, and the line has room for it.
+    fn add_filer(&mut self, filer: &Option<String>)
+        ensures filer { AddsFiler (option_map string_bytes filer.now) (map string_bytes self.old.filers.items)
+            (map string_bytes self.new.filers.items) }
+        ensures closed { self.new.is_closed ≡ self.old.is_closed }
+    {
+        let Some(filer) = filer else {
             return;
-        }
-        if let Ok(list) = completed(self.alloc, read, &[mark]) {
-            for request in list {
-                let _ = self.filers.push(request.filer);
+        };
+        if self.filers.len() < MOST {
+            if let Ok(filer) = filer.clone() {
+                let _ = self.filers.push(filer);
             }
         }
     }
 
     /// Notes a status, if the line has room for it.
-    fn add_status(&mut self, status: u16) {
-        if self.is_logged && self.statuses.len() < MOST {
+    fn add_status(&mut self, status: u16)
+        ensures filers { self.new.filers ≡ self.old.filers }
+        ensures closed { self.new.is_closed ≡ self.old.is_closed }
+    {
+        if self.statuses.len() < MOST {
             let _ = self.statuses.push(status);
         }
     }
@@ -94,7 +97,8 @@ impl Record {
     pub(crate) fn ended(&self, why: Why) -> Ended {
         let sent = self.sent;
         match why {
-            Why::Done => self.ended,
+            Why::Done if self.is_closed => Ended::Closed,
+            Why::Done => Ended::InputEnded,
             Why::Broken => Ended::Fault(ConnFault::Write { sent }),
             Why::Late if self.is_stuck => Ended::Fault(ConnFault::Write { sent }),
             Why::Late => Ended::Fault(ConnFault::Read),
@@ -102,10 +106,14 @@ impl Record {
         }
     }
 
-    /// The fault in which the connection ended that is over for this reason, if it did. So many seconds were its
-    /// patience.
-    pub(crate) fn fault(&self, why: Why, patience: Option<u32>) -> Option<ConnectionFault> {
-        let connection = self.number;
+    /// The fault in which the connection of this number ended that is over for this reason, if it did. So many seconds
+    /// were its patience.
+    pub(crate) fn fault(
+        &self,
+        connection: u32,
+        why: Why,
+        patience: Option<u32>,
+    ) -> Option<ConnectionFault> {
         let Ended::Fault(fault) = self.ended(why) else {
             return None;
         };
@@ -128,18 +136,20 @@ pub(crate) struct Recorded<S> {
 
 impl<S: Stream> Recorded<S> {
     /// The stream, on which nothing came.
-    pub(crate) fn new(alloc: Global, inner: S, number: u32, is_logged: bool) -> Recorded<S>
+    pub(crate) fn new(alloc: Global, inner: S, is_logged: bool) -> Recorded<S>
         ensures { result.inner ≡ inner }
     {
         Recorded {
             inner,
-            record: Record::new(alloc, number, is_logged),
+            record: Record::new(alloc, is_logged),
         }
     }
 }
 
 impl<S: Stream> Stream for Recorded<S> {
     type Note = Note;
+
+    ghost place = { λ it. S.place it.inner };
 
     ghost came = { λ it. S.came it.inner };
 

@@ -2,12 +2,10 @@
 
 ghost use Rattle.std.specs.Prelude.{None};
 
-use crate::capacity::Capacity;
 use crate::fault::VisitFault;
 use crate::log_message::LogMessage;
 use crate::options::Serving;
 use crate::pause::Pause;
-use gateway_server::Served;
 use intake_process::{Closed, Observer, Totals, Went};
 use std::io::Write;
 use std::time::Instant;
@@ -21,8 +19,8 @@ pub(crate) struct Reporter<'r, 'a, 'o, E> {
     errors: &'o mut E,
     /// When the opening of the register began; `None` if the system has no clock.
     start: Option<Instant>,
-    /// How many keys the register may still keep; `None` while it is closed.
-    capacity: Option<Capacity>,
+    /// Whether it was reported that the register is full.
+    is_full: bool,
     /// How many requests the register kept when it was opened again; `None` before that.
     kept: Option<u64>,
     /// How long the register is left alone once it is closed.
@@ -41,7 +39,7 @@ impl<'r, 'a, 'o, E: Write> Reporter<'r, 'a, 'o, E> {
             serving,
             errors,
             start: Instant::now(rt).ok(),
-            capacity: None,
+            is_full: false,
             kept: None,
             pause: Pause::none(),
         }
@@ -64,12 +62,12 @@ impl<'r, 'a, 'o, E: Write> Reporter<'r, 'a, 'o, E> {
         }
     }
 
-    /// Reports that the register is full, if that is not reported yet.
-    fn tell_full(&mut self) {
-        if let Some(capacity) = &mut self.capacity {
-            if let Some(limit) = capacity.newly_full() {
-                LogMessage::Full { limit }.tell(self.errors);
-            }
+    /// Reports that the register is full, if it keeps so many requests that it is, and that is not reported yet.
+    fn tell_full(&mut self, kept: u64) {
+        let limit = self.serving.limit;
+        if kept >= limit && !self.is_full {
+            self.is_full = true;
+            LogMessage::Full { limit }.tell(self.errors);
         }
     }
 
@@ -77,7 +75,6 @@ impl<'r, 'a, 'o, E: Write> Reporter<'r, 'a, 'o, E> {
     /// since it was opened failed for the first time.
     fn tell_down(&mut self, kept: u64) {
         LogMessage::Down.tell(self.errors);
-        self.capacity = None;
         match self.kept {
             Some(before) if kept <= before => self.leave_alone(),
             _ => self.pause = Pause::none(),
@@ -96,7 +93,6 @@ impl<E: Write> Observer for Reporter<'_, '_, '_, E> {
     ghost answers = { λ _. None };
 
     fn ready(&mut self, totals: Totals) {
-        self.capacity = Some(Capacity::new(self.serving.limit, totals.kept));
         LogMessage::Ready {
             port: self.serving.port,
             kept: totals.kept,
@@ -113,16 +109,11 @@ impl<E: Write> Observer for Reporter<'_, '_, '_, E> {
     fn opened(&mut self, totals: Totals) {
         LogMessage::OpenAgain.tell(self.errors);
         self.kept = Some(totals.kept);
-        self.capacity = Some(Capacity::new(self.serving.limit, totals.kept));
-    }
-
-    fn served(&mut self, served: &Served) {
-        self.capacity = self.capacity.map(|it| it.after(served.marks.as_slice()));
     }
 
     fn ended(&mut self, went: Went) {
         match went {
-            Went::Served => self.tell_full(),
+            Went::Served { kept } => self.tell_full(kept),
             Went::Failed(closed) => self.tell_down(closed.kept),
             Went::TurnedAway => {}
             Went::NotOpened(_) => self.leave_alone(),

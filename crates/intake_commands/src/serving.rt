@@ -1,9 +1,10 @@
 //! Serves the connections of a port on the register of a file.
 
-ghost use Rattle.std.specs.Prelude.{◌≡◌, not, true, None, Err, IfErr};
+ghost use Rattle.std.specs.Prelude.{◌≡◌, not, true, None, Err, IfErr, option_map};
 ghost use Rattle.database_places.specs.Opening.{is_found};
+ghost use Rattle.gateway_rounds.specs.Ports.{port as view_port};
 ghost use Rattle.intake_process.specs.Process.{parts};
-ghost use Rattle.intake_commands.specs.Tasks.{Serves, IsServingTold};
+ghost use Rattle.intake_commands.specs.Tasks.{Serves, ServesPort, IsServingTold};
 
 use crate::fault::NotDone;
 use crate::limit::Limit;
@@ -11,23 +12,56 @@ use crate::options::Serving;
 use crate::reported_fault::opening_fault;
 use crate::reporter::Reporter;
 use command_line::{CommandFault, DONE};
+use connection_hall::{Sockets, Stream};
 use database_places::{Opening, PageCache, Place};
-use gateway_server::{Port, PortFault};
+use gateway_rounds::{Note, Port};
 use intake_process::{IntakeProcess, ServingFault, serve_register};
 use sqlite_disk::Disk;
 use std::alloc::Global;
 use std::io::{self, Write};
 
-/// Serves connections of this port by the register of this process. Standard error says when it is ready and when it
-/// ends. If the port is not to be had, no new register is made.
-pub(crate) fn serve<'a, D: Disk + Drop, P: Place<D> + Drop, L: Port, E: Write>(
+/// Serves the connections of this port by the register of this process. There is no port if there was no memory for
+/// one.
+pub(crate) fn serve<
+    'a,
+    D: Disk + Drop,
+    P: Place<D> + Drop,
+    T: Stream<Note = Note> + Drop,
+    K: Sockets<Stream = T> + Drop,
+    E: Write,
+>(
     rt: &HostRuntime,
     serving: Serving<'a>,
     process: &mut IntakeProcess<D, P>,
-    port: &mut L,
+    port: &mut Option<Port<T, K>>,
     errors: &mut E,
 ) -> Result<u8, NotDone<'a>>
-    ensures { Serves serving.entry (L.traffic port.old) (L.traffic port.new)
+    ensures { Serves T.Stream serving.entry (option_map (view_port K.traffic) port.old)
+        (option_map (view_port K.traffic) port.new) (parts P.lying process.old) (parts P.lying process.new) result }
+{
+    match port {
+        Some(port) => serve_port(rt, serving, process, port, errors),
+        None => Err(NotDone::Command(CommandFault::Memory)),
+    }
+}
+
+/// Serves the connections of this port by the register of this process. Standard error says when it is ready and when
+/// it ends. If the port is not to be had, no new register is made.
+fn serve_port<
+    'a,
+    D: Disk + Drop,
+    P: Place<D> + Drop,
+    T: Stream<Note = Note> + Drop,
+    K: Sockets<Stream = T> + Drop,
+    E: Write,
+>(
+    rt: &HostRuntime,
+    serving: Serving<'a>,
+    process: &mut IntakeProcess<D, P>,
+    port: &mut Port<T, K>,
+    errors: &mut E,
+) -> Result<u8, NotDone<'a>>
+    ensures { ServesPort T.Stream serving.entry (view_port K.traffic port.old) (view_port K.traffic port.new)
         (parts P.lying process.old) (parts P.lying process.new) result }
 {
     let Some(limit) = Limit::new(serving.limit) else {
@@ -60,9 +94,12 @@ pub(crate) fn serve<'a, D: Disk + Drop, P: Place<D> + Drop, L: Port, E: Write>(
 
 /// Listens on a port before a new register is made, so that a port in use leaves no file. One that is there is opened
 /// first, since that takes its time, and connections would wait for it.
-fn listen_before<L: Port>(port: &mut L, is_made: bool) -> io::Result<()>
-    ensures same { L.traffic port.new ≡ L.traffic port.old }
-    ensures refused { IfErr result (λ _. (is_made ≡ true) × ((L.traffic port.old).coming ≡ None)) }
+fn listen_before<T: Stream<Note = Note> + Drop, K: Sockets<Stream = T> + Drop>(
+    port: &mut Port<T, K>,
+    is_made: bool,
+) -> io::Result<()>
+    ensures same { view_port K.traffic port.new ≡ view_port K.traffic port.old }
+    ensures refused { IfErr result (λ _. is_made ≡ true) }
 {
     if is_made { port.listen() } else { Ok(()) }
 }
@@ -89,10 +126,9 @@ fn serving_fault<'a, D: Disk + Drop, P: Place<D>>(
 {
     match fault {
         ServingFault::Register(fault) => opening_fault(alloc, place, serving.database, fault),
-        ServingFault::Port(PortFault::Network(error)) => NotDone::Network {
+        ServingFault::Port(error) => NotDone::Network {
             port: serving.port,
             error,
         },
-        ServingFault::Port(PortFault::Memory) => NotDone::Command(CommandFault::Memory),
     }
 }

@@ -1,6 +1,7 @@
 //! Performs a task, and says how the program ends.
 
-ghost use Rattle.std.specs.Prelude.{◌≡◌, None};
+ghost use Rattle.std.specs.Prelude.{◌≡◌, None, option_map};
+ghost use Rattle.gateway_rounds.specs.Ports.{port as view_port};
 ghost use Rattle.http_wire.specs.Wire.{wire};
 ghost use Rattle.intake_process.specs.Process.{parts};
 ghost use Rattle.intake_commands.specs.Status.{status_of};
@@ -13,9 +14,10 @@ use crate::running::run_once;
 use crate::serving::serve;
 use crate::visiting::visit;
 use command_line::CommandFault;
+use connection_hall::{Sockets, Stream};
 use database_places::Place;
 use finding_lines::lint_reports;
-use gateway_server::Port;
+use gateway_rounds::{Note, Port};
 use http_wire::{Sink, Source};
 use intake_process::{Errand, IntakeProcess};
 use key_string::is_filer;
@@ -23,13 +25,14 @@ use sqlite_disk::Disk;
 use std::io::Write;
 
 /// Performs a task, and answers the status. The process is that of the register that the task is for, and closed; the
-/// port is the one that it serves, the folder the one that it writes pages into, and the reader and the writer are the
-/// connection that it runs. It is written over any of these, so that the contract is one for every disk, and what the
-/// system alone knows stays behind the traits. A fault's text goes to `errors`.
+/// port is the one that it serves, if it serves one, the folder the one that it writes pages into, and the reader and
+/// the writer are the connection that it runs. It is written over any of these, so that the contract is one for every
+/// disk, and what the system alone knows stays behind the traits. A fault's text goes to `errors`.
 pub(crate) fn perform_task<
     D: Disk + Drop,
     P: Place<D> + Drop,
-    L: Port,
+    T: Stream<Note = Note> + Drop,
+    K: Sockets<Stream = T> + Drop,
     F: SiteFolder,
     R: Source,
     W: Sink,
@@ -39,7 +42,7 @@ pub(crate) fn perform_task<
     rt: &HostRuntime,
     task: &Task<'_>,
     process: &mut IntakeProcess<D, P>,
-    port: &mut L,
+    port: &mut Option<Port<T, K>>,
     folder: &mut F,
     reader: &mut R,
     writer: &mut W,
@@ -47,11 +50,11 @@ pub(crate) fn perform_task<
     errors: &mut E,
 ) -> u8
     requires { (parts P.lying process.old).intake ≡ None }
-    ensures { Performs {g = D.Disk} task.now
+    ensures { Performs {g = D.Disk} T.Stream task.now
         (means (wire R.Source W.Sink reader.old writer.old) (O.contents output.old) (F.Folder.pages folder.old)
-        (L.traffic port.old) (parts P.lying process.old))
+        (option_map (view_port K.traffic) port.old) (parts P.lying process.old))
         (means (wire R.Source W.Sink reader.new writer.new) (O.contents output.new) (F.Folder.pages folder.new)
-        (L.traffic port.new) (parts P.lying process.new))
+        (option_map (view_port K.traffic) port.new) (parts P.lying process.new))
         result }
 {
     match task {

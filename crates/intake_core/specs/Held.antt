@@ -83,3 +83,11 @@ IsTransition g old new Into =
     IsClean g new → (before : List Request) → HoldsRequests g old before
     → (after : List Request) × HoldsRequests g new after × (old_style_in new after ≡ old_style_in old before)
     × Into (old_style_in old before) before after
+
+-- what `IsTransition` says, if this holds of the requests that it held
+abbrev pub IsTransitionIf : {S : Type 0} → Ghosts S → (List Request → Type 0) → Intake S → Intake S
+    → (List Request → List Request → List Request → Type 0) → Type 0
+IsTransitionIf g Holds old new Into =
+    IsClean g new → (before : List Request) → HoldsRequests g old before → Holds before
+    → (after : List Request) × HoldsRequests g new after × (old_style_in new after ≡ old_style_in old before)
+    × Into (old_style_in old before) before after

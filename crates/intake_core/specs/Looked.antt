@@ -1,4 +1,4 @@
--- What an intake does with several requests that were looked up and found to be new.
+-- What a look-up tells of a request, and what an intake does with several that were found to be new.
 use Rattle.std.specs.Prelude.{◌≡◌, ◌↔◌, ◌⊎◌, ◌+◌, ◌<◌, ◌≤◌, ◌++◌, ℕ, List, length, map, take, true, false, Err, Some}
 use Rattle.std.specs.Prelude.{IsTrue, Vec, vec_len, vec_capacity}
 use Rattle.std.specs.List.{AllByRecursion, zip}
@@ -11,6 +11,8 @@ use Rattle.register_store.specs.Outcomes.{outcomes_behind}
 use Rattle.register_tables.specs.Registers.{LeavesOnlyReceived, LeavesReceived, LeavesRegister}
 use Rattle.intake_core.specs.declared.intake.Intake.{Intake}
 use Rattle.intake_core.specs.declared.intake.Unavailable.TheVariants.{Down}
+use Rattle.intake_core.specs.declared.intake.group.Looked.{Looked}
+use Rattle.intake_core.specs.declared.intake.group.Looked.TheVariants.{New, Repeat, Unknown}
 use Rattle.intake_core.specs.declared.intake.group.Together.{Together}
 use Rattle.intake_core.specs.Group.{AreDecidedInTurn, Decided, EndAtFailure, Given, HasFailed, LeavesHeld, LeavesSome}
 use Rattle.intake_core.specs.Group.{after}
@@ -19,6 +21,14 @@ use Rattle.intake_core.specs.Held.{ForRequests, IsDurableAs, KeepsSetting, Survi
 use Rattle.intake_core.specs.Moments.{ForMoments, HoldsMoments, LeavesSomeWith, SurvivesWith, moment_of, moments_after}
 use Rattle.intake_core.specs.Moments.{with_moments}
 use Rattle.intake_core.specs.Together.{AreNewBehind, IfKept, UnlessKept, count_of}
+
+-- What it tells, by the requests that are held. If the request is new, the register is open; if it is a repeat, the
+-- register is open if it was so before.
+abbrev pub TellsWhether : {S : Type 0} → Ghosts S → List Request → Request → Intake S → Intake S → Looked → Type 0
+TellsWhether g F r old new New = (has_key F r ≡ false) × IsTrue (shows g new).is_open
+TellsWhether g F r old new Repeat =
+    (has_key F r ≡ true) × (IsTrue (shows g old).is_open → IsTrue (shows g new).is_open)
+TellsWhether g F r old new Unknown = Unit {0}
 
 -- none of these requests has the filer and key of one that is held
 abbrev pub AreNewTo : List Request → List Request → Type 0

@@ -22,6 +22,7 @@ mod group;
 
 use crate::{Cache, Request, answer_by, name_of};
 use filing_model::{Answer, FilingRow, Outcome, Registered, Style};
+pub use group::Looked;
 use key_string::KeyText;
 use register_store::{KeptRow, Moment, NewRow, Store, StoreFault};
 use sqlite::Alter;
@@ -147,6 +148,13 @@ impl<S: Alter> Intake<S> {
             cache: _,
         } = self;
         store
+    }
+
+    /// How many requests the register keeps.
+    pub fn kept(&self) -> u64
+        ensures { result ≡ (store_of self.now).kept }
+    {
+        self.store.kept_count().unwrap_or(0)
     }
 
     /// Whether the database refused a call for another cause than memory. Such an intake answers nothing else, until

@@ -13,6 +13,6 @@ mod request;
 pub use cache::{Cache, answer_by, name_of};
 pub use fact_lines::fact_line;
 pub use filing_model::{Answer, FilingRow, Style, list_reply, reply_of, word_reply};
-pub use intake::{Intake, Unavailable};
+pub use intake::{Intake, Looked, Unavailable};
 pub use register_store::Moment;
 pub use request::Request;

@@ -20,7 +20,8 @@ use Rattle.filing_model.specs.Text.{interim_of}
 use Rattle.gateway_server.specs.Answered.{WritesText, IsReplyFault}
 use Rattle.gateway_server.specs.Progress.{IsEndedBy, IsEndedByFault}
 use Rattle.gateway_server.specs.declared.serving.Served.{Served}
-use Rattle.intake_process.specs.Turning.{away_reply, away_mark, end_by, IsUnanswered, AnswersAway, IsTurnedAway}
+use Rattle.gateway_rounds.specs.Away.{away_reply, away_mark}
+use Rattle.intake_process.specs.Turning.{end_by, IsUnanswered, AnswersAway, IsTurnedAway}
 use Rattle.intake_process.specs.Turning.{TurnsAway}
 
 -- ---- what is written

@@ -12,7 +12,6 @@ use Rattle.filing_model.specs.Request.{Request}
 use Rattle.register_tables.specs.Registers.{IsRegisterOf}
 use Rattle.intake_core.specs.declared.intake.Intake.{Intake}
 use Rattle.intake_core.specs.Held.{limit_of, has_stopped}
-use Rattle.http_wire.specs.Wire.{Wire}
 use Rattle.table_rows.proofs.CleanLemmas.{always_clean}
 use Rattle.table_rows.specs.Standing.{HasCommitted}
 use Rattle.sqlite_wal.proofs.LogLemmas.{SeenMayStay}
@@ -30,12 +29,13 @@ use Rattle.database_places.specs.Places as place
 use Rattle.intake_process.specs.declared.beginning.Totals.{Totals}
 use Rattle.intake_process.specs.declared.fault.OpeningFault.{OpeningFault}
 use Rattle.intake_process.specs.declared.fault.OpeningFault.TheVariants.{Files as Unopened, Taken, Create, Open}
-use Rattle.intake_process.specs.declared.process.Answered.{Answered}
 use Rattle.intake_process.specs.declared.process.Closed.{Closed}
 use Rattle.intake_process.specs.declared.process.AnsweredBy.{AnsweredBy}
 use Rattle.intake_process.specs.declared.process.AnsweredBy.TheVariants as outcome
 use Rattle.intake_process.specs.Beginning.{HoldsAs, AreTotals, FindsIntake, MakesIntake, IsNotBegun}
-use Rattle.intake_process.specs.Process.{Parts, IsAwake, IsUp, AnswersBy, KeepsBy, IsNotOpened, leaves_doubt}
+use Rattle.connection_hall.specs.declared.stream.Stream.{Ghosts as Streams}
+use Rattle.gateway_rounds.specs.Ports.{Port}
+use Rattle.intake_process.specs.Process.{Parts, IsAwake, IsUp, AnswersPortBy, KeepsBy, IsNotOpened, leaves_doubt}
 use Rattle.intake_process.specs.Process.{IsLeftBy, Leaves, OpensOver, OpensProcess, ClosesProcess}
 use Rattle.intake_process.proofs.Left.{keeps_left, none_left, unopened_leaves}
 
@@ -356,12 +356,12 @@ module _ {D : Type 0} {g : Ghosts D} where
       (not_true (has_stopped intake) (λ stopped. other (stops.1 stopped)))
 
   -- it is closed after that
-  pub awake : (from to : Wire) (first last new : Option (Intake (FileStore D g))) (answered : Answered)
-      → AnswersBy from to first last answered → (answered.outcome ≡ outcome.Failed → new ≡ None)
-      → ((answered.outcome ≡ outcome.Failed → ⊥) → new ≡ last) → IsAwake new
-  awake from to (Some intake) last new answered by closed others =
-      awake_by answered.outcome by.0 last new by.1 by.2.failed closed others
-  awake from to None last new answered by closed others =
-      let other : answered.outcome ≡ outcome.Failed → ⊥ =
-      λ e. (let no : outcome.TurnedAway ≡ outcome.Failed = sym by.2 ∙ e in cc) in
-      subst (λ i. IsAwake i) (sym (others other ∙ by.0)) tt
+  pub awake : {S N : Type 0} (s : Streams S N) (port port' : Port S) (first last new : Option (Intake (FileStore D g)))
+      (by : AnsweredBy) → AnswersPortBy s port port' first last by → (by ≡ outcome.Failed → new ≡ None)
+      → ((by ≡ outcome.Failed → ⊥) → new ≡ last) → IsAwake new
+  awake s port port' (Some intake) last new by answered closed others =
+      awake_by by answered.0 last new answered.1 answered.3 closed others
+  awake s port port' None last new by answered closed others =
+      let other : by ≡ outcome.Failed → ⊥ =
+      λ failed. (let no : outcome.TurnedAway ≡ outcome.Failed = sym answered.2 ∙ failed in cc) in
+      subst (λ i. IsAwake i) (sym (others other ∙ answered.0)) tt

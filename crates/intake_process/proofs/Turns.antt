@@ -1,495 +1,487 @@
--- Connections that are answered, one behind another.
-use Rattle.std.proofs.Common.{◌≡◌, ℕ, ◌+◌, Bool, List, [], ◌∷◌, ◌++◌, take, map, true, false, Option, Some, None}
-use Rattle.std.proofs.Common.{Ok, arith, refl, IsSome}
-use Rattle.std.proofs.Common.{sym, ◌∙◌, ap, subst}
-use Rattle.std.proofs.lemmas.List.{append-nil, append_assoc}
-use Rattle.std.specs.Prelude.{IfSome, option_map}
+-- What is answered on a port, one round behind another.
+use Rattle.std.proofs.Common.{◌≡◌, ℕ, Bool, List, [], ◌∷◌, ◌++◌, take, true, false, Option, Some, None, refl, sym, ◌∙◌}
+use Rattle.std.proofs.Common.{ap}
+use Rattle.std.proofs.Common.{Ok, subst, append_assoc, IsSome, arith}
+use Rattle.std.specs.Prelude.{IfSome}
+use Rattle.std.specs.List.{AllByRecursion}
+use Rattle.std.specs.Option.{option_to_list}
 use Rattle.sqlite_disk.specs.declared.Disk.{Ghosts}
 use Rattle.sqlite_disk.specs.declared.Files.{Files}
 use Rattle.sqlite_store.specs.declared.store.FileStore.{FileStore}
 use Rattle.sqlite.specs.Files.{over_files}
-use Rattle.http_wire.specs.Wire.{Wire}
-use Rattle.filing_model.specs.Request.{Request}
-use Rattle.filing_model.specs.Serving.{Keeping, keeping, Serves}
+use Rattle.http_messages.specs.Head.{closes}
+use Rattle.http_messages.specs.Message.{Arrival, Read, Refused}
+use Rattle.http_messages.specs.Reply.{render}
+use Rattle.connection_hall.specs.declared.stream.Stream.{Ghosts as Streams}
+use Rattle.connection_hall.specs.Answers.{Answer}
+use Rattle.filing_model.specs.Request.{Request, firsts}
+use Rattle.filing_model.specs.Serving.{kept_by, keeping}
+use Rattle.filing_model.specs.Steps.{Step, StepsFit, all_completed}
+use Rattle.filing_model.specs.declared.served.Mark.{Mark}
+use Rattle.filing_model.specs.declared.served.Mark.TheVariants.{Done, Unavailable, NotFiled}
+use Rattle.filing_model.specs.Text.{MarkFits, MarksFit, completed_at, reply_text_with}
+use Rattle.filing_model.proofs.Alike.{firsts_alike, marks_fit_alike, reply_alike}
+use Rattle.filing_model.proofs.Appending.{firsts-kept_by, kept_by-append}
+use Rattle.filing_model.proofs.Lists.{append_nil}
 use Rattle.intake_core.specs.declared.intake.Intake.{Intake}
-use Rattle.gateway_server.specs.Progress.{IsReadToEnd}
-use Rattle.gateway_server.specs.InTurn.{ServeInTurn, Came, AreCounted, AreTold}
-use Rattle.gateway_server.specs.Ahead.{AreDecidedAhead}
-use Rattle.gateway_server.specs.Ports.{Connection, Traffic, Follows, IsAsked, Takes, IsNew, connection_with}
-use Rattle.gateway_server.proofs.Turns.{IsEndTold, came_none, told_none, came_one, counted_told, told_one, told_untold}
-use Rattle.gateway_server.proofs.Turns.{turns_join, came_join, counted_join, counted_none, told_join}
-use Rattle.gateway_server.proofs.Unanswered.{decided_join, decides_more}
+use Rattle.intake_core.specs.Held.{limit_of}
+use Rattle.gateway_rounds.specs.Away as closed
+use Rattle.gateway_rounds.specs.Ports.{Port, Runs}
+use Rattle.gateway_rounds.specs.Rounds.{AnswersRound}
+use Rattle.gateway_rounds.specs.Turns.{IsAnswerTo, Spells, AreSpelled, IsTold, AreTold, DecidesTurns, TakesTurns}
+use Rattle.gateway_rounds.specs.Turns.{answers_of, steps_of, completed_by}
+use Rattle.gateway_rounds.specs.Turns as round
+use Rattle.gateway_rounds.proofs.Whole.{round_takes}
 use Rattle.table_rows.proofs.CleanLemmas.{always_clean}
 use Rattle.database_places.specs.Places.{IsHonest}
 use Rattle.intake_process.specs.declared.beginning.Totals.{Totals}
-use Rattle.intake_process.specs.declared.process.Answered.{Answered}
 use Rattle.intake_process.specs.declared.process.Closed.{Closed}
 use Rattle.intake_process.specs.Beginning.{HoldsAs}
-use Rattle.intake_process.specs.History.{LooksAhead, NoneCame}
-use Rattle.intake_process.specs.Process.{Parts, IsUnrefused, StaysUp, Keeps, KeepsBy, Leaves, AnswersBy, AnswersWire}
-use Rattle.intake_process.specs.Process.{DecidesBy, GoesAhead}
-use Rattle.intake_process.specs.Process.{IsUp, OpensProcess, ClosesProcess}
-use Rattle.intake_process.specs.Turns.{Turn, Served, TurnedAway, Ahead, connections_of, served_in, ahead_in}
-use Rattle.intake_process.specs.Turns.{AreTurnedAway, AreAhead, NoneIsAway, AreAnswered, AnswersSome}
+use Rattle.intake_process.specs.Process.{Parts, IsUnrefused, StaysUp, IsUp, Keeps, KeepsBy, Leaves, OpensProcess}
+use Rattle.intake_process.specs.declared.process.AnsweredBy.{AnsweredBy}
+use Rattle.intake_process.specs.Process.{AnswersPort, AnswersPortBy, ClosesProcess}
+use Rattle.intake_process.specs.Turns.{Told, Turn, Served, TurnedAway, told_in, steps_in, answers_in, NoneIsAway}
+use Rattle.intake_process.specs.Turns.{SpellArrival, IsDecided, IsAway, AreTurns, AreAnswered, AnswersSome}
+use Rattle.intake_process.proofs.Alone.{all_away, all_in_turn}
 use Rattle.intake_process.proofs.Up as up
 
--- ---- some, and then more
+-- ---- some turns, and then more
 
-served_join : (ts us : List Turn) → served_in (ts ++ us) ≡ served_in ts ++ served_in us
-served_join [] us = refl
-served_join (Served c ∷ ts) us = ap (λ cs. c ∷ cs) (served_join ts us)
-served_join (TurnedAway c ∷ ts) us = served_join ts us
-served_join (Ahead c ∷ ts) us = ap (λ cs. c ∷ cs) (served_join ts us)
+steps_join : (ts us : List Turn) → steps_in (ts ++ us) ≡ steps_in ts ++ steps_in us
+steps_join [] us = refl
+steps_join (Served told ∷ ts) us = ap (λ steps. told.step ∷ steps) (steps_join ts us)
+steps_join (TurnedAway told ∷ ts) us = steps_join ts us
 
-connections_join : (ts us : List Turn) → connections_of (ts ++ us) ≡ connections_of ts ++ connections_of us
-connections_join [] us = refl
-connections_join (Served c ∷ ts) us = ap (λ cs. c ∷ cs) (connections_join ts us)
-connections_join (TurnedAway c ∷ ts) us = ap (λ cs. c ∷ cs) (connections_join ts us)
-connections_join (Ahead c ∷ ts) us = connections_join ts us
+answers_join : (ts us : List Turn) → answers_in (ts ++ us) ≡ answers_in ts ++ answers_in us
+answers_join [] us = refl
+answers_join (turn ∷ ts) us =
+    ap (λ answers. option_to_list (told_in turn).answer ++ answers) (answers_join ts us)
+    ∙ sym (append_assoc (option_to_list (told_in turn).answer) (answers_in ts) (answers_in us))
 
-ahead_join : (ts us : List Turn) → ahead_in (ts ++ us) ≡ ahead_in ts ++ ahead_in us
-ahead_join [] us = refl
-ahead_join (Served c ∷ ts) us = ahead_join ts us
-ahead_join (TurnedAway c ∷ ts) us = ahead_join ts us
-ahead_join (Ahead c ∷ ts) us = ap (λ cs. c ∷ cs) (ahead_join ts us)
+completed_join : (xs ys : List Step) → all_completed (xs ++ ys) ≡ all_completed xs ++ all_completed ys
+completed_join [] ys = refl
+completed_join (step ∷ xs) ys =
+    ap (λ done. completed_at step.arrival step.mark ++ done) (completed_join xs ys)
+    ∙ sym (append_assoc (completed_at step.arrival step.mark) (all_completed xs) (all_completed ys))
 
 none_away_join : (ts us : List Turn) → NoneIsAway ts → NoneIsAway us → NoneIsAway (ts ++ us)
 none_away_join [] us first second = second
-none_away_join (Served c ∷ ts) us first second = none_away_join ts us first second
-none_away_join (TurnedAway c ∷ ts) us first second = absurd first
-none_away_join (Ahead c ∷ ts) us first second = none_away_join ts us first second
+none_away_join (Served told ∷ ts) us first second = none_away_join ts us first second
+none_away_join (TurnedAway told ∷ ts) us first second = absurd first
 
--- ---- what was handed out ahead
+-- ---- after requests with the same firsts
 
-pub follows_none : (old : Option (List (List ℕ))) → Follows old old []
-follows_none None = tt
-follows_none (Some before) = ap Some (sym (append-nil before))
+text_alike : (old_style old new : List Request) → firsts old ≡ firsts new → (arrival : Arrival) (mark : Mark)
+    → reply_text_with old_style old arrival mark ≡ reply_text_with old_style new arrival mark
+text_alike old_style old new same (Read m) Unavailable = refl
+text_alike old_style old new same (Read m) Done =
+    ap (λ x. render x (closes m.head)) (reply_alike old new same old_style m)
+text_alike old_style old new same (Read m) NotFiled =
+    ap (λ x. render x (closes m.head)) (reply_alike old new same old_style m)
+text_alike old_style old new same (Refused refusal) mark = refl
 
-follows_join : (a b c : Option (List (List ℕ))) (first second : List (List ℕ)) → Follows a b first
-    → Follows b c second → Follows a c (first ++ second)
-follows_join None b c first second one two = tt
-follows_join (Some before) b c first second one two =
-    subst (λ x. Follows x c second) one two ∙ ap Some (append_assoc before first second)
-
-are_ahead_join : (a b c : Option (List (List ℕ))) (ts us : List Turn) → AreAhead a b ts → AreAhead b c us
-    → AreAhead a c (ts ++ us)
-are_ahead_join a b c ts us one two = (
-  one.0 ++ two.0,
-  follows_join a b c one.0 two.0 one.1 two.1,
-  subst (λ cs. AreDecidedAhead (one.0 ++ two.0) cs) (sym (ahead_join ts us))
-      (decided_join one.0 two.0 (ahead_in ts) (ahead_in us) one.2 two.2),
-)
-
-none_ahead : (old new : Option (List (List ℕ))) (ts : List Turn) → new ≡ old → ahead_in ts ≡ [] → AreAhead old new ts
-none_ahead old new ts same none =
-    ([], subst (λ n. Follows old n []) (sym same) (follows_none old), subst (AreDecidedAhead []) (sym none) tt)
-
--- ---- how often the port was asked
-
-pub asked_none : (asked : Option ℕ) → IsAsked asked asked 0
-asked_none None = tt
-asked_none (Some n) = let same : n ≡ n + 0 = omega arith in ap Some same
-
--- behind the question, the port handed some bytes out ahead, and took a connection back
-pub asked_on : (port came ahead port' : Traffic) → ahead ≡ record came { ahead = ahead.ahead }
-    → port'.asked ≡ ahead.asked → IsAsked port.asked came.asked 1 → IsAsked port.asked port'.asked 1
-asked_on port came ahead port' is same asked =
-    subst (λ n. IsAsked port.asked n 1) (sym (same ∙ ap (λ (p : Traffic). p.asked) is)) asked
-
-pub asked_join : (a b c : Option ℕ) (m n : ℕ) → IsAsked a b m → IsAsked b c n → IsAsked a c (m + n)
-asked_join None b c m n one two = tt
-asked_join (Some before) b c m n one two =
-    let same : before + m + n ≡ before + (m + n) = omega arith in
-    subst (λ x. IsAsked x c n) one two ∙ ap Some same
-
-away_join : (ts us : List Turn) → AreTurnedAway ts → AreTurnedAway us → AreTurnedAway (ts ++ us)
-away_join [] us first second = second
-away_join (Served c ∷ ts) us first second = away_join ts us first second
-away_join (Ahead c ∷ ts) us first second = away_join ts us first second
-away_join (TurnedAway c ∷ ts) us first second = (first.0, away_join ts us first.1 second)
-
-told_turns : (old mid new : Option (List Connection)) (ts us : List Turn) (m : ℕ) (taken : Option ℕ)
-    → AreTold old mid (connections_of ts) (Some m) → AreTold mid new (connections_of us) taken
-    → AreTold old new (connections_of (ts ++ us)) (option_map (λ n. m + n) taken)
-told_turns old mid new ts us m taken first second =
-    subst (λ cs. AreTold old new cs (option_map (λ n. m + n) taken)) (sym (connections_join ts us))
-    (told_join old mid new (connections_of ts) (connections_of us) m taken first second)
-
-answered_join : (limit : ℕ) (was_clean before between after : List Request) (first mid last : Traffic)
-    (ts us : List Turn) (m : ℕ) (taken : Option ℕ)
-    → AreAnswered (keeping limit was_clean before between) first mid ts (Some m)
-    → AreAnswered (keeping limit was_clean between after) mid last us taken
-    → AreAnswered (keeping limit was_clean before after) first last (ts ++ us) (option_map (λ n. m + n) taken)
-answered_join limit was_clean before between after first mid last ts us m None a b = record {
-  in_turn =
-      subst (ServeInTurn (keeping limit was_clean before after)) (sym (served_join ts us))
-      (turns_join limit was_clean before between after (served_in ts) (served_in us) a.in_turn b.in_turn);
-  away = away_join ts us a.away b.away;
-  ahead = are_ahead_join first.ahead mid.ahead last.ahead ts us a.ahead b.ahead;
-  came = subst (Came first.coming last.coming) (sym (connections_join ts us))
-      (came_join first.coming mid.coming last.coming (connections_of ts) (connections_of us) a.came b.came);
-  counted = tt;
-  told = told_turns first.over mid.over last.over ts us m None a.told b.told;
-}
-answered_join limit was_clean before between after first mid last ts us m (Some n) a b = record {
-  in_turn =
-      subst (ServeInTurn (keeping limit was_clean before after)) (sym (served_join ts us))
-      (turns_join limit was_clean before between after (served_in ts) (served_in us) a.in_turn b.in_turn);
-  away = away_join ts us a.away b.away;
-  ahead = are_ahead_join first.ahead mid.ahead last.ahead ts us a.ahead b.ahead;
-  came = subst (Came first.coming last.coming) (sym (connections_join ts us))
-      (came_join first.coming mid.coming last.coming (connections_of ts) (connections_of us) a.came b.came);
-  counted =
-      subst (λ cs. AreCounted first.coming cs (m + n)) (sym (connections_join ts us))
-      (counted_join first.coming mid.coming (connections_of ts) (connections_of us) m n a.came a.counted b.counted);
-  told = told_turns first.over mid.over last.over ts us m (Some n) a.told b.told;
+answered_alike : (old_style old new : List Request) → firsts old ≡ firsts new → (step : Step) (answer : Option Answer)
+    → IfSome answer (IsAnswerTo old_style old step) → IfSome answer (IsAnswerTo old_style new step)
+answered_alike old_style old new same step None is = tt
+answered_alike old_style old new same step (Some answer) is = record {
+  on = is.on;
+  arrival = is.arrival;
+  text = is.text ∙ text_alike old_style old new same step.arrival step.mark;
+  closes = is.closes;
 }
 
--- ---- requests that are decided ahead
+fit_alike : (limit : ℕ) (old new : List Request) → firsts old ≡ firsts new → (step : Step)
+    → MarkFits limit old step.arrival step.mark → MarkFits limit new step.arrival step.mark
+unfolding MarksFit
+fit_alike limit old new same step fit =
+    (marks_fit_alike limit old new same (step.arrival ∷ []) (step.mark ∷ []) (fit, tt)).0
 
-abbrev ahead_turns : List Connection → List Turn
-ahead_turns cs = map Ahead cs
+are_alike : (limit : ℕ) (old_style old new : List Request) → firsts old ≡ firsts new → (turns : List Turn)
+    → AreTurns limit old_style old turns → AreTurns limit old_style new turns
+are_alike limit old_style old new same [] are = tt
+are_alike limit old_style old new same (Served told ∷ turns) are =
+    let done = completed_at told.step.arrival told.step.mark in (
+      record {
+        spelled = are.0.spelled;
+        fit = fit_alike limit old new same told.step are.0.fit;
+        answered = answered_alike old_style old new same told.step told.answer are.0.answered;
+      },
+      are_alike limit old_style (old ++ done) (new ++ done) (firsts_alike old new same done) turns are.1,
+    )
+are_alike limit old_style old new same (TurnedAway told ∷ turns) are =
+    (are.0, are_alike limit old_style old new same turns are.1)
 
-ahead_served : (cs : List Connection) → served_in (ahead_turns cs) ≡ cs
-ahead_served [] = refl
-ahead_served (c ∷ cs) = ap (λ ds. c ∷ ds) (ahead_served cs)
+are_join : (limit : ℕ) (old_style before : List Request) (ts us : List Turn) → AreTurns limit old_style before ts
+    → AreTurns limit old_style (before ++ all_completed (steps_in ts)) us → AreTurns limit old_style before (ts ++ us)
+are_join limit old_style before [] us first second =
+    subst (λ rs. AreTurns limit old_style rs us) (append_nil before) second
+are_join limit old_style before (Served told ∷ ts) us first second =
+    let done = completed_at told.step.arrival told.step.mark in (
+      first.0,
+      are_join limit old_style (before ++ done) ts us first.1
+          (subst (λ rs. AreTurns limit old_style rs us) (sym (append_assoc before done (all_completed (steps_in ts))))
+          second),
+    )
+are_join limit old_style before (TurnedAway told ∷ ts) us first second =
+    (first.0, are_join limit old_style before ts us first.1 second)
 
-ahead_ahead : (cs : List Connection) → ahead_in (ahead_turns cs) ≡ cs
-ahead_ahead [] = refl
-ahead_ahead (c ∷ cs) = ap (λ ds. c ∷ ds) (ahead_ahead cs)
+-- ---- what was answered
 
-ahead_comes : (cs : List Connection) → connections_of (ahead_turns cs) ≡ []
-ahead_comes [] = refl
-ahead_comes (c ∷ cs) = ahead_comes cs
+module _ {S N : Type 0} (s : Streams S N) (limit : ℕ) (old_style : List Request) where
+  answered_by : (before after : List Request) (told : List Answer) (port : Port S) (turns : List Turn)
+      → AreTurns limit old_style before turns → after ≡ kept_by before (all_completed (steps_in turns))
+      → Runs s (told ++ answers_in turns) port
+      → AreAnswered s (keeping limit old_style before after) told port turns
+  answered_by before after told port turns are kept running = record {
+    are = are;
+    kept = kept;
+    in_turn = all_in_turn limit old_style before after turns are kept;
+    away = all_away limit old_style before turns are;
+    running = running;
+  }
 
-ahead_away : (cs : List Connection) → AreTurnedAway (ahead_turns cs)
-ahead_away [] = tt
-ahead_away (c ∷ cs) = ahead_away cs
+  answered_join : (before mid after : List Request) (told : List Answer) (between port : Port S) (ts us : List Turn)
+      → AreAnswered s (keeping limit old_style before mid) told between ts
+      → AreAnswered s (keeping limit old_style mid after) (told ++ answers_in ts) port us
+      → AreAnswered s (keeping limit old_style before after) told port (ts ++ us)
+  answered_join before mid after told between port ts us a b =
+      let done = all_completed (steps_in ts) in
+      let same : firsts mid ≡ firsts (before ++ done) = ap firsts a.kept ∙ firsts-kept_by before done in
+      answered_by before after told port (ts ++ us)
+      (are_join limit old_style before ts us a.are (are_alike limit old_style mid (before ++ done) same us b.are))
+      (b.kept ∙ ap (λ rs. kept_by rs (all_completed (steps_in us))) a.kept
+      ∙ kept_by-append before done (all_completed (steps_in us))
+      ∙ ap (kept_by before) (sym (completed_join (steps_in ts) (steps_in us)))
+      ∙ ap (λ steps. kept_by before (all_completed steps)) (sym (steps_join ts us)))
+      (subst (λ answers. Runs s answers port)
+      (append_assoc told (answers_in ts) (answers_in us) ∙ ap (λ more. told ++ more) (sym (answers_join ts us)))
+      b.running)
 
-ahead_none : (cs : List Connection) → NoneIsAway (ahead_turns cs)
-ahead_none [] = tt
-ahead_none (c ∷ cs) = ahead_none cs
+-- ---- a round's turns
 
--- they are turns in which nothing came
-ahead_answered : (port : Traffic) (after : Option (List (List ℕ))) (pieces : List (List ℕ)) (cs : List Connection)
-    (requests : Keeping) → Follows port.ahead after pieces → AreDecidedAhead pieces cs → ServeInTurn requests cs
-    → AreAnswered requests port (record port { ahead = after }) (ahead_turns cs) (Some 0)
-ahead_answered port after pieces cs requests follows decided turn = record {
-  in_turn = subst (ServeInTurn requests) (sym (ahead_served cs)) turn;
-  away = ahead_away cs;
-  ahead = (pieces, follows, subst (AreDecidedAhead pieces) (sym (ahead_ahead cs)) decided);
-  came = subst (Came port.coming port.coming) (sym (ahead_comes cs)) (came_none port.coming);
-  counted = subst (λ ds. AreCounted port.coming ds 0) (sym (ahead_comes cs)) (counted_none port.coming);
-  told = subst (λ ds. AreTold port.over port.over ds (Some 0)) (sym (ahead_comes cs)) (told_none port.over (Some 0));
-}
+-- the bytes of one of them, alone
+alone : (arrival : Arrival) (bytes : Spells arrival) → SpellArrival (take bytes.count bytes.came) arrival
+alone arrival bytes = record { came = bytes.came; count = bytes.count; begins = bytes.begins; are = refl }
 
-zero_more : (taken : Option ℕ) → option_map (λ n. 0 + n) taken ≡ taken
-zero_more None = refl
-zero_more (Some n) = let same : 0 + n ≡ n = omega arith in ap Some same
+told_as : (step : Step) → Spells step.arrival → Option Answer → Told
+told_as step bytes answer = record { read = take bytes.count bytes.came; step = step; answer = answer }
 
-module _ {D : Type 0} {g : Ghosts D} where
-  by_more : (first second : List (List ℕ)) (old mid new : Option (Intake (FileStore D g)))
-      → DecidesBy {g = g} first old mid → DecidesBy {g = g} second mid new
-      → DecidesBy {g = g} (first ++ second) old new
-  by_more first second (Some old) mid new a b =
-      let on = subst (λ i. DecidesBy {g = g} second i new) a.1 b in
-      (on.0, on.1, decides_more first second old a.0 on.0 a.2 on.2)
-  by_more first second None mid new a b = subst (λ i. DecidesBy {g = g} second i new) a b
+-- those that were decided; where nothing was, there is no turn
+one_decided : (step : Option Step) (answer : Option Answer) → IfSome step (λ step. Spells step.arrival) → List Turn
+one_decided None answer bytes = []
+one_decided (Some step) answer bytes = Served (told_as step bytes answer) ∷ []
 
-  pub goes_on : (first second : List (List ℕ)) (old mid new : Parts g) → GoesAhead first old mid
-      → GoesAhead second mid new → GoesAhead (first ++ second) old new
-  goes_on first second old mid new a b =
-      (by_more first second old.intake mid.intake new.intake a.0 b.0, b.1 ∙ a.1, b.2 ∙ a.2, b.3 ∙ a.3)
+decided_in : (turns : List round.Turn) → AreSpelled turns → List Turn
+decided_in [] spelled = []
+decided_in (turn ∷ turns) spelled = one_decided turn.step turn.answer spelled.0 ++ decided_in turns spelled.1
 
--- ---- what a process does
+one_step : (step : Option Step) (answer : Option Answer) (bytes : IfSome step (λ step. Spells step.arrival))
+    → steps_in (one_decided step answer bytes) ≡ option_to_list step
+unfolding one_decided told_as
+one_step None answer bytes = refl
+one_step (Some step) answer bytes = refl
 
--- a connection whose input ended was read to its end, by the intake or while it was turned away
-pub read_to_end : {D : Type 0} {g : Ghosts D} (from to : Wire) (old new : Option (Intake (FileStore D g)))
-    (answered : Answered) → AnswersBy from to old new answered → IsReadToEnd to.left answered.served.ended
-read_to_end from to (Some intake) new answered by = by.2.serves.at_end
-read_to_end from to None new answered by = by.1.at_end
+decided_steps : (turns : List round.Turn) (spelled : AreSpelled turns)
+    → steps_in (decided_in turns spelled) ≡ steps_of turns
+unfolding decided_in
+decided_steps [] spelled = refl
+decided_steps (turn ∷ turns) spelled =
+    steps_join (one_decided turn.step turn.answer spelled.0) (decided_in turns spelled.1)
+    ∙ ap (λ steps. steps ++ steps_in (decided_in turns spelled.1)) (one_step turn.step turn.answer spelled.0)
+    ∙ ap (λ steps. option_to_list turn.step ++ steps) (decided_steps turns spelled.1)
 
-pub none_came : (port : Traffic) → NoneCame port port
-none_came port = record { coming = refl; over = refl; ahead = refl }
+one_answer : (old_style before : List Request) (step : Option Step) (answer : Option Answer)
+    (bytes : IfSome step (λ step. Spells step.arrival)) → IsTold old_style before step answer
+    → answers_in (one_decided step answer bytes) ≡ option_to_list answer
+unfolding one_decided told_as
+one_answer old_style before None answer bytes told = ap option_to_list (sym told)
+one_answer old_style before (Some step) answer bytes told = append_nil (option_to_list answer)
 
-module _ {D : Type 0} {g : Ghosts D} (limit : ℕ) where
+decided_answers : (old_style before : List Request) (turns : List round.Turn) (spelled : AreSpelled turns)
+    → AreTold old_style before turns → answers_in (decided_in turns spelled) ≡ answers_of turns
+unfolding decided_in
+decided_answers old_style before [] spelled told = refl
+decided_answers old_style before (turn ∷ turns) spelled told =
+    answers_join (one_decided turn.step turn.answer spelled.0) (decided_in turns spelled.1)
+    ∙ ap (λ answers. answers ++ answers_in (decided_in turns spelled.1))
+    (one_answer old_style before turn.step turn.answer spelled.0 told.0)
+    ∙ ap (λ answers. option_to_list turn.answer ++ answers)
+    (decided_answers old_style (before ++ completed_by turn.step) turns spelled.1 told.1)
+
+decided_none_away : (turns : List round.Turn) (spelled : AreSpelled turns) → NoneIsAway (decided_in turns spelled)
+unfolding decided_in one_decided
+decided_none_away [] spelled = tt
+decided_none_away (turn ∷ turns) spelled =
+    none_away_join (one_decided turn.step turn.answer spelled.0) (decided_in turns spelled.1)
+    (one turn.step turn.answer spelled.0) (decided_none_away turns spelled.1)
+  where
+    one : (step : Option Step) (answer : Option Answer) (bytes : IfSome step (λ step. Spells step.arrival))
+        → NoneIsAway (one_decided step answer bytes)
+    one None answer bytes = tt
+    one (Some step) answer bytes = tt
+
+decided_are : (limit : ℕ) (old_style before : List Request) (turns : List round.Turn) (spelled : AreSpelled turns)
+    → StepsFit limit before (steps_of turns) → AreTold old_style before turns
+    → AreTurns limit old_style before (decided_in turns spelled)
+unfolding decided_in one_decided told_as
+decided_are limit old_style before [] spelled fit told = tt
+decided_are limit old_style before (turn ∷ turns) spelled fit told =
+    one (λ after fits answered. decided_are limit old_style after turns spelled.1 fits answered) turn.step turn.answer
+    spelled.0 fit told.0 told.1
+  where
+    one : ((after : List Request) → StepsFit limit after (steps_of turns) → AreTold old_style after turns
+        → AreTurns limit old_style after (decided_in turns spelled.1)) → (step : Option Step) (answer : Option Answer)
+        (bytes : IfSome step (λ step. Spells step.arrival))
+        → StepsFit limit before (option_to_list step ++ steps_of turns) → IsTold old_style before step answer
+        → AreTold old_style (before ++ completed_by step) turns
+        → AreTurns limit old_style before (one_decided step answer bytes ++ decided_in turns spelled.1)
+    one behind None answer bytes fits first rest =
+        behind before fits (subst (λ rs. AreTold old_style rs turns) (append_nil before) rest)
+    one behind (Some step) answer bytes fits first rest = (
+      record { spelled = alone step.arrival bytes; fit = fits.0; answered = first },
+      behind (before ++ completed_at step.arrival step.mark) fits.1 rest,
+    )
+
+-- those that were turned away; where there was no memory for the answer, there is no turn
+one_away : (step : Step) (answer : Option Answer) → Spells step.arrival → List Turn
+one_away step None bytes = []
+one_away step (Some answer) bytes = TurnedAway (told_as step bytes (Some answer)) ∷ []
+
+bytes_of : (turn : round.Turn) (away : closed.IsAway turn) → IfSome turn.step (λ step. Spells step.arrival)
+    → Spells away.step.arrival
+bytes_of turn away spelled = subst (λ o. IfSome o (λ step. Spells step.arrival)) away.is spelled
+
+away_in : (turns : List round.Turn) → AllByRecursion closed.IsAway turns → AreSpelled turns → List Turn
+away_in [] away spelled = []
+away_in (turn ∷ turns) away spelled =
+    one_away away.0.step turn.answer (bytes_of turn away.0 spelled.0) ++ away_in turns away.1 spelled.1
+
+away_answers : (turns : List round.Turn) (away : AllByRecursion closed.IsAway turns) (spelled : AreSpelled turns)
+    → answers_in (away_in turns away spelled) ≡ answers_of turns
+unfolding away_in one_away told_as
+away_answers [] away spelled = refl
+away_answers (turn ∷ turns) away spelled =
+    answers_join (one_away away.0.step turn.answer (bytes_of turn away.0 spelled.0)) (away_in turns away.1 spelled.1)
+    ∙ ap (λ answers. answers ++ answers_in (away_in turns away.1 spelled.1))
+    (one away.0.step turn.answer (bytes_of turn away.0 spelled.0))
+    ∙ ap (λ answers. option_to_list turn.answer ++ answers) (away_answers turns away.1 spelled.1)
+  where
+    one : (step : Step) (answer : Option Answer) (bytes : Spells step.arrival)
+        → answers_in (one_away step answer bytes) ≡ option_to_list answer
+    one step None bytes = refl
+    one step (Some answer) bytes = refl
+
+away_steps : (turns : List round.Turn) (away : AllByRecursion closed.IsAway turns) (spelled : AreSpelled turns)
+    → steps_in (away_in turns away spelled) ≡ []
+unfolding away_in one_away
+away_steps [] away spelled = refl
+away_steps (turn ∷ turns) away spelled =
+    steps_join (one_away away.0.step turn.answer (bytes_of turn away.0 spelled.0)) (away_in turns away.1 spelled.1)
+    ∙ ap (λ steps. steps ++ steps_in (away_in turns away.1 spelled.1))
+    (one away.0.step turn.answer (bytes_of turn away.0 spelled.0))
+    ∙ away_steps turns away.1 spelled.1
+  where
+    one : (step : Step) (answer : Option Answer) (bytes : Spells step.arrival)
+        → steps_in (one_away step answer bytes) ≡ []
+    one step None bytes = refl
+    one step (Some answer) bytes = refl
+
+away_are : (limit : ℕ) (old_style before : List Request) (turns : List round.Turn)
+    (away : AllByRecursion closed.IsAway turns) (spelled : AreSpelled turns)
+    → AreTurns limit old_style before (away_in turns away spelled)
+unfolding away_in one_away told_as
+away_are limit old_style before [] away spelled = tt
+away_are limit old_style before (turn ∷ turns) away spelled =
+    one (away_are limit old_style before turns away.1 spelled.1) away.0.step turn.answer
+    (bytes_of turn away.0 spelled.0) away.0.mark away.0.told
+  where
+    one : AreTurns limit old_style before (away_in turns away.1 spelled.1) → (step : Step) (answer : Option Answer)
+        (bytes : Spells step.arrival) → step.mark ≡ closed.away_mark step.arrival
+        → IfSome answer (closed.IsAwayAnswer step)
+        → AreTurns limit old_style before (one_away step answer bytes ++ away_in turns away.1 spelled.1)
+    one behind step None bytes mark told = behind
+    one behind step (Some answer) bytes mark told = (
+      record {
+        spelled = alone step.arrival bytes;
+        marked = mark;
+        answer = answer;
+        given = refl;
+        on = told.on;
+        arrival = told.arrival;
+        text = told.text;
+        closes = told.closes;
+      },
+      behind,
+    )
+
+module _ {S N D : Type 0} (s : Streams S N) {g : Ghosts D} (limit : ℕ) where
   -- some, and then more
-  pub join : (first mid last : Traffic) (old between new : Parts g) (m : ℕ) (taken : Option ℕ) → StaysUp old between
-      → StaysUp between new → AnswersSome limit first mid old between (Some m)
-      → AnswersSome limit mid last between new taken
-      → AnswersSome limit first last old new (option_map (λ n. m + n) taken)
-  join first mid last old between new m taken stays stays' a b = record {
-    answers = λ was_clean before keeps certain.
-        let one = a.answers was_clean before keeps (b.certain certain) in
-        let two = b.answers was_clean one.0 (λ _. one.1) certain in (
+  pub join : (first mid last : Port S) (old between new : Parts g) → StaysUp old between → StaysUp between new
+      → AnswersSome s limit first mid old between → AnswersSome s limit mid last between new
+      → AnswersSome s limit first last old new
+  join first mid last old between new stays stays' a b = record {
+    answers = λ was_clean before keeps certain told running.
+        let one = a.answers was_clean before keeps (b.certain certain) told running in
+        let two = b.answers was_clean one.0 (λ _. one.1) certain (told ++ answers_in one.3) one.4.running in (
           two.0,
           two.1,
           two.2 ∙ one.2,
           one.3 ++ two.3,
-          answered_join limit (take was_clean before) before one.0 two.0 first mid last one.3 two.3 m taken one.4
-              (subst (λ es. AreAnswered (keeping limit es one.0 two.0) mid last two.3 taken) one.2 two.4),
+          answered_join s limit (take was_clean before) before one.0 two.0 told mid last one.3 two.3 one.4
+              (subst (λ es. AreAnswered s (keeping limit es one.0 two.0) (told ++ answers_in one.3) last two.3) one.2
+              two.4),
           λ u. none_away_join one.3 two.3 (one.5 (up.before old between new stays stays' u))
               (two.5 (up.after old between new stays stays' u)),
+        );
+    runs = λ told running.
+        let one = a.runs told running in
+        let two = b.runs (told ++ one.0) one.1 in (
+          one.0 ++ two.0,
+          subst (λ answers. Runs s answers last) (append_assoc told one.0 two.0) two.1,
         );
     certain = λ certain. a.certain (b.certain certain);
   }
 
-  -- where it is not answered how many came
-  pub untold : (port port' : Traffic) (old new : Parts g) (taken : Option ℕ)
-      → AnswersSome limit port port' old new taken → AnswersSome limit port port' old new None
-  untold port port' old new taken a = record {
-    answers = λ was_clean before keeps certain.
-        let one = a.answers was_clean before keeps certain in (
-          one.0,
-          one.1,
-          one.2,
-          one.3,
-          record {
-            in_turn = one.4.in_turn;
-            away = one.4.away;
-            ahead = one.4.ahead;
-            came = one.4.came;
-            counted =
-                tt;
-            told = told_untold port.over port'.over (connections_of one.3) taken one.4.told;
-          },
-          one.5,
-        );
-    certain = a.certain;
-  }
-
-  -- no connection was answered
-  pub none : (port port' : Traffic) (process : Parts g) (taken : Option ℕ) → NoneCame port port'
-      → IfSome taken (AreCounted port.coming []) → AnswersSome limit port port' process process taken
-  none port port' process taken same counted = record {
-    answers =
-        λ was_clean before keeps certain. (
-          before,
-          keeps certain,
-          refl,
-          [],
-          record {
-            in_turn = refl;
-            away = tt;
-            ahead = none_ahead port.ahead port'.ahead [] same.ahead refl;
-            came = subst (λ coming. Came port.coming coming []) (sym same.coming) (came_none port.coming);
-            counted = counted;
-            told = subst (λ over. AreTold port.over over [] taken) (sym same.over) (told_none port.over taken);
-          },
-          λ u. tt,
-        );
+  -- nothing was answered
+  pub none : (port port' : Port S) (process : Parts g)
+      → ((answers : List Answer) → Runs s answers port → Runs s answers port')
+      → AnswersSome s limit port port' process process
+  none port port' process on = record {
+    answers = λ was_clean before keeps certain told running. (
+      before,
+      keeps certain,
+      refl,
+      [],
+      record {
+        are = tt;
+        kept = refl;
+        in_turn = refl;
+        away = tt;
+        running = subst (λ answers. Runs s answers port') (sym (append_nil told)) (on told running);
+      },
+      λ u. tt,
+    );
+    runs = λ told running.
+        ([], subst (λ answers. Runs s answers port') (sym (append_nil told)) (on told running));
     certain = λ certain. certain;
   }
 
-  -- some were answered after a call that answered none, and before one
-  pub between : (port port' : Traffic) (old first last new : Parts g) (taken : Option ℕ)
-      → (IsUnrefused old new → IsUnrefused first last) → Leaves limit old first
-      → AnswersSome limit port port' first last taken → Leaves limit last new
-      → AnswersSome limit port port' old new taken
-  between port port' old first last new taken inside before some after = record {
-    answers = λ was_clean requests keeps certain.
-        let one = some.answers was_clean requests (before.kept was_clean requests keeps) (after.certain certain) in
+  -- some was answered after a call that answered none, and before one
+  pub between : (port port' : Port S) (old first last new : Parts g) → (IsUnrefused old new → IsUnrefused first last)
+      → Leaves limit old first → AnswersSome s limit port port' first last → Leaves limit last new
+      → AnswersSome s limit port port' old new
+  between port port' old first last new inside before some after = record {
+    answers = λ was_clean requests keeps certain told running.
+        let one =
+        some.answers was_clean requests (before.kept was_clean requests keeps) (after.certain certain) told running in
         (one.0, after.kept was_clean one.0 (λ _. one.1) certain, one.2, one.3, one.4, λ u. one.5 (inside u));
+    runs = some.runs;
     certain = λ certain. before.certain (some.certain (after.certain certain));
   }
 
   pub same : (process : Parts g) → Leaves limit process process
   same process = record { kept = λ was_clean requests keeps. keeps; certain = λ certain. certain }
 
-  -- Some were answered. None was turned away if this holds.
-  pub record AnswersIf (port port' : Traffic) (old new : Parts g) (taken : Option ℕ) (Holds : Type 0) : Type 0 where
+  -- Some was answered. None was turned away if this holds.
+  record AnswersIf (port port' : Port S) (old new : Parts g) (Holds : Type 0) : Type 0 where
     pub answers : (old_style : ℕ) (before : List Request) → Keeps old limit old_style before → new.is_certain ≡ true
+        → (told : List Answer) → Runs s told port
         → (after : List Request) × KeepsBy new.intake new.lying limit old_style after
         × (take old_style after ≡ take old_style before) × (turns : List Turn)
-        × AreAnswered (keeping limit (take old_style before) before after) port port' turns taken
+        × AreAnswered s (keeping limit (take old_style before) before after) told port' turns
         × (Holds → NoneIsAway turns)
+    pub runs : (told : List Answer) → Runs s told port → (more : List Answer) × Runs s (told ++ more) port'
     pub certain : new.is_certain ≡ true → old.is_certain ≡ true
 
-  one_by : IsHonest g → (port mid port' : Traffic) (from to : Wire) (old new : Option (Intake (FileStore D g)))
-      (lying lying' : Option (Option (Files D))) (is was : Bool) (calls calls' : ℕ) (answered : Answered)
-      (taken : Option ℕ)
-      → (port.is_shut ≡ false) × (mid.over ≡ port.over) × Takes port.coming mid.coming from.left
-      × IsNew port.over mid.given from → AnswersBy from to old new answered → lying' ≡ lying → is ≡ was
-      → port'.coming ≡ mid.coming → port'.ahead ≡ port.ahead → IsEndTold mid port' to answered.served taken
+  one_by : IsHonest g → (port port' : Port S) (old new : Option (Intake (FileStore D g)))
+      (lying lying' : Option (Option (Files D))) (is was : Bool) (calls calls' : ℕ) (by : AnsweredBy)
+      → AnswersPortBy s port port' old new by → lying' ≡ lying → is ≡ was
       → AnswersIf port port' (record { intake = old; lying = lying; is_certain = was; refused_calls = calls })
-      (record { intake = new; lying = lying'; is_certain = is; refused_calls = calls' }) taken (IsSome old)
-  one_by honest port mid port' from to (Some intake) new lying lying' is was calls calls' answered taken fresh by there
-      sure coming same_ahead told = record {
-        answers = λ was_clean before keeps certain.
+      (record { intake = new; lying = lying'; is_certain = is; refused_calls = calls' }) (IsSome old)
+  one_by honest port port' (Some intake) new lying lying' is was calls calls' by answered there sure =
+      let it = round_takes s over_files port port' intake answered.0 answered.2 in
+      let turns = answered.2.at_once ++ answered.2.filed in
+      record {
+        answers = λ was_clean before keeps certain told running.
             let kept = keeps (sym sure ∙ certain) in
-            let some = by.2.serves in
-            let t = some.serves (always_clean honest by.0.store.conn) before kept.0.holds in
-            let s = t.3 in
-            let c = connection_with answered.served s.got s.sent in
-            let holds : HoldsAs over_files limit was_clean t.0 by.0 =
+            let t = it.decided (always_clean honest answered.0.store.conn) before kept.0.holds in
+            let ran = it.tells.running told running in
+            let holds : HoldsAs over_files limit was_clean t.0 answered.0 =
             record {
               holds = t.1;
-              limit_is = some.setting.limit ∙ kept.0.limit_is;
-              old_style_is =
-                  some.setting.old_style ∙ kept.0.old_style_is;
+              limit_is = it.setting.limit ∙ kept.0.limit_is;
+              old_style_is = it.setting.old_style ∙ kept.0.old_style_is;
             } in
             let old_style_is = ap (λ n. take n before) kept.0.old_style_is in
-            let serves =
-            subst (λ es. Serves (keeping limit es before t.0) c.read c.output.marks c.output.ended c.output.bytes)
-            old_style_is (subst (λ n. Serves (keeping n (take intake.store.old_style before) before t.0) c.read
-            c.output.marks c.output.ended c.output.bytes) kept.0.limit_is s.serves) in (
+            let decides =
+            subst (λ es. DecidesTurns limit es before t.0 turns) old_style_is
+            (subst (λ n. DecidesTurns n (take intake.store.old_style before) before t.0 turns) kept.0.limit_is t.3) in (
               t.0,
-              subst (λ i. KeepsBy i lying' limit was_clean t.0) (sym by.1) (holds, there ∙ kept.1),
+              subst (λ i. KeepsBy i lying' limit was_clean t.0) (sym answered.1) (holds, there ∙ kept.1),
               sym (ap (λ n. take n t.0) holds.old_style_is) ∙ t.2 ∙ old_style_is,
-              Served c ∷ [],
-              record {
-                in_turn = (t.0, serves, refl);
-                away = tt;
-                ahead = none_ahead port.ahead port'.ahead (Served c ∷ []) same_ahead refl;
-                came = subst (λ after. Came port.coming after (c ∷ [])) (sym coming)
-                    (came_one port.coming mid.coming from.left to.left c fresh.2 s.read s.at_end s.limited);
-                counted = counted_told port.coming mid port' to answered.served c taken told;
-                told = told_one port mid port' from to answered.served s.got s.sent taken fresh.1 fresh.3 s.read s.wrote
-                    told;
-              },
-              λ u. tt,
+              decided_in turns ran.1,
+              answered_by s limit (take was_clean before) before t.0 told port' (decided_in turns ran.1)
+                  (decided_are limit (take was_clean before) before turns ran.1 decides.fit decides.told)
+                  (decides.kept
+                  ∙ ap (λ steps. kept_by before (all_completed steps)) (sym (decided_steps turns ran.1)))
+                  (subst (λ more. Runs s (told ++ more) port')
+                  (sym (decided_answers (take was_clean before) before turns ran.1 decides.told)) ran.0),
+              λ u. decided_none_away turns ran.1,
             );
+        runs = λ told running. (answers_of turns, (it.tells.running told running).0);
         certain = λ certain. sym sure ∙ certain;
       }
-  one_by honest port mid port' from to None new lying lying' is was calls calls' answered taken fresh by there sure
-      coming same_ahead told = record {
-        answers = λ was_clean before keeps certain.
+  one_by honest port port' None new lying lying' is was calls calls' by answered there sure =
+      let away = answered.1 in
+      record {
+        answers = λ was_clean before keeps certain told running.
             let kept = keeps (sym sure ∙ certain) in
-            let away = by.1 in
-            let served = answered.served in
-            let c = connection_with served away.got away.sent in (
+            let ran = away.tells.running told running in
+            let turns = away_in away.turns away.away ran.1 in (
               before,
-              subst (λ i. KeepsBy i lying' limit was_clean before) (sym by.0)
+              subst (λ i. KeepsBy i lying' limit was_clean before) (sym answered.0)
                   (subst (λ l. KeepsBy {g = g} None l limit was_clean before) (sym there) kept),
               refl,
-              TurnedAway c ∷ [],
-              record {
-                in_turn = refl;
-                away = (away.turned, tt);
-                ahead = none_ahead port.ahead port'.ahead (TurnedAway c ∷ []) same_ahead refl;
-                came = subst (λ after. Came port.coming after (c ∷ [])) (sym coming)
-                    (came_one port.coming mid.coming from.left to.left c fresh.2 away.read away.at_end away.limited);
-                counted = counted_told port.coming mid port' to served c taken told;
-                told = told_one port mid port' from to served away.got away.sent taken fresh.1 fresh.3 away.read
-                    away.wrote told;
-              },
+              turns,
+              answered_by s limit (take was_clean before) before before told port' turns
+                  (away_are limit (take was_clean before) before away.turns away.away ran.1)
+                  (ap (λ steps. kept_by before (all_completed steps)) (sym (away_steps away.turns away.away ran.1)))
+                  (subst (λ more. Runs s (told ++ more) port') (sym (away_answers away.turns away.away ran.1)) ran.0),
               λ u. absurd (let h : false ≡ true = u in cc),
             );
+        runs = λ told running. (answers_of away.turns, (away.tells.running told running).0);
         certain = λ certain. sym sure ∙ certain;
       }
 
-  -- ---- requests that are decided ahead
-
-  ahead_by : IsHonest g → (port : Traffic) (after : Option (List (List ℕ))) (pieces : List (List ℕ))
-      (old new : Option (Intake (FileStore D g))) (lying lying' : Option (Option (Files D))) (is was : Bool)
-      (calls calls' : ℕ) → Follows port.ahead after pieces → DecidesBy pieces old new → lying' ≡ lying → is ≡ was
-      → AnswersIf port (record port { ahead = after })
-      (record { intake = old; lying = lying; is_certain = was; refused_calls = calls })
-      (record { intake = new; lying = lying'; is_certain = is; refused_calls = calls' }) (Some 0) (Unit {0})
-  ahead_by honest port after pieces (Some intake) new lying lying' is was calls calls' follows by there sure = record {
-    answers = λ was_clean before keeps certain.
-        let kept = keeps (sym sure ∙ certain) in
-        let t = by.2.decides (always_clean honest by.0.store.conn) before kept.0.holds in
-        let holds : HoldsAs over_files limit was_clean t.0 by.0 =
-        record {
-          holds = t.1;
-          limit_is = by.2.setting.limit ∙ kept.0.limit_is;
-          old_style_is = by.2.setting.old_style ∙ kept.0.old_style_is;
-        } in
-        let old_style_is = ap (λ n. take n before) kept.0.old_style_is in
-        let turn =
-        subst (λ es. ServeInTurn (keeping limit es before t.0) t.3.0)
-        old_style_is (subst (λ n. ServeInTurn (keeping n (take intake.store.old_style before) before t.0) t.3.0)
-        kept.0.limit_is t.3.2) in (
-          t.0,
-          subst (λ i. KeepsBy i lying' limit was_clean t.0) (sym by.1) (holds, there ∙ kept.1),
-          sym (ap (λ n. take n t.0) holds.old_style_is) ∙ t.2 ∙ old_style_is,
-          ahead_turns t.3.0,
-          ahead_answered port after pieces t.3.0 (keeping limit (take was_clean before) before t.0) follows t.3.1 turn,
-          λ u. ahead_none t.3.0,
-        );
-    certain = λ certain. sym sure ∙ certain;
-  }
-  ahead_by honest port after pieces None new lying lying' is was calls calls' follows by there sure = record {
-    answers = λ was_clean before keeps certain.
-        let kept = keeps (sym sure ∙ certain) in (
-          before,
-          subst (λ i. KeepsBy i lying' limit was_clean before) (sym by)
-              (subst (λ l. KeepsBy {g = g} None l limit was_clean before) (sym there) kept),
-          refl,
-          [],
-          ahead_answered port after pieces [] (keeping limit (take was_clean before) before before) follows tt refl,
-          λ u. tt,
-        );
-    certain = λ certain. sym sure ∙ certain;
-  }
-
-  -- a connection was answered behind them
-  behind_ahead : (first mid last : Traffic) (old between new : Parts g) (taken : Option ℕ) (Holds : Type 0)
-      → AnswersIf first mid old between (Some 0) (Unit {0}) → AnswersIf mid last between new taken Holds
-      → AnswersIf first last old new taken Holds
-  behind_ahead first mid last old between new taken Holds a b = record {
-    answers = λ was_clean before keeps certain.
-        let one = a.answers was_clean before keeps (b.certain certain) in
-        let two = b.answers was_clean one.0 (λ _. one.1) certain in (
-          two.0,
-          two.1,
-          two.2 ∙ one.2,
-          one.3 ++ two.3,
-          subst (λ k. AreAnswered (keeping limit (take was_clean before) before two.0) first last (one.3 ++ two.3) k)
-              (zero_more taken)
-              (answered_join limit (take was_clean before) before one.0 two.0 first mid last one.3 two.3 0 taken one.4
-              (subst (λ es. AreAnswered (keeping limit es one.0 two.0) mid last two.3 taken) one.2 two.4)),
-          λ h. none_away_join one.3 two.3 (one.5 tt) (two.5 h),
-        );
-    certain = λ certain. a.certain (b.certain certain);
-  }
-
-  -- One connection was answered, after requests were decided ahead; and, where that is told, it was told to the port.
-  pub one : IsHonest g → (port p1 p2 port' : Traffic) (from to : Wire) (old decided new : Parts g) (answered : Answered)
-      (taken : Option ℕ) → (port.is_shut ≡ false) × (p1.over ≡ port.over) × Takes port.coming p1.coming from.left
-      × IsNew port.over p1.given from → p1.ahead ≡ port.ahead → LooksAhead p1 p2 old decided
-      → AnswersWire from to decided new answered → port'.coming ≡ p2.coming → port'.ahead ≡ p2.ahead
-      → IsEndTold p2 port' to answered.served taken → AnswersSome limit port port' old new taken
-  one honest port p1 p2 port' from to old decided new answered taken fresh was looks by coming same_ahead told =
-      let is = looks.hands.same in
-      let go = looks.decides in
-      let follows = subst (λ a. Follows a p2.ahead looks.pieces) was looks.hands.follow in
-      let ahead =
-      ahead_by honest port p2.ahead looks.pieces old.intake decided.intake old.lying decided.lying decided.is_certain
-      old.is_certain old.refused_calls decided.refused_calls follows go.0 go.1 go.2 in
-      let behind =
-      one_by honest (record port { ahead = p2.ahead }) p2 port' from to decided.intake new.intake decided.lying
-      new.lying new.is_certain decided.is_certain decided.refused_calls new.refused_calls answered taken (
-        fresh.0,
-        ap (λ (p : Traffic). p.over) is ∙ fresh.1,
-        subst (λ c. Takes port.coming c from.left) (sym (ap (λ (p : Traffic). p.coming) is)) fresh.2,
-        subst (λ given. IsNew port.over given from) (sym (ap (λ (p : Traffic). p.given) is)) fresh.3,
-      ) by.0 by.1 by.2 coming same_ahead told in
+  -- what waited was answered
+  pub one : IsHonest g → (port port' : Port S) (old new : Parts g) (by : AnsweredBy)
+      → AnswersPort s port port' old new by → AnswersSome s limit port port' old new
+  one honest port port' old new by answered =
       let all =
-      behind_ahead port (record port { ahead = p2.ahead }) port' old decided new taken (IsSome decided.intake) ahead
-      behind in
+      one_by honest port port' old.intake new.intake old.lying new.lying new.is_certain old.is_certain
+      old.refused_calls new.refused_calls by answered.0 answered.1 answered.2 in
       record {
-        answers = λ old_style before keeps certain.
-            let it = all.answers old_style before keeps certain in (
+        answers = λ old_style before keeps certain told running.
+            let it = all.answers old_style before keeps certain told running in (
               it.0,
               it.1,
               it.2,
               it.3,
               it.4,
-              λ u. it.5 (up.stays_open looks.pieces old.intake decided.intake go.0 (up.is_some_up old.intake u.up)),
+              λ u. it.5 (up.is_some_up old.intake u.up),
             );
+        runs = all.runs;
         certain = all.certain;
       }
 
   -- ---- a register that is opened, serves, and is closed
 
   -- it was not opened
-  pub not_opened : (port : Traffic) (old new : Parts g) → new.refused_calls ≡ old.refused_calls → Leaves limit old new
-      → AnswersSome limit port port old new None
+  pub not_opened : (port : Port S) (old new : Parts g) → new.refused_calls ≡ old.refused_calls → Leaves limit old new
+      → AnswersSome s limit port port old new
   not_opened port old new calls leaves =
-      between port port old old old new None (λ u. up.until old old new calls u) (same old)
-      (none port port old None (none_came port) tt) leaves
+      between port port old old old new (λ u. up.until old old new calls u) (same old)
+      (none port port old (λ answers running. running)) leaves
 
   -- if its database refused no call, it refused none while it was open
   pub while_open : (has : Bool) (old opened last new : Parts g) (totals : Option Totals) (closed : Closed)

@@ -1,17 +1,16 @@
 -- Intakes that stay up as long as their database refuses no call.
-use Rattle.std.proofs.Common.{true, false, List}
+use Rattle.std.proofs.Common.{true, false}
 use Rattle.std.proofs.Common.{◌≡◌, ℕ, ◌-◌, ◌^◌, ◌<◌, ◌≤◌, Option, Some, None, IsSome, refl, sym, ◌∙◌, ap, subst, inl}
 use Rattle.std.proofs.Common.{inr, arith}
 use Rattle.sqlite_disk.specs.declared.Disk.{Ghosts}
 use Rattle.sqlite_store.specs.declared.store.FileStore.{FileStore}
-use Rattle.http_wire.specs.Wire.{Wire}
+use Rattle.connection_hall.specs.declared.stream.Stream.{Ghosts as Streams}
+use Rattle.gateway_rounds.specs.Ports.{Port}
 use Rattle.intake_core.specs.declared.intake.Intake.{Intake}
 use Rattle.intake_core.specs.Held.{has_stopped}
-use Rattle.intake_process.specs.declared.process.Answered.{Answered}
 use Rattle.intake_process.specs.declared.process.AnsweredBy.{AnsweredBy}
 use Rattle.intake_process.specs.declared.process.AnsweredBy.TheVariants as outcome
-use Rattle.intake_process.specs.Process.{Parts, IsUp, IsUnrefused, StaysUp, CountsRefusal, AnswersBy, AnswersWire}
-use Rattle.intake_process.specs.Process.{DecidesBy, GoesAhead}
+use Rattle.intake_process.specs.Process.{Parts, IsUp, IsUnrefused, StaysUp, CountsRefusal, AnswersPort, AnswersPortBy}
 use Rattle.intake_process.proofs.Keeping.{not_true}
 
 -- ---- calls that were refused
@@ -72,46 +71,36 @@ module _ {D : Type 0} {g : Ghosts D} where
     certain = λ u. absurd (subst (λ i. IsUp i) none u.up);
   }
 
-  -- ---- a connection
+  -- ---- what waits on a port
 
-  up_after : (from to : Wire) (old new : Option (Intake (FileStore D g))) (answered : Answered)
-      → AnswersBy from to old new answered → IsSome old → (answered.outcome ≡ outcome.Failed → ⊥) → IsUp new
-  up_after from to (Some old) new answered by is other =
-      subst (λ i. IsUp i) (sym by.1) (not_true (has_stopped by.0) (λ stopped. other (by.2.failed.1 stopped)))
-  up_after from to None new answered by is other = absurd (let h : false ≡ true = is in cc)
+  module _ {S N : Type 0} (s : Streams S N) (port port' : Port S) where
+    up_after : (old new : Option (Intake (FileStore D g))) (by : AnsweredBy) → AnswersPortBy s port port' old new by
+        → IsSome old → (by ≡ outcome.Failed → ⊥) → IsUp new
+    up_after (Some old) new by answered is other =
+        subst (λ i. IsUp i) (sym answered.1)
+        (not_true (has_stopped answered.0) (λ stopped. other (answered.3.1 stopped)))
+    up_after None new by answered is other = absurd (let h : false ≡ true = is in cc)
 
-  -- requests that are decided ahead leave an intake that is open open
-  pub stays_open : (pieces : List (List ℕ)) (old new : Option (Intake (FileStore D g))) → DecidesBy pieces old new
-      → IsSome old → IsSome new
-  stays_open pieces (Some intake) new by is = subst (λ i. IsSome i) (sym by.1) refl
-  stays_open pieces None new by is = absurd (let h : false ≡ true = is in cc)
+    pub answered : (old last : Parts g) (by : AnsweredBy) → AnswersPort s port port' old last by → StaysUp old last
+    answered old last by it = record {
+      grows = grows_by by old.refused_calls last.refused_calls it.3;
+      up = λ u. up_after old.intake last.intake by it.0 (is_some_up old.intake u.up)
+          (not_failed by old.refused_calls last.refused_calls it.3 u.same u.counts);
+      certain = λ u. it.2;
+    }
 
-  -- requests were decided ahead, and then it was answered
-  pub answered : (pieces : List (List ℕ)) (from to : Wire) (old decided last : Parts g) (it : Answered)
-      → GoesAhead pieces old decided → AnswersWire from to decided last it → StaysUp old last
-  answered pieces from to old decided last it go by = record {
-    grows =
-        let more = grows_by it.outcome decided.refused_calls last.refused_calls by.3 in
-        omega (arith, more, go.3);
-    up = λ u. up_after from to decided.intake last.intake it by.0
-        (stays_open pieces old.intake decided.intake go.0 (is_some_up old.intake u.up))
-        (not_failed it.outcome decided.refused_calls last.refused_calls by.3 (u.same ∙ sym go.3) u.counts);
-    certain = λ u. by.2 ∙ go.2;
-  }
-
-  -- after which the register was closed, if the database refused a call
-  pub went : (pieces : List (List ℕ)) (from to : Wire) (old decided last new : Parts g) (it : Answered)
-      → GoesAhead pieces old decided → AnswersWire from to decided last it
-      → ((it.outcome ≡ outcome.Failed → ⊥) → new ≡ last) → new.refused_calls ≡ last.refused_calls → StaysUp old new
-  went pieces from to old decided last new it go by others calls =
-      let stays = answered pieces from to old decided last it go by in
-      let other : IsUnrefused old new → it.outcome ≡ outcome.Failed → ⊥ =
-      λ u. (let v = until old last new calls u in
-      not_failed it.outcome decided.refused_calls last.refused_calls by.3 (v.same ∙ sym go.3) v.counts) in
-      record {
-        grows = omega (arith, stays.grows, calls);
-        up = λ u. subst (λ (p : Parts g). IsUp p.intake) (sym (others (other u)))
-            (stays.up (until old last new calls u));
-        certain =
-            λ u. ap (λ (p : Parts g). p.is_certain) (others (other u)) ∙ stays.certain (until old last new calls u);
-      }
+    -- after which the register was closed, if the database refused a call
+    pub went : (old last new : Parts g) (by : AnsweredBy) → AnswersPort s port port' old last by
+        → ((by ≡ outcome.Failed → ⊥) → new ≡ last) → new.refused_calls ≡ last.refused_calls → StaysUp old new
+    went old last new by it others calls =
+        let stays = answered old last by it in
+        let other : IsUnrefused old new → by ≡ outcome.Failed → ⊥ =
+        λ u. (let v = until old last new calls u in
+        not_failed by old.refused_calls last.refused_calls it.3 v.same v.counts) in
+        record {
+          grows = omega (arith, stays.grows, calls);
+          up = λ u. subst (λ (p : Parts g). IsUp p.intake) (sym (others (other u)))
+              (stays.up (until old last new calls u));
+          certain =
+              λ u. ap (λ (p : Parts g). p.is_certain) (others (other u)) ∙ stays.certain (until old last new calls u);
+        }

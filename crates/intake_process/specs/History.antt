@@ -1,52 +1,29 @@
--- What becomes of a process while the connections of a port are answered, one after another; own rules.
-use Rattle.std.specs.Prelude.{◌≡◌, ◌⊎◌, ◌≤◌, ◌++◌, ℕ, Bool, true, false, List, [], ◌∷◌, length, Option, Some}
-use Rattle.std.specs.Prelude.{None, IsSome, Result, Ok, Err, map}
+-- What becomes of a process while a port is served, round by round; own rules.
+use Rattle.std.specs.Prelude.{◌≡◌, ◌++◌, ℕ, Bool, true, false, List, [], ◌∷◌, length, Option, Some, None, IfSome}
+use Rattle.std.specs.Prelude.{IsSome}
+use Rattle.std.specs.Prelude.{Result}
 use Rattle.sqlite_disk.specs.declared.Disk.{Ghosts}
-use Rattle.http_wire.specs.Wire.{Wire}
-use Rattle.filing_model.specs.declared.served.Ended.{Ended}
-use Rattle.filing_model.specs.declared.served.Mark.{Mark}
-use Rattle.gateway_server.specs.Ports.{Connection, Traffic, Takes, IsNew, NoneIsLeft, HandsAhead, Grows, most_ahead}
+use Rattle.connection_hall.specs.declared.stream.Stream.{Ghosts as Streams}
+use Rattle.connection_hall.specs.Answers.{Answer}
+use Rattle.connection_hall.specs.Running.{arrival_at}
+use Rattle.gateway_rounds.specs.Ports.{Port, Runs}
 use Rattle.intake_process.specs.declared.beginning.Totals.{Totals}
 use Rattle.intake_process.specs.declared.fault.OpeningFault.{OpeningFault}
-use Rattle.intake_process.specs.declared.process.Answered.{Answered}
 use Rattle.intake_process.specs.declared.process.Closed.{Closed}
 use Rattle.intake_process.specs.declared.process.AnsweredBy.{AnsweredBy}
 use Rattle.intake_process.specs.declared.process.AnsweredBy.TheVariants as outcome
-use Rattle.intake_process.specs.Process.{Parts, IsAwake, IsUp, OpensProcess, GoesAhead, AnswersWire, ClosesProcess}
+use Rattle.intake_process.specs.Process.{Parts, OpensProcess, AnswersPort, ClosesProcess}
 use Rattle.intake_process.specs.Observing.{Notes}
 
--- The register was read at most, to see whether a request has to be kept. Nothing was decided, and the intake is as
--- awake as it was.
-pub record LooksOnly {D : Type 0} {g : Ghosts D} (old new : Parts g) : Type 0 where
-  pub decides : GoesAhead [] old new
-  pub awake : IsAwake old.intake → IsAwake new.intake
-  pub up : IsUp old.intake → IsUp new.intake
-
--- No connection came on a port, or one was put back that comes again.
-pub record NoneCame (old new : Traffic) : Type 0 where
-  pub coming : new.coming ≡ old.coming
-  pub over : new.over ≡ old.over
-  pub ahead : new.ahead ≡ old.ahead
-
--- What comes next on a port that is to be answered now: a connection, of which nothing is read or written; or none, on
--- a port whose connections are not known; or the port failed, which happens if no known one is left.
-abbrev pub ComesNext : {R W E : Type 0} → (R → W → Wire) → Traffic → Traffic → Result (Option (R × W)) E → Type 0
-ComesNext shows old new (Ok (Some (reader, writer))) =
-    (old.is_shut ≡ false) × (new.over ≡ old.over) × Takes old.coming new.coming (shows reader writer).left
-    × IsNew old.over new.given (shows reader writer)
-ComesNext shows old new (Ok None) = NoneCame old new × (old.coming ≡ None)
-ComesNext shows old new (Err error) = NoneCame old new × NoneIsLeft old.coming
-
--- What was asked for a connection, and what became of the process. `looked` is what it was once others before it were
--- put back. `asked` is what the observer answered; `None` if the register was open, so that it was not asked. `ahead`
--- is what the port handed out ahead, of which requests were decided before the connection was answered.
-pub record Step {D : Type 0} (g : Ghosts D) : Type 0 where
-  pub looked : Parts g
+-- What became of a port and of a process as the port was asked once. `from` is the port then, and `to` once what waited
+-- was answered. `asked` is what the observer answered; `None` if the register was open, or nothing waited, so that it
+-- was not asked. `by` is who answered, if something waited.
+pub record Round {D : Type 0} (g : Ghosts D) (S : Type 0) : Type 0 where
+  pub from : Port S
   pub asked : Option Bool
   pub ready : Parts g
-  pub ahead : List (List ℕ)
-  pub decided : Parts g
-  pub answered : Answered
+  pub by : Option AnsweredBy
+  pub to : Port S
   pub last : Parts g
   pub after : Parts g
 
@@ -68,61 +45,42 @@ IsOver {D} {g} outcome.Failed old new = (closed : Closed) × ClosesProcess g old
 IsOver outcome.Served old new = new ≡ old
 IsOver outcome.TurnedAway old new = new ≡ old
 
--- Some bytes were handed out ahead, and requests of them decided.
-pub record LooksAhead {D : Type 0} {g : Ghosts D} (port port' : Traffic) (old new : Parts g) : Type 0 where
-  pub pieces : List (List ℕ)
-  pub hands : HandsAhead port port' pieces
-  pub decides : GoesAhead pieces old new
+-- nothing was answered on the port, and no connection is lost
+abbrev pub GoesOn : {S N : Type 0} → Streams S N → Port S → Port S → Type 0
+GoesOn s old new = (answers : List Answer) → Runs s answers old → Runs s answers new
 
--- it put connections back, was made ready for another one, decided requests ahead, few at a time, and answered it
-abbrev pub IsAnswered : {D : Type 0} {g : Ghosts D} → ℕ → Parts g → Step g → Type 0
-IsAnswered limit old step =
-    LooksOnly old step.looked × IsReady limit step.asked step.looked step.ready
-    × (length step.ahead ≤ most_ahead) × GoesAhead step.ahead step.ready step.decided
-    × ((from : Wire) × (to : Wire) × AnswersWire from to step.decided step.last step.answered)
+-- nothing waited, and nothing was done; or the register was made ready, what waited was answered, or turned away, and
+-- the register was closed if its database refused a call
+abbrev pub IsAnswered : {D S N : Type 0} {g : Ghosts D} → Streams S N → ℕ → Parts g → Round g S → Option AnsweredBy
+    → Type 0
+IsAnswered s limit old round None =
+    ((place : ℕ) → arrival_at round.from.hall place ≡ None) × (round.to ≡ round.from) × (round.asked ≡ None)
+    × (round.after ≡ old)
+IsAnswered s limit old round (Some by) =
+    IsReady limit round.asked old round.ready × AnswersPort s round.from round.to round.ready round.last by
+    × IsOver by round.last round.after
 
--- these connections were answered, one after another, and some that come again were put back meanwhile
-abbrev pub AreSteps : {D : Type 0} {g : Ghosts D} → ℕ → Parts g → List (Step g) → Parts g → Type 0
-AreSteps limit old [] new = LooksOnly old new
-AreSteps limit old (step ∷ steps) new =
-    IsAnswered limit old step × IsOver step.answered.outcome step.last step.after × AreSteps limit step.after steps new
+-- these rounds were made, one after another, and nothing else was answered
+abbrev pub AreRounds : {D S N : Type 0} {g : Ghosts D} → Streams S N → ℕ → Port S → Parts g → List (Round g S) → Port S
+    → Parts g → Type 0
+AreRounds s limit port old [] port' new = GoesOn s port port' × (new ≡ old)
+AreRounds s limit port old (round ∷ rounds) port' new =
+    GoesOn s port round.from × IsAnswered s limit old round round.by
+    × AreRounds s limit round.to round.after rounds port' new
 
 -- what the observer answered meanwhile
-abbrev pub said_in : {D : Type 0} {g : Ghosts D} → List (Step g) → List Bool
+abbrev pub said_in : {D S : Type 0} {g : Ghosts D} → List (Round g S) → List Bool
 said_in [] = []
-said_in (step ∷ steps) = said_of step.asked ++ said_in steps
+said_in (round ∷ rounds) = said_of round.asked ++ said_in rounds
 
--- The port failed: while it was waited for the next connection, or at the end of one that was answered.
-abbrev pub IsCutOff : {D : Type 0} {g : Ghosts D} → ℕ → Parts g → List Bool → Parts g → Type 0
-IsCutOff {D} {g} limit old said new =
-    ((said ≡ []) × (new ≡ old))
-    ⊎ ((step : Step g) × IsAnswered limit old step × (said ≡ said_of step.asked) × (new ≡ step.last))
-
--- the last connection is over, or, if it is not told how many came, the port failed
-abbrev pub EndsIn : {D : Type 0} {g : Ghosts D} → ℕ → Option ℕ → Parts g → List Bool → Parts g → Type 0
-EndsIn limit (Some taken) old said new = (said ≡ []) × (new ≡ old)
-EndsIn limit None old said new = IsCutOff limit old said new
-
--- what was marked on these connections, and how each ended
-abbrev pub ends_of : List Connection → List (List Mark × Ended)
-ends_of connections = map (λ connection. (connection.output.marks, connection.output.ended)) connections
-
--- what was marked on those that were answered, and how each ended
-abbrev pub ends_in : {D : Type 0} {g : Ghosts D} → List (Step g) → List (List Mark × Ended)
-ends_in steps = map (λ step. (step.answered.served.marks.items, step.answered.served.ended)) steps
-
--- What becomes of a process while connections of a port are answered. So whether it is certain changes only by an
--- opening or a close that failed, each opening has this limit, and a register that is closed is opened for the next
--- connection for which the observer lets it.
-pub record Passes {D : Type 0} {g : Ghosts D} (limit : ℕ) (port port' : Traffic) (old new : Parts g)
+-- What becomes of a port and of a process while the port is served. So what waits as the port was asked is answered, or
+-- turned away, or found no room; whether the process is certain changes only by an opening or a close that failed, each
+-- opening has this limit, and a register that is closed is opened for the next round for which the observer lets it. If
+-- it is told how often the port was asked, there are as many rounds.
+pub record Passes {D S N : Type 0} {g : Ghosts D} (s : Streams S N) (limit : ℕ) (port port' : Port S)
+    (old new : Parts g)
     (noted noted' : Option (List Bool)) (taken : Option ℕ) : Type 0 where
-  pub steps : List (Step g)
-  -- the connections of the port that are over since then are those that were answered, in their order
-  pub connections : List Connection
-  pub over : Grows port.over port'.over connections
-  pub answered : ends_of connections ≡ ends_in steps
-  pub before : Parts g
-  pub said : List Bool
-  pub are : AreSteps limit old steps before
-  pub ends : EndsIn limit taken before said new
-  pub notes : Notes noted noted' (said_in steps ++ said)
+  pub rounds : List (Round g S)
+  pub are : AreRounds s limit port old rounds port' new
+  pub count : IfSome taken (λ taken. length rounds ≡ taken)
+  pub notes : Notes noted noted' (said_in rounds)

@@ -1,5 +1,6 @@
 -- What the process keeps that an intake runs in, and what its calls do.
-use Rattle.std.specs.Prelude.{◌≡◌, ◌↔◌, ℕ, ◌+◌, ◌-◌, ◌^◌, ◌<◌, ◌≤◌, ◌⊎◌, Bool, true, false, if◌then◌else◌, List, []}
+use Rattle.std.specs.Prelude.{◌≡◌, ◌≢◌, ◌↔◌, ℕ, ◌+◌, ◌-◌, ◌^◌, ◌<◌, ◌≤◌, ◌⊎◌, Bool, true, false, if◌then◌else◌, List}
+use Rattle.std.specs.Prelude.{[]}
 use Rattle.std.specs.Prelude.{length, Option}
 use Rattle.std.specs.Prelude.{Some, None, Result, Ok, Err, IsSome, IfOk, IfErr, IfSome, OnOk, OnErr}
 use Rattle.sqlite_disk.specs.declared.Disk.{Ghosts}
@@ -18,8 +19,11 @@ use Rattle.register_tables.specs.Registers.{IsRegisterOf}
 use Rattle.register_tables.specs.Opening.{IsReadAsRegister}
 use Rattle.intake_core.specs.declared.intake.Intake.{Intake}
 use Rattle.intake_core.specs.Held.{store_of, limit_of, has_stopped}
-use Rattle.gateway_server.specs.Ahead.{DecidesAhead}
 use Rattle.gateway_server.specs.Progress.{ServesToEnd}
+use Rattle.connection_hall.specs.declared.stream.Stream.{Ghosts as Streams}
+use Rattle.gateway_rounds.specs.Away.{AnswersAway}
+use Rattle.gateway_rounds.specs.Ports.{Port}
+use Rattle.gateway_rounds.specs.Rounds.{AnswersRound}
 use Rattle.database_places.specs.Closing.{IsClosedIn, IsNotClosed, LieGivenUp}
 use Rattle.database_places.specs.Left.{HoldWithLog, IsReadIn}
 use Rattle.database_places.specs.Opening.{ComesFrom, OpensPlace}
@@ -184,21 +188,6 @@ pub record OpensProcess {D : Type 0} (g : Ghosts D) (has_to_be_there : Bool) (li
   pub back : IfErr result (λ _. (there : Files D) → old.lying ≡ Some (Some there)
       → (files : Files D) × (new.lying ≡ Some (Some files)))
 
--- ---- requests are decided ahead of the connections on which they come
-
--- while the process is open the intake decides them; otherwise nothing is done
-abbrev pub DecidesBy : {D : Type 0} {g : Ghosts D} → List (List ℕ) → Option (Intake (FileStore D g))
-    → Option (Intake (FileStore D g)) → Type 0
-DecidesBy pieces (Some old) new = (intake : Intake _) × (new ≡ Some intake) × DecidesAhead over_files pieces old intake
-DecidesBy pieces None new = new ≡ None
-
--- What deciding requests of these bytes ahead does. A call that the database refuses is counted with the connection
--- that is answered next.
-abbrev pub GoesAhead : {D : Type 0} {g : Ghosts D} → List (List ℕ) → Parts g → Parts g → Type 0
-GoesAhead pieces old new =
-    DecidesBy pieces old.intake new.intake × (new.lying ≡ old.lying) × (new.is_certain ≡ old.is_certain)
-    × (new.refused_calls ≡ old.refused_calls)
-
 -- ---- it answers a connection
 
 -- What answering a connection by an intake does, and whether the database refused a call.
@@ -226,6 +215,26 @@ abbrev pub AnswersWire : {D : Type 0} {g : Ghosts D} → Wire → Wire → Parts
 AnswersWire from to old new answered =
     AnswersBy from to old.intake new.intake answered × (new.lying ≡ old.lying) × (new.is_certain ≡ old.is_certain)
     × CountsRefusal answered.outcome old.refused_calls new.refused_calls
+
+-- ---- it answers what waits on a port
+
+-- while the process is open the intake answers it, and says whether the database refused a call; otherwise it is turned
+-- away
+abbrev pub AnswersPortBy : {D S N : Type 0} {g : Ghosts D} → Streams S N → Port S → Port S
+    → Option (Intake (FileStore D g)) → Option (Intake (FileStore D g)) → AnsweredBy → Type 0
+AnswersPortBy s port port' (Some old) new by =
+    (intake : Intake _) × (new ≡ Some intake) × AnswersRound s over_files port port' old intake
+    × ((by ≡ outcome.Failed) ↔ (has_stopped intake ≡ true)) × (by ≢ outcome.TurnedAway)
+AnswersPortBy s port port' None new by =
+    (new ≡ None) × AnswersAway s port port' × (by ≡ outcome.TurnedAway)
+
+-- what answering what waits on a port does; a refusal of the database is counted, and nothing else changes
+abbrev pub AnswersPort : {D S N : Type 0} {g : Ghosts D} → Streams S N → Port S → Port S → Parts g → Parts g
+    → AnsweredBy
+    → Type 0
+AnswersPort s port port' old new by =
+    AnswersPortBy s port port' old.intake new.intake by × (new.lying ≡ old.lying)
+    × (new.is_certain ≡ old.is_certain) × CountsRefusal by old.refused_calls new.refused_calls
 
 -- ---- it is closed
 

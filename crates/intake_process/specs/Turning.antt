@@ -1,38 +1,22 @@
 -- A connection that is turned away, since there is no register; own rule.
-use Rattle.std.specs.Prelude.{◌≡◌, ◌≤◌, ℕ, Bool, true, false, List, [], ◌∷◌, length, Some, Result, Ok, Err}
-use Rattle.std.specs.Prelude.{if◌then◌else◌}
+use Rattle.std.specs.Prelude.{◌≡◌, ◌≤◌, ℕ, true, List, [], ◌∷◌, length, Some, Result, Ok, Err}
 use Rattle.std.specs.Io.KnownBytes.{Consumes, Appends}
 use Rattle.http_messages.specs.declared.refusal.ConnFault.{ConnFault}
 use Rattle.http_messages.specs.declared.refusal.ConnFault.TheVariants as fault
-use Rattle.http_messages.specs.Message.{Arrival, Read, Refused, Ending, IsRest}
+use Rattle.http_messages.specs.Message.{Arrival, Ending, IsRest}
 use Rattle.http_messages.specs.Reads.{max_reads}
-use Rattle.http_messages.specs.Reply.{ReplyParts, render}
+use Rattle.http_messages.specs.Reply.{render}
 use Rattle.http_wire.specs.Calls.{WritesAsked, WritesUpTo}
 use Rattle.http_wire.specs.Wire.{Wire}
 use Rattle.filing_model.specs.declared.served.Ended.{Ended}
 use Rattle.filing_model.specs.declared.served.Ended.TheVariants.{Closed, InputEnded, Fault}
 use Rattle.filing_model.specs.declared.served.Mark.{Mark}
-use Rattle.filing_model.specs.declared.served.Mark.TheVariants.{Unavailable, NotFiled}
-use Rattle.filing_model.specs.Reply.{unavailable}
 use Rattle.filing_model.specs.Serving.{BeginsArrivals}
-use Rattle.filing_model.specs.Text.{interim_of, is_head}
+use Rattle.filing_model.specs.Text.{interim_of}
 use Rattle.gateway_server.specs.declared.serving.Served.{Served}
+use Rattle.gateway_rounds.specs.Away.{away_mark, away_reply}
 use Rattle.gateway_server.specs.Answered.{WritesText}
 use Rattle.gateway_server.specs.Progress.{IsEndedBy, IsReadToEnd}
-
--- the 503, which has no content in reply to HEAD (RFC 9110, section 9.3.2)
-abbrev pub closing_reply : Bool → ReplyParts
-closing_reply is_head =
-    record { status = 503; content = if is_head then [] else unavailable.content; kind = unavailable.kind }
-
-abbrev pub away_reply : Arrival → ReplyParts
-away_reply (Read message) = closing_reply (is_head message)
-away_reply (Refused refusal) = closing_reply false
-
--- a request may be sent again, and what is refused in the place of one asks for nothing to be filed
-abbrev pub away_mark : Arrival → Mark
-away_mark (Read message) = Unavailable
-away_mark (Refused refusal) = NotFiled
 
 -- the reply closes the connection, unless it is not written whole
 abbrev pub end_by : Result (Unit {0}) ConnFault → Ended

@@ -6,18 +6,17 @@ ghost use Rattle.intake_process.specs.Observing.{Notes};
 use crate::beginning::Totals;
 use crate::fault::OpeningFault;
 use crate::process::Closed;
-use gateway_server::Served;
 
-/// What came of a connection.
+/// What came of a round, in which one request or several were answered.
 #[derive(Drop)]
 pub enum Went {
-    /// It was served.
-    Served,
-    /// It was served, but the database refused a call, and the register was closed like this.
+    /// They were served, by a register that keeps so many requests now.
+    Served { kept: u64 },
+    /// They were served, but the database refused a call, and the register was closed like this.
     Failed(Closed),
-    /// It was turned away, since the register is closed.
+    /// They were turned away, since the register is closed.
     TurnedAway,
-    /// It was turned away, since opening the register for it failed.
+    /// They were turned away, since opening the register for them failed.
     NotOpened(OpeningFault),
 }
 
@@ -30,7 +29,7 @@ pub trait Observer {
     fn ready(&mut self, totals: Totals)
         ensures { answers self.new ≡ answers self.old };
 
-    /// Whether the register, which is closed, may be opened for a connection that came.
+    /// Whether the register, which is closed, may be opened for what came.
     fn may_open(&mut self) -> bool
         ensures { Notes (answers self.old) (answers self.new) (result ∷ []) };
 
@@ -38,11 +37,7 @@ pub trait Observer {
     fn opened(&mut self, totals: Totals)
         ensures { answers self.new ≡ answers self.old };
 
-    /// A connection was served like this. The port learns it next.
-    fn served(&mut self, served: &Served)
-        ensures { answers self.new ≡ answers self.old };
-
-    /// A connection of the port is over, and this came of it.
+    /// A round is over, and this came of it.
     fn ended(&mut self, went: Went)
         ensures { answers self.new ≡ answers self.old };
 

@@ -1,18 +1,22 @@
 //! The process that an intake runs in.
 
-ghost use Rattle.std.specs.Prelude.{◌≡◌, ◌≤◌, ◌^◌, [], None, true, is_some, map, option_map};
+ghost use Rattle.std.specs.Prelude.{◌≡◌, ◌≢◌, ◌↔◌, ◌≤◌, ◌^◌, None, true, is_some, option_map};
 ghost use Rattle.std.specs.Borrow.{sem};
 ghost use Rattle.std.specs.Option.{option_copied_mut};
 ghost use Rattle.http_wire.specs.Wire.{wire};
 ghost use Rattle.database_places.specs.Opening.{is_found};
-ghost use Rattle.intake_process.specs.History.{LooksOnly};
+ghost use Rattle.gateway_rounds.specs.Ports.{port as view_port};
+ghost use Rattle.gateway_rounds.specs.Rounds.{AnswersRound};
+ghost use Rattle.intake_core.specs.Held.{store_of, has_stopped};
 ghost use Rattle.intake_process.specs.Process.{ServesBy, CountsRefusal};
 
 use crate::beginning::{Totals, begin, parted};
 use crate::fault::OpeningFault;
 use crate::turning::turn_away;
+use connection_hall::{Sockets, Stream};
 use database_places::{Opening, Place, close, give_up, open, remove_new_log};
-use gateway_server::{Served, decide_ahead, files_first, serve};
+use gateway_rounds::{Note, Port, answer_ready, turn_away as turn_all_away};
+use gateway_server::{Served, serve};
 use http_wire::{Sink, Source};
 use intake_core::{Intake, Moment};
 use sqlite::{Alter, Error, FileStore};
@@ -28,7 +32,7 @@ pub struct Closed {
     pub outcome: Result<(), Error>,
 }
 
-/// Who answered a connection.
+/// Who answered a connection, or what waited on a port.
 #[derive(Clone, Copy, Debug, PartialEq, Eq)]
 pub enum AnsweredBy {
     /// The intake.
@@ -66,6 +70,26 @@ fn serve_by<R: Source, W: Sink, S: Alter>(
     Answered { served, outcome }
 }
 
+/// Answers what waits on a port, and says whether the database refused a call.
+fn answer_by<T: Stream<Note = Note> + Drop, K: Sockets<Stream = T> + Drop, S: Alter>(
+    port: &mut Port<T, K>,
+    intake: &mut Intake<S>,
+    moment: Moment,
+) -> AnsweredBy
+    ensures answers { AnswersRound T.Stream S.Store (view_port K.traffic port.old) (view_port K.traffic port.new)
+        intake.old
+        intake.new }
+    ensures failed { (result ≡ AnsweredBy.Failed) ↔ (has_stopped intake.new ≡ true) }
+    ensures other { result ≢ AnsweredBy.TurnedAway }
+{
+    answer_ready(port, intake, moment);
+    if intake.is_down() {
+        AnsweredBy::Failed
+    } else {
+        AnsweredBy::Served
+    }
+}
+
 /// How many calls were refused, with one more if the database refused one for this connection.
 fn refused_with(outcome: AnsweredBy, refused_calls: u64) -> u64
     ensures { CountsRefusal outcome refused_calls result }
@@ -92,7 +116,7 @@ pub struct IntakeProcess<D: Disk + Drop, P: Place<D> + Drop> {
 }
 
 impl<D: Disk + Drop, P: Place<D> + Drop> IntakeProcess<D, P> {
-    ghost use Rattle.intake_process.specs.Process.{parts, OpensProcess, GoesAhead, AnswersWire, ClosesProcess};
+    ghost use Rattle.intake_process.specs.Process.{parts, OpensProcess, AnswersWire, AnswersPort, ClosesProcess};
     ghost use Rattle.intake_process.specs.Lending.{LendsIntake};
 
     /// The intake of the register that lies in this place, or will be made there. It is closed.
@@ -180,28 +204,6 @@ impl<D: Disk + Drop, P: Place<D> + Drop> IntakeProcess<D, P> {
         }
     }
 
-    /// Whether a piece asks to file a request that is the first of its filer and key, while the register is open.
-    /// Nothing is decided.
-    pub fn files_first(&mut self, alloc: Global, piece: &[u8]) -> bool
-        ensures { LooksOnly (parts P.lying self.old) (parts P.lying self.new) }
-    {
-        match &mut self.intake {
-            Some(intake) => files_first(alloc, piece, intake),
-            None => false,
-        }
-    }
-
-    /// Decides the requests that these bytes ask to file, ahead of the connections on which they come, if the register
-    /// is open. All had come by this moment.
-    pub fn decide_ahead(&mut self, alloc: Global, pieces: &[Vec<u8>], moment: Moment)
-        ensures { GoesAhead (map (λ piece. piece.items) pieces.now) (parts P.lying self.old) (parts P.lying self.new) }
-    {
-        match &mut self.intake {
-            Some(intake) => decide_ahead(alloc, pieces, moment, intake),
-            None => {}
-        }
-    }
-
     /// Serves a connection, or turns it away while the register is closed.
     pub fn answer<R: Source, W: Sink>(
         &mut self,
@@ -222,6 +224,39 @@ impl<D: Disk + Drop, P: Place<D> + Drop> IntakeProcess<D, P> {
                 served: turn_away(alloc, reader, writer),
                 outcome: AnsweredBy::TurnedAway,
             },
+        }
+    }
+
+    /// Answers what waits on a port, all of which came by this moment, or turns it away while the register is closed.
+    pub fn answer_port<T: Stream<Note = Note> + Drop, K: Sockets<Stream = T> + Drop>(
+        &mut self,
+        port: &mut Port<T, K>,
+        moment: Moment,
+    ) -> AnsweredBy
+        ensures { AnswersPort T.Stream (view_port K.traffic port.old) (view_port K.traffic port.new)
+            (parts P.lying self.old)
+            (parts P.lying self.new) result }
+    {
+        match &mut self.intake {
+            Some(intake) => {
+                let by = answer_by(port, intake, moment);
+                self.refused_calls = refused_with(by, self.refused_calls);
+                by
+            }
+            None => {
+                turn_all_away(port);
+                AnsweredBy::TurnedAway
+            }
+        }
+    }
+
+    /// How many requests the register keeps; `None` while it is closed.
+    pub fn kept(&self) -> Option<u64>
+        ensures { result ≡ option_map (λ intake. (store_of intake).kept) self.now.intake }
+    {
+        match &self.intake {
+            Some(intake) => Some(intake.kept()),
+            None => None,
         }
     }
 

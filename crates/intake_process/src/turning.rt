@@ -6,7 +6,8 @@ ghost use Rattle.http_wire.specs.Inbox.{IsNew};
 ghost use Rattle.http_wire.specs.Wire.{wire};
 ghost use Rattle.filing_model.specs.Reply.{unavailable};
 ghost use Rattle.gateway_server.specs.Answered.{WritesText, IsReplyFault};
-ghost use Rattle.intake_process.specs.Turning.{TurnsAway, end_by, closing_reply};
+ghost use Rattle.gateway_rounds.specs.Away.{closing_reply};
+ghost use Rattle.intake_process.specs.Turning.{TurnsAway, end_by};
 
 use gateway_requests::is_head;
 use gateway_server::{Ended, Mark, Served};

@@ -1,26 +1,14 @@
--- What went on the connections of runs, as far as their network or their port recorded it.
-use Rattle.std.proofs.Common.{◌≡◌, ◌∙◌, ℕ, List, [], ◌∷◌, ◌++◌, map, Option, Some, None, refl, sym, ap, subst, inl}
-use Rattle.std.proofs.Common.{append_assoc, true≢false}
+-- What went on the connections of runs, as far as their network recorded it.
+use Rattle.std.proofs.Common.{◌≡◌, ◌∙◌, List, [], ◌∷◌, ◌++◌, map, Option, Some, None, refl, sym, ap, subst}
+use Rattle.std.proofs.Common.{append_assoc}
 use Rattle.std.proofs.lemmas.List.{map-append}
-use Rattle.std.specs.Prelude.{IsSome}
 use Rattle.filing_model.proofs.Lists.{append_nil}
 use Rattle.filing_model.specs.Prefix.{IsPrefixOf}
-use Rattle.filing_model.specs.Serving.{Keeping}
-use Rattle.gateway_server.specs.Ahead.{AreDecidedAhead}
-use Rattle.gateway_server.specs.InTurn.{Came, AreTold}
-use Rattle.gateway_server.specs.Ports as port
-use Rattle.gateway_server.specs.Ports.{Connection}
-use Rattle.intake_process.specs.Turns.{Turn, AreAnswered, connections_of}
-use Rattle.intake_process.specs.Turns as turned
 use Rattle.outbox_process.specs.Dials.{Output, Traffic, Grows}
 use Rattle.outbox_process.specs.declared.target.Target.{Target}
 use Rattle.outbox_commands.specs.declared.putting.ReportFile.{ReportFile}
-use Rattle.program_runs.specs.Beside.{Service}
 use Rattle.program_runs.specs.Deeds.{Deed, Added, Wrote, Heard, Asked}
-use Rattle.program_runs.specs.Registers.{AreOfPort, came_in, ahead_in}
 use Rattle.program_runs.specs.Runs.{AreOfNetwork, putting, written_in}
-
--- ---- the network of an outbox
 
 none_more : (over : Option (List Output)) → Grows over over []
 none_more None = tt
@@ -74,56 +62,3 @@ put_deeds net net' target reports deeds same first =
     let all : [] ≡ written_in deeds ++ written_in first.0 =
     sym (puts_write_none target reports) ∙ ap written_in first.1 ∙ written_join deeds first.0 in
     (none.0, none.1, none.2 ∙ sym (left_nil (written_in deeds) (written_in first.0) all))
-
--- ---- the port of an intake
-
-module _ (old new : port.Traffic) where
-  abbrev pub Told : List Connection → Option ℕ → Type 0
-  Told came taken = AreTold old.over new.over came taken
-
-  perhaps : (came : List Connection) (taken : Option ℕ) → Told came taken → Told came None
-  perhaps came None told = told
-  perhaps came (Some taken) told = inl told
-
-  surely : (came : List Connection) (taken : Option ℕ) → IsSome taken → Told came taken
-      → port.Grows old.over new.over came
-  surely came None some told = absurd (true≢false (sym some))
-  surely came (Some taken) some told = told
-
-  -- the turns of its connections
-  pub of_turns : (requests : Keeping) (turns : List Turn) (taken : Option ℕ) (status : ℕ) (services : List Service)
-      → AreAnswered requests old new turns taken → (status ≡ 0 → IsSome taken)
-      → came_in services ≡ connections_of turns → ahead_in services ≡ turned.ahead_in turns
-      → AreOfPort old new status services
-  of_turns requests turns taken status services is some came ahead = record {
-    came = subst (Came old.coming new.coming) (sym came) is.came;
-    told = subst (λ cs. Told cs None) (sym came) (perhaps (connections_of turns) taken is.told);
-    all = λ done. subst (port.Grows old.over new.over) (sym came)
-        (surely (connections_of turns) taken (some done) is.told);
-    pieces = is.ahead.0;
-    handed = is.ahead.1;
-    ahead = subst (AreDecidedAhead is.ahead.0) (sym ahead) is.ahead.2;
-  }
-
-none_come : (coming : Option (List (List ℕ))) → Came coming coming []
-none_come None = tt
-none_come (Some bytes) = refl
-
-none_over : (over : Option (List Connection)) → port.Grows over over []
-none_over None = tt
-none_over (Some connections) = ap (λ cs. Some cs) (sym (append_nil connections))
-
-none_ahead : (ahead : Option (List (List ℕ))) → port.Follows ahead ahead []
-none_ahead None = tt
-none_ahead (Some pieces) = ap (λ ps. Some ps) (sym (append_nil pieces))
-
--- no connection came
-pub no_services : (old new : port.Traffic) (status : ℕ) → new ≡ old → AreOfPort old new status []
-no_services old new status same = subst (λ (p : port.Traffic). AreOfPort old p status []) (sym same) (record {
-  came = none_come old.coming;
-  told = inl (none_over old.over);
-  all = λ _. none_over old.over;
-  pieces = [];
-  handed = none_ahead old.ahead;
-  ahead = tt;
-})

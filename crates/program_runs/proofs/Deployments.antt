@@ -3,6 +3,7 @@ use Rattle.std.proofs.Common.{◌≡◌, ◌∙◌, ℕ, zero, suc, ◌≤◌, �
 use Rattle.std.proofs.Common.{ap, subst, inr}
 use Rattle.sqlite_disk.specs.declared.Disk.{Ghosts}
 use Rattle.sqlite_disk.specs.declared.Files.{Files}
+use Rattle.connection_hall.specs.declared.stream.Stream.{Ghosts as Streams}
 use Rattle.filing_model.specs.Request.{Request, firsts}
 use Rattle.filing_world.specs.World.{numbered}
 use Rattle.filing_world.specs.Headline.{AreFilers}
@@ -15,7 +16,7 @@ use Rattle.program_runs.specs.Deeds.{Deed, Added, Wrote, Heard, Asked, AreDone, 
 use Rattle.program_runs.specs.Registers.{LieRequests}
 use Rattle.program_runs.specs.Runs.{LieOutbox, AreNotGone}
 use Rattle.program_runs.specs.Deployment.{OutboxTurn, Whole, Killed, AreOutboxTurns, IsOutboxTurn}
-use Rattle.program_runs.specs.Deployment.{IntakeTurn, Done, Stopped, IsIntakeTurn, AreOfIntakeTurn}
+use Rattle.program_runs.specs.Deployment.{IntakeTurn, Done, Stopped, IsIntakeTurn, AreOfIntakeTurn, AreOfIntakeTurns}
 use Rattle.program_runs.specs.Deployment.{AreIntakeTurns, Deployment, bare, AnyRuns, AnyDeployment}
 use Rattle.program_runs.specs.Deployment.{AreOfTurn, AreOfAll}
 use Rattle.program_runs.proofs.Joining.{done_join}
@@ -117,51 +118,52 @@ module _ {D : Type 0} (g : Ghosts D) (honest : IsHonest g) where
     pub there : LieRequests g lying' after
     pub stays : AreNotGone lying lying'
 
-  one_service : (limit : ℕ) (turn : IntakeTurn g) (lying lying' : Option (Option (Files D)))
-      (requests : List Request) → LieRequests g lying requests → IsIntakeTurn g limit turn lying lying'
-      → Serving limit (AreOfIntakeTurn g turn) requests lying lying'
-  one_service limit (Done r) lying lying' requests lies is =
-      let by = performs limit r.task r.old r.new r.status requests honest is.limited (record {
-        closed = is.closed;
-        certain = is.began;
-        there = subst (λ l. LieRequests g l requests) (sym is.found) lies;
-      }) is.performs is.certain in
-      record {
-        services = by.services;
-        are = by.are;
-        after = by.after;
-        in_turn = by.in_turn;
-        there = subst (λ l. LieRequests g l by.after) is.left by.lies.there;
-        stays = λ gone. sym is.found ∙ by.stays (is.left ∙ gone);
-      }
-  one_service limit (Stopped services) lying lying' requests lies is =
-      let left = is requests lies in
-      record { services = services; are = refl; after = left.0; in_turn = left.1; there = left.2; stays = left.3 }
+  module _ {S N : Type 0} (s : Streams S N) (limit : ℕ) where
+    one_service : (turn : IntakeTurn g s) (lying lying' : Option (Option (Files D))) (requests : List Request)
+        → LieRequests g lying requests → IsIntakeTurn g s limit turn lying lying'
+        → Serving limit (AreOfIntakeTurn g s limit requests turn) requests lying lying'
+    one_service (Done r) lying lying' requests lies is =
+        let by = performs s limit [] r.old r.new requests honest (record {
+          closed = is.closed;
+          certain = is.began;
+          there = subst (λ l. LieRequests g l requests) (sym is.found) lies;
+        }) is.fresh r.task r.status is.limited is.performs is.certain in
+        record {
+          services = by.services;
+          are = by.are;
+          after = by.after;
+          in_turn = by.in_turn;
+          there = subst (λ l. LieRequests g l by.after) is.left by.lies.there;
+          stays = λ gone. sym is.found ∙ by.stays (is.left ∙ gone);
+        }
+    one_service (Stopped services) lying lying' requests lies is =
+        let left = is requests lies in
+        record { services = services; are = refl; after = left.0; in_turn = left.1; there = left.2; stays = left.3 }
 
-  services_done : (limit : ℕ) (turns : List (IntakeTurn g)) (lying lying' : Option (Option (Files D)))
-      (requests : List Request) → LieRequests g lying requests → AreIntakeTurns g limit turns lying lying'
-      → Serving limit (AreOfAll (AreOfIntakeTurn g) turns) requests lying lying'
-  services_done limit [] lying lying' requests lies is =
-      record {
-        services = [];
-        are = refl;
-        after = requests;
-        in_turn = refl;
-        there = subst (λ l. LieRequests g l requests) (sym is) lies;
-        stays = λ gone. sym is ∙ gone;
-      }
-  services_done limit (turn ∷ turns) lying lying' requests lies is =
-      let one = one_service limit turn lying is.0 requests lies is.1 in
-      let rest = services_done limit turns is.0 lying' one.after one.there is.2 in
-      record {
-        services = one.services ++ rest.services;
-        are = (one.services, rest.services, refl, one.are, rest.are);
-        after = rest.after;
-        in_turn = in_turn_join limit requests one.after rest.after one.services rest.services one.in_turn
-            rest.in_turn;
-        there = rest.there;
-        stays = λ gone. one.stays (rest.stays gone);
-      }
+    services_done : (turns : List (IntakeTurn g s)) (lying lying' : Option (Option (Files D)))
+        (requests : List Request) → LieRequests g lying requests → AreIntakeTurns g s limit turns lying lying'
+        → Serving limit (AreOfIntakeTurns g s limit requests turns) requests lying lying'
+    services_done [] lying lying' requests lies is =
+        record {
+          services = [];
+          are = refl;
+          after = requests;
+          in_turn = refl;
+          there = subst (λ l. LieRequests g l requests) (sym is) lies;
+          stays = λ gone. sym is ∙ gone;
+        }
+    services_done (turn ∷ turns) lying lying' requests lies is =
+        let one = one_service turn lying is.0 requests lies is.1 in
+        let rest = services_done turns is.0 lying' one.after one.there is.2 in
+        record {
+          services = one.services ++ rest.services;
+          are = (one.services, rest.services, one.after, refl, one.in_turn, one.are, rest.are);
+          after = rest.after;
+          in_turn = in_turn_join limit requests one.after rest.after one.services rest.services one.in_turn
+              rest.in_turn;
+          there = rest.there;
+          stays = λ gone. one.stays (rest.stays gone);
+        }
 
   -- ---- all of them
 
@@ -215,9 +217,9 @@ module _ {D : Type 0} (g : Ghosts D) (honest : IsHonest g) where
       let same : last n ≡ now = (cc) in
       subst (λ (c : Contents). LieOutbox g (deployment.boxes n) c) same (there n it was)
 
-  pub any : Reaches → AnyRuns g
-  any reaches limit filers before situation old new intake outboxes are bound happened holds serves runs =
-      let service = services_done limit intake old.register new.register situation.requests holds.register serves in
+  pub any : {S N : Type 0} (s : Streams S N) → Reaches → AnyRuns g s
+  any s reaches limit filers before situation old new intake outboxes are bound happened holds serves runs =
+      let service = services_done s limit intake old.register new.register situation.requests holds.register serves in
       let of : (n : ℕ) → OfOne (AreOfAll (AreOfTurn g) (outboxes n)) situation (old.boxes n) (new.boxes n) n =
       λ n. of_one situation (outboxes n) (old.boxes n) (new.boxes n) n (holds.boxes n) (runs n)
       (numbered situation.outboxes n) refl in
@@ -271,10 +273,10 @@ module _ {D : Type 0} (g : Ghosts D) (honest : IsHonest g) where
       )
   at_first_here (filer ∷ filers) (suc (suc n)) it here = at_first_here filers (suc n) it here
 
-  pub from_nothing : Reaches → AnyDeployment g
+  pub from_nothing : {S N : Type 0} (s : Streams S N) → Reaches → AnyDeployment g s
   unfolding firsts
-  from_nothing reaches limit filers new intake outboxes are bound serves runs =
-      any reaches limit filers [] (at_first filers) (bare g) new intake outboxes are bound refl (record {
+  from_nothing s reaches limit filers new intake outboxes are bound serves runs =
+      any s reaches limit filers [] (at_first filers) (bare g) new intake outboxes are bound refl (record {
         register = (refl, inr (refl, refl));
         boxes = λ n it here. inr (refl, (at_first_here filers n it here).1);
       }) serves (λ n it here. runs n it.filer (at_first_here filers n it here).0)

@@ -1,33 +1,32 @@
 -- A run of `intake serve`.
 use Rattle.std.proofs.Common.{◌≡◌, ◌≢◌, ◌∙◌, ℕ, ◌≤◌, true, false, List, [], ◌∷◌, ◌++◌, Option, Some, None, Result, Ok}
 use Rattle.std.proofs.Common.{Err}
-use Rattle.std.proofs.Common.{refl, sym, ap, subst, inl, inr, true≢false}
-use Rattle.std.specs.Prelude.{◌⊎◌, ◌==◌, not, IfErr, IsSome}
+use Rattle.std.proofs.Common.{refl, sym, ap, subst, inl, inr, true≢false, map, arith}
+use Rattle.std.specs.Prelude.{◌⊎◌, not, IfErr, IfSome, IsSome}
 use Rattle.sqlite_disk.specs.declared.Disk.{Ghosts}
 use Rattle.filing_model.specs.Request.{Request, firsts}
 use Rattle.filing_model.specs.Serving.{keeping}
+use Rattle.filing_model.proofs.Lists.{append_nil}
 use Rattle.database_places.specs.Places.{IsHonest, Lie}
 use Rattle.command_line.specs.declared.fault.DatabaseFault.TheVariants.{Missing}
-use Rattle.gateway_server.specs.InTurn.{ServeInTurn}
-use Rattle.gateway_server.specs.Ports.{Traffic}
+use Rattle.gateway_server.specs.Connections.{ServeInTurn}
+use Rattle.connection_hall.specs.declared.stream.Stream.{Ghosts as Streams}
+use Rattle.connection_hall.specs.Answers.{Answer}
+use Rattle.gateway_rounds.specs.Ports.{Port, Runs}
 use Rattle.database_places.specs.declared.opening.Unopened.{Unopened}
 use Rattle.database_places.specs.Opening.{StaysIn, untouched}
 use Rattle.intake_process.specs.Process.{Parts, HoldRegisterWithLog, Keeps, KeepsBy, LeavesDatabase, OpensProcess}
 use Rattle.intake_process.specs.declared.fault.OpeningFault.{OpeningFault}
-use Rattle.intake_process.specs.Turns as turned
-use Rattle.intake_process.specs.Turns.{Turn, Served, TurnedAway, connections_of, served_in, AreTurnedAway, IsServed}
+use Rattle.intake_process.specs.Turns.{Turn, Served, TurnedAway, served_in, AreTurnedAway, IsServed}
 use Rattle.intake_process.specs.Turns.{IsServedOrRefused}
-use Rattle.gateway_server.specs.declared.port_fault.PortFault.{PortFault}
-use Rattle.gateway_server.specs.declared.port_fault.PortFault.TheVariants.{Network, Memory}
 use Rattle.intake_process.specs.declared.errand.ErrandFault.{ErrandFault}
 use Rattle.intake_process.specs.declared.serving.ServingFault.{ServingFault}
-use Rattle.intake_process.specs.declared.serving.ServingFault.TheVariants.{Register, Port}
+use Rattle.intake_process.specs.declared.serving.ServingFault.TheVariants.{Register, Port as Failed}
 use Rattle.intake_process.specs.declared.visiting.Visited.{Visited}
 use Rattle.intake_commands.specs.Tasks.{IsServingTold, Serves, most_asked}
 use Rattle.intake_commands.specs.declared.fault.NotDone.{NotDone}
 use Rattle.intake_commands.specs.declared.options.Serving.{Serving}
-use Rattle.intake_commands.specs.Status.{status_of}
-use Rattle.program_runs.specs.Beside.{Service, Answered, Ahead, Away, Killed, InTurn}
+use Rattle.program_runs.specs.Beside.{Service, Answered, Away, Killed, InTurn}
 use Rattle.std.specs.Prelude.{MatchBool, Bool}
 use Rattle.std.specs.Borrow.{Bor}
 use Rattle.intake_process.specs.declared.tasks.errand.Errand.{Errand}
@@ -46,54 +45,48 @@ use Rattle.sqlite_disk.specs.declared.Files.{Files}
 use Rattle.sqlite_store.specs.declared.store.FileStore.{FileStore}
 use Rattle.register_rows.specs.Schema.{register_tables}
 use Rattle.table_rows.specs.Tables.{no_schema}
-use Rattle.program_runs.specs.Registers.{LiesRegister, IsServiceBy, AreOfPort, IsLimited, came_in, ahead_in}
+use Rattle.program_runs.specs.Registers.{LiesRegister, IsServiceBy, AreOfTurns, AreOfPort, IsLimited, service_of}
 use Rattle.program_runs.specs.Runs.{AreNotGone}
-use Rattle.program_runs.proofs.Carried.{no_services, of_turns}
 use Rattle.program_runs.proofs.Lies.{some_lie}
 use Rattle.program_runs.proofs.Results.{not_err}
 
-pub record AreServices (limit : ℕ) (before after : List Request) (turns : List Turn) : Type 0 where
-  pub services : List Service
-  pub in_turn : InTurn limit before services after
-  pub came : came_in services ≡ connections_of turns
-  pub ahead : ahead_in services ≡ turned.ahead_in turns
+-- ---- the services of turns
 
 module _ (limit keys : ℕ) (few : keys ≤ limit) where
-  pub services : (turns : List Turn) (before after : List Request)
+  in_turn_of : (turns : List Turn) (before after : List Request)
       → ServeInTurn (keeping keys [] before after) (served_in turns) → AreTurnedAway turns
-      → AreServices limit before after turns
-  services [] before after in_turn away = record { services = []; in_turn = in_turn; came = refl; ahead = refl }
-  services (Served c ∷ turns) before after in_turn away =
-      let rest = services turns in_turn.0 after in_turn.2 away in
-      record {
-        services = Answered c ∷ rest.services;
-        in_turn = (keys, in_turn.0, few, in_turn.1, rest.in_turn);
-        came = ap (λ cs. c ∷ cs) rest.came;
-        ahead = rest.ahead;
-      }
-  services (turned.Ahead c ∷ turns) before after in_turn away =
-      let rest = services turns in_turn.0 after in_turn.2 away in
-      record {
-        services = Ahead c ∷ rest.services;
-        in_turn = (keys, in_turn.0, few, in_turn.1, rest.in_turn);
-        came = rest.came;
-        ahead = ap (λ cs. c ∷ cs) rest.ahead;
-      }
-  services (TurnedAway c ∷ turns) before after in_turn away =
-      let rest = services turns before after in_turn away.1 in
-      record {
-        services = Away c ∷ rest.services;
-        in_turn = (away.0, rest.in_turn);
-        came = ap (λ cs. c ∷ cs) rest.came;
-        ahead = rest.ahead;
-      }
+      → InTurn limit before (map service_of turns) after
+  in_turn_of [] before after in_turn away = in_turn
+  in_turn_of (Served told ∷ turns) before after in_turn away =
+      (keys, in_turn.0, few, in_turn.1, in_turn_of turns in_turn.0 after in_turn.2 away)
+  in_turn_of (TurnedAway told ∷ turns) before after in_turn away =
+      (away.0, in_turn_of turns before after in_turn away.1)
+
+-- nothing was done on a port
+no_services : {S N : Type 0} (s : Streams S N) (limit : ℕ) (requests : List Request) (told : List Answer)
+    (port : Option (Port S)) → IfSome port (Runs s told) → AreOfPort s limit requests told port []
+no_services s limit requests told None runs = refl
+no_services s limit requests told (Some port) runs =
+    record {
+      turns = [];
+      services_are = refl;
+      keys = limit;
+      few = omega arith;
+      are = tt;
+      running = subst (λ answers. Runs s answers port) (sym (append_nil told)) runs;
+    }
+
+-- or it was left as it was
+same_port : {S N : Type 0} (s : Streams S N) (limit : ℕ) (requests : List Request) (told : List Answer)
+    (port port' : Option (Port S)) → IfSome port (Runs s told) → port' ≡ port
+    → AreOfPort s limit requests told port' []
+same_port s limit requests told port port' runs same =
+    subst (λ p. AreOfPort s limit requests told p []) (sym same) (no_services s limit requests told port runs)
 
 pub in_turn_join : (limit : ℕ) (a b c : List Request) (first second : List Service) → InTurn limit a first b
     → InTurn limit b second c → InTurn limit a (first ++ second) c
 in_turn_join limit a b c [] second one two = subst (λ (x : List Request). InTurn limit x second c) one two
 in_turn_join limit a b c (Answered k ∷ first) second one two =
-    (one.0, one.1, one.2, one.3, in_turn_join limit one.1 b c first second one.4 two)
-in_turn_join limit a b c (Ahead k ∷ first) second one two =
     (one.0, one.1, one.2, one.3, in_turn_join limit one.1 b c first second one.4 two)
 in_turn_join limit a b c (Away k ∷ first) second one two = (one.0, in_turn_join limit a b c first second one.1 two)
 in_turn_join limit a b c (Killed read crash marks written ∷ first) second one two =
@@ -127,14 +120,6 @@ not_bare requests db is none =
 
 same_err : {A E : Type 0} (r : Result A E) (a b : E) → r ≡ Err a → r ≡ Err b → a ≡ b
 same_err r a b one other = cc
-
--- a run whose port failed ends with another status than 0
-port_fails : (task : Serving) (why : PortFault) (result : Result ℕ NotDone) → IsServingTold task (Err (Port why)) result
-    → status_of result ≡ 0 → ⊥
-port_fails task (Network error) result told done =
-    true≢false (ap (λ (status : ℕ). status == 3) (sym (ap (λ (r : Result ℕ NotDone). status_of r) told) ∙ done))
-port_fails task Memory result told done =
-    true≢false (ap (λ (status : ℕ). status == 3) (sym (ap (λ (r : Result ℕ NotDone). status_of r) told) ∙ done))
 
 module _ {D : Type 0} {g : Ghosts D} where
   -- what lay there is kept by a process that is closed
@@ -201,119 +186,127 @@ module _ {D : Type 0} {g : Ghosts D} where
 
   -- ---- it was served
 
-  answered : (limit keys most : ℕ) (has : Bool) (port port' : Traffic) (noted noted' : Option (List Bool))
-      (old new : Parts g) (taken : Option ℕ) (status : ℕ) (requests : List Request) → IsHonest g → keys ≤ limit
-      → (status ≡ 0 → IsSome taken) → (served : IsServed has keys most port port' noted noted' old new taken)
-      → Keeps served.opened keys 0 requests → new.is_certain ≡ true
-      → IsServiceBy limit requests old new (AreOfPort port port' status) × (new.lying ≢ Some None)
-  answered limit keys most has port port' noted noted' old new taken status requests honest few some served keeps
-      certain =
-      let leaves = served.closes.leaves honest keys in
-      let is = (served.answers honest).answers 0 requests keeps (leaves.certain certain) in
-      let by = services limit keys few is.3 requests is.0 is.4.in_turn is.4.away in
-      let lies =
-      kept_lies new keys is.0 served.closes.is_closed certain (leaves.kept 0 is.0 (λ _. is.1)) in
-      let there : new.lying ≢ Some None =
-      λ gone. some_lie new.lying (λ files. HoldRegisterWithLog g files 0 is.0) lies.1 gone in (
-        record {
-          services = by.services;
-          are = of_turns port port' (keeping keys [] requests is.0) is.3 taken status by.services is.4
-              some by.came by.ahead;
-          after = is.0;
-          in_turn = by.in_turn;
-          lies = record {
-            closed = served.closes.is_closed;
-            certain = certain;
-            there = (lies.0, inl lies.1);
-          };
-          stays = λ gone. absurd (there gone);
-        },
-        there,
-      )
+  module _ {S N : Type 0} (s : Streams S N) (told : List Answer) (limit : ℕ) where
+    answered : (keys most : ℕ) (has : Bool) (port port' : Port S) (noted noted' : Option (List Bool))
+        (old new : Parts g) (taken : Option ℕ) (requests : List Request) → IsHonest g → keys ≤ limit → Runs s told port
+        → (served : IsServed s has keys most port port' noted noted' old new taken)
+        → Keeps served.opened keys 0 requests → new.is_certain ≡ true
+        → IsServiceBy limit requests old new (AreOfTurns s limit requests told port') × (new.lying ≢ Some None)
+    answered keys most has port port' noted noted' old new taken requests honest few runs served keeps certain =
+        let leaves = served.closes.leaves honest keys in
+        let is = (served.answers honest).answers 0 requests keeps (leaves.certain certain) told runs in
+        let all = is.4 in
+        let lies = kept_lies new keys is.0 served.closes.is_closed certain (leaves.kept 0 is.0 (λ _. is.1)) in
+        let there : new.lying ≢ Some None =
+        λ gone. some_lie new.lying (λ files. HoldRegisterWithLog g files 0 is.0) lies.1 gone in (
+          record {
+            services = map service_of is.3;
+            are = record {
+              turns = is.3;
+              services_are = refl;
+              keys = keys;
+              few = few;
+              are = all.are;
+              running = all.running;
+            };
+            after = is.0;
+            in_turn = in_turn_of limit keys few is.3 requests is.0 all.in_turn all.away;
+            lies = record { closed = served.closes.is_closed; certain = certain; there = (lies.0, inl lies.1) };
+            stays = λ gone. absurd (there gone);
+          },
+          there,
+        )
 
-  -- the register that lay there was opened, or one was made where no files lay
-  opened : (keys most : ℕ) (has : Bool) (port port' : Traffic) (noted noted' : Option (List Bool)) (old new : Parts g)
-      (taken : Option ℕ) (requests : List Request) → IsHonest g → LiesRegister old requests
-      → (served : IsServed has keys most port port' noted noted' old new taken) → Keeps served.opened keys 0 requests
-  opened keys most true port port' noted noted' old new taken requests honest lies served = elim lies.there.1 [
-    | inl there ↦ (served.opens.leaves honest refl).kept 0 requests
-        (keeps_of old keys requests lies.closed lies.there.0 there)
-    | inr none ↦ absurd (not_err served.totals _ (served.opens.absent lies.closed refl none.0).1)
-  ]
-  opened keys most false port port' noted noted' old new taken requests honest lies served = elim lies.there.1 [
-    | inl there ↦
-        let hold = there.2 in
-        let read = served.opens.read honest lies.closed there.0 there.1 in
-        not_bare requests hold.db hold.register
-        (subst (λ (db : Database). db.schema ≡ no_schema) (read.2.only hold.db hold.held) read.3)
-    | inr none ↦ subst (λ (rs : List Request). Keeps served.opened keys 0 rs) (sym none.1)
-        (served.opens.made honest refl lies.closed (subst (λ l. IsSome l) (sym none.0) refl))
-  ]
-
-  by_steps : (limit : ℕ) (task : Serving) (has : Bool) (port port' : Traffic) (old new : Parts g)
-      (served : Result ℕ ServingFault) (result : Result ℕ NotDone) (requests : List Request) → IsHonest g
-      → task.limit ≤ limit → LiesRegister old requests
-      → IsServedOrRefused has task.limit most_asked port port' None None old new served
-      → IsServingTold task served result → new.is_certain ≡ true
-      → IsServiceBy limit requests old new (AreOfPort port port' (status_of result))
-  by_steps limit task has port port' old new (Ok taken) result requests honest few lies is told certain =
-      (answered limit task.limit most_asked has port port' None None old new (Some taken) (status_of result) requests
-      honest few (λ _. refl) is
-      (opened task.limit most_asked has port port' None None old new (Some taken) requests honest lies is) certain).0
-  by_steps limit task has port port' old new (Err (Port why)) result requests honest few lies is told certain =
-      (answered limit task.limit most_asked has port port' None None old new None (status_of result) requests honest
-      few (λ done. absurd (port_fails task why result told done)) is
-      (opened task.limit most_asked has port port' None None old new None requests honest lies is) certain).0
-  by_steps limit task has port port' old new (Err (Register why)) result requests honest few lies is told certain =
-      refused limit task.limit has why old new requests (AreOfPort port port' (status_of result))
-      (no_services port port' (status_of result) is.1) honest lies is.0 certain
-
-  serve_task : (limit : ℕ) (task : Serving) (port port' : Traffic) (old new : Parts g) (result : Result ℕ NotDone)
-      (requests : List Request) → IsHonest g → task.limit ≤ limit → LiesRegister old requests
-      → Serves task port port' old new result → new.is_certain ≡ true
-      → IsServiceBy limit requests old new (AreOfPort port port' (status_of result))
-  serve_task limit task port port' old new result requests honest few lies serves certain = elim serves [
-    | inl none ↦ stayed limit old new requests (AreOfPort port port' (status_of result))
-        (no_services port port' (status_of result) none.1) lies none.2
-    | inr more ↦ elim more [
-      | inl without ↦ stayed limit old new requests (AreOfPort port port' (status_of result))
-          (no_services port port' (status_of result) without.same) lies without.kept
-      | inr is ↦ by_steps limit task (not task.new) port port' old new is.1 result requests honest few lies is.2.steps
-          is.3 certain
+    -- the register that lay there was opened, or one was made where no files lay
+    opened : (keys most : ℕ) (has : Bool) (port port' : Port S) (noted noted' : Option (List Bool)) (old new : Parts g)
+        (taken : Option ℕ) (requests : List Request) → IsHonest g → LiesRegister old requests
+        → (served : IsServed s has keys most port port' noted noted' old new taken)
+        → Keeps served.opened keys 0 requests
+    opened keys most true port port' noted noted' old new taken requests honest lies served = elim lies.there.1 [
+      | inl there ↦ (served.opens.leaves honest refl).kept 0 requests
+          (keeps_of old keys requests lies.closed lies.there.0 there)
+      | inr none ↦ absurd (not_err served.totals _ (served.opens.absent lies.closed refl none.0).1)
     ]
-  ]
-
-  -- ---- a register is made
-
-  by_made : (limit : ℕ) (task : Serving) (port port' : Traffic) (old new : Parts g) (status : ℕ)
-      (served : Result ℕ ServingFault) → IsHonest g → task.limit ≤ limit → old.intake ≡ None → IsSome old.lying
-      → IsServedOrRefused false task.limit most_asked port port' None None old new served
-      → IsServingTold task served (Ok status) → new.is_certain ≡ true
-      → IsServiceBy limit [] old new (AreOfPort port port' status) × (new.lying ≢ Some None)
-  by_made limit task port port' old new status (Ok taken) honest few closed there is told certain =
-      answered limit task.limit most_asked false port port' None None old new (Some taken) status [] honest few
-      (λ _. refl) is (is.opens.made honest refl closed there) certain
-  by_made limit task port port' old new status (Err (Register why)) honest few closed there is told certain =
-      absurd (not_err status told.0 told.2)
-  by_made limit task port port' old new status (Err (Port (Network error))) honest few closed there is told certain =
-      absurd (not_err status _ told)
-  by_made limit task port port' old new status (Err (Port Memory)) honest few closed there is told certain =
-      absurd (not_err status _ told)
-
-  pub makes : (limit : ℕ) (task : Serving) (port port' : Traffic) (old new : Parts g) (status : ℕ) → IsHonest g
-      → task.limit ≤ limit → task.new ≡ true → old.intake ≡ None → IsSome old.lying
-      → Serves task port port' old new (Ok status) → new.is_certain ≡ true
-      → IsServiceBy limit [] old new (AreOfPort port port' status) × (new.lying ≢ Some None)
-  makes limit task port port' old new status honest few new_one closed there serves certain = elim serves [
-    | inl none ↦ absurd (not_err status _ none.3)
-    | inr more ↦ elim more [
-      | inl without ↦ absurd without.told
-      | inr is ↦
-          by_made limit task port port' old new status is.1 honest few closed there
-          (subst (λ b. IsServedOrRefused (not b) task.limit most_asked port port' None None old new is.1) new_one
-          is.2.steps) is.3 certain
+    opened keys most false port port' noted noted' old new taken requests honest lies served = elim lies.there.1 [
+      | inl there ↦
+          let hold = there.2 in
+          let read = served.opens.read honest lies.closed there.0 there.1 in
+          not_bare requests hold.db hold.register
+          (subst (λ (db : Database). db.schema ≡ no_schema) (read.2.only hold.db hold.held) read.3)
+      | inr none ↦ subst (λ (rs : List Request). Keeps served.opened keys 0 rs) (sym none.1)
+          (served.opens.made honest refl lies.closed (subst (λ l. IsSome l) (sym none.0) refl))
     ]
-  ]
+
+    by_steps : (task : Serving) (has : Bool) (port port' : Port S) (old new : Parts g)
+        (served : Result ℕ ServingFault) (requests : List Request) → IsHonest g → task.limit ≤ limit → Runs s told port
+        → LiesRegister old requests
+        → IsServedOrRefused s has task.limit most_asked port port' None None old new served → new.is_certain ≡ true
+        → IsServiceBy limit requests old new (AreOfTurns s limit requests told port')
+    by_steps task has port port' old new (Ok taken) requests honest few runs lies is certain =
+        (answered task.limit most_asked has port port' None None old new (Some taken) requests honest few runs is
+        (opened task.limit most_asked has port port' None None old new (Some taken) requests honest lies is) certain).0
+    by_steps task has port port' old new (Err (Failed why)) requests honest few runs lies is certain =
+        (answered task.limit most_asked has port port' None None old new None requests honest few runs is
+        (opened task.limit most_asked has port port' None None old new None requests honest lies is) certain).0
+    by_steps task has port port' old new (Err (Register why)) requests honest few runs lies is certain =
+        refused limit task.limit has why old new requests (AreOfTurns s limit requests told port')
+        (same_port s limit requests told (Some port) (Some port') runs (ap (λ p. Some p) is.1)) honest lies is.0 certain
+
+    serve_task : (task : Serving) (port port' : Option (Port S)) (old new : Parts g) (result : Result ℕ NotDone)
+        (requests : List Request) → IsHonest g → task.limit ≤ limit → IfSome port (Runs s told)
+        → LiesRegister old requests → Serves s task port port' old new result → new.is_certain ≡ true
+        → IsServiceBy limit requests old new (AreOfPort s limit requests told port')
+    serve_task task None port' old new result requests honest few runs lies is certain =
+        stayed limit old new requests (AreOfPort s limit requests told port')
+        (same_port s limit requests told None port' runs is.0) lies is.1
+    serve_task task (Some port) port' old new result requests honest few runs lies (after, same, serves) certain =
+        let Are = AreOfPort s limit requests told port' in
+        let none : after ≡ port → Are [] =
+        λ left. same_port s limit requests told (Some port) port' runs (same ∙ ap (λ p. Some p) left) in
+        elim serves [
+          | inl much ↦ stayed limit old new requests Are (none much.1) lies much.2
+          | inr more ↦ elim more [
+            | inl without ↦ stayed limit old new requests Are (none without.same) lies without.kept
+            | inr is ↦
+                subst (λ p. IsServiceBy limit requests old new (AreOfPort s limit requests told p)) (sym same)
+                (by_steps task (not task.new) port after old new is.1 requests honest few runs lies is.2.steps certain)
+          ]
+        ]
+
+    -- ---- a register is made
+
+    by_made : (task : Serving) (port port' : Port S) (old new : Parts g) (status : ℕ) (served : Result ℕ ServingFault)
+        → IsHonest g → task.limit ≤ limit → Runs s told port → old.intake ≡ None → IsSome old.lying
+        → IsServedOrRefused s false task.limit most_asked port port' None None old new served
+        → IsServingTold task served (Ok status) → new.is_certain ≡ true
+        → IsServiceBy limit [] old new (AreOfTurns s limit [] told port') × (new.lying ≢ Some None)
+    by_made task port port' old new status (Ok taken) honest few runs closed there is as_told certain =
+        answered task.limit most_asked false port port' None None old new (Some taken) [] honest few runs is
+        (is.opens.made honest refl closed there) certain
+    by_made task port port' old new status (Err (Register why)) honest few runs closed there is as_told certain =
+        absurd (not_err status as_told.0 as_told.2)
+    by_made task port port' old new status (Err (Failed error)) honest few runs closed there is as_told certain =
+        absurd (not_err status _ as_told)
+
+    pub makes : (task : Serving) (port port' : Option (Port S)) (old new : Parts g) (status : ℕ) → IsHonest g
+        → task.limit ≤ limit → IfSome port (Runs s told) → task.new ≡ true → old.intake ≡ None → IsSome old.lying
+        → Serves s task port port' old new (Ok status) → new.is_certain ≡ true
+        → IsServiceBy limit [] old new (AreOfPort s limit [] told port') × (new.lying ≢ Some None)
+    makes task None port' old new status honest few runs new_one closed there is certain =
+        absurd (not_err status _ is.2)
+    makes task (Some port) port' old new status honest few runs new_one closed there (after, same, serves) certain =
+        elim serves [
+          | inl much ↦ absurd (not_err status _ much.3)
+          | inr more ↦ elim more [
+            | inl without ↦ absurd without.told
+            | inr is ↦
+                subst (λ p. IsServiceBy limit [] old new (AreOfPort s limit [] told p) × (new.lying ≢ Some None))
+                (sym same)
+                (by_made task port after old new status is.1 honest few runs closed there
+                (subst (λ b. IsServedOrRefused s (not b) task.limit most_asked port after None None old new is.1)
+                new_one is.2.steps) is.3 certain)
+          ]
+        ]
 
   -- ---- visits
 
@@ -424,37 +417,36 @@ module _ {D : Type 0} {g : Ghosts D} where
       (visited errand out is.0 old is.1 is.2 requests honest lies visits) is.4 certain in
       record { services = []; are = none; after = requests; in_turn = refl; lies = left.0; stays = left.1 }
 
-  does : (limit : ℕ) (what : Task) (old new : Means g) (result : Result ℕ NotDone) (requests : List Request)
-      → IsHonest g → IsLimited limit what → LiesRegister old.process requests → Does what old new result
-      → new.process.is_certain ≡ true
-      → IsServiceBy limit requests old.process new.process (AreOfPort old.port new.port (status_of result))
-  does limit (task.Run most) old new result requests honest covered lies is certain =
-      stayed limit old.process new.process requests (AreOfPort old.port new.port (status_of result))
-      (no_services old.port new.port (status_of result) (ap (λ (m : Means g). m.port) is.0)) lies
-      (ap (λ (m : Means g). m.process) is.0)
-  does limit (task.Serve serving) old new result requests honest covered lies is certain =
-      serve_task limit serving old.port new.port old.process new.process result requests honest covered lies is.1
-      certain
-  does limit (task.Visit name errand) old new result requests honest covered lies is certain =
-      by_wanted (is_wanted errand) is
-      (λ (v : (new ≡ record old { out = new.out; pages = new.pages; process = new.process })
-      × Visits name errand (outputs old.out old.pages) (outputs new.out new.pages) old.process new.process result).
-      visit limit errand (outputs old.out old.pages) (outputs new.out new.pages) old.process new.process result
-      requests (AreOfPort old.port new.port (status_of result))
-      (no_services old.port new.port (status_of result) (ap (λ (m : Means g). m.port) v.0)) honest lies v.1 certain)
-      (λ (none : IsNoFiler old new result).
-      stayed limit old.process new.process requests (AreOfPort old.port new.port (status_of result))
-      (no_services old.port new.port (status_of result) (ap (λ (m : Means g). m.port) none.0)) lies
-      (ap (λ (m : Means g). m.process) none.0))
-  does limit (task.Lint filer form files) old new result requests honest covered lies is certain =
-      stayed limit old.process new.process requests (AreOfPort old.port new.port (status_of result))
-      (no_services old.port new.port (status_of result) (ap (λ (m : Means g). m.port) is.0)) lies
-      (ap (λ (m : Means g). m.process) is.0)
+  module _ {S N : Type 0} (s : Streams S N) (limit : ℕ) (told : List Answer) (old new : Means g S)
+      (requests : List Request) (honest : IsHonest g) (lies : LiesRegister old.process requests)
+      (runs : IfSome old.port (Runs s told)) where
+    abbrev Are : List Service → Type 0
+    Are = AreOfPort s limit requests told new.port
 
-  pub performs : (limit : ℕ) (what : Task) (old new : Means g) (status : ℕ) (requests : List Request)
-      → IsHonest g → IsLimited limit what → LiesRegister old.process requests → Performs what old new status
-      → new.process.is_certain ≡ true
-      → IsServiceBy limit requests old.process new.process (AreOfPort old.port new.port status)
-  performs limit what old new status requests honest covered lies is certain =
-      subst (λ (s : ℕ). IsServiceBy limit requests old.process new.process (AreOfPort old.port new.port s)) (sym is.2)
-      (does limit what old new is.0 requests honest covered lies is.1 certain)
+    left : new.port ≡ old.port → Are []
+    left = same_port s limit requests told old.port new.port runs
+
+    does : (what : Task) (result : Result ℕ NotDone) → IsLimited limit what → Does s what old new result
+        → new.process.is_certain ≡ true → IsServiceBy limit requests old.process new.process Are
+    does (task.Run most) result covered is certain =
+        stayed limit old.process new.process requests Are (left (ap (λ (m : Means g S). m.port) is.0)) lies
+        (ap (λ (m : Means g S). m.process) is.0)
+    does (task.Serve serving) result covered is certain =
+        serve_task s told limit serving old.port new.port old.process new.process result requests honest covered runs
+        lies is.1 certain
+    does (task.Visit name errand) result covered is certain =
+        by_wanted (is_wanted errand) is
+        (λ (v : (new ≡ record old { out = new.out; pages = new.pages; process = new.process })
+        × Visits name errand (outputs old.out old.pages) (outputs new.out new.pages) old.process new.process result).
+        visit limit errand (outputs old.out old.pages) (outputs new.out new.pages) old.process new.process result
+        requests Are (left (ap (λ (m : Means g S). m.port) v.0)) honest lies v.1 certain)
+        (λ (none : IsNoFiler old new result).
+        stayed limit old.process new.process requests Are (left (ap (λ (m : Means g S). m.port) none.0)) lies
+        (ap (λ (m : Means g S). m.process) none.0))
+    does (task.Lint filer form files) result covered is certain =
+        stayed limit old.process new.process requests Are (left (ap (λ (m : Means g S). m.port) is.0)) lies
+        (ap (λ (m : Means g S). m.process) is.0)
+
+    pub performs : (what : Task) (status : ℕ) → IsLimited limit what → Performs s what old new status
+        → new.process.is_certain ≡ true → IsServiceBy limit requests old.process new.process Are
+    performs what status covered is certain = does what is.0 covered is.1 certain

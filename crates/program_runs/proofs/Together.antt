@@ -7,16 +7,14 @@ use Rattle.std.proofs.lemmas.Bool.Decides.{nat_tests, eqb_tells}
 use Rattle.filing_model.specs.Request.{Request}
 use Rattle.filing_model.specs.Serving.{keeping}
 use Rattle.filing_world.specs.World.{numbered}
-use Rattle.gateway_server.specs.Ports.{Connection}
 use Rattle.filing_model.specs.Stopping.{IsStopped}
 use Rattle.outbox_tables.specs.Entries.{Contents}
 use Rattle.programs.specs.Happenings.{Situation, Stranger, Serving, Killing, TurningAway}
-use Rattle.programs.specs.Deliveries.{Delivery, IsOf}
 use Rattle.programs.specs.Fronts.{Direct}
 use Rattle.program_runs.specs.Deeds.{Deed, AreDone}
 use Rattle.program_runs.specs.Beside.{Act, OfOutbox, OfIntake, OfStranger, deeds_of, services_of, Network, network_of}
-use Rattle.program_runs.specs.Beside.{AreCarried, DoTogether, TogetherHappen, ServedFirst, InTurn, with_answer}
-use Rattle.program_runs.specs.Beside.{Answered, Ahead, Away, Killed}
+use Rattle.program_runs.specs.Beside.{AreCarried, DoTogether, TogetherHappen, InTurn}
+use Rattle.program_runs.specs.Beside.{Answered, Away, Killed}
 use Rattle.program_runs.proofs.Happens.{deed_happens, renewed_here, renewed_there}
 
 same_eq : (n : ℕ) → (n == n) ≡ true
@@ -106,33 +104,6 @@ module _ (limit : ℕ) (last : ℕ → Contents) (after : List Request) where
   found old n deed acts None here doing carried later = absurd (not_there old n deed acts here doing)
   found old n deed acts (Some it) here doing carried later = of_outbox old n deed acts it here doing carried later
 
-  -- a connection was served, and what comes after it
-  of_served : (old : Situation) (d : Delivery) (c : Connection) (acts : List Act)
-      → ((n : ℕ) (it : Contents) → numbered old.outboxes n ≡ Some it → AreDone it (deeds_of n acts) (last n))
-      → ((n : ℕ) → numbered old.outboxes n ≡ None → deeds_of n acts ≡ [])
-      → ServedFirst limit old.requests c (λ between. InTurn limit between (services_of acts) after)
-      → IsOf old.sent c d → AreCarried (with_answer (network_of old) d c.output.bytes) acts → Later acts
-      → TogetherHappen limit old last after
-  of_served old d c acts outboxes none in_turn came carried later =
-      let mid : Situation =
-      record old {
-        requests = in_turn.1;
-        answers = old.answers ++ record { item = d.item; bytes = c.output.bytes } ∷ [];
-      } in
-      let rest = later mid (record { outboxes = outboxes; none = none; in_turn = in_turn.4 }) carried in
-      record {
-        passings = Direct (Serving d c) ∷ rest.passings;
-        new = rest.new;
-        happen = (
-          mid,
-          record { came = came; keys = in_turn.0; few = in_turn.2; serves = in_turn.3; becomes = refl },
-          rest.happen,
-        );
-        requests = rest.requests;
-        outboxes = rest.outboxes;
-        none = rest.none;
-      }
-
   pub together : (acts : List Act) → Later acts
   together [] = λ old doing carried. record {
     passings = [];
@@ -157,9 +128,26 @@ module _ (limit : ℕ) (last : ℕ → Contents) (after : List Request) where
         none = rest.none;
       }
   together (OfIntake d (Answered c) ∷ acts) = λ old doing carried.
-      of_served old d c acts doing.outboxes doing.none doing.in_turn carried.0 carried.1 (together acts)
-  together (OfIntake d (Ahead c) ∷ acts) = λ old doing carried.
-      of_served old d c acts doing.outboxes doing.none doing.in_turn carried.0 carried.1 (together acts)
+      let is = doing.in_turn in
+      let mid : Situation =
+      record old {
+        requests = is.1;
+        answers = old.answers ++ record { item = d.item; bytes = c.output.bytes } ∷ [];
+      } in
+      let rest =
+      together acts mid (record { outboxes = doing.outboxes; none = doing.none; in_turn = is.4 }) carried.1 in
+      record {
+        passings = Direct (Serving d c) ∷ rest.passings;
+        new = rest.new;
+        happen = (
+          mid,
+          record { came = carried.0; keys = is.0; few = is.2; serves = is.3; becomes = refl },
+          rest.happen,
+        );
+        requests = rest.requests;
+        outboxes = rest.outboxes;
+        none = rest.none;
+      }
   together (OfIntake d (Killed read crash marks written) ∷ acts) = λ old doing carried.
       let mid : Situation =
       record old {

@@ -7,7 +7,7 @@ use Rattle.filing_model.specs.Serving.{keeping, Serves}
 use Rattle.filing_model.specs.Stopping.{Crash, IsStopped}
 use Rattle.filing_model.specs.declared.served.Mark.{Mark}
 use Rattle.filing_world.specs.World.{Sent, numbered}
-use Rattle.gateway_server.specs.Ports.{Connection}
+use Rattle.gateway_server.specs.Connections.{Connection}
 use Rattle.intake_process.specs.Turning.{IsTurnedAway}
 use Rattle.outbox_tables.specs.Entries.{Contents}
 use Rattle.programs.specs.Deliveries.{Delivery, IsOf}
@@ -19,29 +19,19 @@ use Rattle.program_runs.specs.Deeds.{Deed, Added, Wrote, Heard, Asked, AreDone}
 pub data Service : Type 0 where
   -- it was served
   Answered : Connection → Service
-  -- its request was decided ahead of the connection on which it comes, and nothing was written
-  Ahead : Connection → Service
   -- it was turned away, while the register was closed
   Away : Connection → Service
   -- the run was killed as it served a connection on which this was read, and this was written
   Killed : (read : List ℕ) → Crash → (marks : List Mark) → (written : List ℕ) → Service
 
--- It was served after these requests, by an intake that keeps at most so many keys, and this holds of those that it
--- left.
-abbrev pub ServedFirst : ℕ → List Request → Connection → (List Request → Type 0) → Type 0
-ServedFirst limit before connection Holds =
-    (keys : ℕ) × (between : List Request) × (keys ≤ limit)
-    × Serves (keeping keys [] before between) connection.read connection.output.marks connection.output.ended
-    connection.output.bytes
-    × Holds between
-
--- each was served after the requests that the one before it left
+-- each was served after the requests that the one before it left, by an intake that keeps at most so many keys
 abbrev pub InTurn : ℕ → List Request → List Service → List Request → Type 0
 InTurn limit before [] after = after ≡ before
 InTurn limit before (Answered connection ∷ services) after =
-    ServedFirst limit before connection (λ between. InTurn limit between services after)
-InTurn limit before (Ahead connection ∷ services) after =
-    ServedFirst limit before connection (λ between. InTurn limit between services after)
+    (keys : ℕ) × (between : List Request) × (keys ≤ limit)
+    × Serves (keeping keys [] before between) connection.read connection.output.marks connection.output.ended
+    connection.output.bytes
+    × InTurn limit between services after
 InTurn limit before (Away connection ∷ services) after =
     IsTurnedAway connection.read connection.output.marks connection.output.ended connection.output.bytes
     × InTurn limit before services after
@@ -98,7 +88,6 @@ carries old (OfOutbox outbox (Wrote id written)) = with_sent old (Some (outbox, 
 carries old (OfOutbox outbox (Heard id asks read to)) = old
 carries old (OfOutbox outbox (Asked written)) = with_sent old None written
 carries old (OfIntake delivery (Answered connection)) = with_answer old delivery connection.output.bytes
-carries old (OfIntake delivery (Ahead connection)) = with_answer old delivery connection.output.bytes
 carries old (OfIntake delivery (Killed read crash marks written)) = with_answer old delivery written
 carries old (OfIntake delivery (Away connection)) =
     record old { refusals = old.refusals ++ record { item = delivery.item; bytes = connection.output.bytes } ∷ [] }
@@ -138,7 +127,6 @@ IsCarried network (OfOutbox outbox (Heard id asks read to)) =
     ⊎ (IsGiven network network.refusals outbox id read ⊎ IsGivenBack network asks read)
 IsCarried network (OfOutbox outbox deed) = Unit {0}
 IsCarried network (OfIntake delivery (Answered connection)) = IsOf network.sent connection delivery
-IsCarried network (OfIntake delivery (Ahead connection)) = IsOf network.sent connection delivery
 IsCarried network (OfIntake delivery (Away connection)) = IsOf network.sent connection delivery
 IsCarried network (OfIntake delivery (Killed read crash marks written)) =
     (from : Sent) × (numbered network.sent delivery.item ≡ Some from) × (read ≡ take delivery.given from.bytes)

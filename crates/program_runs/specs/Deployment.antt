@@ -1,8 +1,9 @@
 -- Runs of both programs on the files of a deployment, one after another on each file and beside each other on different
 -- ones; own rules.
-use Rattle.std.specs.Prelude.{◌≡◌, ◌++◌, ◌≤◌, ◌^◌, ℕ, true, List, [], ◌∷◌, Option, Some, None, Result}
+use Rattle.std.specs.Prelude.{◌≡◌, ◌++◌, ◌≤◌, ◌^◌, ℕ, true, List, [], ◌∷◌, Option, Some, None, IfSome, Result}
 use Rattle.sqlite_disk.specs.declared.Disk.{Ghosts}
 use Rattle.sqlite_disk.specs.declared.Files.{Files}
+use Rattle.connection_hall.specs.declared.stream.Stream.{Ghosts as Streams}
 use Rattle.filing_model.specs.Request.{Request}
 use Rattle.filing_world.specs.World.{numbered}
 use Rattle.filing_world.specs.Headline.{AreFilers}
@@ -15,6 +16,7 @@ use Rattle.outbox_commands.specs.declared.fault.NotDone.{NotDone}
 use Rattle.outbox_commands.specs.declared.options.Task.{Task}
 use Rattle.intake_commands.specs.Tasks.{Means, Performs}
 use Rattle.intake_commands.specs.declared.options.Task.{Task as IntakeTask}
+use Rattle.gateway_rounds.specs.Ports.{Runs}
 use Rattle.programs.specs.Happenings.{Situation, at_first, AreRegistered}
 use Rattle.programs.specs.Fronts.{Passing, HappenBehind, IsReachedBehind}
 use Rattle.program_runs.specs.Beside.{Act, Service, InTurn, deeds_of, services_of, network_of, AreCarried}
@@ -79,46 +81,6 @@ module _ {D : Type 0} (g : Ghosts D) where
   AreOfTurn (Whole run) deeds = AreOfRun run.task run.net run.net' (status_by run.result) deeds
   AreOfTurn (Killed some) deeds = deeds ≡ some
 
-  -- ---- the register
-
-  -- a run of `intake` that came to its end
-  pub record IntakeRun : Type 0 where
-    pub task : IntakeTask
-    pub old : Means g
-    pub new : Means g
-    pub status : ℕ
-
-  -- a run that came to its end, or one that was killed after these services
-  pub data IntakeTurn : Type 0 where
-    Done : IntakeRun → IntakeTurn
-    Stopped : List Service → IntakeTurn
-
-  pub record IsIntakeRun (limit : ℕ) (run : IntakeRun) (lying lying' : Option (Option (Files D))) : Type 0 where
-    pub closed : run.old.process.intake ≡ None
-    pub began : run.old.process.is_certain ≡ true
-    pub found : run.old.process.lying ≡ lying
-    pub limited : IsLimited limit run.task
-    pub performs : Performs run.task run.old run.new run.status
-    pub certain : run.new.process.is_certain ≡ true
-    pub left : run.new.process.lying ≡ lying'
-
-  -- the services are those of its port
-  abbrev pub AreOfIntakeTurn : IntakeTurn → List Service → Type 0
-  AreOfIntakeTurn (Done run) services = AreOfPort run.old.port run.new.port run.status services
-  AreOfIntakeTurn (Stopped some) services = services ≡ some
-
-  abbrev pub IsIntakeTurn : ℕ → IntakeTurn → Option (Option (Files D)) → Option (Option (Files D)) → Type 0
-  IsIntakeTurn limit (Done run) lying lying' = IsIntakeRun limit run lying lying'
-  IsIntakeTurn limit (Stopped services) lying lying' = (requests : List Request) → LieRequests g lying requests
-      → (after : List Request) × InTurn limit requests services after × LieRequests g lying' after
-      × AreNotGone lying lying'
-
-  abbrev pub AreIntakeTurns : ℕ → List IntakeTurn → Option (Option (Files D)) → Option (Option (Files D)) → Type 0
-  AreIntakeTurns limit [] lying lying' = lying' ≡ lying
-  AreIntakeTurns limit (turn ∷ turns) lying lying' =
-      (between : Option (Option (Files D))) × IsIntakeTurn limit turn lying between
-      × AreIntakeTurns limit turns between lying'
-
   -- ---- all files
 
   -- what lies in the place of the register, and in the place of each outbox
@@ -146,42 +108,96 @@ module _ {D : Type 0} (g : Ghosts D) where
     pub reached : IsReachedBehind filers limit new
     pub registered : AreRegistered new
 
+module _ {D S N : Type 0} (g : Ghosts D) (s : Streams S N) where
+  -- ---- the register
+
+  -- a run of `intake` that came to its end
+  pub record IntakeRun : Type 0 where
+    pub task : IntakeTask
+    pub old : Means g S
+    pub new : Means g S
+    pub status : ℕ
+
+  -- a run that came to its end, or one that was killed after these services
+  pub data IntakeTurn : Type 0 where
+    Done : IntakeRun → IntakeTurn
+    Stopped : List Service → IntakeTurn
+
+  -- It found these files in its place, closed, and its port, if it has one, was told nothing yet. It did its task, as
+  -- its contract says, is certain at its end, and left those files.
+  pub record IsIntakeRun (limit : ℕ) (run : IntakeRun) (lying lying' : Option (Option (Files D))) : Type 0 where
+    pub closed : run.old.process.intake ≡ None
+    pub began : run.old.process.is_certain ≡ true
+    pub found : run.old.process.lying ≡ lying
+    pub fresh : IfSome run.old.port (Runs s [])
+    pub limited : IsLimited limit run.task
+    pub performs : Performs s run.task run.old run.new run.status
+    pub certain : run.new.process.is_certain ≡ true
+    pub left : run.new.process.lying ≡ lying'
+
+  abbrev pub IsIntakeTurn : ℕ → IntakeTurn → Option (Option (Files D)) → Option (Option (Files D)) → Type 0
+  IsIntakeTurn limit (Done run) lying lying' = IsIntakeRun limit run lying lying'
+  IsIntakeTurn limit (Stopped services) lying lying' = (requests : List Request) → LieRequests g lying requests
+      → (after : List Request) × InTurn limit requests services after × LieRequests g lying' after
+      × AreNotGone lying lying'
+
+  abbrev pub AreIntakeTurns : ℕ → List IntakeTurn → Option (Option (Files D)) → Option (Option (Files D)) → Type 0
+  AreIntakeTurns limit [] lying lying' = lying' ≡ lying
+  AreIntakeTurns limit (turn ∷ turns) lying lying' =
+      (between : Option (Option (Files D))) × IsIntakeTurn limit turn lying between
+      × AreIntakeTurns limit turns between lying'
+
+  -- the services are those of its port, after these requests
+  abbrev pub AreOfIntakeTurn : ℕ → List Request → IntakeTurn → List Service → Type 0
+  AreOfIntakeTurn limit requests (Done run) services = AreOfPort s limit requests [] run.new.port services
+  AreOfIntakeTurn limit requests (Stopped some) services = services ≡ some
+
+  -- these are what turns did, each after the requests that the one before it left
+  abbrev pub AreOfIntakeTurns : ℕ → List Request → List IntakeTurn → List Service → Type 0
+  AreOfIntakeTurns limit requests [] services = services ≡ []
+  AreOfIntakeTurns limit requests (turn ∷ turns) services =
+      (first : List Service) × (rest : List Service) × (between : List Request) × (services ≡ first ++ rest)
+      × InTurn limit requests first between × AreOfIntakeTurn limit requests turn first
+      × AreOfIntakeTurns limit between turns rest
+
+  -- ---- all of them
+
   -- What these runs did is a list of deeds for each outbox, and of services of the register. In whatever order they
   -- came, with what others wrote between them, they happen, if what each read was written to it or given back by a
   -- front.
   pub record RunsHappen (limit : ℕ) (filers : List (List ℕ)) (intake : List IntakeTurn)
-      (outboxes : ℕ → List OutboxTurn) (old : Situation) (before deployment : Deployment) : Type 0 where
+      (outboxes : ℕ → List (OutboxTurn g)) (old : Situation) (before deployment : Deployment g) : Type 0 where
     pub deeds : ℕ → List Deed
     pub are : (outbox : ℕ) (it : Contents) → numbered old.outboxes outbox ≡ Some it
-        → AreOfAll AreOfTurn (outboxes outbox) (deeds outbox)
+        → AreOfAll (AreOfTurn g) (outboxes outbox) (deeds outbox)
     pub services : List Service
-    pub serve : AreOfAll AreOfIntakeTurn intake services
+    pub serve : AreOfIntakeTurns limit old.requests intake services
     -- what was made is not gone
     pub register_stays : AreNotGone before.register deployment.register
     pub boxes_stay : (outbox : ℕ) (it : Contents) → numbered old.outboxes outbox ≡ Some it
         → AreNotGone (before.boxes outbox) (deployment.boxes outbox)
     pub happen : (acts : List Act) → ((outbox : ℕ) → deeds_of outbox acts ≡ deeds outbox)
         → services_of acts ≡ services → AreCarried (network_of old) acts
-        → IsOutcome limit filers old deployment
+        → IsOutcome g limit filers old deployment
 
   -- Whatever runs there are of both programs, on files that hold a situation to which such happenings led. What is not
   -- there yet may be made, each outbox for its filer.
   abbrev pub AnyRuns : Type 0
   AnyRuns =
-      (limit : ℕ) (filers : List (List ℕ)) (before : List Passing) (situation : Situation) (old new : Deployment)
-      (intake : List IntakeTurn) (outboxes : ℕ → List OutboxTurn) → AreFilers filers → limit ≤ 2 ^ 62
-      → HappenBehind limit (at_first filers) before situation → HoldSituation old situation
+      (limit : ℕ) (filers : List (List ℕ)) (before : List Passing) (situation : Situation) (old new : Deployment g)
+      (intake : List IntakeTurn) (outboxes : ℕ → List (OutboxTurn g)) → AreFilers filers → limit ≤ 2 ^ 62
+      → HappenBehind limit (at_first filers) before situation → HoldSituation g old situation
       → AreIntakeTurns limit intake old.register new.register
       → ((outbox : ℕ) (it : Contents) → numbered situation.outboxes outbox ≡ Some it
-      → AreOutboxTurns it.filer (outboxes outbox) (old.boxes outbox) (new.boxes outbox))
+      → AreOutboxTurns g it.filer (outboxes outbox) (old.boxes outbox) (new.boxes outbox))
       → RunsHappen limit filers intake outboxes situation old new
 
   -- Whatever runs there are of both programs from the first on, each outbox for its filer.
   abbrev pub AnyDeployment : Type 0
   AnyDeployment =
-      (limit : ℕ) (filers : List (List ℕ)) (new : Deployment) (intake : List IntakeTurn)
-      (outboxes : ℕ → List OutboxTurn) → AreFilers filers → limit ≤ 2 ^ 62
-      → AreIntakeTurns limit intake bare.register new.register
+      (limit : ℕ) (filers : List (List ℕ)) (new : Deployment g) (intake : List IntakeTurn)
+      (outboxes : ℕ → List (OutboxTurn g)) → AreFilers filers → limit ≤ 2 ^ 62
+      → AreIntakeTurns limit intake (bare g).register new.register
       → ((outbox : ℕ) (filer : List ℕ) → numbered filers outbox ≡ Some filer
-      → AreOutboxTurns filer (outboxes outbox) (bare.boxes outbox) (new.boxes outbox))
-      → RunsHappen limit filers intake outboxes (at_first filers) bare new
+      → AreOutboxTurns g filer (outboxes outbox) ((bare g).boxes outbox) (new.boxes outbox))
+      → RunsHappen limit filers intake outboxes (at_first filers) (bare g) new

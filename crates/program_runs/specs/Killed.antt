@@ -6,7 +6,7 @@ use Rattle.http_messages.specs.declared.refusal.ConnFault.TheVariants.{Memory}
 use Rattle.filing_model.specs.declared.served.Ended.TheVariants.{Fault}
 use Rattle.filing_model.specs.declared.served.Mark.{Mark}
 use Rattle.filing_world.specs.World.{Sent, numbered}
-use Rattle.gateway_server.specs.Ports.{Connection}
+use Rattle.gateway_server.specs.Connections.{Connection}
 use Rattle.programs.specs.Deliveries.{Delivery}
 use Rattle.programs.specs.Happenings.{Situation, Happening, Makes}
 use Rattle.intake_process.specs.Process.{HoldRegisterWithLog}

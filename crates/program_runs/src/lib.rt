@@ -6,9 +6,12 @@
 
 pub mod stops;
 
-ghost use Rattle.std.specs.Prelude.{◌≡◌, ◌≢◌, ◌≤◌, ℕ, true, List, [], Option, Some, None, Result, Ok, IsSome};
+ghost use Rattle.std.specs.Prelude.{◌≡◌, ◌≢◌, ◌≤◌, ℕ, true, List, [], Option, Some, None, Result, Ok};
+ghost use Rattle.std.specs.Prelude.{IfSome, IsSome};
 ghost use Rattle.std.specs.Borrow.{Bor};
 ghost use Rattle.database_places.specs.Places.{IsHonest};
+ghost use Rattle.connection_hall.specs.Answers.{Answer};
+ghost use Rattle.gateway_rounds.specs.Ports.{Runs};
 ghost use Rattle.outbox_tables.specs.Entries.{Contents, empty};
 ghost use Rattle.outbox_process.specs.Dials.{Traffic};
 ghost use Rattle.outbox_process.specs.Process.{Parts};
@@ -28,6 +31,7 @@ ghost use Rattle.intake_commands.specs.declared.options.Task.TheVariants.{Serve}
 ghost use Rattle.program_runs.specs.Registers.{LiesRegister, IsServiceBy, AreOfPort, IsLimited};
 ghost use Rattle.program_runs.specs.Deployment.{AnyRuns, AnyDeployment};
 
+use connection_hall::Stream;
 use programs::fronts::any_fronts;
 use sqlite_disk::Disk;
 
@@ -58,30 +62,33 @@ pub fn programs_happen_together()
         → TogetherHappen limit old last after }
 {}
 
-/// A run of `intake` on a register that lies there, or is not made yet, answers connections in turn, or does nothing
-/// with it, if its process is certain at the end. These are the connections that came on its port.
-pub fn a_run_of_intake_is_services<D: Disk>()
-    ensures { (limit : ℕ) (task : IntakeTask) (old new : Means D.Disk) (status : ℕ) (requests : List Request)
-        → IsHonest D.Disk → IsLimited limit task → LiesRegister old.process requests → Performs task old new status
+/// A run of `intake` on a register that lies there, or is not made yet, answers what comes on its port, one after
+/// another, or does nothing with it, if its process is certain at the end. The port was told these answers before, none
+/// if it is fresh, and is told those of this run.
+pub fn a_run_of_intake_is_services<D: Disk, S: Stream>()
+    ensures { (limit : ℕ) (task : IntakeTask) (told : List Answer) (old new : Means D.Disk S) (status : ℕ)
+        (requests : List Request) → IsHonest D.Disk → IsLimited limit task → LiesRegister old.process requests
+        → IfSome old.port (Runs S.Stream told) → Performs S.Stream task old new status
         → new.process.is_certain ≡ true
-        → IsServiceBy limit requests old.process new.process (AreOfPort old.port new.port status) }
+        → IsServiceBy limit requests old.process new.process (AreOfPort S.Stream limit requests told new.port) }
 {}
 
-/// A run of `intake serve --new` that is done answers connections in turn, on a register that begins without requests,
-/// if its process is certain at the end.
-pub fn a_run_that_makes_a_register_is_services<D: Disk>()
-    ensures { (limit status : ℕ) (serving : Serving) (old new : Means D.Disk) → IsHonest D.Disk
-        → serving.limit ≤ limit → serving.new ≡ true → old.process.intake ≡ None → IsSome old.process.lying
-        → IntakeDoes (Serve serving) old new (Ok status) → new.process.is_certain ≡ true
-        → IsServiceBy limit [] old.process new.process (AreOfPort old.port new.port status)
+/// A run of `intake serve --new` that is done answers what comes on its port, one after another, on a register that
+/// begins without requests, if its process is certain at the end.
+pub fn a_run_that_makes_a_register_is_services<D: Disk, S: Stream>()
+    ensures { (limit status : ℕ) (serving : Serving) (told : List Answer) (old new : Means D.Disk S) → IsHonest D.Disk
+        → serving.limit ≤ limit → IfSome old.port (Runs S.Stream told) → serving.new ≡ true
+        → old.process.intake ≡ None → IsSome old.process.lying
+        → IntakeDoes S.Stream (Serve serving) old new (Ok status) → new.process.is_certain ≡ true
+        → IsServiceBy limit [] old.process new.process (AreOfPort S.Stream limit [] told new.port)
         × (new.process.lying ≢ Some None) }
 {}
 
 /// Whatever runs there are of both programs, one after another on each file and beside each other on different ones,
 /// each killed or not, with strangers and fronts between: what lies in the files then is what such happenings keep, the
 /// headline holds of it, and each confirmed entry is in the register once.
-pub fn any_runs<D: Disk>()
-    ensures { IsHonest D.Disk → AnyRuns D.Disk }
+pub fn any_runs<D: Disk, S: Stream>()
+    ensures { IsHonest D.Disk → AnyRuns D.Disk S.Stream }
 {
     any_fronts();
 }
@@ -89,8 +96,8 @@ pub fn any_runs<D: Disk>()
 /// Whatever runs there are of both programs from the first on, where no files lie before: each outbox is made for its
 /// filer, and the register is made, at any time. What lies in the files then is what such happenings keep, the headline
 /// holds of it, and each confirmed entry is in the register once.
-pub fn any_deployment<D: Disk>()
-    ensures { IsHonest D.Disk → AnyDeployment D.Disk }
+pub fn any_deployment<D: Disk, S: Stream>()
+    ensures { IsHonest D.Disk → AnyDeployment D.Disk S.Stream }
 {
     any_fronts();
 }

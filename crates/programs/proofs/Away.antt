@@ -27,7 +27,8 @@ use Rattle.filing_model.proofs.Finals.{unavailable-readable}
 use Rattle.filing_model.proofs.Lists.{prefix_refl, prefix_trans, take_prefix, take_within, take_all, take_nil}
 use Rattle.filing_world.proofs.Posting.{FilesAlone, posted, own_front}
 use Rattle.gateway_server.specs.Answered.{WritesText}
-use Rattle.intake_process.specs.Turning.{closing_reply, away_reply, IsUnanswered, AnswersAway, IsTurnedAway}
+use Rattle.gateway_rounds.specs.Away.{closing_reply, away_reply}
+use Rattle.intake_process.specs.Turning.{IsUnanswered, AnswersAway, IsTurnedAway}
 
 -- ---- a 503 moves nothing
 

@@ -28,7 +28,7 @@ use Rattle.filing_world.proofs.Posting.{IsPosted, posted}
 use Rattle.outbox_tables.specs.Entries.{Contents, contents_of}
 use Rattle.outbox_core.specs.Entries.{in_state, set_state}
 use Rattle.filer_client.specs.Exchange.{IsOpenRequest}
-use Rattle.gateway_server.specs.Ports.{Connection}
+use Rattle.gateway_server.specs.Connections.{Connection}
 use Rattle.programs.specs.Deliveries.{Delivery}
 use Rattle.programs.specs.Fronts.{IsPassedOn, IsHearingThrough, Passing, Direct, HearingThrough, Passes, HappenBehind}
 use Rattle.programs.specs.Fronts.{IsKeptWithout, IsReachedBehind}

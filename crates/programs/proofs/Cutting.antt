@@ -5,7 +5,7 @@ use Rattle.std.proofs.Common.{refl, sym, ap, ap₂, subst, append_assoc, arith}
 use Rattle.std.proofs.lemmas.Bool.{both_ways, cases_Bool}
 use Rattle.std.proofs.lemmas.Bool.Decides.{nat_tests}
 use Rattle.std.proofs.lemmas.List.{take-append-drop}
-use Rattle.std.proofs.Math.Seq.{take-append_seam, drop-append_seam}
+use Rattle.std.proofs.Math.Seq.{take-append_seam, drop-append_seam, drop-length}
 use Rattle.http_messages.specs.Head.{closes}
 use Rattle.http_messages.specs.Message.{Arrival, Read, Refused, Ending, Rest, BeginsRequest, ArrivalsThen, NoneFollows}
 use Rattle.http_messages.specs.Request.{Request as Message}
@@ -23,11 +23,11 @@ use Rattle.filing_model.specs.Text.{reply_text_with, text_with}
 use Rattle.filing_model.proofs.Alike.{text_alike, marks_fit_alike}
 use Rattle.filing_model.proofs.Appending.{firsts-kept_by, kept_by-append}
 use Rattle.filing_model.proofs.Lists.{append_nil}
-use Rattle.ready_connections.proofs.PieceLemmas.{BeginsRequest-spells}
-use Rattle.gateway_server.specs.Ports.{Connection}
+use Rattle.gateway_server.specs.Connections.{Connection}
+use Rattle.gateway_server.proofs.FirstBytes.{BeginsRequest-spells}
 use Rattle.programs.specs.Cut.{IsInPieces, at_first_arrival, IsStoppedInPieces}
 use Rattle.programs.specs.Pieces.{joined_reads, joined_texts, ended_of}
-use Rattle.programs.proofs.Joining.{nothing, drop_whole}
+use Rattle.programs.proofs.Nothing.{nothing}
 
 -- ---- the first message, and what is behind it
 
@@ -86,7 +86,7 @@ module _ (limit : ℕ) (old_style before after : List Request) (bytes out : List
     length (take n bytes),
     BeginsRequest-spells bytes m n begins,
     (λ last. absurd (both_ways (closes m.head) open' last)),
-    λ _. subst (λ bs. F bs ending) (sym (drop_whole (take n bytes))) none,
+    λ _. subst (λ bs. F bs ending) (sym (drop-length (take n bytes))) none,
   )
 
   text_one : (ending : Ending) → next_interim [] ending ≡ []

@@ -15,8 +15,7 @@ use Rattle.filing_world.specs.World.{Output, World, Event}
 use Rattle.filing_world.specs.Step.{Run, Delivers}
 use Rattle.filing_world.specs.Headline.{AreFilers, start, Holds}
 use Rattle.filing_world.proofs.Keeping.{holds_after}
-use Rattle.gateway_server.specs.Ports.{Connection}
-use Rattle.gateway_server.specs.InTurn.{ServeInTurn}
+use Rattle.gateway_server.specs.Connections.{Connection, ServeInTurn}
 use Rattle.programs.specs.Deliveries.{Delivery, AreOf, events_of, end_in_world, GoesOnTo}
 
 -- a connection that a fault ended is one for which memory ran out

@@ -22,10 +22,9 @@ use Rattle.filing_world.proofs.Lists.{changed_renewed, renewed_same, numbered_pu
 use Rattle.outbox_tables.specs.Entries.{Contents, contents_of, empty}
 use Rattle.outbox_core.specs.Entries.{opened, in_state, set_state}
 use Rattle.filer_client.specs.Exchange.{IsOpenRequest}
-use Rattle.gateway_server.specs.InTurn.{ServeInTurn}
-use Rattle.gateway_server.specs.Ports.{Connection}
+use Rattle.gateway_server.specs.Connections.{Connection, ServeInTurn}
 use Rattle.intake_process.specs.Turning.{IsTurnedAway}
-use Rattle.intake_process.specs.Turns.{Turn, Served, TurnedAway, Ahead, all_in, served_in, AreTurnedAway}
+use Rattle.intake_process.specs.Turns.{Turn, Served, TurnedAway, connection_of, all_in, served_in, AreTurnedAway}
 use Rattle.programs.specs.Deliveries.{Delivery, IsOf, AreOf, events_of, AreOutputsOf}
 use Rattle.programs.proofs.Delivering.{delivered}
 use Rattle.programs.specs.Exchanged.{IsBox, ComesOf}
@@ -538,18 +537,14 @@ module _ (limit : ℕ) where
   turned keys old [] [] after few in_turn away are =
       (old, record { happen = refl; requests = sym in_turn; outboxes = refl; sent = refl })
   turned keys old [] (d ∷ ds) after few in_turn away are = absurd are
-  turned keys old (Served c ∷ ts) [] after few in_turn away are = absurd are
-  turned keys old (TurnedAway c ∷ ts) [] after few in_turn away are = absurd are
-  turned keys old (Ahead c ∷ ts) [] after few in_turn away are = absurd are
-  turned keys old (Ahead c ∷ ts) (d ∷ ds) after few in_turn away are =
+  turned keys old (Served told ∷ ts) [] after few in_turn away are = absurd are
+  turned keys old (TurnedAway told ∷ ts) [] after few in_turn away are = absurd are
+  turned keys old (Served told ∷ ts) (d ∷ ds) after few in_turn away are =
+      let out = (connection_of told).output in
       let between : Situation =
       record old {
         requests = in_turn.0;
-        answers = old.answers ++ record {
-          item = d.item;
-          bytes =
-              c.output.bytes;
-        } ∷ [];
+        answers = old.answers ++ record { item = d.item; bytes = out.bytes } ∷ [];
       } in
       let rest = turned keys between ts ds after few in_turn.2 away are.1 in (
         rest.0,
@@ -564,32 +559,10 @@ module _ (limit : ℕ) where
           sent = rest.1.sent;
         },
       )
-  turned keys old (Served c ∷ ts) (d ∷ ds) after few in_turn away are =
+  turned keys old (TurnedAway told ∷ ts) (d ∷ ds) after few in_turn away are =
+      let out = (connection_of told).output in
       let between : Situation =
-      record old {
-        requests = in_turn.0;
-        answers = old.answers ++ record {
-          item = d.item;
-          bytes =
-              c.output.bytes;
-        } ∷ [];
-      } in
-      let rest = turned keys between ts ds after few in_turn.2 away are.1 in (
-        rest.0,
-        record {
-          happen = (
-            between,
-            record { came = are.0; keys = keys; few = few; serves = in_turn.1; becomes = refl },
-            rest.1.happen,
-          );
-          requests = rest.1.requests;
-          outboxes = rest.1.outboxes;
-          sent = rest.1.sent;
-        },
-      )
-  turned keys old (TurnedAway c ∷ ts) (d ∷ ds) after few in_turn away are =
-      let between : Situation =
-      record old { refusals = old.refusals ++ record { item = d.item; bytes = c.output.bytes } ∷ [] } in
+      record old { refusals = old.refusals ++ record { item = d.item; bytes = out.bytes } ∷ [] } in
       let rest = turned keys between ts ds after few in_turn away.1 are.1 in (
         rest.0,
         record {

@@ -7,8 +7,7 @@ use Rattle.filing_model.specs.Serving.{keeping}
 use Rattle.filing_model.specs.Stopping.{Crash, IsStopped}
 use Rattle.filing_model.proofs.Lists.{take_all}
 use Rattle.filing_world.specs.World.{Sent, numbered}
-use Rattle.gateway_server.specs.InTurn.{ServeInTurn}
-use Rattle.gateway_server.specs.Ports.{Connection}
+use Rattle.gateway_server.specs.Connections.{Connection, ServeInTurn}
 use Rattle.programs.specs.Cut.{at_first_arrival}
 use Rattle.programs.proofs.Cutting.{served_in_pieces, stopped_in_pieces}
 use Rattle.programs.specs.Deliveries.{Delivery}

@@ -1,5 +1,6 @@
 mod Away
 mod Behind
+mod Cutting
 pub mod Delivering
 mod Exchanging
 pub mod Happening
@@ -7,20 +8,10 @@ mod Interims
 mod Kept
 mod Limits
 mod More
+mod Nothing
 mod Passing
 mod Plain
+mod Replies
 pub mod Situations
 mod Still
 mod Told
-pub mod Alone
-pub mod Among
-pub mod Answered
-pub mod Cutting
-pub mod Early
-pub mod Halls
-pub mod Joining
-pub mod Pieces
-pub mod Served
-pub mod Standing
-pub mod Together
-pub mod TurnedAway

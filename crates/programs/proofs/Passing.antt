@@ -24,7 +24,7 @@ use Rattle.filing_world.proofs.Told.{readable_after}
 use Rattle.outbox_tables.specs.Entries.{Contents, contents_of, empty}
 use Rattle.outbox_core.specs.Entries.{opened, set_state}
 use Rattle.filer_client.specs.Exchange.{IsOpenRequest, Hears}
-use Rattle.gateway_server.specs.Ports.{Connection}
+use Rattle.gateway_server.specs.Connections.{Connection}
 use Rattle.programs.specs.Deliveries.{Delivery}
 use Rattle.programs.specs.Fronts.{IsFront, IsHearingThrough, IsRewritten, IsGivenBack, passed_once, MayConfirm}
 use Rattle.programs.specs.Fronts.{piece_end}

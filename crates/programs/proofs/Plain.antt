@@ -11,7 +11,7 @@ use Rattle.filing_world.specs.World.{Sent, numbered, renewed}
 use Rattle.filing_world.proofs.Lists.{same_element}
 use Rattle.outbox_tables.specs.Entries.{Contents, contents_of}
 use Rattle.outbox_core.specs.Entries.{opened, set_state}
-use Rattle.gateway_server.specs.Ports.{Connection}
+use Rattle.gateway_server.specs.Connections.{Connection}
 use Rattle.programs.specs.Deliveries.{Delivery, IsOf}
 use Rattle.programs.specs.Happenings.{Answer, Situation, Happening, Serving, Killing, TurningAway, Putting, Writing}
 use Rattle.programs.specs.Happenings.{Hearing, HearingRefusal, Stranger, IsServing, IsKilling, IsTurningAway, IsPutting}

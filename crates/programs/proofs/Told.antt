@@ -6,6 +6,7 @@ use Rattle.std.proofs.Common.{append_assoc}
 use Rattle.std.specs.Prelude.{if◌then◌else◌}
 use Rattle.std.specs.List.{list_any}
 use Rattle.std.proofs.lemmas.Bool.{both_ways}
+use Rattle.std.proofs.Math.Seq.{drop-length}
 use Rattle.std.proofs.lemmas.List.{take-append-drop}
 use Rattle.std.proofs.lemmas.List.Folds.{list_any-append}
 use Rattle.serde_json.specs.Data.{Data}
@@ -35,7 +36,7 @@ use Rattle.filing_model.proofs.Finals.{answer-readable, unavailable-readable}
 use Rattle.filing_model.proofs.Firsts.{firsts_more, same_key-refl, firsts_repeat}
 use Rattle.filing_model.proofs.Lists.{append_nil}
 use Rattle.filing_world.proofs.Posting.{IsPosted}
-use Rattle.programs.proofs.Joining.{nothing, drop_whole}
+use Rattle.programs.proofs.Nothing.{nothing}
 use Rattle.programs.specs.Fronts.{piece_end}
 use Rattle.programs.proofs.Interims.{interim_then, gives_one, silent, interim_silent}
 
@@ -207,7 +208,7 @@ served_alone limit q after r bytes m keeps spells closes' quiet files fit kept =
       length bytes,
       spells,
       (λ last. absurd (both_ways (closes m.head) open' last)),
-      λ _. subst (λ bs. HasArrivals bs [] (Rest false)) (sym (drop_whole bytes)) nothing,
+      λ _. subst (λ bs. HasArrivals bs [] (Rest false)) (sym (drop-length bytes)) nothing,
     )
     arrives false last =
         (length bytes, spells, (λ _. (refl, refl)), λ open'. absurd (both_ways (closes m.head) open' last))

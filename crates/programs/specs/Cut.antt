@@ -5,8 +5,7 @@ use Rattle.filing_model.specs.declared.served.Mark.{Mark}
 use Rattle.filing_model.specs.Request.{Request}
 use Rattle.filing_model.specs.Serving.{Keeping}
 use Rattle.filing_model.specs.Stopping.{Crash, No, Before, After, IsStopped}
-use Rattle.gateway_server.specs.InTurn.{ServeInTurn}
-use Rattle.gateway_server.specs.Ports.{Connection}
+use Rattle.gateway_server.specs.Connections.{Connection, ServeInTurn}
 use Rattle.programs.specs.Pieces.{joined_reads, joined_marks, joined_texts, ended_of}
 
 -- each has one arrival at most

@@ -7,7 +7,7 @@ use Rattle.filing_model.specs.Request.{Request, firsts}
 use Rattle.filing_model.specs.Stopping.{No}
 use Rattle.filing_world.specs.World.{Sent, Output, World, Event, Deliver, numbered}
 use Rattle.filing_world.specs.Step.{Run}
-use Rattle.gateway_server.specs.Ports.{Connection}
+use Rattle.gateway_server.specs.Connections.{Connection}
 
 -- what came on a connection: so many of the first bytes of the item that was sent under this number
 pub record Delivery : Type 0 where

@@ -19,9 +19,9 @@ use Rattle.filing_world.specs.Headline.{start, Holds}
 use Rattle.outbox_tables.specs.Entries.{Contents, contents_of, empty}
 use Rattle.outbox_core.specs.Entries.{opened, set_state}
 use Rattle.filer_client.specs.Exchange.{IsOpenRequest}
-use Rattle.gateway_server.specs.Ports.{Connection}
+use Rattle.gateway_server.specs.Connections.{Connection}
 use Rattle.intake_process.specs.Turning.{IsTurnedAway}
-use Rattle.intake_process.specs.Turns.{Turn, Served, TurnedAway, Ahead}
+use Rattle.intake_process.specs.Turns.{Turn, Served, TurnedAway, connection_of}
 use Rattle.programs.specs.Deliveries.{Delivery, IsOf}
 
 -- ---- what is kept
@@ -220,17 +220,14 @@ AreRegistered situation =
 
 -- ---- a run of `intake serve`
 
--- what answering these connections makes, one after another; a request that was decided ahead is one that was served
--- and got nothing
+-- what answering these connections makes, one after another
 abbrev pub happenings_of : List Delivery → List Turn → List Happening
 happenings_of [] turns = []
 happenings_of (delivery ∷ deliveries) [] = []
-happenings_of (delivery ∷ deliveries) (Served connection ∷ turns) =
-    Serving delivery connection ∷ happenings_of deliveries turns
-happenings_of (delivery ∷ deliveries) (TurnedAway connection ∷ turns) =
-    TurningAway delivery connection ∷ happenings_of deliveries turns
-happenings_of (delivery ∷ deliveries) (Ahead connection ∷ turns) =
-    Serving delivery connection ∷ happenings_of deliveries turns
+happenings_of (delivery ∷ deliveries) (Served told ∷ turns) =
+    Serving delivery (connection_of told) ∷ happenings_of deliveries turns
+happenings_of (delivery ∷ deliveries) (TurnedAway told ∷ turns) =
+    TurningAway delivery (connection_of told) ∷ happenings_of deliveries turns
 
 -- Connections were answered, one after another: the register keeps these requests, and the outboxes and what they wrote
 -- are as before.

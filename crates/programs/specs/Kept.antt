@@ -2,7 +2,7 @@
 use Rattle.std.specs.Prelude.{◌≡◌, ℕ, suc, List, [], ◌∷◌, ◌++◌, length}
 use Rattle.filing_model.specs.declared.served.Mark.{Mark}
 use Rattle.filing_model.specs.Stopping.{Crash}
-use Rattle.gateway_server.specs.Ports.{Connection}
+use Rattle.gateway_server.specs.Connections.{Connection}
 use Rattle.programs.specs.Cut.{HaveOneEach, at_first_arrival}
 use Rattle.programs.specs.Pieces.{joined_reads, joined_marks, joined_texts, ended_of}
 use Rattle.programs.specs.Happenings.{Situation, Happening, Stranger, Serving, Killing, Happen}

@@ -3,10 +3,6 @@ pub mod Exchanged
 pub mod Fronts
 pub mod Happenings
 pub mod Kept
-pub mod Away
 pub mod Cut
-pub mod Each
 pub mod Pieces
-pub mod Places
-pub mod Seen
-pub mod Whole
+pub mod Replies

@@ -17,7 +17,7 @@ ghost use Rattle.filing_world.specs.Schedules.{IsGood};
 ghost use Rattle.filing_world.specs.World.{numbered};
 ghost use Rattle.outbox_tables.specs.Entries.{Contents};
 ghost use Rattle.filer_client.specs.Exchange.{IsOpenRequest, Hears};
-ghost use Rattle.gateway_server.specs.Ports.{Connection};
+ghost use Rattle.gateway_server.specs.Connections.{Connection};
 ghost use Rattle.programs.specs.Deliveries.{Delivery};
 ghost use Rattle.programs.specs.Happenings.{Situation, at_first, IsServing, IsKilling, AreRegistered};
 ghost use Rattle.programs.specs.Fronts.{Passing, HappenBehind, IsKeptWithout, IsReachedBehind, IsFront};

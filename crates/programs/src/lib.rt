@@ -1,11 +1,9 @@
 //! What the programs do, as their contracts say it, and that the headline holds of what they keep. What may live here:
-//! what served connections are in the world, also those of many that one thread serves at once (`connections`, and
-//! their texts in `connection_texts`); what may happen at the programs, also behind fronts, which may give back other
-//! bytes (`fronts`); and laws over every list of such things. There is no code but for functions whose contracts are
-//! laws.
+//! what served connections are in the world; what each connection of a port gets (`connections`); what may happen at
+//! the programs, also behind fronts, which may give back other bytes (`fronts`); and laws over every list of such
+//! things. There is no code but for functions whose contracts are laws.
 #![tactic(auto)]
 
-pub mod connection_texts;
 pub mod connections;
 pub mod fronts;
 
@@ -16,14 +14,13 @@ ghost use Rattle.filing_model.specs.Serving.{keeping};
 ghost use Rattle.filing_world.specs.World.{World, Outbox, Event};
 ghost use Rattle.filing_world.specs.Headline.{AreFilers, start, Holds};
 ghost use Rattle.filer_client.specs.Exchange.{IsOpenRequest, Hears};
-ghost use Rattle.gateway_server.specs.InTurn.{ServeInTurn};
+ghost use Rattle.gateway_server.specs.Connections.{Connection, ServeInTurn};
 ghost use Rattle.intake_process.specs.Turns.{Turn, all_in, served_in, AreTurnedAway};
 ghost use Rattle.programs.specs.Deliveries.{Delivery, AreOf, GoesOnTo};
 ghost use Rattle.programs.specs.Exchanged.{IsBox, IsSent, ComesOf, IsMoved};
 ghost use Rattle.programs.specs.Happenings.{Situation, Happening, at_first, Happen, IsReached, AreRegistered};
 ghost use Rattle.programs.specs.Happenings.{TurnsHappen};
 ghost use Rattle.filing_world.specs.Step.{Run};
-ghost use Rattle.gateway_server.specs.Ports.{Connection};
 
 /// Connections that were served in turn after the requests which a world has completed are deliveries: each is a step
 /// of the world, and what is kept then are the first of the requests that the new world has completed. So more
@@ -52,8 +49,7 @@ pub fn an_exchange_is_sent_and_handed()
 {}
 
 /// Connections that a run of `intake serve` answered happened one after another: those that were served in turn, and
-/// those that were turned away between them. A request that was decided ahead is one more that was served, of the same
-/// item: nothing is written on it, and then the item comes again, and gets its reply.
+/// those that were turned away between them.
 pub fn turns_happen()
     ensures { (limit keys : ℕ) (old : Situation) (turns : List Turn) (deliveries : List Delivery)
         (after : List Request) → keys ≤ limit

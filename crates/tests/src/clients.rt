@@ -1,13 +1,13 @@
 //! The clients of a hall, over a port in memory with an adversary's order, with the whole server behind it: its
 //! register is in files in memory.
 
+use connection_hall::{Bounds, Why};
 use database_places::{Opening, PageCache};
 use desk::{Desk, Reopener};
 use example_texts::front;
+use gateway_rounds::Port;
 use intake_process::{IntakeProcess, serve_register};
-use many_connections::Many;
 use order::{Clients, Gone, Order, client_of, count};
-use ready_connections::{Bounds, Why};
 use std::alloc::{AllocError, Global};
 use std::process::Abort;
 use std::test::Fail;
@@ -38,7 +38,7 @@ struct Play {
     /// How many calls the log takes before the disk refuses, and how often the register may not be opened then.
     calls: u64,
     refusals: u64,
-    /// For how many requests the database refuses a call.
+    /// In how many rounds the database refuses a call.
     failed: u64,
 }
 
@@ -52,8 +52,8 @@ const LASTING: Play = Play {
     failed: 0,
 };
 
-/// Serves the clients, and notes how each went. It answers how many requests are kept at the end, and for how many the
-/// database refused a call; `None` if the port was not served until all were over.
+/// Serves the clients, and notes how each went. It answers how many requests are kept at the end, and in how many
+/// rounds the database refused a call; `None` if the port was not served until all were over.
 fn served(
     alloc: Global,
     play: &Play,
@@ -65,15 +65,8 @@ fn served(
         patience: Some(1_000),
         memory: 4_194_304,
     };
-    let order = Order {
-        alloc,
-        clients: play.clients,
-        came: 0,
-        first: play.first,
-        now: 0,
-        gone,
-    };
-    let mut port = Many::new(alloc, order, bounds)?;
+    let order = Order::new(alloc, play.clients, play.first, play.places, gone)?;
+    let mut port = Port::new(alloc, order, bounds)?;
     let mut process = IntakeProcess::new(Desk {
         alloc,
         calls: play.calls,

@@ -6,7 +6,7 @@ ghost use Rattle.std.specs.List.{AllZip, zip};
 ghost use Rattle.filing_model.specs.Request.{Request, has_key};
 ghost use Rattle.intake_core.specs.Calls.{IsRequest};
 ghost use Rattle.intake_core.specs.Group.{DecidesEach};
-ghost use Rattle.intake_core.specs.Looked.{AddsLookedUp, AreNewTo, DatesNew, DecidesNew};
+ghost use Rattle.intake_core.specs.Looked.{AddsLookedUp, AreNewTo, DatesNew, DecidesNew, TellsWhether};
 ghost use Rattle.intake_core.specs.Moments.{DatesEach};
 ghost use Rattle.intake_core.specs.Together.{AddsGroup, AddsResults, AnswersGroup, AreNewBehind, AreRowsOf};
 ghost use Rattle.intake_core.specs.Together.{IsJudgedAlone, KeepsFirst, LooksUp, RefusesGroup, in_milliseconds};
@@ -19,6 +19,17 @@ use register_store::{Moment, NewRow, StoreFault};
 use sqlite::Alter;
 use std::alloc::{AllocError, Global};
 use xbrl_report::{Judged, judge_amendment};
+
+/// What a look-up tells of a request.
+#[derive(Clone, Copy, Debug, PartialEq, Eq)]
+pub enum Looked {
+    /// Nothing is kept of its filer and key, so it would be kept.
+    New,
+    /// A request of its filer and key is kept.
+    Repeat,
+    /// Neither is known: the database refused, now or before, or there was no memory.
+    Unknown,
+}
 
 /// What became of requests that were to be kept together.
 #[derive(Drop)]
@@ -87,9 +98,9 @@ impl<S: Alter> Intake<S> {
     }
 
     /// Decides requests in their order as `submit_all` does, and does not look up again those that it keeps together.
-    /// What the clauses say of the rows holds if each is the first of its filer and key after what is held, as
-    /// `is_first` says; what they say of a crash, if the register is open too. A second one of a filer and key among
-    /// them is decided as a repeat.
+    /// The caller has looked up each, and `look_up` said `New`: what the clauses say of the rows holds if no filer and
+    /// key is held yet, and what they say of a crash, if the register is open too. They may share a filer and key: the
+    /// second one is decided as a repeat.
     pub fn submit_new(
         &mut self,
         requests: &[Request<'_>],
@@ -109,18 +120,22 @@ impl<S: Alter> Intake<S> {
         Ok(results)
     }
 
-    /// Whether a request is the first of its filer and key, so that it would be kept. It is not if the database cannot
-    /// say so, or if it refused a call before. Nothing is decided, and a refusal is left to the call that decides.
-    pub fn is_first(&mut self, request: &Request<'_>) -> bool
-        ensures first { ForRequests S.Store self.old self.new (λ requests. result ≡ true
-            → has_key requests request.now ≡ false) }
+    /// Tells whether a request is new or a repeat, by its filer and key. Nothing is decided and nothing is written: a
+    /// refusal of the database is left to the call that decides.
+    pub fn look_up(&mut self, request: &Request<'_>) -> Looked
+        ensures tells { ForRequests S.Store self.old self.new (λ requests.
+            TellsWhether S.Store requests request.now self.old self.new result) }
         ensures looks { LooksUp S.Store self.old self.new }
-        ensures down { has_stopped self.old ≡ true → self.new ≡ self.old }
+        ensures down { has_stopped self.old ≡ true → (result ≡ Looked.Unknown) × (self.new ≡ self.old) }
     {
         if self.is_down {
-            return false;
+            return Looked::Unknown;
         }
-        matches!(self.is_new(request), Ok(true))
+        match self.is_new(request) {
+            Ok(true) => Looked::New,
+            Ok(false) => Looked::Repeat,
+            Err(_) => Looked::Unknown,
+        }
     }
 
     /// Decides the first of these requests, which were looked up, as far as they are kept together, and answers how
@@ -394,6 +409,8 @@ impl<S: Alter> Intake<S> {
     fn is_new(&mut self, request: &Request<'_>) -> Result<bool, StoreFault>
         ensures new { ForRequests S.Store self.old self.new (λ requests. IfOk result (λ new. new ≡ true
             → (has_key requests request.now ≡ false) × IsTrue (shows S.Store self.new).is_open)) }
+        ensures repeat { ForRequests S.Store self.old self.new (λ requests. IfOk result (λ new. new ≡ false
+            → has_key requests request.now ≡ true)) }
         ensures is_open { ForRequests S.Store self.old self.new (λ requests. IsTrue (shows S.Store self.old).is_open
             → OnOk result (IsTrue (shows S.Store self.new).is_open)) }
         ensures looks { LooksUp S.Store self.old self.new }

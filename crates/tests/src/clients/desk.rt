@@ -5,7 +5,6 @@ ghost use Rattle.database_places.specs.Places.{Leaves};
 
 use command_line::DatabaseFault;
 use database_places::Place;
-use gateway_server::Served;
 use intake_process::{Closed, Observer, OpeningFault, Totals, Went};
 use sqlite::Files;
 use sqlite_disk::{Crash, Fuse, Memory};
@@ -88,7 +87,7 @@ impl Place<Fuse<Memory>> for Desk {
 #[derive(Drop)]
 pub struct Reopener {
     pub refusals: u64,
-    /// How many connections the database refused a call for.
+    /// In how many rounds the database refused a call.
     pub failed: u64,
     /// How many requests were kept when the register was closed last.
     pub kept: u64,
@@ -106,8 +105,6 @@ impl Observer for Reopener {
     }
 
     fn opened(&mut self, _totals: Totals) {}
-
-    fn served(&mut self, _served: &Served) {}
 
     fn ended(&mut self, went: Went) {
         if matches!(went, Went::Failed(_)) {

@@ -3,13 +3,13 @@
 use super::line::{Client, IDLE, PLAIN};
 use super::texts::{Asks, Gets};
 use super::{LASTING, Play, hold};
+use connection_hall::Why;
 use example_texts::MALFORMED;
-use ready_connections::Why;
 use std::test::Fail;
 
-/// Clients of every kind at once. In a round each has its turn, in the order of their places. A report is put back in
-/// the first of its rounds, since others have their turn, and kept in the next, together with all that wait then. So
-/// those are numbered first that are whole in the second round; then the one behind another in the first read; and at
+/// Clients of every kind at once. In a round each has its turn, in the order of their places, and then the reports
+/// that are whole are kept together. So those are numbered first that are whole in the first round; then those of the
+/// second, which are the one behind another in the first read, and the one that waited for the interim response; and at
 /// last the one whose 166 bytes come one at a time. A reply has 110 bytes, and the interim response 25. If a client is
 /// reset before its report is whole, the report gets no number. If it is reset later, the report stands.
 static EVERY: [Client; 20] = [
@@ -90,8 +90,8 @@ static EVERY: [Client; 20] = [
         ],
         gets: &[
             Gets::Registered(5),
-            Gets::Registered(11),
-            Gets::Listed(&[5, 11]),
+            Gets::Registered(10),
+            Gets::Listed(&[5, 10]),
         ],
         rounds: 8,
         ..PLAIN
@@ -100,26 +100,26 @@ static EVERY: [Client; 20] = [
     Client {
         asks: &[Asks::Awaits(1)],
         stop: Some((150, 25)),
-        gets: &[Gets::Continue, Gets::Registered(6)],
+        gets: &[Gets::Continue, Gets::Registered(11)],
         rounds: 4,
         ..PLAIN
     },
     // Both have closed their half when they are written to: one takes a byte at a time, one takes nothing five times.
     Client {
         a_write: 1,
-        gets: &[Gets::Registered(7)],
+        gets: &[Gets::Registered(6)],
         rounds: 113,
         ..PLAIN
     },
     Client {
         deaf: 5,
-        gets: &[Gets::Registered(8)],
+        gets: &[Gets::Registered(7)],
         rounds: 9,
         ..PLAIN
     },
     // Keeps its connection open.
     Client {
-        gets: &[Gets::Registered(9)],
+        gets: &[Gets::Registered(8)],
         stays: true,
         why: Why::Late,
         rounds: 1_003,
@@ -131,7 +131,7 @@ static EVERY: [Client; 20] = [
         ..PLAIN
     },
     Client {
-        gets: &[Gets::Registered(10)],
+        gets: &[Gets::Registered(9)],
         rounds: 4,
         ..PLAIN
     },
@@ -171,13 +171,13 @@ static EVERY: [Client; 20] = [
             Gets::Listed(&[4]),
             Gets::Listed(&[]),
             Gets::Listed(&[]),
-            Gets::Listed(&[5, 11]),
+            Gets::Listed(&[5, 10]),
+            Gets::Listed(&[11]),
             Gets::Listed(&[6]),
             Gets::Listed(&[7]),
             Gets::Listed(&[8]),
-            Gets::Listed(&[9]),
             Gets::Listed(&[]),
-            Gets::Listed(&[10]),
+            Gets::Listed(&[9]),
         ],
         rounds: 520,
         ..PLAIN

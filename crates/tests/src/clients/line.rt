@@ -1,12 +1,13 @@
 //! The connection of a client that comes, goes and stops as a table says.
 
-ghost use Rattle.std.specs.Prelude.{◌≡◌, ◌≤◌, None, false, length};
-ghost use Rattle.ready_connections.specs.Streams.{got_len, took_len};
+ghost use Rattle.std.specs.Prelude.{◌≡◌, ◌≢◌, ◌≤◌, None, false, length};
+ghost use Rattle.connection_hall.specs.Streams.{got_len, took_len};
+ghost use Rattle.connection_hall.specs.declared.stream.Got.TheVariants as got;
 
 use super::texts::{Asks, Gets};
+use connection_hall::{Broken, Got, Stream, Why};
 use example_texts::front;
-use many_connections::Note;
-use ready_connections::{Broken, Got, Stream, Why};
+use gateway_rounds::Note;
 use std::io::Read;
 
 /// A client, and what comes of its connection.
@@ -67,6 +68,8 @@ pub const IDLE: Client = Client {
 /// their turn.
 #[derive(Drop)]
 pub struct ClientLine {
+    /// The place under which it is watched.
+    place: usize,
     client: Client,
     /// The number of the client, from 1.
     pub number: u32,
@@ -85,10 +88,18 @@ pub struct ClientLine {
 
 impl ClientLine {
     /// The connection of a client that asks by this text.
-    pub fn new(client: &Client, number: u32, text: Vec<u8>, written: Vec<u8>) -> ClientLine
-        ensures { result.is_ended ≡ false }
+    pub fn new(
+        place: usize,
+        client: &Client,
+        number: u32,
+        text: Vec<u8>,
+        written: Vec<u8>,
+    ) -> ClientLine
+        ensures place { result.place ≡ place }
+        ensures ended { result.is_ended ≡ false }
     {
         ClientLine {
+            place,
             client: *client,
             number,
             text,
@@ -120,6 +131,8 @@ impl ClientLine {
     /// Reads what is there.
     fn get(&mut self, room: &mut [u8]) -> Got
         ensures count { got_len result ≤ length room.new }
+        ensures some { result ≢ got.Bytes 0 }
+        ensures place { self.new.place ≡ self.old.place }
         ensures stuck { self.new.is_stuck ≡ self.old.is_stuck }
         ensures broken { self.new.is_broken ≡ self.old.is_broken }
     {
@@ -146,6 +159,7 @@ impl ClientLine {
     /// Takes what goes.
     fn take(&mut self, text: &[u8]) -> Result<usize, Broken>
         ensures count { took_len result ≤ length text.now }
+        ensures place { self.new.place ≡ self.old.place }
         ensures idle { self.new.is_idle ≡ self.old.is_idle }
         ensures ended { self.new.is_ended ≡ self.old.is_ended }
     {
@@ -170,6 +184,8 @@ impl ClientLine {
 
 impl Stream for ClientLine {
     type Note = Note;
+
+    ghost place = { λ line. line.place };
 
     ghost came = { λ _. None };
 

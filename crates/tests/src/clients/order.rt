@@ -4,8 +4,8 @@ ghost use Rattle.std.specs.Prelude.{None};
 
 use super::line::{Client, ClientLine};
 use super::texts::sent;
-use ready_connections::{Sockets, Why};
-use std::alloc::Global;
+use connection_hall::{Sockets, Why};
+use std::alloc::{AllocError, Global};
 use std::io;
 use std::time::Duration;
 
@@ -48,14 +48,44 @@ pub struct Gone {
 /// The connections of clients, which come as soon as there is a place. With each ask a millisecond passes.
 #[derive(Drop)]
 pub struct Order<'a> {
-    pub alloc: Global,
-    pub clients: Clients,
+    alloc: Global,
+    clients: Clients,
     /// How many came.
-    pub came: u32,
+    came: u32,
     /// The places that alone may go on at first, one after another. From then on each may.
-    pub first: &'static [usize],
-    pub now: u64,
-    pub gone: &'a mut Vec<Gone>,
+    first: &'static [usize],
+    /// All places, from 0.
+    places: Vec<usize>,
+    /// Those that may go on, as it was said last.
+    named: Vec<usize>,
+    now: u64,
+    gone: &'a mut Vec<Gone>,
+}
+
+impl<'a> Order<'a> {
+    /// Clients of which none came yet.
+    pub fn new(
+        alloc: Global,
+        clients: Clients,
+        first: &'static [usize],
+        places: usize,
+        gone: &'a mut Vec<Gone>,
+    ) -> Result<Order<'a>, AllocError> {
+        let mut all = Vec::new(alloc);
+        for place in 0..places {
+            all.push(place)?;
+        }
+        Ok(Order {
+            alloc,
+            clients,
+            came: 0,
+            first,
+            places: all,
+            named: Vec::new(alloc),
+            now: 0,
+            gone,
+        })
+    }
 }
 
 impl Sockets for Order<'_> {
@@ -63,39 +93,47 @@ impl Sockets for Order<'_> {
 
     ghost traffic = { λ _. None };
 
+    ghost named = { λ order. order.named.items };
+
+    ghost clock = { λ order. order.now };
+
     fn listen(&mut self) -> io::Result<()> {
         Ok(())
     }
 
-    fn accept(&mut self, _place: usize) -> io::Result<Option<ClientLine>> {
+    fn accept(&mut self, place: usize) -> io::Result<Option<ClientLine>> {
         let number = self.came.saturating_add(1);
         let Some(client) = client_of(self.clients, number) else {
             return Ok(None);
         };
         self.came = number;
         let text = sent(self.alloc, number, client.asks)?;
-        Ok(Some(ClientLine::new(client, number, text, Vec::new(self.alloc))))
+        let written = Vec::new(self.alloc);
+        Ok(Some(ClientLine::new(place, client, number, text, written)))
     }
 
-    fn ask(&mut self, has_turn: &mut [bool], _wait: Duration) -> io::Result<()> {
+    fn ask(&mut self, _wait: Duration) -> io::Result<()> {
         self.now = self.now.saturating_add(1);
+        self.named.clear();
         match self.first.split_first() {
             Some((&place, rest)) => {
-                if place < has_turn.len() {
-                    has_turn[place] = true;
-                }
+                self.named.push(place)?;
                 self.first = rest;
             }
-            None => has_turn.fill(true),
+            None => self.named.extend_from_slice(self.places.as_slice())?,
         }
         Ok(())
+    }
+
+    fn named(&self) -> &[usize] {
+        self.named.as_slice()
     }
 
     fn now(&self) -> u64 {
         self.now
     }
 
-    fn end(&mut self, stream: ClientLine, why: Why) {
+    fn end(&mut self, stream: ClientLine, _number: u32, why: Why) {
         let gone = Gone {
             number: stream.number,
             written: stream.written,

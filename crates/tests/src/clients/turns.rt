@@ -42,22 +42,22 @@ const HALVED: Client = Client {
     ..PLAIN
 };
 
-/// They come in the first ask, and read the first part. Then the last one alone may go on, twice, and ends before the
-/// others read anything.
+/// They come in the first ask, and read the first part. Then the last one alone may go on, three times, and ends before
+/// the others read anything.
 static TURNED: [Client; 3] = [
     Client {
         gets: &[Gets::Registered(3)],
-        rounds: 7,
+        rounds: 10,
         ..HALVED
     },
     Client {
         gets: &[Gets::Registered(2)],
-        rounds: 5,
+        rounds: 7,
         ..HALVED
     },
     Client {
         gets: &[Gets::Registered(1)],
-        rounds: 3,
+        rounds: 4,
         ..HALVED
     },
 ];
@@ -66,7 +66,7 @@ static TURNED: [Client; 3] = [
 fn the_order_is_that_of_whole_requests(rt: HostRuntime) -> Result<(), Fail> {
     let turned = Play {
         clients: &TURNED,
-        first: &[2, 2, 2, 1, 1, 0, 0],
+        first: &[2, 2, 2, 2, 1, 1, 1, 0, 0, 0],
         ..LASTING
     };
     hold(&rt, rt.alloc(), &turned, 3)

@@ -8,7 +8,7 @@ use Rattle.filing_model.specs.Reply.{list_reply, unavailable}
 use Rattle.filing_model.specs.Views.{view_row}
 use Rattle.intake_core.specs.Held.{limit_of, old_style_in}
 use Rattle.gateway_server.proofs.Statuses.{phrase-list_reply, phrase-parts, phrase-unavailable}
-use Rattle.gateway_server.proofs.Decisions.{Decides-listed_unavailable}
+use Rattle.gateway_server.proofs.Decisions.{Decides-listed_unavailable, DecidesNothing-told, DecidesNothing-refused}
 use Rattle.gateway_server.proofs.decide.list.Goals as goal
 
 pub returns-in-Ok-clause-decided : goal.returns-in-Ok-clause-decided
@@ -32,6 +32,9 @@ returns-in-Ok-clause-phrase g c =
     phrase-parts AllocError c.list_reply.result (list_reply (map view_row c.deref.result.now))
     (phrase-list_reply (map view_row c.deref.result.now)) c.list_reply.ensures
 
+pub returns-in-Ok-clause-leaves : goal.returns-in-Ok-clause-leaves
+returns-in-Ok-clause-leaves g c = DecidesNothing-told _ _ _ _ refl c.in-Ok.ensures
+
 pub returns-in-Err-clause-decided : goal.returns-in-Err-clause-decided
 returns-in-Err-clause-decided g c = λ clean before h. (
   before,
@@ -44,3 +47,6 @@ returns-in-Err-clause-decided g c = λ clean before h. (
 pub returns-in-Err-clause-phrase : goal.returns-in-Err-clause-phrase
 returns-in-Err-clause-phrase g c =
     phrase-parts AllocError c.unavailable.result.reply unavailable phrase-unavailable c.unavailable.ensures.reply
+
+pub returns-in-Err-clause-leaves : goal.returns-in-Err-clause-leaves
+returns-in-Err-clause-leaves g c = DecidesNothing-refused _ _ _ _ c.unavailable.ensures.mark c.in-Err.ensures

@@ -8,7 +8,7 @@ use Rattle.filing_model.specs.Reply.{list_reply, unavailable}
 use Rattle.filing_model.specs.Views.{view_row}
 use Rattle.intake_core.specs.Held.{limit_of, old_style_in}
 use Rattle.gateway_server.proofs.Statuses.{phrase-list_reply, phrase-parts, phrase-unavailable}
-use Rattle.gateway_server.proofs.Decisions.{Decides-listed_unavailable}
+use Rattle.gateway_server.proofs.Decisions.{Decides-listed_unavailable, DecidesNothing-told, DecidesNothing-refused}
 use Rattle.gateway_server.proofs.decide.show.Goals as goal
 
 pub returns-in-Ok-clause-decided : goal.returns-in-Ok-clause-decided
@@ -29,6 +29,9 @@ returns-in-Ok-clause-phrase g c =
     phrase-parts AllocError c.row_reply.result (list_reply (map view_row (option_to_list c.in-Ok.row)))
     (phrase-list_reply (map view_row (option_to_list c.in-Ok.row))) c.row_reply.ensures
 
+pub returns-in-Ok-clause-leaves : goal.returns-in-Ok-clause-leaves
+returns-in-Ok-clause-leaves g c = DecidesNothing-told _ _ _ _ refl c.in-Ok.ensures
+
 pub returns-in-Err-clause-decided : goal.returns-in-Err-clause-decided
 returns-in-Err-clause-decided g c = λ clean before h. (
   before,
@@ -41,3 +44,6 @@ returns-in-Err-clause-decided g c = λ clean before h. (
 pub returns-in-Err-clause-phrase : goal.returns-in-Err-clause-phrase
 returns-in-Err-clause-phrase g c =
     phrase-parts AllocError c.unavailable.result.reply unavailable phrase-unavailable c.unavailable.ensures.reply
+
+pub returns-in-Err-clause-leaves : goal.returns-in-Err-clause-leaves
+returns-in-Err-clause-leaves g c = DecidesNothing-refused _ _ _ _ c.unavailable.ensures.mark c.in-Err.ensures

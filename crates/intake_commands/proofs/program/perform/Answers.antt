@@ -1,8 +1,7 @@
-use Rattle.std.proofs.Common.{Some, Ok, Err, refl, sym, ◌∙◌, ap, inl, length, map}
+use Rattle.std.proofs.Common.{Ok, Err, refl, sym, ◌∙◌, inl, map}
 use Rattle.std.specs.Prelude.{string_bytes}
-use Rattle.many_connections.specs.Events.{pieces_in, seen_after}
 use Rattle.intake_commands.proofs.Done.{unwanted}
-use Rattle.intake_commands.proofs.Performed.{read_as, as_served, as_unserved, as_reading, as_writing}
+use Rattle.intake_commands.proofs.Performed.{read_as, as_served, as_reading, as_writing}
 use Rattle.intake_commands.proofs.program.perform.Goals as goal
 
 pub returns-in-Ok-Err : goal.returns-in-Ok-Err
@@ -11,23 +10,6 @@ returns-in-Ok-Err g c =
     unwanted _ _ _ (sym c.if-asks_for_init.false ∙ c.asks_for_init.ensures)
     (inl (Err c.in-Ok-Err.fault, read, (c.tell-in-Ok-Err.ensures, refl)))
 
-pub returns-in-Ok : goal.returns-in-Ok
-returns-in-Ok g c =
-    let read = read_as (map string_bytes c.args.words.now) c.in-Ok-Ok.field-0-is c.in-Ok-Ok.ensures.read in
-    let fresh = c.in-Ok.ensures.fresh in
-    unwanted _ _ _ (sym c.if-asks_for_init.false ∙ c.asks_for_init.ensures)
-    (inl (
-      Ok c.in-Ok-Ok.asked,
-      read,
-      as_served _ _ _ _ _ _ c.in-Serve.serving _ _ c.in-Serve.is c.perform_in.ensures (record {
-        given = ap (λ events. (seen_after events).given) fresh.0;
-        over = ap (λ events. Some (seen_after events).over) fresh.0;
-        ahead = ap (λ handed. Some (pieces_in handed)) fresh.1;
-        asked = ap (λ asked. Some (length asked)) fresh.2;
-        shut = c.in-Ok.ensures.shut;
-      }),
-    ))
-
 pub returns-in-Serve : goal.returns-in-Serve
 returns-in-Serve g c =
     let read = read_as (map string_bytes c.args.words.now) c.in-Ok-Ok.field-0-is c.in-Ok-Ok.ensures.read in
@@ -35,7 +17,7 @@ returns-in-Serve g c =
     (inl (
       Ok c.in-Ok-Ok.asked,
       read,
-      as_unserved _ _ _ _ _ _ c.in-Serve.serving c.in-Serve.is c.tell-in-Err-port_of.ensures refl,
+      as_served _ _ _ _ _ _ _ c.in-Serve.serving _ _ c.in-Serve.is c.perform_in.ensures c.port_of-port.ensures,
     ))
 
 pub returns-in_default : goal.returns-in_default
@@ -45,7 +27,7 @@ returns-in_default g c =
     (inl (
       Ok c.in-Ok-Ok.asked,
       read,
-      as_reading _ _ _ _ _ _ c.access.result c.opens_for_reading.result c.in_default.not-Serve
+      as_reading _ _ _ _ _ _ _ c.access.result c.opens_for_reading.result _ c.in_default.not-Serve
           c.access.ensures c.opens_for_reading.ensures c.if-opens_for_reading.true c.perform_in-in_default.ensures,
     ))
 
@@ -56,6 +38,6 @@ returns g c =
     (inl (
       Ok c.in-Ok-Ok.asked,
       read,
-      as_writing _ _ _ _ _ _ c.access.result c.opens_for_reading.result c.in_default-2.not-Serve
+      as_writing _ _ _ _ _ _ _ c.access.result c.opens_for_reading.result _ c.in_default-2.not-Serve
           c.access.ensures c.opens_for_reading.ensures c.if-opens_for_reading.false c.perform_in-in_default-2.ensures,
     ))

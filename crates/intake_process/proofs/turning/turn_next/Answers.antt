@@ -10,7 +10,7 @@ use Rattle.filing_model.specs.declared.served.Mark.TheVariants.{Unavailable, Not
 use Rattle.gateway_requests.specs.Route.{view_message}
 use Rattle.gateway_server.proofs.Lent.{lent_is}
 use Rattle.gateway_server.specs.Answered.{WritesText}
-use Rattle.intake_process.specs.Turning.{closing_reply}
+use Rattle.gateway_rounds.specs.Away.{closing_reply}
 use Rattle.intake_process.proofs.Away.{answered, ended, faulted}
 use Rattle.intake_process.proofs.turning.turn_next.Goals as goal
 

@@ -1,3 +1,0 @@
-pub mod PieceReader
-pub mod Bytes
-pub mod Events

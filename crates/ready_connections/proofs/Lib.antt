@@ -1,4 +1,0 @@
-pub mod PieceLemmas
-pub mod Told
-pub mod Halls
-pub mod Came

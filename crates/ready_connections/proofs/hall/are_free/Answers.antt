@@ -1,8 +1,0 @@
-use Rattle.std.proofs.Common.{arith}
-use Rattle.ready_connections.proofs.Halls.{zero_taken}
-use Rattle.ready_connections.proofs.hall.are_free.Goals as goal
-
-pub returns : goal.returns
-returns g c =
-    let places = c.args.places.now in
-    rw (zero_taken places (λ i low. c.loop-place.invariant i (omega (arith, low, c.loop-place-test.false))))

@@ -1,7 +1,0 @@
--- What is shared by all connections; own rules.
-use Rattle.std.specs.Prelude.{ℕ, ◌+◌, ◌/◌, max}
-use Rattle.ready_connections.specs.NextPiece.{max_piece_len}
-
--- how many connections at most may hold a whole piece and one read, for so many bytes that all may hold and owe
-abbrev pub most_lent : ℕ → ℕ
-most_lent memory = max (memory / 2 / (max_piece_len + 16384)) 1
