@@ -794,6 +794,28 @@ def much_memory(folder):
         filed.hold_register(server)
 
 
+def stopped(folder):
+    """118 clients that stop in the middle of a report hold all that `--memory 256` lends. With and without
+    `--patience`, another client's report of 40 kB is answered within 12 seconds."""
+    for words in [(), ("--patience", 60)]:
+        filed = Filed()
+        with Server(folder, "--memory", 256, *words) as server, contextlib.ExitStack() as open_ones:
+            for at in range(118):
+                client = open_ones.enter_context(Client(server.port))
+                client.send(request(f"k-{at}", LARGEST, "STOPPED", close=False)[:17_000])
+            time.sleep(1)
+            begun = time.monotonic()
+            with Client(server.port) as client:
+                body = SMALLEST.ljust(40_000)
+                filed.guard(lambda key: filed.send(client, "OTHER", key, body=body), "k")
+            took = time.monotonic() - begun
+            filed.hold_clients("a report of 40 kB is filed while 118 clients stop in the middle of theirs")
+            hold(f"it is answered within 12 seconds ({took:.1f} s)", took < 12, True)
+            filed.hold_register(server)
+        folder = folder / "again"
+        folder.mkdir()
+
+
 # ---- patience
 
 
@@ -995,7 +1017,7 @@ def connections_of(server):
 
 TRIALS = {it.__name__: it for it in [
     idle, slow, one, half_closed, resets, pipelined, interim, repeats, full_disk, accepts, descriptors, memory,
-    much_memory, patience, log, kills, front,
+    much_memory, stopped, patience, log, kills, front,
 ]}  # fmt: skip
 
 # ---- planted faults
@@ -1021,6 +1043,7 @@ PLANTED = [
     ("descriptors", "spins without a descriptor"),
     ("memory", "drops a large request without a loan"),
     ("much_memory", "lends without bound"),
+    ("stopped", "never takes a loan back"),
     ("patience", "waits for ever"),
     ("patience", "counts from the last byte"),
     ("patience", "counts from the first request"),

@@ -43,6 +43,7 @@ FAULTS = {
     "never cuts off who doesn't read",
     "drops a large request without a loan",
     "lends without bound",
+    "never takes a loan back",
     "answers before it keeps",
     "forgets keys at a start",
     "writes a line for each request",
@@ -54,6 +55,8 @@ PHRASES = {200: "OK", 201: "Created", 400: "Bad Request", 404: "Not Found", 422:
            431: "Request Header Fields Too Large", 503: "Service Unavailable"}  # fmt: skip
 # The room that each connection has beside its loan, what a read brings at most, and what a loan is.
 SMALL_ROOM, READ, LOAN = 16_384, 16_384, 1_081_346
+# For how many seconds a loan is held while another connection is short of one.
+TERM = 10
 TARGET = re.compile(r"/filings/([A-Za-z0-9._-]{1,64})")
 
 
@@ -128,7 +131,7 @@ class Line:
         self.peer, self.number = peer, number
         self.held, self.owed = bytearray(), bytearray()
         self.has_ended = self.is_closing = self.is_awaited = self.has_loan = False
-        self.since = time.monotonic()
+        self.since = self.lent = time.monotonic()
         self.statuses, self.filers = [], []
         self.ended = "input ended"
 
@@ -197,11 +200,12 @@ class Serving:
         wanted = {}
         if self.has_room() and time.monotonic() >= self.stalled_until:
             wanted[self.listener] = (selectors.EVENT_READ, None)
-        for line in self.lines.values():
+        for line in list(self.lines.values()):
             if line.owed:
                 wanted[line.peer] = (selectors.EVENT_WRITE, line)
             elif not line.has_ended and not line.is_closing and self.may_read(line):
                 wanted[line.peer] = (selectors.EVENT_READ, line)
+        wanted = {peer: it for peer, it in wanted.items() if peer.fileno() >= 0}
         for key in list(self.selector.get_map().values()):
             if key.fileobj not in wanted:
                 self.selector.unregister(key.fileobj)
@@ -216,13 +220,22 @@ class Serving:
         """Whether it may have more than its small room, if it needs that."""
         if len(line.held) <= SMALL_ROOM or line.has_loan or FAULT == "lends without bound":
             return True
+        self.take_back()
         if self.loans < self.most_loans:
             self.loans += 1
-            line.has_loan = True
+            line.has_loan, line.lent = True, time.monotonic()
             return True
         if FAULT == "drops a large request without a loan":
             line.is_closing = True
         return False
+
+    def take_back(self):
+        """Ends who holds a loan past its term, if all are lent."""
+        if self.loans < self.most_loans or FAULT == "never takes a loan back":
+            return
+        for line in list(self.lines.values()):
+            if line.has_loan and line.lent + TERM < time.monotonic():
+                self.end(line)
 
     def has_room(self):
         return len(self.lines) < self.at_once and self.taken < self.words.connections
