@@ -278,7 +278,8 @@ class Filed:
 
     def list_of(self, filer):
         """What the list of a filer has to be."""
-        numbers = sorted(number for (whose, _), number in self.numbers.items() if whose == filer)
+        with self.lock:
+            numbers = sorted(number for (whose, _), number in self.numbers.items() if whose == filer)
         parts = ",".join(f'{{"facts":0,"number":{number}}}' for number in numbers)
         return f'{{"filings":[{parts}]}}'.encode()
 
