@@ -1,7 +1,7 @@
 #!/usr/bin/env python3
 """Counts how often the built `intake` does each step of a new report, by callgrind: how often it parses a head, finds a
-route, looks a key up in the tables, writes a row, and calls the system for a sync, on one connection and with 64
-clients. Status 1 if a step is done more often than its bound, or not at all.
+route, looks a key up in the tables, commits, and calls the system for a sync, on one connection and with 64 clients.
+Status 1 if a step is done more often than its bound, or not at all.
 
     bench/steps.py [--intake PROGRAM]
 """
@@ -18,12 +18,12 @@ from programs import NO_REP, Server, example, folder
 COUNT = 640
 # A step, the function that does it, and how often it may be done for a new report: on one connection, and with clients.
 STEPS = [
-    ("a head is parsed", r"http_connection::parsed::parse_at", 1, 1),
+    ("a head is parsed", r"httparse::start_line::parse_uri", 1, 1),
     ("a route is found", r"gateway_requests::route::route_of", 1, 1),
-    ("a key is looked up", r"register_store::select::found::find_kept", 1, 1),
+    ("a key is looked up", r"register_store::store::Store::find", 1, 1),
     ("a report is judged", r"xbrl_report::judging::judge_amendment", 1, 1),
-    ("a row of `kept` is written", r"register_store::rows::insert_kept", 1, 1),
-    ("a transaction is committed", r"register_store::write::write_all", 1, 0.5),
+    ("a transaction is committed", r"sqlite::connection::Connection::commit", 1, 0.1),
+    ("a file is synced", r"found_files::file::FoundFileDisk::sync", 1.1, 0.1),
 ]
 NAMED = re.compile(r"c?fn=\((\d+)\)(?: (.*))?")
 CALLS = re.compile(r"calls=(\d+) ")
