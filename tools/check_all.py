@@ -41,6 +41,7 @@ CHECKS = [
     (["tools/check_filer_page.py"], 15),
     (["tools/refuse_programs.py"], 30),
     (["bench/run.py"], 10),
+    (["bench/steps.py"], 1),
     (["bench/memory.py"], 5),
     (["bench/outbox.py"], 10),
 ]
