@@ -9,3 +9,5 @@ pub mod Showing
 pub mod Characters
 pub mod ReadingLemmas
 pub mod VisibleLemmas
+mod Changing
+mod Comparing
