@@ -9,5 +9,3 @@ pub mod Showing
 pub mod Characters
 pub mod ReadingLemmas
 pub mod VisibleLemmas
-mod Changing
-mod Comparing

@@ -5,10 +5,7 @@ use Rattle.std.specs.Fmt.{decimal}
 use Rattle.register_pages.specs.Reading.{AddsText}
 use Rattle.register_pages.specs.Short.{shortened}
 use Rattle.register_pages.specs.Visible.{visible}
-use Rattle.register_pages.specs.Changes.{Sides}
-use Rattle.register_pages.specs.Shown.{AddsFindings, AddsLine, AddsLines, AddsRefused, AddsRows, Grows, Holds}
-use Rattle.register_pages.specs.Shown.{report_cell}
-use Rattle.register_pages.specs.ShownChanges.{AddsChange, AddsChanges}
+use Rattle.register_pages.specs.Shown.{AddsFindings, AddsLine, AddsLines, AddsRefused, AddsRows, Holds, report_cell}
 
 pub lines_more : (n : ℕ) (old mid new : List ℕ) → AddsLines n old mid → AddsLine mid new → AddsLines (n + 1) old new
 lines_more n old mid new p q =
@@ -47,33 +44,6 @@ module _ (old more front cells cell behind new : List ℕ) where
     subst (λ s. AddsFindings findings s cell) links finds,
     (behind, ends),
   )
-
-pub changes_more : (changes : List Sides) (s : Sides) (old mid new : List ℕ) → AddsChanges changes old mid
-    → AddsChange s mid new → AddsChanges (changes ++ s ∷ []) old new
-changes_more [] s old mid new p q = (new, subst (λ start. AddsChange s start new) p q, refl)
-changes_more (first ∷ changes) s old mid new p q = (p.0, p.1, changes_more changes s p.0 mid new p.2 q)
-
--- ---- pieces of a page
-
-pub grows_thrice : (old one two new a b c : List ℕ) → one ≡ old ++ a → two ≡ one ++ b → new ≡ two ++ c → Grows old new
-grows_thrice old one two new a b c p q r = (
-  a ++ (b ++ c),
-  r ∙ ap (λ l. l ++ c) (q ∙ ap (λ l. l ++ b) p ∙ append_assoc old a b) ∙ append_assoc old (a ++ b) c
-      ∙ ap (λ l. old ++ l) (append_assoc a b c),
-)
-
-pub grows_on : (old begun mid new rows behind : List ℕ) → Grows old begun → mid ≡ begun ++ rows → new ≡ mid ++ behind
-    → Grows old new
-grows_on old begun mid new rows behind p q r = grows_thrice old begun mid new p.0 rows behind p.1 q r
-
--- what is in the middle of a page stays there
-pub piece_held : (piece old mid linked whole links : List ℕ) → mid ≡ old ++ piece → linked ≡ mid ++ links
-    → Grows linked whole → Holds piece whole
-piece_held piece old mid linked whole links p q r = (
-  old,
-  links ++ r.0,
-  r.1 ∙ ap (λ l. l ++ r.0) (q ∙ ap (λ l. l ++ links) p) ∙ append_assoc (old ++ piece) links r.0,
-)
 
 pub rows_held : (before rows mid behind page : List ℕ) → mid ≡ before ++ rows → page ≡ mid ++ behind → Holds rows page
 rows_held before rows mid behind page p q = (before, behind, q ∙ ap (λ l. l ++ behind) p)

@@ -1,27 +1,23 @@
 //! The pages of a register.
 
-ghost use Rattle.std.specs.Prelude.{◌≡◌, ◌≤◌, ◌++◌, ◌^◌, ℕ, List, Some, IfOk, OnOk};
+ghost use Rattle.std.specs.Prelude.{◌≡◌, ◌≤◌, ◌++◌, ◌^◌, Some, OnOk};
 ghost use Rattle.std.specs.Ordering.{nat_cmp};
 ghost use Rattle.std.specs.Cmp.Lexicographic.{slice_cmp};
 ghost use Rattle.std.specs.List.Sorted.{IsStrictlySortedBy};
 ghost use Rattle.std.specs.List.{flat_map};
 ghost use Rattle.filing_model.specs.Register.{Filing, kept, register};
-ghost use Rattle.register_extracts.specs.Dated.{ForDated};
-ghost use Rattle.xbrl_report.specs.FactRecord.{FactRecord};
 ghost use Rattle.table_rows.specs.Leaving.{MayRead};
 ghost use Rattle.table_rows.specs.Standing.{IsAtRest};
 ghost use Rattle.register_rows.specs.Catalogue.{catalogue_of, view_lines};
-ghost use Rattle.register_store.specs.Numbered.{facts_numbered, filing_numbered};
+ghost use Rattle.register_store.specs.Numbered.{filing_numbered};
 ghost use Rattle.register_store.specs.Store.{ForRegister};
 ghost use Rattle.register_pages.specs.Gathering.{AreCountsOf, codes_of};
 ghost use Rattle.register_pages.specs.Pages.{Adds, Writes, WritesSite, filing_files, other_files, files_of_filer};
 ghost use Rattle.register_pages.specs.Pages.{files_of_filing};
-ghost use Rattle.register_pages.specs.ShownChanges.{ShowsChanges};
 ghost use Rattle.register_pages.specs.Site.{WritesPages};
 
 use crate::Markup;
 use crate::about::about_register;
-use crate::change_rows::changes_table;
 use crate::fault::{PagesFault, WritingFault};
 use crate::filer::write_filer;
 use crate::filers::Filers;
@@ -30,7 +26,7 @@ use crate::folder::Folder;
 use crate::found::Found;
 use crate::gathering::gather;
 use crate::others::write_others;
-use register_extracts::{WholeFiling, filing_at};
+use register_extracts::filing_at;
 use register_rows::Catalogue;
 use register_store::{Counts, StoreFault, Unwatched, read_register};
 use sqlite::{Alter, Connection};
@@ -186,33 +182,10 @@ fn write_numbered<S: Alter, F: Folder>(
 {
     match filing_at(alloc, conn, catalogue, number)? {
         Some(filing) => {
-            let changes = changes_by(alloc, conn, catalogue, &filing)?;
-            write_filing(alloc, &filing, &changes, about, folder, missed);
+            write_filing(alloc, &filing, about, folder, missed);
             Ok(())
         }
         None => Ok(()),
-    }
-}
-
-/// What a filing changed of the one that it replaces, if it replaces one.
-fn changes_by<S: Alter>(
-    alloc: Global,
-    conn: &mut Connection<S>,
-    catalogue: &Catalogue,
-    filing: &WholeFiling,
-) -> Result<Markup, StoreFault>
-    ensures shown { ForDated S.Store conn.old conn.new (λ requests moments.
-        view_lines catalogue.now ≡ catalogue_of requests
-        → IfOk result (λ piece. (number : ℕ) (before : List FactRecord) → filing.now.replaces ≡ Some number
-        → facts_numbered number (register requests) ≡ Some before → ShowsChanges before filing.now.facts piece)) }
-    ensures leaves { MayRead S.Store conn.old conn.new result }
-{
-    let Some(number) = filing.replaces else {
-        return Ok(Markup::new(alloc));
-    };
-    match filing_at(alloc, conn, catalogue, number)? {
-        Some(before) => Ok(changes_table(alloc, before.facts(), filing.facts())?),
-        None => Ok(Markup::new(alloc)),
     }
 }
 
