@@ -327,7 +327,9 @@ def try_readers(what, copies, out, run_script):
         copy = copies / name
         hold(f"{what}: register-restore of {name}", run_script("register-restore", copy, out / "new.db"),
              (0, f"{out / 'new.db'}: restored: {SOUND}\n", ""))
-        hold(f"{what}: lost-filings of {name}", run_script("lost-filings", copy, log), (1, 'T ACME "k-9" 4\n', ""))
+        hold(f"{what}: lost-filings of {name}", run_script("lost-filings", copy, log),
+             (1, 'T ACME "k-9" 4\n',
+              f"lost-filings: {copy}: filings without a line: 2; lost ones may have none either\n"))  # fmt: skip
         status, said, _ = run_script("register-receipts", copy, log)
         lines = said.splitlines()
         hold(f"{what}: register-receipts of {name}", (status, lines[1].split(",")[-2:], len(lines)),
