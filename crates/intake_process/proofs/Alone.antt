@@ -1,24 +1,20 @@
 -- Turns are connections on which one arrival came alone.
-use Rattle.std.proofs.Common.{◌≡◌, ◌||◌, ℕ, Bool, true, false, List, [], ◌∷◌, ◌++◌, take, Option, Some, None, Ok, refl}
+use Rattle.std.proofs.Common.{◌≡◌, ◌||◌, ℕ, Bool, true, false, List, [], ◌∷◌, ◌++◌, Option, Some, None, Ok, refl}
 use Rattle.std.proofs.Common.{sym}
 use Rattle.std.proofs.Common.{◌∙◌, ap, subst}
 use Rattle.std.specs.Prelude.{IfSome, if◌then◌else◌}
 use Rattle.http_messages.specs.Head.{closes}
 use Rattle.http_messages.specs.Message.{Arrival, Read, Refused, Ending}
-use Rattle.http_messages.specs.Reply.{render}
 use Rattle.connection_hall.specs.Answers.{Answer, ends_with, is_last}
 use Rattle.connection_hall.specs.Answers as hall
-use Rattle.filing_model.specs.declared.served.Ended.{Ended}
 use Rattle.filing_model.specs.declared.served.Ended.TheVariants.{Closed, InputEnded}
-use Rattle.filing_model.specs.Prefix.{IsPrefixOf}
 use Rattle.filing_model.specs.Request.{Request}
-use Rattle.filing_model.specs.Serving.{BeginsArrivals, Keeping, keeping, kept_by}
+use Rattle.filing_model.specs.Serving.{BeginsArrivals, keeping, kept_by}
 use Rattle.filing_model.specs.Steps.{Step, StepsFit, all_completed, text_of_step}
-use Rattle.filing_model.specs.Text.{completed_at, interim_of, reply_text_with}
+use Rattle.filing_model.specs.Text.{completed_at, interim_of}
 use Rattle.gateway_server.specs.Connections.{ServeInTurn}
 use Rattle.gateway_server.specs.Steps.{AreOfSteps, GetsText, IsOfStep, end_behind}
 use Rattle.gateway_server.proofs.Steps.{arrives_first, in_turn}
-use Rattle.gateway_rounds.specs.Away.{away_reply}
 use Rattle.gateway_rounds.specs.Turns.{IsAnswerTo}
 use Rattle.intake_process.specs.Turning.{IsTurnedAway}
 use Rattle.intake_process.specs.Turns.{Told, Turn, Served, TurnedAway, connection_of, ended_as, written_as, served_in}

@@ -62,7 +62,7 @@ use Rattle.intake_process.specs.declared.tasks.listing.ListFault.TheVariants as 
 use Rattle.intake_process.specs.declared.tasks.showing.ShowFault.{ShowFault}
 use Rattle.intake_process.specs.declared.tasks.showing.ShowFault.TheVariants as showing
 use Rattle.intake_process.specs.declared.tasks.text.TextFault.{TextFault}
-use Rattle.intake_process.specs.declared.tasks.text.TextFault.TheVariants.{Memory, Output}
+use Rattle.intake_process.specs.declared.tasks.text.TextFault.TheVariants.{Output}
 use Rattle.intake_process.specs.Bodies.{PrintsReport, TellsReport, filed_body, sent_body}
 use Rattle.intake_process.specs.Lines.{list_line, moment_lines, shown_lines, sound_line, migrated_line, digest_line}
 use Rattle.intake_process.specs.Tasks.{PrintsNothing, ListsFilings, ShowsFiling, ChecksRegister, MigratesRegister}

@@ -4,7 +4,7 @@ use Rattle.std.proofs.Common.{ap, subst, inr}
 use Rattle.std.specs.Prelude.{option_map}
 use Rattle.std.specs.Io.KnownBytes.{Appends}
 use Rattle.sqlite.specs.Store.{Ghosts}
-use Rattle.sqlite.specs.Held.{Held, state}
+use Rattle.sqlite.specs.Held.{Held}
 use Rattle.filing_model.specs.Register.{Filing, Kept, kept, register}
 use Rattle.filing_model.specs.Request.{Request}
 use Rattle.filing_model.proofs.Keeping.{register_numbered}

@@ -24,10 +24,8 @@ use Rattle.filing_model.proofs.Alike.{firsts_alike, marks_fit_alike, reply_alike
 use Rattle.filing_model.proofs.Appending.{firsts-kept_by, kept_by-append}
 use Rattle.filing_model.proofs.Lists.{append_nil}
 use Rattle.intake_core.specs.declared.intake.Intake.{Intake}
-use Rattle.intake_core.specs.Held.{limit_of}
 use Rattle.gateway_rounds.specs.Away as closed
 use Rattle.gateway_rounds.specs.Ports.{Port, Runs}
-use Rattle.gateway_rounds.specs.Rounds.{AnswersRound}
 use Rattle.gateway_rounds.specs.Turns.{IsAnswerTo, Spells, AreSpelled, IsTold, AreTold, DecidesTurns, TakesTurns}
 use Rattle.gateway_rounds.specs.Turns.{answers_of, steps_of, completed_by}
 use Rattle.gateway_rounds.specs.Turns as round
@@ -41,7 +39,7 @@ use Rattle.intake_process.specs.Process.{Parts, IsUnrefused, StaysUp, IsUp, Keep
 use Rattle.intake_process.specs.declared.process.AnsweredBy.{AnsweredBy}
 use Rattle.intake_process.specs.Process.{AnswersPort, AnswersPortBy, ClosesProcess}
 use Rattle.intake_process.specs.Turns.{Told, Turn, Served, TurnedAway, told_in, steps_in, answers_in, NoneIsAway}
-use Rattle.intake_process.specs.Turns.{SpellArrival, IsDecided, IsAway, AreTurns, AreAnswered, AnswersSome}
+use Rattle.intake_process.specs.Turns.{SpellArrival, AreTurns, AreAnswered, AnswersSome}
 use Rattle.intake_process.proofs.Alone.{all_away, all_in_turn}
 use Rattle.intake_process.proofs.Up as up
 

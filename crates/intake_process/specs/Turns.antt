@@ -3,7 +3,6 @@ use Rattle.std.specs.Prelude.{◌≡◌, ◌⊎◌, ◌<◌, ◌+◌, ℕ, Bool,
 use Rattle.std.specs.Prelude.{None}
 use Rattle.std.specs.Prelude.{IfSome, IsSome, Result, Ok, Err, IfOk, if◌then◌else◌}
 use Rattle.std.specs.Option.{option_to_list}
-use Rattle.std.specs.Result.{result_ok}
 use Rattle.http_messages.specs.declared.refusal.ConnFault.TheVariants.{Memory}
 use Rattle.http_messages.specs.Message.{Arrival}
 use Rattle.http_messages.specs.Reply.{render}
