@@ -65,7 +65,7 @@ class Sizes:
     """How many reports each client files, how many filings the long list has, how often the intake is killed, how many
     lists are compared, how many reports each client of nginx files, and how long a reply may take, in seconds."""
 
-    each, long, kills, lists, reports, seconds = 12, 500, 200, 8, 4, 20
+    each, long, kills, lists, reports, seconds = 12, 500, 300, 8, 4, 20
 
 
 class SmallSizes(Sizes):
@@ -797,7 +797,7 @@ def much_memory(folder):
 
 def stopped(folder):
     """118 clients that stop in the middle of a report hold all that `--memory 256` lends. With and without
-    `--patience`, another client's report of 40 kB is answered within 12 seconds."""
+    `--patience`, another client's report of 40 kB is answered within 6 seconds."""
     for words in [(), ("--patience", 60)]:
         filed = Filed()
         with Server(folder, "--memory", 256, *words) as server, contextlib.ExitStack() as open_ones:
@@ -811,7 +811,7 @@ def stopped(folder):
                 filed.guard(lambda key: filed.send(client, "OTHER", key, body=body), "k")
             took = time.monotonic() - begun
             filed.hold_clients("a report of 40 kB is filed while 118 clients stop in the middle of theirs")
-            hold(f"it is answered within 12 seconds ({took:.1f} s)", took < 12, True)
+            hold(f"it is answered within 6 seconds ({took:.1f} s)", took < 6, True)
             filed.hold_register(server)
         folder = folder / "again"
         folder.mkdir()

@@ -56,7 +56,7 @@ PHRASES = {200: "OK", 201: "Created", 400: "Bad Request", 404: "Not Found", 422:
 # The room that each connection has beside its loan, what a read brings at most, and what a loan is.
 SMALL_ROOM, READ, LOAN = 16_384, 16_384, 1_081_346
 # For how many seconds a loan is held while another connection is short of one.
-TERM = 10
+TERM = 5
 TARGET = re.compile(r"/filings/([A-Za-z0-9._-]{1,64})")
 
 

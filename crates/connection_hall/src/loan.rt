@@ -3,7 +3,7 @@ ghost use Rattle.std.specs.Prelude.{◌≡◌, ◌+◌, min, nat_le};
 ghost use Rattle.connection_hall.specs.Loans.{term_of};
 
 /// For how many milliseconds a loan is held if no bytes come, and for how many more for each part of so many that come.
-const FIRST_TERM: u64 = 10_000;
+const FIRST_TERM: u64 = 5_000;
 
 const MORE_TERM: u64 = 1_000;
 
@@ -18,7 +18,7 @@ pub(crate) struct Loan {
 
 impl Loan {
     /// Up to which moment the loan is held while others are short of one, if the connection holds so many bytes by now:
-    /// for ten seconds, and for one more for each 64 KiB that came since.
+    /// for five seconds, and for one more for each 64 KiB that came since.
     pub(crate) fn term(&self, held: usize) -> u64
         ensures { result ≡ min (term_of self.now held) 18446744073709551615 }
     {
