@@ -1,6 +1,6 @@
 -- What was decided of what waits in a place, and told so.
 use Rattle.std.proofs.Common.{◌≡◌, ◌∙◌, ◌∷◌, [], ℕ, Bool, true, false, List, Option, Some, None, refl, sym, ap}
-use Rattle.std.proofs.Common.{IfOk, Result, Ok, Err, subst, take}
+use Rattle.std.proofs.Common.{IfOk, Result, Ok, Err, subst, true≢false}
 use Rattle.std.specs.Prelude.{IsSome, IfSome}
 use Rattle.std.specs.Option.{ForSome}
 use Rattle.std.specs.declared.alloc.AllocError.{AllocError}
@@ -16,25 +16,29 @@ use Rattle.connection_hall.specs.declared.hall.Hall.{Hall}
 use Rattle.connection_hall.specs.declared.stream.Stream.{Ghosts}
 use Rattle.connection_hall.specs.Answers.{Answer}
 use Rattle.connection_hall.specs.Running.{KeepsOtherPlaces, arrival_at, number_at}
+use Rattle.filing_model.specs.declared.answer.Answer.{Answer as Given}
 use Rattle.filing_model.specs.declared.served.Mark.{Mark}
 use Rattle.filing_model.specs.declared.served.Mark.TheVariants.{Done, Unavailable, NotFiled}
-use Rattle.filing_model.specs.Request.{Request, firsts, has_key}
+use Rattle.filing_model.specs.Request.{Request, has_key}
 use Rattle.filing_model.specs.Serving.{kept_by}
 use Rattle.filing_model.specs.Text.{FileReport, ListFilings, Reject, Route, bare, completed_at, requests_of_route}
 use Rattle.filing_model.specs.Text.{refusal_reply, reply_text_with, route}
 use Rattle.filing_model.proofs.Firsts.{firsts_repeat}
 use Rattle.filing_model.proofs.Lists.{append_nil}
-use Rattle.gateway_server.specs.Decided.{Decides as DecidesRoute, marked_reply}
+use Rattle.gateway_server.specs.Decided.{Decides as DecidesRoute, IsOfGiven, marked_reply}
 use Rattle.gateway_server.specs.declared.decide.Decided.{Decided}
+use Rattle.gateway_server.proofs.Grouped.{decides_one}
 use Rattle.intake_core.specs.declared.intake.Intake.{Intake}
+use Rattle.intake_core.specs.Answered.{IsAnswerTo as IsAnswered}
+use Rattle.intake_core.specs.Together.{LooksUp as Looks}
 use Rattle.intake_core.specs.Held.{ForRequests, HoldsRequests, IsTransition, KeepsSetting, limit_of, old_style_in}
 use Rattle.gateway_rounds.specs.declared.new.New.{New}
 use Rattle.gateway_rounds.specs.Groups.{HadItsTurn, LooksUp}
 use Rattle.gateway_rounds.specs.Places.{Decides, IsAnswerBy, IsTextOf, TakesPlace, TellsPlace}
-use Rattle.gateway_rounds.specs.Ports.{Port, Runs}
+use Rattle.gateway_rounds.specs.Ports.{KeepsPort, Port, Runs}
 use Rattle.gateway_rounds.specs.Turns.{DecidesTurns, IsAnswerTo, IsFree}
 use Rattle.gateway_rounds.proofs.Told.{found, lost_turn, same_some, told_turn}
-use Rattle.gateway_rounds.proofs.Turns.{same_setting, setting-append}
+use Rattle.gateway_rounds.proofs.Turns.{same_setting}
 
 -- ---- what was decided
 
@@ -79,22 +83,18 @@ decides_refused limit old_style before refusal reply is = record {
 
 -- ---- nothing is kept
 
-route_keeps : (before : List Request) (to' : Route) (mark : Mark) → firsts before ≡ before
-    → ((r : Request) → to' ≡ FileReport r → has_key before r ≡ true)
+route_keeps : (before : List Request) (to' : Route) (mark : Mark) → ((r : Request) → to' ≡ FileReport r → ⊥)
     → kept_by before (requests_of_route to' mark) ≡ before
-route_keeps before (FileReport r) Done once repeat = firsts_repeat before r (repeat r refl) ∙ once
-route_keeps before (FileReport r) Unavailable once repeat = refl
-route_keeps before (FileReport r) NotFiled once repeat = refl
-route_keeps before (ListFilings filer number) mark once repeat = refl
-route_keeps before (Reject reply) mark once repeat = refl
+route_keeps before (FileReport r) mark none = absurd (none r refl)
+route_keeps before (ListFilings filer number) mark none = refl
+route_keeps before (Reject reply) mark none = refl
 
--- what is no report, or a repeat of one that is held, keeps nothing
+-- what is no report keeps nothing
 pub keeps_nothing : (limit : ℕ) (old_style before after : List Request) (m : Message) (d : Decided) (close : Bool)
-    → firsts before ≡ before → ((r : Request) → route m ≡ FileReport r → has_key before r ≡ true)
-    → Decides limit old_style before after (Read m) d close
+    → ((r : Request) → route m ≡ FileReport r → ⊥) → Decides limit old_style before after (Read m) d close
     → (after ≡ before) × Decides limit old_style before before (Read m) d close
-keeps_nothing limit old_style before after m d close once repeat decides =
-    let same : after ≡ before = decides.kept ∙ route_keeps before (route m) d.mark once repeat in (
+keeps_nothing limit old_style before after m d close none decides =
+    let same : after ≡ before = decides.kept ∙ route_keeps before (route m) d.mark none in (
       same,
       record { fit = decides.fit; kept = sym same ∙ decides.kept; reply = decides.reply },
     )
@@ -172,14 +172,14 @@ module _ {S N D : Type 0} (s : Ghosts S N) (g : Disk D) (place : ℕ) (old new :
 
     -- there was no memory to decide it
     pub place_lost : ((answers : List Answer) → Runs s answers old → Runs s answers new) → IsFree new.hall place
-        → KeepsOtherPlaces place old.hall new.hall → new.asked ≡ old.asked
+        → KeepsOtherPlaces place old.hall new.hall → KeepsPort old new
         → IsTransition g intake intake' (λ old_style before after. after ≡ before)
         → KeepsSetting g intake intake' → TakesPlace s g place old new intake intake'
-    place_lost running free others asked same setting = record {
+    place_lost running free others port same setting = record {
       turn = record { place = place; step = None; answer = None };
       there = refl;
       takes = record {
-        tells = lost_turn s place old new running free others asked;
+        tells = lost_turn s place old new running free others port;
         decided = λ clean before holds.
             let all = same clean before holds in (
               all.0,
@@ -225,17 +225,17 @@ module _ {S N D : Type 0} (s : Ghosts S N) (g : Disk D) (place : ℕ) (old new :
     -- there was no memory to know what it asks for
     pub place_unknown : (group group' : List New) → IsSome (arrival_at old.hall place)
         → ((answers : List Answer) → Runs s answers old → Runs s answers new) → IsFree new.hall place
-        → KeepsOtherPlaces place old.hall new.hall → new.asked ≡ old.asked
+        → KeepsOtherPlaces place old.hall new.hall → KeepsPort old new
         → ForSome (arrival_at old.hall place) (λ arrival. LooksUp g (λ old_style before. Unit {0}) intake intake')
         → group' ≡ group → HadItsTurn s g place old new group group' intake intake'
-    place_unknown group group' waits running free others asked looks same =
+    place_unknown group group' waits running free others port looks same =
         let waiting = found (arrival_at old.hall place) waits in
         let here = looks waiting.0 waiting.1 in
         record {
           turn = record { place = place; step = None; answer = None };
           there = refl;
           takes = record {
-            tells = lost_turn s place old new running free others asked;
+            tells = lost_turn s place old new running free others port;
             decided = λ clean before holds. (
               (here.same clean before holds).0,
               nothing_was_decided (limit_of intake) (old_style_in intake before) before place,
@@ -246,9 +246,6 @@ module _ {S N D : Type 0} (s : Ghosts S N) (g : Disk D) (place : ℕ) (old new :
         }
 
 -- ---- what is looked up
-
-same_report : (r r' : Request) → FileReport r ≡ FileReport r' → r ≡ r'
-same_report r r' same = let h = same in cc
 
 pub no_rejection : (is_bare : Bool) (reply : ReplyParts) (r : Request) → bare is_bare (Reject reply) ≡ FileReport r → ⊥
 no_rejection true reply r same = let h = same in cc
@@ -264,40 +261,29 @@ report_is true r = refl
 report_is false r = refl
 
 module _ {D : Type 0} (g : Disk D) (m : Message) (d : Decided) (close : Bool) where
-  -- what is no report, or one that is held, keeps nothing
-  pub looks_only : (intake mid intake' : Intake D) → ForRequests g intake mid (λ before. HoldsRequests g mid before
-      × ((r : Request) → route m ≡ FileReport r → has_key before r ≡ true)) → KeepsSetting g intake mid
-      → IsTransition g mid intake' (λ old_style before after.
-      Decides (limit_of mid) old_style before after (Read m) d close) → KeepsSetting g mid intake'
+  -- it is one that is held, and gets its answer
+  pub repeat_looks : (r : Request) (given : Given) → route m ≡ FileReport r → close ≡ closes m.head
+      → IsOfGiven (Ok given) d → (intake intake' : Intake D) → Looks g intake intake'
+      → ForRequests g intake intake' (λ before. IsAnswered (old_style_in intake before) before r given
+      × (has_key before r ≡ true))
       → LooksUp g (λ old_style before. Decides (limit_of intake) old_style before before (Read m) d close) intake
       intake'
-  looks_only intake mid intake' looked setting decided setting' = record {
+  repeat_looks r given asked closing is intake intake' looks tells = record {
     same = λ clean before holds.
-        let here = looked (setting'.clean clean) before holds in
-        let all = decided clean before here.0 in
-        let nothing = keeps_nothing (limit_of mid) (old_style_in mid before) before all.0 m d close holds.firsts' here.1
-        all.3 in (
-          subst (HoldsRequests g intake') nothing.0 all.1,
-          subst (λ (n : ℕ). Decides n (old_style_in intake before) before before (Read m) d close) setting.limit
-              (subst (λ (n : ℕ). Decides (limit_of mid) (take n before) before before (Read m) d close)
-              setting.old_style nothing.1),
+        let told = tells clean before holds in
+        let old_style = old_style_in intake before in
+        let decides = decides_one (limit_of intake) old_style before r (Ok given) d (record {
+          answer = told.0;
+          full = λ k e. absurd (cc);
+          room = λ new. absurd (true≢false (sym told.1 ∙ new));
+        }) is in (
+          looks.same clean before holds,
+          decides_read (limit_of intake) old_style before before m (FileReport r) d close asked closing
+              (subst (λ (after : List Request). DecidesRoute (limit_of intake) old_style before after (FileReport r) d)
+              (firsts_repeat before r told.1 ∙ holds.firsts') decides),
         );
-    setting = setting-append g intake mid intake' setting setting';
+    setting = looks.setting;
   }
-
-  -- it is one that is held
-  pub repeat_looks : (r : Request) → route m ≡ FileReport r → (intake mid intake' : Intake D)
-      → ForRequests g intake mid (HoldsRequests g mid) → ForRequests g intake mid (λ before. has_key before r ≡ true)
-      → KeepsSetting g intake mid → IsTransition g mid intake' (λ old_style before after.
-      Decides (limit_of mid) old_style before after (Read m) d close) → KeepsSetting g mid intake'
-      → LooksUp g (λ old_style before. Decides (limit_of intake) old_style before before (Read m) d close) intake
-      intake'
-  repeat_looks r asked intake mid intake' same known setting decided setting' =
-      looks_only intake mid intake' (λ clean before holds. (
-        same clean before holds,
-        λ it is. subst (λ (r : Request). has_key before r ≡ true) (same_report r it (sym asked ∙ is))
-            (known clean before holds),
-      )) setting decided setting'
 
   -- it is no report
   pub plain_looks : ((r : Request) → route m ≡ FileReport r → ⊥) → (intake intake' : Intake D)
@@ -305,9 +291,13 @@ module _ {D : Type 0} (g : Disk D) (m : Message) (d : Decided) (close : Bool) wh
       Decides (limit_of intake) old_style before after (Read m) d close) → KeepsSetting g intake intake'
       → LooksUp g (λ old_style before. Decides (limit_of intake) old_style before before (Read m) d close) intake
       intake'
-  plain_looks none intake intake' decided setting =
-      looks_only intake intake intake' (λ clean before holds. (holds, λ r is. absurd (none r is)))
-      (same_setting g intake) decided setting
+  plain_looks none intake intake' decided setting = record {
+    same = λ clean before holds.
+        let all = decided clean before holds in
+        let nothing = keeps_nothing (limit_of intake) (old_style_in intake before) before all.0 m d close none all.3 in
+        (subst (HoldsRequests g intake') nothing.0 all.1, nothing.1);
+    setting = setting;
+  }
 
 -- what is refused keeps nothing
 pub refused_looks : {D : Type 0} (g : Disk D) (slot : Option Arrival) (refusal : Refusal) (d : Decided) (close : Bool)

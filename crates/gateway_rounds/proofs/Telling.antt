@@ -1,6 +1,6 @@
 -- What is new is decided together and told in order.
 use Rattle.std.proofs.Common.{◌≡◌, ◌≢◌, ◌∙◌, ◌+◌, ◌<◌, ◌++◌, ◌∷◌, [], ℕ, true, false, List, Option, Some, None}
-use Rattle.std.proofs.Common.{refl, sym, ap, subst, length, map, take, drop, get_or, Result, Ok, Err, Vec}
+use Rattle.std.proofs.Common.{Bool, refl, sym, ap, subst, length, map, take, drop, get_or, Result, Ok, Err, Vec}
 use Rattle.std.proofs.lemmas.List.{map-append, take-append-drop, take_more}
 use Rattle.std.proofs.lemmas.List.Elements.{All-get_or, recursion_from_All}
 use Rattle.std.specs.Prelude.{IfOk, IfSome, IsSome, slice_index_or}
@@ -22,8 +22,8 @@ use Rattle.gateway_server.specs.Decided.{Decides as DecidesRoute}
 use Rattle.gateway_server.specs.Group.{DecideInTurn}
 use Rattle.gateway_server.specs.declared.decide.Decided.{Decided}
 use Rattle.intake_core.specs.declared.intake.Intake.{Intake}
-use Rattle.intake_core.specs.Held.{IsTransition, IsTransitionIf, KeepsSetting, limit_of}
-use Rattle.intake_core.specs.Looked.{AreNewTo}
+use Rattle.intake_core.specs.Held.{IsTransitionIf, KeepsSetting, limit_of}
+use Rattle.intake_core.specs.Looked.{AreNewIf, AreNewTo}
 use Rattle.gateway_rounds.specs.declared.new.New.{New}
 use Rattle.gateway_rounds.specs.Groups.{places_of, places_in, asked_in, body_of, request_of, AreFound, AreOther}
 use Rattle.gateway_rounds.specs.Groups.{AreTurnsOf}
@@ -307,31 +307,16 @@ none_filed s g port group intake =
 -- ---- what was found to be new
 
 pub new_decided : {D : Type 0} {S : Type 0} (g : Disk D) (hall : Hall S) (group : List New) (requests : List Request)
-    (result : Result (Vec Decided Global) AllocError) (intake intake' : Intake D)
-    → requests ≡ map (asked_in hall) group → All (λ new. new.is_new ≡ true) group
-    → IfOk result (λ all. IsTransitionIf g (λ before. AreNewTo before requests) intake intake'
+    (are_new : Bool) (result : Result (Vec Decided Global) AllocError) (intake intake' : Intake D)
+    → requests ≡ map (asked_in hall) group → (are_new ≡ true → All (λ new. new.is_new ≡ true) group)
+    → IfOk result (λ all. IsTransitionIf g (AreNewIf are_new requests) intake intake'
     (λ old_style before after. DecideInTurn (limit_of intake) old_style before after requests all.items))
     → IfOk result (λ all. IsTransitionIf g (AreFound hall group) intake intake'
     (λ old_style before after. DecideInTurn (limit_of intake) old_style before after (map (asked_in hall) group)
     all.items))
-new_decided g hall group requests (Ok all) intake intake' same is decided = λ clean before holds found.
-    (subst (λ (rs : List Request). IsTransitionIf g (λ before. AreNewTo before rs) intake intake'
+new_decided g hall group requests are_new (Ok all) intake intake' same is decided = λ clean before holds found.
+    (subst (λ (rs : List Request). IsTransitionIf g (AreNewIf are_new rs) intake intake'
     (λ old_style before after. DecideInTurn (limit_of intake) old_style before after rs all.items)) same decided)
     clean before holds
-    (all_new hall before group (recursion_from_All (λ (new : New). new.is_new ≡ true) group is) found)
-new_decided g hall group requests (Err fault) intake intake' same is decided = tt
-
--- as far as it was not looked up, too
-pub all_decided : {D : Type 0} {S : Type 0} (g : Disk D) (hall : Hall S) (group : List New) (requests : List Request)
-    (result : Result (Vec Decided Global) AllocError) (intake intake' : Intake D)
-    → requests ≡ map (asked_in hall) group
-    → IfOk result (λ all. IsTransition g intake intake'
-    (λ old_style before after. DecideInTurn (limit_of intake) old_style before after requests all.items))
-    → IfOk result (λ all. IsTransitionIf g (AreFound hall group) intake intake'
-    (λ old_style before after. DecideInTurn (limit_of intake) old_style before after (map (asked_in hall) group)
-    all.items))
-all_decided g hall group requests (Ok all) intake intake' same decided = λ clean before holds found.
-    (subst (λ (rs : List Request). IsTransition g intake intake'
-    (λ old_style before after. DecideInTurn (limit_of intake) old_style before after rs all.items)) same decided)
-    clean before holds
-all_decided g hall group requests (Err fault) intake intake' same decided = tt
+    (λ yes. all_new hall before group (recursion_from_All (λ (new : New). new.is_new ≡ true) group (is yes)) found)
+new_decided g hall group requests are_new (Err fault) intake intake' same is decided = tt

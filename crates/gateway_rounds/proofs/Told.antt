@@ -17,7 +17,7 @@ use Rattle.filing_model.specs.declared.served.Mark.{Mark}
 use Rattle.filing_model.proofs.Lists.{append_nil}
 use Rattle.gateway_server.specs.declared.decide.Decided.{Decided}
 use Rattle.gateway_rounds.specs.Places.{IsAnswerBy, IsTextOf, TellsPlace}
-use Rattle.gateway_rounds.specs.Ports.{Port, Runs}
+use Rattle.gateway_rounds.specs.Ports.{KeepsPort, Port, Runs}
 use Rattle.gateway_rounds.specs.Turns.{Turn, AreElsewhere, IsFree, Spells, TellsTurns}
 
 pub found : {X : Type 0} (slot : Option X) → IsSome slot → (x : X) × (slot ≡ Some x)
@@ -34,16 +34,16 @@ module _ {S N : Type 0} (s : Ghosts S N) (place : ℕ) (old new : Port S) where
   -- its connection is over
   pub told_nothing : (IsText : List ℕ → Type 0) (closes : Bool)
       → ((answers : List Answer) → Runs s answers old → Runs s answers new) → IsFree new.hall place
-      → KeepsOtherPlaces place old.hall new.hall → new.asked ≡ old.asked
+      → KeepsOtherPlaces place old.hall new.hall → KeepsPort old new
       → TellsPlace s place old new IsText closes
-  told_nothing IsText closes running free others asked = record {
+  told_nothing IsText closes running free others port = record {
     answer = None;
     is = tt;
     running = λ answers now. subst (λ (all : List Answer). Runs s all new) (sym (append_nil answers))
         (running answers now);
     over = λ none. free;
     others = others;
-    asked = asked;
+    port = port;
   }
 
   -- its text was given, if there was memory for that
@@ -52,9 +52,9 @@ module _ {S N : Type 0} (s : Ghosts S N) (place : ℕ) (old new : Port S) where
       → ((answers : List Answer) → Runs s answers old → OnOk result (ForSome (arrival_at old.hall place)
       (λ arrival. Runs s (answers ++ answer_to (number_at old.hall place) arrival text closes ∷ []) new)))
       → ((answers : List Answer) → Runs s answers old → OnErr result (Runs s answers new))
-      → OnErr result (IsFree new.hall place) → KeepsOtherPlaces place old.hall new.hall → new.asked ≡ old.asked
+      → OnErr result (IsFree new.hall place) → KeepsOtherPlaces place old.hall new.hall → KeepsPort old new
       → TellsPlace s place old new (λ told. told ≡ text) closes
-  told_text text closes (Ok done) waits answered lost over others asked =
+  told_text text closes (Ok done) waits answered lost over others port =
       let waiting = found (arrival_at old.hall place) waits in
       record {
         answer = Some (answer_to (number_at old.hall place) waiting.0 text closes);
@@ -62,10 +62,10 @@ module _ {S N : Type 0} (s : Ghosts S N) (place : ℕ) (old new : Port S) where
         running = λ answers now. answered answers now waiting.0 waiting.1;
         over = λ none. absurd (let h = none in cc);
         others = others;
-        asked = asked;
+        port = port;
       }
-  told_text text closes (Err fault) waits answered lost over others asked =
-      told_nothing (λ told. told ≡ text) closes lost over others asked
+  told_text text closes (Err fault) waits answered lost over others port =
+      told_nothing (λ told. told ≡ text) closes lost over others port
 
   answer_so : (IsText IsText' : List ℕ → Type 0) (closes : Bool) → ((text : List ℕ) → IsText text → IsText' text)
       → (answer : Option Answer) → IfSome answer (IsAnswerBy old.hall place IsText closes)
@@ -83,7 +83,7 @@ module _ {S N : Type 0} (s : Ghosts S N) (place : ℕ) (old new : Port S) where
     running = told.running;
     over = told.over;
     others = told.others;
-    asked = told.asked;
+    port = told.port;
   }
 
 -- the text of the reply that was decided
@@ -131,20 +131,20 @@ module _ {S N : Type 0} (s : Ghosts S N) (place : ℕ) (old new : Port S) where
       answer = told.answer;
     })
         refl;
-    asked = told.asked;
+    port = told.port;
   }
 
   -- it was not decided
   pub lost_turn : ((answers : List Answer) → Runs s answers old → Runs s answers new) → IsFree new.hall place
-      → KeepsOtherPlaces place old.hall new.hall → new.asked ≡ old.asked
+      → KeepsOtherPlaces place old.hall new.hall → KeepsPort old new
       → TellsTurns s (record { place = place; step = None; answer = None } ∷ []) old new
-  lost_turn running free others asked = record {
+  lost_turn running free others port = record {
     waited = (tt, tt);
     running = λ answers now.
         (subst (λ (all : List Answer). Runs s all new) (sym (append_nil answers)) (running answers now), (tt, tt));
     lost = (λ none. free, tt);
     others = other_place others (record { place = place; step = None; answer = None }) refl;
-    asked = asked;
+    port = port;
   }
 
 pub still_some : {X : Type 0} (slot : Option X) (x : X) → slot ≡ Some x → IsSome slot

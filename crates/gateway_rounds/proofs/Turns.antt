@@ -152,7 +152,7 @@ module _ {S N : Type 0} (s : Ghosts S N) where
     running = λ answers now. (subst (λ (all : List Answer). Runs s all port) (sym (append_nil answers)) now, tt);
     lost = tt;
     others = λ i away. refl;
-    asked = refl;
+    port = record { asked = refl; bounds = refl };
   }
 
   pub tells-append : (turns more : List Turn) (old mid new : Port S)
@@ -175,7 +175,10 @@ module _ {S N : Type 0} (s : Ghosts S N) where
     others = λ i away.
         let parts = all_parts (λ (turn : Turn). turn.place ≢ i) turns more away in
         next.others i parts.1 ∙ first.others i parts.0;
-    asked = next.asked ∙ first.asked;
+    port = record {
+      asked = next.port.asked ∙ first.port.asked;
+      bounds = next.port.bounds ∙ first.port.bounds;
+    };
   }
 
 -- ---- what is decided and told

@@ -218,7 +218,7 @@ module _ {S N D : Type 0} (s : Ghosts S N) (g : Disk D) (old mid new : Port S) (
           running = files.tells.running;
           lost = files.tells.lost;
           others = files.tells.others;
-          asked = files.tells.asked;
+          port = record { asked = files.tells.port.asked; bounds = files.tells.port.bounds };
         };
         files = λ clean before holds.
             let clean_mid = files.setting.clean clean in

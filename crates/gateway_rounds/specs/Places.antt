@@ -14,7 +14,7 @@ use Rattle.filing_model.specs.Serving.{kept_by}
 use Rattle.filing_model.specs.Text.{MarkFits, completed_at, reply_text_with}
 use Rattle.gateway_server.specs.declared.decide.Decided.{Decided}
 use Rattle.intake_core.specs.declared.intake.Intake.{Intake}
-use Rattle.gateway_rounds.specs.Ports.{Port, Runs}
+use Rattle.gateway_rounds.specs.Ports.{KeepsPort, Port, Runs}
 use Rattle.gateway_rounds.specs.Turns.{Turn, IsFree, TakesTurns}
 
 -- The mark fits, what is kept follows from it, and the reply, if there was memory for one, is that to the arrival.
@@ -41,7 +41,7 @@ pub record TellsPlace {S N : Type 0} (s : Ghosts S N) (place : ℕ) (old new : P
   pub running : (answers : List Answer) → Runs s answers old → Runs s (answers ++ option_to_list answer) new
   pub over : answer ≡ None → IsFree new.hall place
   pub others : KeepsOtherPlaces place old.hall new.hall
-  pub asked : new.asked ≡ old.asked
+  pub port : KeepsPort old new
 
 -- it is whatever text the reply has
 abbrev pub IsTextOf : Decided → Bool → List ℕ → Type 0

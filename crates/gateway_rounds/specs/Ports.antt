@@ -1,6 +1,6 @@
 -- What contracts see of a port: its connections, how often it was asked for those that may go on, and at which place
 -- the next round begins; own rules.
-use Rattle.std.specs.Prelude.{ℕ, Bool, List, Option, length}
+use Rattle.std.specs.Prelude.{◌≡◌, ℕ, Bool, List, Option, length}
 use Rattle.connection_hall.specs.declared.hall.Hall.{Hall}
 use Rattle.connection_hall.specs.declared.stream.Stream.{Ghosts}
 use Rattle.connection_hall.specs.Answers.{Answer}
@@ -21,6 +21,11 @@ port traffic p = record { hall = p.hall; traffic = traffic p.sockets; asked = le
 -- the connections of a port after these answers
 abbrev pub Runs : {S N : Type 0} → Ghosts S N → List Answer → Port S → Type 0
 Runs s answers port = IsRunning s answers port.hall port.traffic
+
+-- What answering changes of no port: how often it was asked, and its bounds.
+pub record KeepsPort {S : Type 0} (old new : Port S) : Type 0 where
+  pub asked : new.asked ≡ old.asked
+  pub bounds : new.hall.bounds ≡ old.hall.bounds
 
 -- whether no connection comes any more, and none is there
 abbrev pub is_shut : {S : Type 0} → Port S → Bool

@@ -16,7 +16,7 @@ use Rattle.filing_model.specs.Text.{completed_at, reply_text_with}
 use Rattle.gateway_server.specs.Steps.{BeginsArrival}
 use Rattle.intake_core.specs.declared.intake.Intake.{Intake}
 use Rattle.intake_core.specs.Held.{ForRequests, HoldsRequests, IsTransition, KeepsSetting, limit_of, old_style_in}
-use Rattle.gateway_rounds.specs.Ports.{Port, Runs}
+use Rattle.gateway_rounds.specs.Ports.{KeepsPort, Port, Runs}
 
 -- What became of what waited in a place: the step that it was, unless there was no memory to decide it, and its answer,
 -- unless there was no memory for that.
@@ -78,7 +78,7 @@ pub record TellsTurns {S N : Type 0} (s : Ghosts S N) (turns : List Turn) (old n
   pub lost : AllByRecursion (λ turn. turn.answer ≡ None → IsFree new.hall turn.place) turns
   pub others : (i : ℕ) → AreElsewhere i turns
       → slice_index_or new.hall.places.items i None ≡ slice_index_or old.hall.places.items i None
-  pub asked : new.asked ≡ old.asked
+  pub port : KeepsPort old new
 
 -- ---- what each is told, after which requests
 

@@ -1,6 +1,6 @@
 //! The second part of a round: what is kept with one commit.
 
-ghost use Rattle.std.specs.Prelude.{◌≡◌, All, length, map, true, vec_len, IfOk, IsTrue, OnErr};
+ghost use Rattle.std.specs.Prelude.{◌≡◌, All, length, map, true, vec_len, IfOk, OnErr};
 ghost use Rattle.intake_core.specs.Calls.{IsRequest};
 ghost use Rattle.intake_core.specs.Held.{limit_of, KeepsSetting, IsTransitionIf};
 ghost use Rattle.gateway_server.specs.Decided.{IsPhrased};
@@ -15,7 +15,7 @@ use crate::one::{answer_one, tell};
 use crate::port::Port;
 use crate::verdict::copy_of;
 use connection_hall::{Arrived, Hall, Sockets, Stream};
-use gateway_server::{Decided, file_all, file_new};
+use gateway_server::{Decided, file_all};
 use intake_core::{Intake, Moment, Request};
 use sqlite::Alter;
 use std::alloc::{AllocError, Global};
@@ -63,16 +63,18 @@ fn decide_group<T: Stream + Drop, S: Alter>(
 {
     let requests = requests_of(alloc, hall, group)?;
     let moments = moments_of(alloc, moment, group.len())?;
-    if are_new(group) {
-        file_new(alloc, intake, requests.as_slice(), moments.as_slice())
-    } else {
-        file_all(alloc, intake, requests.as_slice(), moments.as_slice())
-    }
+    file_all(
+        alloc,
+        intake,
+        requests.as_slice(),
+        moments.as_slice(),
+        are_new(group),
+    )
 }
 
 /// Whether each was looked up and found to be new.
 fn are_new(group: &[New]) -> bool
-    ensures { IsTrue result → All (λ new. new.is_new ≡ true) group.now }
+    ensures { result ≡ true → All (λ new. new.is_new ≡ true) group.now }
 {
     for at in 0..group.len() {
         if !group[at].is_new {

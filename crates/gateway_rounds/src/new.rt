@@ -1,7 +1,6 @@
 //! What waits to be kept with one commit.
 
-ghost use Rattle.std.specs.Prelude.{◌⊎◌, ◌≡◌, ◌<◌, ◌≤◌, ◌+◌, length, IsTrue, true, false};
-ghost use Rattle.std.specs.List.{sum_by};
+ghost use Rattle.std.specs.Prelude.{◌≡◌, ◌<◌, IsTrue, true, false};
 ghost use Rattle.gateway_rounds.specs.Groups.{HasRoom, IsFull};
 
 use key_string::KeyText;

@@ -1,6 +1,6 @@
 //! What waits in one place answered.
 
-ghost use Rattle.std.specs.Prelude.{◌≡◌, IsSome, List, ℕ, Bool};
+ghost use Rattle.std.specs.Prelude.{◌≡◌, IsSome, Bool};
 ghost use Rattle.connection_hall.specs.Running.{arrival_at};
 ghost use Rattle.gateway_server.specs.Decided.{IsPhrased};
 ghost use Rattle.gateway_rounds.specs.Places.{IsTextOf, TakesPlace, TellsPlace};

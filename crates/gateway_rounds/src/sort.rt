@@ -1,22 +1,23 @@
 //! What waits sorted: what needs no commit is decided, and the rest is to be kept.
 
-ghost use Rattle.std.specs.Prelude.{◌≡◌, ◌≤◌, length, true, IsSome, MatchResult};
+ghost use Rattle.std.specs.Prelude.{◌≡◌, ◌≤◌, length, true, IsSome};
 ghost use Rattle.std.specs.Option.{ForSome};
 ghost use Rattle.key_string.specs.Filer.{is_filer};
 ghost use Rattle.http_messages.specs.Head.{max_body_len};
 ghost use Rattle.http_messages.specs.Message.{Read as ReadArrival};
 ghost use Rattle.http_messages.specs.Posting.{IsTarget};
 ghost use Rattle.connection_hall.specs.Running.{arrival_at};
-ghost use Rattle.filing_model.specs.Text.{FileReport as AsksFiling, route, bare, is_head};
+ghost use Rattle.filing_model.specs.Text.{FileReport as AsksFiling, route};
 ghost use Rattle.filing_model.specs.Views.{the_request};
-ghost use Rattle.gateway_requests.specs.Route.{view_message, view_route, HasFiler};
+ghost use Rattle.gateway_requests.specs.Route.{view_message};
 ghost use Rattle.intake_core.specs.Held.{limit_of};
 ghost use Rattle.gateway_rounds.specs.Groups.{IsSorted, IsSortedAfter, LooksUp};
 
 use crate::new::New;
-use crate::verdict::{Verdict, decide_asked, refused};
+use crate::verdict::{Verdict, copy_of, decide_asked, refused};
 use connection_hall::{Arrived, Hall, Stream};
 use gateway_requests::{Route, route_of};
+use gateway_server::decided_by;
 use http_wire::Message;
 use intake_core::{Intake, Looked, Request};
 use key_string::KeyText;
@@ -112,13 +113,12 @@ fn sort_filing<T: Stream + Drop, S: Alter>(
         body: request.body,
     });
     let is_new = match looked {
-        Looked::Repeat => {
-            return Ok(Sorted::AtOnce(decide_asked(
-                alloc,
-                request,
-                Route::FileReport(filer, target, key),
-                intake,
-            )));
+        Looked::Repeat(answer) => {
+            return Ok(Sorted::AtOnce(Verdict {
+                decided: decided_by(alloc, &Ok(answer)),
+                closes: request.head.closes(),
+                filer: copy_of(alloc, filer),
+            }));
         }
         Looked::New => true,
         Looked::Unknown => false,

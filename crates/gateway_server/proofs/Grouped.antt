@@ -23,7 +23,8 @@ use Rattle.gateway_server.specs.Group.{DecideInTurn}
 use Rattle.gateway_server.specs.declared.decide.Decided.{Decided}
 use Rattle.gateway_server.proofs.Decisions.{Decides-filed_unavailable}
 
-decides_one : (limit : ℕ) (old_style F : List Request) (r : Request) (result : Given) (d : Decided)
+-- what a request got is told
+pub decides_one : (limit : ℕ) (old_style F : List Request) (r : Request) (result : Given) (d : Decided)
     → IsDecidedAfter limit old_style F r result → IsOfGiven result d
     → Decides limit old_style F (after_one F r result) (FileReport r) d
 decides_one limit old_style F r (Ok a) d told by = record {

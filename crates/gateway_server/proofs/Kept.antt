@@ -1,5 +1,5 @@
 -- What is kept after several requests were decided.
-use Rattle.std.proofs.Common.{◌≡◌, ◌≤◌, ℕ, true, false, List, [], ◌∷◌, ◌++◌, length, take, Ok, Err, arith, refl, sym}
+use Rattle.std.proofs.Common.{◌≡◌, ◌≤◌, ℕ, true, false, List, [], ◌∷◌, length, take, Ok, Err, arith, refl, sym}
 use Rattle.std.proofs.Common.{◌∙◌}
 use Rattle.std.proofs.Common.{subst, ⊎_elim, length-append}
 use Rattle.std.proofs.lemmas.List.{take-append-le}

@@ -139,8 +139,8 @@ fn file<S: Alter>(
     decided_by(alloc, &intake.submit(filer, target, key, body))
 }
 
-/// What a request gets to which the intake answered so.
-pub(crate) fn decided_by(alloc: Global, given: &Result<Answer, Unavailable>) -> Decided
+/// The mark and the reply for a request to file to which the intake answered so.
+pub fn decided_by(alloc: Global, given: &Result<Answer, Unavailable>) -> Decided
     ensures given { IsOfGiven given.now result }
     ensures phrase { IsPhrased result }
 {

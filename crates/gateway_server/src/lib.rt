@@ -11,10 +11,10 @@ mod serving;
 mod stop;
 
 pub use answer::refusal_reply;
-pub use decide::{Decided, decide_route};
+pub use decide::{Decided, decide_route, decided_by};
 pub use filing_model::{Ended, Mark};
 pub use gateway_requests::completed;
-pub use group::{file_all, file_new};
+pub use group::file_all;
 pub use intake_core::fact_line;
 pub use serving::{Partly, Served, serve, serve_until};
 pub use stop::Stop;

@@ -17,10 +17,9 @@ use Rattle.register_store.specs.Moments.{HasMoments}
 use Rattle.register_store.proofs.StoreLemmas.{leaves_received}
 use Rattle.intake_core.specs.declared.intake.Intake.{Intake}
 use Rattle.intake_core.specs.declared.intake.Unavailable.TheVariants.{Store}
-use Rattle.intake_core.specs.Group.{after, after_one, Decided, DecidesEach, Given}
+use Rattle.intake_core.specs.Group.{after, after_one, Decided, DecidesEach, DecidesEachIf, Given}
 use Rattle.intake_core.specs.Held.{shows, store_of, old_style_of, HoldsRequests, with_request}
-use Rattle.intake_core.specs.Looked.{DatesAllIf, DecidesEachIf}
-use Rattle.intake_core.specs.Moments.{DatesAll, DatesRequest, HoldsMoments, KeepsMoments, moments_after}
+use Rattle.intake_core.specs.Moments.{DatesAll, DatesAllIf, DatesRequest, HoldsMoments, KeepsMoments, moments_after}
 use Rattle.intake_core.specs.Moments.{LeavesSomeWith, SurvivesWith, moments_after_one, with_moment, with_moments}
 use Rattle.register_rows.specs.declared.moment.Moment.{Moment}
 use Rattle.intake_core.specs.Together.{AreNewBehind, in_milliseconds}
@@ -230,7 +229,7 @@ module _ {S : Type 0} {g : Ghosts S} where
         let cleaned = two.setting.clean clean in
         subst (HoldsMoments g new) (sym (moments_append F xs ys ms ms' moments long))
         (second.dated clean (after F xs) (one.answers cleaned F h is).1 (moments_after F xs ms moments)
-        (first.dated cleaned F h moments had is));
+        (first.dated cleaned F h moments had is) tt);
     crash = survives_then (shows g old) (shows g mid) (shows g new) _ _ _
         (λ clean trees left F moments h had alive is. leaves_first (old_style_of old) F moments xs ys ms ms' trees long
         (left F moments h had alive is))
@@ -239,7 +238,7 @@ module _ {S : Type 0} {g : Ghosts S} where
         leaves_second (old_style_of old) F moments xs ys ms ms' trees long
         (subst (λ n. LeavesSomeWith n (after F xs) (moments_after F xs ms moments) ys ms' trees) one.setting.old_style
         (left (after F xs) (moments_after F xs ms moments) (one.answers cleaned F h is).1
-        (first.dated cleaned F h moments had is))))
+        (first.dated cleaned F h moments had is) tt tt)))
         first.crash second.crash;
     next = second.next ∙ first.next;
   }
@@ -247,10 +246,11 @@ module _ {S : Type 0} {g : Ghosts S} where
   crash_one : (r : Request) (result : Given) (m : ℕ) (old new : Intake S)
       → SurvivesWith g old new (λ F moments trees.
       LeavesReceived (old_style_of old) (with_request F r) (with_moment F r m moments) trees)
-      → SurvivesWith g old new (λ F moments. LeavesSomeWith (old_style_of old) F moments ((r, result) ∷ []) (m ∷ []))
+      → SurvivesWith g old new (λ F moments trees. Unit {0} → Unit {0}
+      → LeavesSomeWith (old_style_of old) F moments ((r, result) ∷ []) (m ∷ []) trees)
   crash_one r result m old new =
       survives_weaker (shows g old) (shows g new) _ _
-      (λ clean trees left F moments h had. record {
+      (λ clean trees left F moments h had _ _. record {
         before = [];
         next = (r, result);
         more = [];
@@ -262,13 +262,21 @@ module _ {S : Type 0} {g : Ghosts S} where
   pub dates_one : (r : Request) (result : Given) (m : ℕ) (old new : Intake S) → DatesRequest g r m old new result
       → DatesAll g ((r, result) ∷ []) (m ∷ []) old new
   dates_one r (Ok a) m old new d =
-      record { dated = d.dated; crash = crash_one r (Ok a) m old new d.crash; next = d.next }
+      record {
+        dated = λ clean F h moments had _. d.dated clean F h moments had;
+        crash = crash_one r (Ok a) m old new d.crash;
+        next = d.next;
+      }
   dates_one r (Err e) m old new d =
-      record { dated = d.same; crash = crash_one r (Err e) m old new d.crash; next = d.next }
+      record {
+        dated = λ clean F h moments had _. d.same clean F h moments had;
+        crash = crash_one r (Err e) m old new d.crash;
+        next = d.next;
+      }
 
   pub dates_none : (i : Intake S) → DatesAll g [] [] i i
   dates_none i = record {
-    dated = λ clean F h moments had. had;
+    dated = λ clean F h moments had _. had;
     crash = survives_weaker (shows g i) (shows g i) _ _ (λ clean trees none. absurd none) (nothing_yet (shows g i));
     next = refl;
   }

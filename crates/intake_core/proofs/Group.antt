@@ -18,13 +18,13 @@ use Rattle.register_tables.specs.Registers.{LeavesRegister}
 use Rattle.intake_core.specs.declared.intake.Intake.{Intake}
 use Rattle.intake_core.specs.declared.intake.Unavailable.TheVariants.{Down}
 use Rattle.intake_core.specs.Calls.{DecidesRequest}
-use Rattle.intake_core.specs.Group.{after, after_one, AreDecidedInTurn, Decided, DecidesEach, EndAtFailure}
+use Rattle.intake_core.specs.Group.{after, after_one, AreDecidedInTurn, Decided, DecidesEach, DecidesEachIf}
+use Rattle.intake_core.specs.Group.{EndAtFailure}
 use Rattle.intake_core.specs.Group.{Given, HasFailed, LeavesHeld, LeavesSome}
 use Rattle.intake_core.specs.Held.{shows, limit_of, old_style_of, old_style_in, has_stopped, HoldsRequests, SurvivesAs}
 use Rattle.intake_core.specs.Held.{with_request}
-use Rattle.intake_core.specs.Looked.{AddsResultsIf, DatesAllIf, DecidesEachIf}
-use Rattle.intake_core.specs.Moments.{DatesRequest}
-use Rattle.intake_core.specs.Together.{AddsResults}
+use Rattle.intake_core.specs.Moments.{DatesAllIf, DatesRequest}
+use Rattle.intake_core.specs.Together.{AddsResults, AddsResultsIf}
 use Rattle.intake_core.proofs.Dating.{after-append, append-three, dates_none, dates_one, dates_then}
 use Rattle.intake_core.proofs.Deciding.{firsts-more}
 
@@ -205,7 +205,7 @@ module _ {S : Type 0} {g : Ghosts S} where
   decides_then Open Holds xs ys old mid new one two = record {
     answers = λ clean F h is.
         let first = one.answers (two.setting.clean clean) F h is in
-        let second = two.answers clean (after F xs) first.1 in
+        let second = two.answers clean (after F xs) first.1 tt in
         let style : old_style_in mid (after F xs) ≡ old_style_in old F =
         ap (λ n. take n (after F xs)) one.setting.old_style
         ∙ (keeps_after (old_style_of old) F xs h.rows.within h.firsts').0 in (
@@ -225,12 +225,12 @@ module _ {S : Type 0} {g : Ghosts S} where
         (λ clean trees left F h alive is.
         leaves-second (old_style_of old) F xs ys trees
         (subst (λ n. LeavesSome n (after F xs) ys trees) one.setting.old_style
-        (left (after F xs) (one.answers (two.setting.clean clean) F h is).1)))
+        (left (after F xs) (one.answers (two.setting.clean clean) F h is).1 tt tt)))
         one.crash two.crash;
     durable = λ clean F h alive is trees left.
         let cleaned = two.setting.clean clean in
         let first = one.answers cleaned F h is in
-        elim (two.durable clean (after F xs) first.1 trees left) [
+        elim (two.durable clean (after F xs) first.1 tt tt trees left) [
           | inl same ↦ elim (one.durable cleaned F h alive is trees same.0) [
             | inl was ↦ inl (was.0, after-append F xs ys ∙ same.1 ∙ was.1)
             | inr held ↦ inr (held-first (old_style_of old) F xs ys trees same.1 held)
@@ -264,10 +264,11 @@ module _ {S : Type 0} {g : Ghosts S} where
   }
 
   alone : {r : Request} {old new : Intake S} (result : Given) → DecidesRequest g r old new result
-      → SurvivesAs g old new (λ F. LeavesSome (old_style_of old) F ((r, result) ∷ []))
+      → SurvivesAs g old new (λ F trees. Unit {0} → Unit {0}
+      → LeavesSome (old_style_of old) F ((r, result) ∷ []) trees)
   alone {r} {old} {new} result d =
       survives_weaker (shows g old) (shows g new) _ _
-      (λ clean trees left F h. record {
+      (λ clean trees left F h _ _. record {
         before = [];
         next = (r, result);
         more = [];
@@ -290,12 +291,12 @@ module _ {S : Type 0} {g : Ghosts S} where
   pub decides_one : (r : Request) (result : Given) (old new : Intake S) → DecidesRequest g r old new result
       → DecidesEach g ((r, result) ∷ []) old new
   decides_one r (Ok a) old new d = record {
-    answers = λ clean F h.
+    answers = λ clean F h _.
         let told = d.answer clean F h in
         ((record { answer = told.0; full = d.full clean F h; room = d.room clean F h }, tt), told.1);
     setting = d.setting;
     crash = alone (Ok a) d;
-    durable = λ clean F h trees left. ⊎_elim
+    durable = λ clean F h _ _ trees left. ⊎_elim
         (λ (known : has_key F r ≡ true). elim (d.crash.crash clean trees left) [
           | inl was ↦ inl (was, firsts_repeat F r known ∙ h.firsts')
           | inr made ↦ inr (exactly F trees (made F h))
@@ -313,11 +314,11 @@ module _ {S : Type 0} {g : Ghosts S} where
       exactly F trees l =
           held_exactly (old_style_of old) F ((r, Ok a) ∷ []) trees (firsts-firsts (F ++ r ∷ [])) l
   decides_one r (Err e) old new d = record {
-    answers = λ clean F h.
+    answers = λ clean F h _.
         ((record { answer = tt; full = d.full clean F h; room = tt }, tt), d.err clean F h);
     setting = d.setting;
     crash = alone (Err e) d;
-    durable = λ clean F h trees left. elim (d.crash.crash clean trees left) [
+    durable = λ clean F h _ _ trees left. elim (d.crash.crash clean trees left) [
       | inl was ↦ inl (was, refl)
       | inr made ↦ inr (record {
         before = [];
@@ -335,10 +336,10 @@ module _ {S : Type 0} {g : Ghosts S} where
 
   pub decides_none : (i : Intake S) → DecidesEach g [] i i
   decides_none i = record {
-    answers = λ clean F h. (tt, h);
+    answers = λ clean F h _. (tt, h);
     setting = record { clean = λ clean. clean; limit = refl; old_style = refl };
     crash = survives_weaker (shows g i) (shows g i) _ _ (λ clean trees none. absurd none) (nothing_yet (shows g i));
-    durable = λ clean F h trees left. inl (left, refl);
+    durable = λ clean F h _ _ trees left. inl (left, refl);
     ends = tt;
     down = λ stopped. (tt, refl);
     stops = (λ stopped. inl stopped, λ cause. elim cause [ inl was ↦ was | inr none ↦ absurd none ]);
@@ -394,69 +395,40 @@ module _ {S : Type 0} {g : Ghosts S} where
     room = two.room ∙ one.room;
   }
 
+  -- what is so if less is needed for it
+  pub adds_weaker : {Open Open' : Type 0} {Holds Holds' : List Request → Type 0} {rs : List Request} {ms : List ℕ}
+      {old new : Intake S} {a b : Vec Given Global} → (Open' → Open) → ((F : List Request) → Holds' F → Holds F)
+      → AddsResultsIf g Open Holds rs ms old new a b → AddsResultsIf g Open' Holds' rs ms old new a b
+  adds_weaker {old = old} {new = new} opened holds h = record {
+    given = h.given;
+    are = h.are;
+    each = h.each;
+    len = h.len;
+    room = h.room;
+    decides = record {
+      answers = λ clean F held is. h.decides.answers clean F held (holds F is);
+      setting = h.decides.setting;
+      crash = survives_weaker (shows g old) (shows g new) _ _
+          (λ clean trees left F held alive is. left F held (opened alive) (holds F is)) h.decides.crash;
+      durable = λ clean F held alive is. h.decides.durable clean F held (opened alive) (holds F is);
+      ends = h.decides.ends;
+      down = h.decides.down;
+      stops = h.decides.stops;
+      up = h.decides.up;
+    };
+    dates = record {
+      dated = λ clean F held moments had is. h.dates.dated clean F held moments had (holds F is);
+      crash = survives_weaker (shows g old) (shows g new) _ _
+          (λ clean trees left F moments held had alive is. left F moments held had (opened alive) (holds F is))
+          h.dates.crash;
+      next = h.dates.next;
+    };
+  }
+
   -- what is so in any case
   pub adds_if : (Open : Type 0) (Holds : List Request → Type 0) {rs : List Request} {ms : List ℕ} {old new : Intake S}
       {a b : Vec Given Global} → AddsResults g rs ms old new a b → AddsResultsIf g Open Holds rs ms old new a b
-  adds_if Open Holds {rs = rs} {ms = ms} {old = old} {new = new} h = record {
-    given = h.given;
-    are = h.are;
-    each = h.each;
-    len = h.len;
-    room = h.room;
-    decides = record {
-      answers = λ clean F held is. h.decides.answers clean F held;
-      setting = h.decides.setting;
-      crash = survives_weaker (shows g old) (shows g new) _ _ (λ clean trees left F held alive is. left F held)
-          h.decides.crash;
-      durable = λ clean F held alive is. h.decides.durable clean F held;
-      ends = h.decides.ends;
-      down = h.decides.down;
-      stops = h.decides.stops;
-      up = h.decides.up;
-    };
-    dates = record {
-      dated = λ clean F held moments had is. h.dates.dated clean F held moments had;
-      crash = survives_weaker (shows g old) (shows g new) _ _
-          (λ clean trees left F moments held had alive is. left F moments held had) h.dates.crash;
-      next = h.dates.next;
-    };
-  }
-
-  -- what is so if nothing is needed for it
-  pub adds_always : {rs : List Request} {ms : List ℕ} {old new : Intake S} {a b : Vec Given Global}
-      → AddsResultsIf g (Unit {0}) (λ F. Unit {0}) rs ms old new a b → AddsResults g rs ms old new a b
-  adds_always {rs = rs} {ms = ms} {old = old} {new = new} h = record {
-    given = h.given;
-    are = h.are;
-    each = h.each;
-    len = h.len;
-    room = h.room;
-    decides = record {
-      answers = λ clean F held. h.decides.answers clean F held tt;
-      setting = h.decides.setting;
-      crash = survives_weaker (shows g old) (shows g new) _ _ (λ clean trees left F held. left F held tt tt)
-          h.decides.crash;
-      durable = λ clean F held. h.decides.durable clean F held tt tt;
-      ends = h.decides.ends;
-      down = h.decides.down;
-      stops = h.decides.stops;
-      up = h.decides.up;
-    };
-    dates = record {
-      dated = λ clean F held moments had. h.dates.dated clean F held moments had tt;
-      crash = survives_weaker (shows g old) (shows g new) _ _
-          (λ clean trees left F moments held had. left F moments held had tt tt) h.dates.crash;
-      next = h.dates.next;
-    };
-  }
-
-  -- one part behind another
-  pub adds_more : (rs ss : List Request) (ms ms' : List ℕ) (old mid new : Intake S) (a b c : Vec Given Global)
-      → length ms ≡ length rs → AddsResults g rs ms old mid a b → AddsResults g ss ms' mid new b c
-      → AddsResults g (rs ++ ss) (ms ++ ms') old new a c
-  adds_more rs ss ms ms' old mid new a b c long one two =
-      adds_always (adds_then (Unit {0}) (λ F. Unit {0}) rs ss ms ms' old mid new a b c long
-      (adds_if (Unit {0}) (λ F. Unit {0}) one) two)
+  adds_if Open Holds = adds_weaker (λ _. tt) (λ F _. tt)
 
   -- those that come next
   pub adds_next : (requests : List Request) (ms : List ℕ) {rest : List Request} {ms' : List ℕ} (at count : ℕ)
@@ -471,7 +443,8 @@ module _ {S : Type 0} {g : Ghosts S} where
         (ap (λ (rest : List ℕ). take at ms ++ take count rest) ms_is ∙ take-both at count ms)
         (subst (λ rs. AddsResults g rs (take at ms ++ take count ms') old new a c)
         (ap (λ (rest : List Request). take at requests ++ take count rest) is ∙ take-both at count requests)
-        (adds_more (take at requests) (take count rest) (take at ms) (take count ms') old mid new a b c
+        (adds_then (Unit {0}) (λ F. Unit {0}) (take at requests) (take count rest) (take at ms) (take count ms') old mid
+        new a b c
         (length-take-le at ms (omega (arith, long_ms, within)) ∙ sym (length-take-le at requests within)) one two)),
   )
 

@@ -7,7 +7,7 @@ use Rattle.std.proofs.lemmas.List.{length-take-le}
 use Rattle.std.proofs.lemmas.List.Elements.{All-from_recursion, All-nil, All-cons, All-head, All-tail}
 use Rattle.std.proofs.lemmas.List.Folds.{list_any-append}
 use Rattle.std.proofs.lemmas.Result.{IfOk-weaker}
-use Rattle.std.proofs.Common.{Result, OnErr, OnOk, Option, Some}
+use Rattle.std.proofs.Common.{Result, IfOk, OnErr, OnOk, Option, Some}
 use Rattle.xbrl_report.specs.declared.judging.Judged.{Judged}
 use Rattle.xbrl_report.specs.Judgement.{IsAmendmentJudgement}
 use Rattle.filing_model.specs.Register.{is_free, register as filings_of}
@@ -15,11 +15,13 @@ use Rattle.table_rows.specs.declared.fault.StoreFault.{StoreFault}
 use Rattle.register_store.specs.declared.outcome.NewRow.{NewRow}
 use Rattle.intake_core.specs.Calls.{IsRequest}
 use Rattle.register_rows.specs.declared.moment.Moment.{Moment}
-use Rattle.register_store.specs.Calls.{AddsMoments, AddsRequests}
+use Rattle.register_store.specs.Calls.{AddsMoments, AddsRequests, KeepsStore}
+use Rattle.register_store.specs.Store.{StoreParts}
+use Rattle.table_rows.specs.Standing.{CommitsNothing}
 use Rattle.register_store.specs.Moments.{moments_of}
 use Rattle.register_store.specs.NewRows.{AreNew, IsKeepable, request_of}
 use Rattle.intake_core.specs.Together.{AddsGroup, AreRowsOf, IfKept, IsJudgedAlone, LooksUp, UnlessKept, count_of}
-use Rattle.intake_core.specs.Held.{ForRequests}
+use Rattle.intake_core.specs.Held.{ChangesOnlyCache, ForRequests}
 use Rattle.intake_core.proofs.Deciding.{HoldsRequests-asked, HoldsRequests-several}
 use Rattle.std.specs.List.{All, AllByRecursion, AllZip, zip}
 use Rattle.std.specs.Result.{IsErr, IsOk}
@@ -39,13 +41,14 @@ use Rattle.intake_core.specs.declared.intake.Intake.{Intake}
 use Rattle.intake_core.specs.declared.intake.Unavailable.TheVariants.{Down, Store}
 use Rattle.intake_core.specs.declared.intake.group.Together.{Together}
 use Rattle.intake_core.specs.declared.intake.group.Together.TheVariants.{Kept, Alone, Failed}
-use Rattle.intake_core.specs.Group.{after, AreDecidedInTurn, Decided, EndAtFailure, Given}
+use Rattle.intake_core.specs.Group.{after, AreDecidedInTurn, Decided, DecidesEachIf, EndAtFailure, Given}
 use Rattle.intake_core.specs.Group.{HasFailed, LeavesHeld, LeavesSome}
 use Rattle.intake_core.specs.Held.{shows, limit_of, old_style_of, old_style_in, has_stopped, HoldsRequests, IsClean}
 use Rattle.intake_core.specs.Held.{store_of, IsDurableAs}
-use Rattle.intake_core.specs.Looked.{AddsLookedUp, AddsResultsIf, AreNewTo, DatesAllIf, DecidesEachIf, KeepsFirstIf}
-use Rattle.intake_core.specs.Moments.{HoldsMoments, LeavesSomeWith, with_moments}
-use Rattle.intake_core.specs.Together.{AddsResults, AnswersGroup, AreNewBehind, KeepsFirst, RefusesGroup}
+use Rattle.intake_core.specs.Looked.{AreNewTo}
+use Rattle.intake_core.specs.Moments.{DatesAllIf, HoldsMoments, LeavesSomeWith, with_moments}
+use Rattle.intake_core.specs.Together.{AddsResults, AddsResultsIf, AnswersGroup, AreNewBehind, KeepsFirst}
+use Rattle.intake_core.specs.Together.{RefusesGroup}
 use Rattle.intake_core.specs.Together.{in_milliseconds}
 use Rattle.intake_core.proofs.Dating.{HoldsMoments-same, leaves_together, moments_kept, moments_refused, with_new}
 use Rattle.intake_core.proofs.Deciding.{firsts-more}
@@ -73,6 +76,12 @@ pub new_more : (F rs : List Request) (r : Request) → AreNewBehind F rs → has
 new_more F [] r h new = (subst (λ G. has_key G r ≡ false) (append_nil F) new, tt)
 new_more F (s ∷ rs) r h new =
     (h.0, new_more (F ++ s ∷ []) rs r h.1 (subst (λ G. has_key G r ≡ false) (sym (append_assoc F (s ∷ []) rs)) new))
+
+-- what is so of an answer, in two parts
+pub ok_both : {T E : Type 0} (x : Result T E) (P : T → Type 0) (Q : Type 0) (R : T → Type 0)
+    → ((a : T) → P a → Q → R a) → IfOk x P → OnOk x Q → IfOk x R
+ok_both (Ok a) P Q R f p q = f a p q
+ok_both (Err e) P Q R f p q = tt
 
 -- ---- they are looked up and kept
 
@@ -156,15 +165,40 @@ module _ {S : Type 0} {g : Ghosts S} where
         (λ clean trees none. none) one.crash two.crash;
   }
 
-  -- nothing was looked up
-  pub looks_none : (i : Intake S) → LooksUp g i i
-  looks_none i = record {
-    same = λ clean F h. h;
-    moments = record { same = λ clean F h moments had. had; next = refl };
-    setting = record { clean = λ clean. clean; limit = refl; old_style = refl };
+  -- the register was asked
+  pub looks_asked : (old : Intake S) (store : StoreParts S) → KeepsStore g old.store store
+      → LooksUp g old (record old { store = store })
+  looks_asked old store keeps = record {
+    same = λ clean F h.
+        HoldsRequests-asked F old (record old { store = store }) h refl keeps.old_style (keeps.same clean F h.rows);
+    moments = record { same = λ clean F h moments had. keeps.moments clean F h.rows moments had; next = refl };
+    setting = record {
+      clean = λ clean. omega (arith, keeps.crash.clean, clean);
+      limit = refl;
+      old_style = keeps.old_style;
+    };
     stopped = refl;
-    count = refl;
-    crash = nothing_yet (shows g i);
+    count = keeps.counts.0;
+    crash = keeps.crash;
+  }
+
+  -- the cache was asked
+  pub looks_cache : (old new : Intake S) → ((F : List Request) → HoldsRequests g old F → HoldsRequests g new F)
+      → ChangesOnlyCache old new → LooksUp g old new
+  looks_cache old new same rest = record {
+    same = λ clean F h. same F h;
+    moments = record {
+      same = λ clean F h moments had. HoldsMoments-same old new moments rest.store had;
+      next = ap (λ (t : Moment). t.milliseconds) rest.moment;
+    };
+    setting = record {
+      clean = λ clean. subst (λ s. HasCleanDisk (register.shows g s)) rest.store clean;
+      limit = rest.limit;
+      old_style = ap (λ s. s.old_style) rest.store;
+    };
+    stopped = rest.stopped;
+    count = ap (λ s. s.kept) rest.store;
+    crash = subst (λ s. CommitsNothing (shows g old) (register.shows g s)) (sym rest.store) (nothing_yet (shows g old));
   }
 
   adds_rows : (rows : List NewRow) (old new : Intake S) (result : Result (Vec Outcome Global) StoreFault)
@@ -221,7 +255,7 @@ module _ {S : Type 0} {g : Ghosts S} where
       × (Open → IsTrue (shows g mid).is_open))
       → (store_of mid).kept + count ≤ limit_of mid
       → AddsGroup g (take count requests) (take count ms) mid new (Ok outcomes)
-      → KeepsFirstIf g Open Holds requests ms old new (Kept outcomes)
+      → KeepsFirst g Open Holds requests ms old new (Kept outcomes)
   first_kept Open Holds requests ms long_ms outcomes count some few old mid new looks fresh room a =
       let is : count ≡ length outcomes.items = sym (a.each ∙ length-take-le count requests few) in record {
         some = (omega (arith, is, some), omega (arith, is, few));
@@ -285,7 +319,7 @@ module _ {S : Type 0} {g : Ghosts S} where
       → ForRequests g old mid (λ F. Holds F → AreNewBehind F (take count requests)
       × (Open → IsTrue (shows g mid).is_open))
       → AddsGroup g (take count requests) (take count ms) mid new (Err e)
-      → KeepsFirstIf g Open Holds requests ms old new result
+      → KeepsFirst g Open Holds requests ms old new result
   first_refused Open Holds requests ms long_ms result count is unless kept some few old mid new looks fresh a = record {
     some = (omega (arith, is, some), omega (arith, is, few));
     kept = λ clean F h holds. kept _;
@@ -323,43 +357,6 @@ module _ {S : Type 0} {g : Ghosts S} where
         (subst (λ n. LeavesRegister n (F ++ take count requests) trees) looks.setting.old_style
         (left F held (new_ones.1 alive) new_ones.0)))) looks.crash a.crash;
     durable = λ clean F h holds. kept _;
-  }
-
-  -- they are kept in any case
-  pub kept_if : {requests : List Request} {ms : List ℕ} {old new : Intake S} {result : Together}
-      → KeepsFirst g requests ms old new result
-      → KeepsFirstIf g (Unit {0}) (λ F. Unit {0}) requests ms old new result
-  kept_if {old = old} {new = new} k = record {
-    some = k.some;
-    kept = λ clean F h holds. k.kept clean F h;
-    none = k.none;
-    dated = k.dated;
-    undated = k.undated;
-    received = survives_weaker (shows g old) (shows g new) _ _
-        (λ clean trees left F moments h had alive holds. left F moments h had) k.received;
-    next = k.next;
-    setting = k.setting;
-    stopped = k.stopped;
-    crash = survives_weaker (shows g old) (shows g new) _ _ (λ clean trees left F h alive holds. left F h) k.crash;
-    durable = λ clean F h holds. k.durable clean F h;
-  }
-
-  pub kept_always : {requests : List Request} {ms : List ℕ} {old new : Intake S} {result : Together}
-      → KeepsFirstIf g (Unit {0}) (λ F. Unit {0}) requests ms old new result
-      → KeepsFirst g requests ms old new result
-  kept_always {old = old} {new = new} k = record {
-    some = k.some;
-    kept = λ clean F h. k.kept clean F h tt;
-    none = k.none;
-    dated = k.dated;
-    undated = k.undated;
-    received = survives_weaker (shows g old) (shows g new) _ _
-        (λ clean trees left F moments h had. left F moments h had tt tt) k.received;
-    next = k.next;
-    setting = k.setting;
-    stopped = k.stopped;
-    crash = survives_weaker (shows g old) (shows g new) _ _ (λ clean trees left F h. left F h tt tt) k.crash;
-    durable = λ clean F h. k.durable clean F h tt;
   }
 
 -- ---- each of them has an answer
@@ -471,7 +468,7 @@ long_take n xs some few = omega (arith, some, long_of n xs few)
 module _ {S : Type 0} {g : Ghosts S} (requests : List Request) (ms : List ℕ) (long_ms : length ms ≡ length requests)
     (old mid new : Intake S) (results results' : Vec Given Global) (up : has_stopped old ≡ false) (Open : Type 0)
     (Holds : List Request → Type 0) where
-  pub together_kept : (outcomes : Vec Outcome Global) → KeepsFirstIf g Open Holds requests ms old mid (Kept outcomes)
+  pub together_kept : (outcomes : Vec Outcome Global) → KeepsFirst g Open Holds requests ms old mid (Kept outcomes)
       → AnswersGroup g (take (length outcomes.items) requests) outcomes.items mid new results results'
       → AddsResultsIf g Open Holds (take (length outcomes.items) requests) (take (length outcomes.items) ms) old new
       results results'
@@ -552,7 +549,7 @@ module _ {S : Type 0} {g : Ghosts S} (requests : List Request) (ms : List ℕ) (
         };
       }
 
-  pub together_alone : (count : ℕ) → KeepsFirstIf g Open Holds requests ms old mid (Alone count)
+  pub together_alone : (count : ℕ) → KeepsFirst g Open Holds requests ms old mid (Alone count)
       → AddsResults g (take count requests) (take count ms) mid new results results'
       → AddsResultsIf g Open Holds (take count requests) (take count ms) old new results results'
   together_alone count k h =
@@ -568,7 +565,7 @@ module _ {S : Type 0} {g : Ghosts S} (requests : List Request) (ms : List ℕ) (
         dates = record {
           dated = λ clean F held moments had holds.
               let cleaned = d.setting.clean clean in
-              h.dates.dated clean F (k.none cleaned F held) moments (k.undated cleaned F held moments had);
+              h.dates.dated clean F (k.none cleaned F held) moments (k.undated cleaned F held moments had) tt;
           crash = survives_then (shows g old) (shows g mid) (shows g new) _ _ _
               (λ clean trees left F moments held had alive holds.
               leaves_together (old_style_of old) F rs moments h.given (take count ms) trees h.each
@@ -577,13 +574,13 @@ module _ {S : Type 0} {g : Ghosts S} (requests : List Request) (ms : List ℕ) (
               (λ clean trees left F moments held had alive holds.
               let cleaned = d.setting.clean clean in
               subst (λ n. LeavesSomeWith n F moments ds (take count ms) trees) k.setting.old_style
-              (left F moments (k.none cleaned F held) (k.undated cleaned F held moments had)))
+              (left F moments (k.none cleaned F held) (k.undated cleaned F held moments had) tt tt))
               k.received h.dates.crash;
           next = h.dates.next ∙ k.next;
         };
         decides = record {
           answers = λ clean F held holds.
-              let told = d.answers clean F (k.none (d.setting.clean clean) F held) in (
+              let told = d.answers clean F (k.none (d.setting.clean clean) F held) tt in (
                 subst (λ n. AreDecidedInTurn n (old_style_in old F) F ds) k.setting.limit
                     (subst (λ n. AreDecidedInTurn (limit_of mid) (take n F) F ds) k.setting.old_style told.0),
                 told.1,
@@ -598,11 +595,11 @@ module _ {S : Type 0} {g : Ghosts S} (requests : List Request) (ms : List ℕ) (
               (long_take count requests k.some.0 k.some.1) (left F held alive holds))
               (λ clean trees left F held alive holds.
               subst (λ n. LeavesSome n F ds trees) k.setting.old_style
-              (left F (k.none (d.setting.clean clean) F held)))
+              (left F (k.none (d.setting.clean clean) F held) tt tt))
               k.crash d.crash;
           durable = λ clean F held alive holds trees left.
               let cleaned = d.setting.clean clean in
-              elim (d.durable clean F (k.none cleaned F held) trees left) [
+              elim (d.durable clean F (k.none cleaned F held) tt tt trees left) [
                 | inl same ↦ elim (k.crash.crash cleaned trees same.0) [
                   | inl was ↦ inl (was, same.1)
                   | inr made ↦ inr (held_all (old_style_of old) F rs h.given trees h.each same.1 (made F held
@@ -623,7 +620,7 @@ module _ {S : Type 0} {g : Ghosts S} (requests : List Request) (ms : List ℕ) (
         };
       }
 
-  pub together_failed : (count : ℕ) → KeepsFirstIf g Open Holds requests ms old mid (Failed count)
+  pub together_failed : (count : ℕ) → KeepsFirst g Open Holds requests ms old mid (Failed count)
       → RefusesGroup (take count requests) mid new results results'
       → AddsResultsIf g Open Holds (take count requests) (take count ms) old new results results'
   together_failed count k h =
@@ -680,37 +677,3 @@ module _ {S : Type 0} {g : Ghosts S} (requests : List Request) (ms : List ℕ) (
           up = refused_up (true ≡ true) rs;
         });
       }
-
--- ---- requests that were looked up before
-
-module _ {S : Type 0} {g : Ghosts S} (requests : List Request) (ms : List ℕ) (long_ms : length ms ≡ length requests)
-    (old mid new : Intake S) (results results' : Vec Given Global) (up : has_stopped old ≡ false) (count : ℕ)
-    (some : 0 < count) (few : count ≤ length requests)
-    (fresh : (F : List Request) → AreNewTo F requests → AreNewBehind F (take count requests)) where
-  pub looked_up_kept : (outcomes : Vec Outcome Global) → (store_of old).kept + count ≤ limit_of old
-      → AddsGroup g (take count requests) (take count ms) old mid (Ok outcomes)
-      → AnswersGroup g (take count requests) outcomes.items mid new results results'
-      → AddsLookedUp g requests (take count requests) (take count ms) old new results results'
-  looked_up_kept outcomes room a h =
-      let is : length outcomes.items ≡ count = a.each ∙ length-take-le count requests few in
-      subst (λ n. AddsLookedUp g requests (take n requests) (take n ms) old new results results') is
-      (together_kept requests ms long_ms old mid new results results' up _ _ outcomes
-      (first_kept _ _ requests ms long_ms outcomes count some few old old mid (looks_none old)
-      (λ clean F held new_ones. (fresh F new_ones, λ alive. alive)) room a)
-      (subst (λ n. AnswersGroup g (take n requests) outcomes.items mid new results results') (sym is) h))
-
-  pub looked_up_alone : {e : StoreFault} → AddsGroup g (take count requests) (take count ms) old mid (Err e)
-      → AddsResults g (take count requests) (take count ms) mid new results results'
-      → AddsLookedUp g requests (take count requests) (take count ms) old new results results'
-  looked_up_alone a h =
-      together_alone requests ms long_ms old mid new results results' up _ _ count
-      (first_refused _ _ requests ms long_ms (Alone count) count refl (λ P p. p) (λ P. tt) some few old
-      old mid (looks_none old) (λ clean F held new_ones. (fresh F new_ones, λ alive. alive)) a) h
-
-  pub looked_up_failed : {e : StoreFault} → AddsGroup g (take count requests) (take count ms) old mid (Err e)
-      → RefusesGroup (take count requests) mid new results results'
-      → AddsLookedUp g requests (take count requests) (take count ms) old new results results'
-  looked_up_failed a h =
-      together_failed requests ms long_ms old mid new results results' up _ _ count
-      (first_refused _ _ requests ms long_ms (Failed count) count refl (λ P p. p) (λ P. tt) some few old
-      old mid (looks_none old) (λ clean F held new_ones. (fresh F new_ones, λ alive. alive)) a) h

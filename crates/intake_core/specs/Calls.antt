@@ -50,8 +50,9 @@ pub record IsRequest (r : Request) : Type 0 where
   pub body : length r.body ≤ max_body_len
 
 -- How `decide`, `keep` and `keep_judged` answer a request, if this holds of the requests that the intake held before.
-pub record AnswersIf {S : Type 0} (g : Ghosts S) (r : Request) (Holds : List Request → Type 0) (old new : Intake S)
-    (result : Result Answer Unavailable) : Type 0 where
+-- What is said of a crash needs one thing more, as that the register was open.
+pub record AnswersIf {S : Type 0} (g : Ghosts S) (r : Request) (Open : Type 0) (Holds : List Request → Type 0)
+    (old new : Intake S) (result : Result Answer Unavailable) : Type 0 where
   pub answer : ForRequests g old new (λ requests. Holds requests
       → IfOk result (λ a. IsAnswerTo (old_style_in old requests) requests r a
       × HoldsRequests g new (with_request requests r)))
@@ -61,9 +62,8 @@ pub record AnswersIf {S : Type 0} (g : Ghosts S) (r : Request) (Holds : List Req
   pub stopped : has_stopped new ≡ has_stopped old
   pub running : result ≢ Err Down
   -- A crash leaves what one before the call could leave, or the requests with this one.
-  pub crash : SurvivesAs g old new (λ requests trees. IsTrue (shows g old).is_open → Holds requests
+  pub crash : SurvivesAs g old new (λ requests trees. Open → Holds requests
       → LeavesRegister (old_style_of old) (with_request requests r) trees)
-  pub is_open : ForRequests g old new (λ requests. Holds requests → OnOk result (IsTrue (shows g new).is_open))
 
 -- What `is_free` reports of a request, and that it writes nothing.
 pub record TellsIfFree {S : Type 0} (g : Ghosts S) (r : Request) (old new : Intake S) (result : Result Bool Unavailable)

@@ -75,19 +75,25 @@ abbrev pub EndAtFailure : List Decided → Type 0
 EndAtFailure [] = Unit {0}
 EndAtFailure (d ∷ ds) = (d.1 ≡ Err Store → AllByRecursion (λ e. IsErr e.1) ds) × EndAtFailure ds
 
--- What `submit_all` does with requests, by the requests that the intake held before.
-pub record DecidesEach {S : Type 0} (g : Ghosts S) (ds : List Decided) (old new : Intake S) : Type 0 where
-  pub answers : ForRequests g old new (λ F. AreDecidedInTurn (limit_of old) (old_style_in old F) F ds
+-- What `submit_all` does with requests, if this holds of those that the intake held before. What is said of a crash
+-- needs one thing more, as that the register was open.
+pub record DecidesEachIf {S : Type 0} (g : Ghosts S) (Open : Type 0) (Holds : List Request → Type 0) (ds : List Decided)
+    (old new : Intake S) : Type 0 where
+  pub answers : ForRequests g old new (λ F. Holds F → AreDecidedInTurn (limit_of old) (old_style_in old F) F ds
       × HoldsRequests g new (after F ds))
   -- The limit and the old-style requests never change.
   pub setting : KeepsSetting g old new
   -- A crash in the call leaves what one before it could leave, or some of them as `LeavesSome` says. One after it
   -- leaves all that is held, or what one before the call could leave, if nothing more is held.
-  pub crash : SurvivesAs g old new (λ F. LeavesSome (old_style_of old) F ds)
-  pub durable : ForRequests g old new (λ F. (trees : Trees) → (shows g new).may_leave trees
+  pub crash : SurvivesAs g old new (λ F trees. Open → Holds F → LeavesSome (old_style_of old) F ds trees)
+  pub durable : ForRequests g old new (λ F. Open → Holds F → (trees : Trees) → (shows g new).may_leave trees
       → ((shows g old).may_leave trees × (after F ds ≡ F)) ⊎ LeavesHeld (old_style_of old) F ds trees)
   -- After a refusal of the database nobody gets an answer, and then each gets `Down`.
   pub ends : EndAtFailure ds
   pub down : has_stopped old ≡ true → AllByRecursion (λ d. d.1 ≡ Err Down) ds × (new ≡ old)
   pub stops : (has_stopped new ≡ true) ↔ ((has_stopped old ≡ true) ⊎ HasFailed ds)
   pub up : AllByRecursion (λ d. d.1 ≡ Err Down → has_stopped new ≡ true) ds
+
+-- what it does whatever the intake held
+abbrev pub DecidesEach : {S : Type 0} → Ghosts S → List Decided → Intake S → Intake S → Type 0
+DecidesEach g ds old new = DecidesEachIf g (Unit {0}) (λ F. Unit {0}) ds old new

@@ -64,12 +64,12 @@ pub record DatesRequest {S : Type 0} (g : Ghosts S) (r : Request) (moment : ℕ)
   pub next : moment_of new ≡ moment_of old
 
 -- How `decide`, `keep` and `keep_judged` date a request, if this holds of the requests that the intake held before.
-pub record DatesIf {S : Type 0} (g : Ghosts S) (r : Request) (moment : ℕ) (Holds : List Request → Type 0)
-    (old new : Intake S) (result : Result Answer Unavailable) : Type 0 where
+pub record DatesIf {S : Type 0} (g : Ghosts S) (r : Request) (moment : ℕ) (Open : Type 0)
+    (Holds : List Request → Type 0) (old new : Intake S) (result : Result Answer Unavailable) : Type 0 where
   pub dated : ForMoments g old new (λ requests moments. Holds requests
       → OnOk result (HoldsMoments g new (with_moment requests r moment moments)))
   pub same : ForMoments g old new (λ _ moments. OnErr result (HoldsMoments g new moments))
-  pub crash : SurvivesWith g old new (λ requests moments trees. IsTrue (shows g old).is_open → Holds requests
+  pub crash : SurvivesWith g old new (λ requests moments trees. Open → Holds requests
       → LeavesReceived (old_style_of old) (with_request requests r) (with_moment requests r moment moments) trees)
   pub next : moment_of new ≡ moment_of old
 
@@ -110,16 +110,23 @@ pub record LeavesSomeWith (old_style : ℕ) (F : List Request) (moments : List (
       (with_moments (after F before) (next.0 ∷ map (λ d. d.0) more) (drop (length before) ms)
       (moments_after F before ms moments)) trees
 
--- Each of several that is kept has its own, and the moment for the next request stays.
-pub record DatesAll {S : Type 0} (g : Ghosts S) (ds : List Decided) (ms : List ℕ) (old new : Intake S) : Type 0 where
-  pub dated : ForMoments g old new (λ F moments. HoldsMoments g new (moments_after F ds ms moments))
+-- Each of several that is kept has its own, and the moment for the next request stays, if this holds of the requests
+-- that the intake held before. What is said of a crash needs one thing more.
+pub record DatesAllIf {S : Type 0} (g : Ghosts S) (Open : Type 0) (Holds : List Request → Type 0) (ds : List Decided)
+    (ms : List ℕ) (old new : Intake S) : Type 0 where
+  pub dated : ForMoments g old new (λ F moments. Holds F → HoldsMoments g new (moments_after F ds ms moments))
   -- A crash in the call leaves what one before it could leave, or some of them, each with its own.
-  pub crash : SurvivesWith g old new (λ F moments. LeavesSomeWith (old_style_of old) F moments ds ms)
+  pub crash : SurvivesWith g old new (λ F moments trees. Open → Holds F
+      → LeavesSomeWith (old_style_of old) F moments ds ms trees)
   pub next : moment_of new ≡ moment_of old
 
--- What `submit_all` does with the moments at which the requests came, beside what `DecidesEach` says.
-pub record DatesEach {S : Type 0} (g : Ghosts S) (ds : List Decided) (ms : List ℕ) (old new : Intake S) : Type 0 where
-  pub all : DatesAll g ds ms old new
+abbrev pub DatesAll : {S : Type 0} → Ghosts S → List Decided → List ℕ → Intake S → Intake S → Type 0
+DatesAll g ds ms old new = DatesAllIf g (Unit {0}) (λ F. Unit {0}) ds ms old new
+
+-- What `submit_all` does with the moments at which the requests came, beside what `DecidesEachIf` says.
+pub record DatesEachIf {S : Type 0} (g : Ghosts S) (Open : Type 0) (Holds : List Request → Type 0) (ds : List Decided)
+    (ms : List ℕ) (old new : Intake S) : Type 0 where
+  pub all : DatesAllIf g Open Holds ds ms old new
   -- While the database is open, a crash after the call leaves all that is held, with its moments.
-  pub durable : ForMoments g old new (λ F moments. IsTrue (shows g new).is_open
+  pub durable : ForMoments g old new (λ F moments. Holds F → IsTrue (shows g new).is_open
       → LeavesOnlyReceived (shows g new) (old_style_of old) (after F ds) (moments_after F ds ms moments))

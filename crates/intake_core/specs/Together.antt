@@ -23,20 +23,26 @@ use Rattle.intake_core.specs.Held.{store_of, shows, limit_of, old_style_of, old_
 use Rattle.intake_core.specs.Held.{ChangesOnlyCache, ForRequests, IsDurableAs, KeepsSetting, SurvivesAs}
 use Rattle.intake_core.specs.declared.intake.group.Together.{Together}
 use Rattle.intake_core.specs.declared.intake.group.Together.TheVariants.{Kept, Alone, Failed}
-use Rattle.intake_core.specs.Group.{AreDecidedInTurn, DecidesEach, Given}
-use Rattle.intake_core.specs.Moments.{DatesAll, ForMoments, HoldsMoments, KeepsMoments, SurvivesWith, moment_of}
+use Rattle.intake_core.specs.Group.{AreDecidedInTurn, DecidesEachIf, Given}
+use Rattle.intake_core.specs.Moments.{DatesAllIf, ForMoments, HoldsMoments, KeepsMoments, SurvivesWith, moment_of}
 use Rattle.intake_core.specs.Moments.{with_moments}
 
--- The results gain one for each of these requests, which came at these moments, in the room that was there.
-pub record AddsResults {S : Type 0} (g : Ghosts S) (requests : List Request) (ms : List ℕ) (old new : Intake S)
-    (results results' : Vec Given Global) : Type 0 where
+-- The results gain one for each of these requests, which came at these moments, in the room that was there. What is
+-- said of rows holds if this holds of those that the intake held before.
+pub record AddsResultsIf {S : Type 0} (g : Ghosts S) (Open : Type 0) (Holds : List Request → Type 0)
+    (requests : List Request) (ms : List ℕ) (old new : Intake S) (results results' : Vec Given Global) : Type 0 where
   pub given : List Given
   pub are : results'.items ≡ results.items ++ given
   pub each : length given ≡ length requests
   pub len : vec_len results' ≡ vec_len results + length given
-  pub decides : DecidesEach g (zip requests given) old new
-  pub dates : DatesAll g (zip requests given) ms old new
+  pub decides : DecidesEachIf g Open Holds (zip requests given) old new
+  pub dates : DatesAllIf g Open Holds (zip requests given) ms old new
   pub room : vec_capacity results' ≡ vec_capacity results
+
+abbrev pub AddsResults : {S : Type 0} → Ghosts S → List Request → List ℕ → Intake S → Intake S → Vec Given Global
+    → Vec Given Global → Type 0
+AddsResults g requests ms old new results results' =
+    AddsResultsIf g (Unit {0}) (λ F. Unit {0}) requests ms old new results results'
 
 -- A look-up writes nothing, and what is held stays.
 pub record LooksUp {S : Type 0} (g : Ghosts S) (old new : Intake S) : Type 0 where
@@ -130,11 +136,12 @@ UnlessKept (Kept outcomes) P = Unit {0}
 UnlessKept (Alone count) P = P
 UnlessKept (Failed count) P = P
 
--- What keeping the first of these requests together does: all are kept, in order, or none.
-pub record KeepsFirst {S : Type 0} (g : Ghosts S) (requests : List Request) (ms : List ℕ) (old new : Intake S)
-    (result : Together) : Type 0 where
+-- What keeping the first of these requests together does, if this holds of those that the intake held before: all are
+-- kept, in order, or none.
+pub record KeepsFirst {S : Type 0} (g : Ghosts S) (Open : Type 0) (Holds : List Request → Type 0)
+    (requests : List Request) (ms : List ℕ) (old new : Intake S) (result : Together) : Type 0 where
   pub some : (0 < count_of result) × (count_of result ≤ length requests)
-  pub kept : ForRequests g old new (λ F. IfKept result (λ outcomes.
+  pub kept : ForRequests g old new (λ F. Holds F → IfKept result (λ outcomes.
       AreNewBehind F (take (count_of result) requests)
       × (map view_outcome outcomes ≡ outcomes_behind F (take (count_of result) requests))
       × HoldsRequests g new (F ++ take (count_of result) requests)
@@ -143,14 +150,14 @@ pub record KeepsFirst {S : Type 0} (g : Ghosts S) (requests : List Request) (ms 
   pub dated : ForMoments g old new (λ _ moments.
       IfKept result (λ _. HoldsMoments g new (moments ++ map Some (take (count_of result) ms))))
   pub undated : ForMoments g old new (λ _ moments. UnlessKept result (HoldsMoments g new moments))
-  pub received : SurvivesWith g old new (λ F moments trees.
-      LeavesReceived (old_style_of old) (firsts (F ++ take (count_of result) requests))
+  pub received : SurvivesWith g old new (λ F moments trees. Open → Holds F
+      → LeavesReceived (old_style_of old) (firsts (F ++ take (count_of result) requests))
       (with_moments F (take (count_of result) requests) (take (count_of result) ms) moments) trees)
   pub next : moment_of new ≡ moment_of old
   pub setting : KeepsSetting g old new
   pub stopped : has_stopped new ≡ has_stopped old
   -- A crash in the call leaves what one before it could leave, or all of them, and never some; one after it, all.
-  pub crash : SurvivesAs g old new (λ F trees.
-      LeavesRegister (old_style_of old) (firsts (F ++ take (count_of result) requests)) trees)
-  pub durable : ForRequests g old new (λ F. IfKept result (λ _.
+  pub crash : SurvivesAs g old new (λ F trees. Open → Holds F
+      → LeavesRegister (old_style_of old) (firsts (F ++ take (count_of result) requests)) trees)
+  pub durable : ForRequests g old new (λ F. Holds F → IfKept result (λ _.
       IsDurableAs g new (old_style_of old) (F ++ take (count_of result) requests)))

@@ -1,7 +1,7 @@
 //! The intake: its register, and the answer to the next request.
 
 ghost use Rattle.std.specs.Prelude.{◌≡◌, ◌≢◌, ◌↔◌, ◌<◌, ◌≤◌, ◌^◌, ◌⊎◌, ℕ, List, length, map, true, false, Err, None};
-ghost use Rattle.std.specs.Prelude.{◌∷◌, [], Some, IfSome, OnOk};
+ghost use Rattle.std.specs.Prelude.{◌∷◌, [], Some, IfOk, IfSome, IsTrue, OnOk};
 ghost use Rattle.std.specs.Option.{option_to_list};
 ghost use Rattle.key_string.specs.Filer.{is_filer};
 ghost use Rattle.http_messages.specs.Head.{max_body_len};
@@ -218,11 +218,7 @@ impl<S: Alter> Intake<S> {
         if self.is_down {
             return Err(Unavailable::Down);
         }
-        let name = name_of(self.alloc, request).ok();
-        if let Some(answer) = self.recall(request, &name) {
-            return Ok(answer);
-        }
-        let result = self.decide(request, moment, name);
+        let result = self.decide(request, moment);
         self.is_down = store_failed(&result);
         result
     }
@@ -276,10 +272,10 @@ impl<S: Alter> Intake<S> {
     ghost use Rattle.intake_core.specs.Answered.{IsAnswerTo};
     ghost use Rattle.intake_core.specs.Cache.{IsKeptIn, IsNameIfAny};
     ghost use Rattle.intake_core.specs.Calls.{AnswersIf, IsRequest, TellsIfFree};
-    ghost use Rattle.intake_core.specs.Held.{store_of, limit_of, old_style_of, old_style_in, has_stopped};
-    ghost use Rattle.intake_core.specs.Held.{HoldsRequests, ForRequests, ChangesOnlyCache, SurvivesAs, with_request};
-    ghost use Rattle.intake_core.specs.Moments.{DatesIf, KeepsMoments, SurvivesWith, with_moment};
-    ghost use Rattle.register_tables.specs.Registers.{LeavesReceived, LeavesRegister};
+    ghost use Rattle.intake_core.specs.Held.{store_of, limit_of, old_style_in, has_stopped, shows};
+    ghost use Rattle.intake_core.specs.Held.{HoldsRequests, ForRequests, ChangesOnlyCache};
+    ghost use Rattle.intake_core.specs.Moments.{DatesIf, KeepsMoments};
+    ghost use Rattle.intake_core.specs.Together.{LooksUp};
 
     /// The answer to a request whose filer and key have this name, if the cache remembers it. The cache is made here,
     /// if there is memory for it.
@@ -322,32 +318,63 @@ impl<S: Alter> Intake<S> {
         }
     }
 
-    /// Decides a request that came at this moment by the register.
-    fn decide(
-        &mut self,
-        request: &Request<'_>,
-        moment: Moment,
-        name: Option<String>,
-    ) -> Result<Answer, Unavailable>
-        requires request { IsRequest request.now }
-        requires name { IsNameIfAny request.now name }
-        ensures decided { AnswersIf S.Store request.now (λ _. Unit {0}) self.old self.new result }
-        ensures dated { DatesIf S.Store request.now moment.milliseconds (λ _. Unit {0}) self.old self.new result }
-
-        // Nothing is written before the register was read, and so found open.
-        ensures crash { SurvivesAs S.Store self.old self.new (λ requests trees.
-            LeavesRegister (old_style_of self.old) (with_request requests request.now) trees) }
-        ensures received { SurvivesWith S.Store self.old self.new (λ requests moments trees.
-            LeavesReceived (old_style_of self.old) (with_request requests request.now)
-            (with_moment requests request.now moment.milliseconds moments) trees) }
+    /// Decides a request that came at this moment.
+    fn decide(&mut self, request: &Request<'_>, moment: Moment) -> Result<Answer, Unavailable>
+        requires { IsRequest request.now }
+        ensures decided { AnswersIf S.Store request.now (Unit {0}) (λ _. Unit {0}) self.old self.new result }
+        ensures dated { DatesIf S.Store request.now moment.milliseconds (Unit {0}) (λ _. Unit {0}) self.old self.new
+            result }
+        ensures is_open { ForRequests S.Store self.old self.new (λ requests.
+            IsTrue (shows S.Store self.old).is_open ⊎ (has_key requests request.now ≡ false)
+            → OnOk result (IsTrue (shows S.Store self.new).is_open)) }
         ensures full { ForRequests S.Store self.old self.new (λ requests. (k : ℕ) → result ≡ Err (Full k)
             → (has_key requests request.now ≡ false) × (limit_of self.old ≤ k) × (k ≡ length requests)) }
         ensures room { ForRequests S.Store self.old self.new (λ requests.
             OnOk result (has_key requests request.now ≡ false → length requests < limit_of self.old)) }
     {
+        match self.answer_repeat(request)? {
+            Some(answer) => Ok(answer),
+            None => self.keep(request, moment),
+        }
+    }
+
+    /// What a request gets if one of its filer and key is kept, by the cache or else by the register.
+    fn answer_repeat(&mut self, request: &Request<'_>) -> Result<Option<Answer>, StoreFault>
+        ensures new { ForRequests S.Store self.old self.new (λ requests. IfOk result (λ found. found ≡ None
+            → (has_key requests request.now ≡ false) × IsTrue (shows S.Store self.new).is_open)) }
+        ensures repeat { ForRequests S.Store self.old self.new (λ requests. IfOk result (λ found. IfSome found
+            (λ answer. IsAnswerTo (old_style_in self.old requests) requests request.now answer
+            × (has_key requests request.now ≡ true)))) }
+        ensures is_open { ForRequests S.Store self.old self.new (λ requests. IsTrue (shows S.Store self.old).is_open
+            → OnOk result (IsTrue (shows S.Store self.new).is_open)) }
+        ensures looks { LooksUp S.Store self.old self.new }
+    {
+        let name = name_of(self.alloc, request).ok();
+        if let Some(answer) = self.recall(request, &name) {
+            return Ok(Some(answer));
+        }
+        self.find_repeat(request, name)
+    }
+
+    /// What a request gets if one of its filer and key, which have this name, is kept by the register.
+    fn find_repeat(
+        &mut self,
+        request: &Request<'_>,
+        name: Option<String>,
+    ) -> Result<Option<Answer>, StoreFault>
+        requires { IsNameIfAny request.now name }
+        ensures new { ForRequests S.Store self.old self.new (λ requests. IfOk result (λ found. found ≡ None
+            → has_key requests request.now ≡ false)) }
+        ensures repeat { ForRequests S.Store self.old self.new (λ requests. IfOk result (λ found. IfSome found
+            (λ answer. IsAnswerTo (old_style_in self.old requests) requests request.now answer
+            × (has_key requests request.now ≡ true)))) }
+        ensures is_open { ForRequests S.Store self.old self.new (λ _.
+            OnOk result (IsTrue (shows S.Store self.new).is_open)) }
+        ensures looks { LooksUp S.Store self.old self.new }
+    {
         match self.store.find(request.filer, request.key)? {
-            Some(row) => Ok(self.repeat(request, name, row)),
-            None => self.keep(request, moment, name),
+            Some(row) => Ok(Some(self.repeat(request, name, row))),
+            None => Ok(None),
         }
     }
 
@@ -406,17 +433,19 @@ impl<S: Alter> Intake<S> {
         &mut self,
         request: &Request<'_>,
         moment: Moment,
-        name: Option<String>,
         free: bool,
     ) -> Result<Answer, Unavailable>
         requires request { IsRequest request.now }
-        requires name { IsNameIfAny request.now name }
         requires room { (store_of self.old).kept < 2 ^ 62 }
-        ensures kept { AnswersIf S.Store request.now (λ requests. (has_key requests request.now ≡ false)
-            × (free ≡ is_free (register requests) request.now.filer request.now.target)) self.old self.new result }
-        ensures dated { DatesIf S.Store request.now moment.milliseconds (λ requests.
+        ensures kept { AnswersIf S.Store request.now (IsTrue (shows S.Store self.old).is_open) (λ requests.
             (has_key requests request.now ≡ false)
             × (free ≡ is_free (register requests) request.now.filer request.now.target)) self.old self.new result }
+        ensures dated { DatesIf S.Store request.now moment.milliseconds (IsTrue (shows S.Store self.old).is_open)
+            (λ requests. (has_key requests request.now ≡ false)
+            × (free ≡ is_free (register requests) request.now.filer request.now.target)) self.old self.new result }
+        ensures is_open { ForRequests S.Store self.old self.new (λ requests. (has_key requests request.now ≡ false)
+            → (free ≡ is_free (register requests) request.now.filer request.now.target)
+            → OnOk result (IsTrue (shows S.Store self.new).is_open)) }
         ensures full { (k : ℕ) → result ≢ Err (Full k) }
     {
         let judged = judge_amendment(self.alloc, request.filer, request.body, free)?;
@@ -428,23 +457,20 @@ impl<S: Alter> Intake<S> {
             judged: &judged,
             moment,
         })?;
+        let name = name_of(self.alloc, request).ok();
         self.remember(request, name, &outcome, Style::Problem);
         Ok(answer_by(outcome, false, Style::Problem))
     }
 
     /// Judges and keeps the first request under a key, if there is room.
-    fn keep(
-        &mut self,
-        request: &Request<'_>,
-        moment: Moment,
-        name: Option<String>,
-    ) -> Result<Answer, Unavailable>
-        requires request { IsRequest request.now }
-        requires name { IsNameIfAny request.now name }
-        ensures kept { AnswersIf S.Store request.now (λ requests. has_key requests request.now ≡ false)
-            self.old self.new result }
-        ensures dated { DatesIf S.Store request.now moment.milliseconds (λ requests.
-            has_key requests request.now ≡ false) self.old self.new result }
+    fn keep(&mut self, request: &Request<'_>, moment: Moment) -> Result<Answer, Unavailable>
+        requires { IsRequest request.now }
+        ensures kept { AnswersIf S.Store request.now (IsTrue (shows S.Store self.old).is_open)
+            (λ requests. has_key requests request.now ≡ false) self.old self.new result }
+        ensures dated { DatesIf S.Store request.now moment.milliseconds (IsTrue (shows S.Store self.old).is_open)
+            (λ requests. has_key requests request.now ≡ false) self.old self.new result }
+        ensures is_open { ForRequests S.Store self.old self.new (λ requests. has_key requests request.now ≡ false
+            → OnOk result (IsTrue (shows S.Store self.new).is_open)) }
         ensures full { (requests : List Request) → HoldsRequests S.Store self.old requests → (k : ℕ)
             → result ≡ Err (Full k) → (limit_of self.old ≤ k) × (k ≡ length requests) }
         ensures room { (requests : List Request) → HoldsRequests S.Store self.old requests
@@ -455,6 +481,6 @@ impl<S: Alter> Intake<S> {
             return Err(Unavailable::Full { kept });
         }
         let free = self.is_free(request)?;
-        self.keep_judged(request, moment, name, free)
+        self.keep_judged(request, moment, free)
     }
 }

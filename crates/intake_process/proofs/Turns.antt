@@ -26,7 +26,7 @@ use Rattle.filing_model.proofs.Lists.{append_nil}
 use Rattle.intake_core.specs.declared.intake.Intake.{Intake}
 use Rattle.gateway_rounds.specs.Away as closed
 use Rattle.gateway_rounds.specs.Ports.{Port, Runs}
-use Rattle.gateway_rounds.specs.Turns.{IsAnswerTo, Spells, AreSpelled, IsTold, AreTold, DecidesTurns, TakesTurns}
+use Rattle.gateway_rounds.specs.Turns.{IsAnswerTo, Spells, AreSpelled, IsTold, AreTold, DecidesTurns}
 use Rattle.gateway_rounds.specs.Turns.{answers_of, steps_of, completed_by}
 use Rattle.gateway_rounds.specs.Turns as round
 use Rattle.gateway_rounds.proofs.Whole.{round_takes}

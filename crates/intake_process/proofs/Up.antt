@@ -5,7 +5,7 @@ use Rattle.std.proofs.Common.{inr, arith}
 use Rattle.sqlite_disk.specs.declared.Disk.{Ghosts}
 use Rattle.sqlite_store.specs.declared.store.FileStore.{FileStore}
 use Rattle.connection_hall.specs.declared.stream.Stream.{Ghosts as Streams}
-use Rattle.gateway_rounds.specs.Ports.{Port}
+use Rattle.gateway_rounds.specs.Ports.{KeepsPort, Port}
 use Rattle.intake_core.specs.declared.intake.Intake.{Intake}
 use Rattle.intake_core.specs.Held.{has_stopped}
 use Rattle.intake_process.specs.declared.process.AnsweredBy.{AnsweredBy}
@@ -80,6 +80,14 @@ module _ {D : Type 0} {g : Ghosts D} where
         subst (λ i. IsUp i) (sym answered.1)
         (not_true (has_stopped answered.0) (λ stopped. other (answered.3.1 stopped)))
     up_after None new by answered is other = absurd (let h : false ≡ true = is in cc)
+
+    pub keeps_port : (old new : Option (Intake (FileStore D g))) (by : AnsweredBy)
+        → AnswersPortBy s port port' old new by → KeepsPort port port'
+    keeps_port (Some old) new by answered = record {
+      asked = answered.2.second.port.asked ∙ answered.2.first.tells.port.asked;
+      bounds = answered.2.second.port.bounds ∙ answered.2.first.tells.port.bounds;
+    }
+    keeps_port None new by answered = answered.1.tells.port
 
     pub answered : (old last : Parts g) (by : AnsweredBy) → AnswersPort s port port' old last by → StaysUp old last
     answered old last by it = record {

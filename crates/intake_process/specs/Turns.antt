@@ -177,6 +177,8 @@ pub record IsServed {D S N : Type 0} {g : Ghosts D} (s : Streams S N) (has_to_be
   pub ends : IfSome taken (EndsBy most port')
   -- the answer says how often it was asked
   pub asked : IfSome taken (λ taken. port'.asked ≡ port.asked + taken)
+  -- it has the bounds that it had, so that they hold of each round
+  pub bounds : port'.hall.bounds ≡ port.hall.bounds
   -- a port that was shut was not asked
   pub shut : is_shut port ≡ true → IfSome taken (λ taken. taken ≡ 0)
   pub stays : StaysUp opened last

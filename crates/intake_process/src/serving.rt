@@ -3,7 +3,7 @@
 ghost use Rattle.std.specs.Prelude.{◌≡◌, ◌≢◌, ◌≤◌, ◌+◌, ◌^◌, ℕ, Bool, Option, Some, None, Ok, true, IfOk, OnOk};
 ghost use Rattle.std.specs.Prelude.{option_map};
 ghost use Rattle.std.specs.Result.{result_ok};
-ghost use Rattle.gateway_rounds.specs.Ports.{port as view_port, is_shut};
+ghost use Rattle.gateway_rounds.specs.Ports.{port as view_port, is_shut, KeepsPort};
 ghost use Rattle.database_places.specs.Places.{IsHonest};
 ghost use Rattle.intake_process.specs.Process.{parts, IsAwake, Leaves, StaysUp};
 ghost use Rattle.intake_process.specs.History.{IsReady, IsOver, Passes, said_of};
@@ -96,6 +96,7 @@ fn listen_and_serve<
         (result_ok result) }
     ensures asked { IfOk result (λ taken.
         (view_port K.traffic port.new).asked ≡ (view_port K.traffic port.old).asked + taken) }
+    ensures bounds { port.new.hall.bounds ≡ port.old.hall.bounds }
 {
     // The register was read whole by now, so no connection waits for that.
     port.listen()?;
@@ -136,6 +137,7 @@ pub fn serve_port<
         (result_ok result) }
     ensures asked { IfOk result (λ taken.
         (view_port K.traffic port.new).asked ≡ (view_port K.traffic port.old).asked + taken) }
+    ensures bounds { port.new.hall.bounds ≡ port.old.hall.bounds }
 {
     // One round after another: a register has one writer, so more threads would decide nothing sooner.
     for taken in 0..most {
@@ -171,6 +173,7 @@ fn serve_round<
         (parts P.lying process.old) (parts P.lying process.new) (O.answers observer.old) (O.answers observer.new)
         (option_map (λ _. 1) (result_ok result)) }
     ensures asked { (view_port K.traffic port.new).asked ≡ (view_port K.traffic port.old).asked + 1 }
+    ensures bounds { port.new.hall.bounds ≡ port.old.hall.bounds }
 {
     port.go_on()?;
     if port.waits() {
@@ -202,7 +205,7 @@ fn answer_waiting<
     ensures passes { Passes T.Stream limit (view_port K.traffic port.old) (view_port K.traffic port.new)
         (parts P.lying process.old) (parts P.lying process.new) (O.answers observer.old) (O.answers observer.new)
         (Some 1) }
-    ensures asked { (view_port K.traffic port.new).asked ≡ (view_port K.traffic port.old).asked }
+    ensures port { KeepsPort (view_port K.traffic port.old) (view_port K.traffic port.new) }
 {
     let refusal = open_again(alloc, process, observer, limit);
     // All had come by now, so none is dated before it came.

@@ -30,7 +30,7 @@
 //!   status.
 //! - Nothing is said of disks that gave back anything else.
 
-ghost use Rattle.std.specs.Prelude.{◌≡◌, ◌⊎◌, ◌++◌, ◌∷◌, ℕ, List, [], Option, Result, IsTrue};
+ghost use Rattle.std.specs.Prelude.{◌≡◌, Bool, ◌⊎◌, ◌++◌, ◌∷◌, ℕ, List, [], Option, Result, IsTrue};
 ghost use Rattle.sqlite_disk.specs.declared.Files.{Files};
 ghost use Rattle.sqlite_store.specs.declared.store.FileStore.{FileStore as Stored};
 ghost use Rattle.sqlite.specs.Held.{Held};
@@ -60,7 +60,8 @@ ghost use Rattle.intake_core.specs.declared.intake.Unavailable.{Unavailable};
 ghost use Rattle.intake_core.specs.Held.{store_of, old_style_of, HoldsRequests, with_request};
 ghost use Rattle.intake_core.specs.Held as intake;
 ghost use Rattle.intake_core.specs.Calls.{DecidesRequest};
-ghost use Rattle.intake_core.specs.Group.{Decided, DecidesEach};
+ghost use Rattle.intake_core.specs.Group.{Decided, DecidesEachIf};
+ghost use Rattle.intake_core.specs.Looked.{AreNewIf, WasOpen};
 ghost use Rattle.outbox_tables.specs.Entries.{Contents};
 ghost use Rattle.outbox_tables.specs.Rows.{IsOutboxOf};
 ghost use Rattle.outbox_core.specs.declared.fault.PutFault.{PutFault};
@@ -159,12 +160,14 @@ pub fn a_register_outlives_a_decision<D: Disk + Drop>()
 {}
 
 /// A register that was open as `Intake::submit_all` began leaves its requests, or these and some of those that were to
-/// be decided, in their order, as if each of these had been decided by itself.
+/// be decided, in their order, as if each of these had been decided by itself. What was said to be new was new.
 pub fn a_register_outlives_a_group<D: Disk + Drop>()
-    ensures { IsHonest D.Disk → (decided : List Decided) (old new : Intake (Stored D D.Disk))
-        (requests : List Request) (files : Files D) → DecidesEach over_files decided old new
-        → IsTrue (intake.shows over_files old).is_open → HoldsRequests over_files old requests
-        → EndsIn (store_of new).conn files → HoldSome D.Disk files (old_style_of old) requests decided }
+    ensures { IsHonest D.Disk → (are_new : Bool) (asked : List Request) (decided : List Decided)
+        (old new : Intake (Stored D D.Disk)) (requests : List Request) (files : Files D)
+        → DecidesEachIf over_files (WasOpen over_files are_new old) (AreNewIf are_new asked) decided old new
+        → AreNewIf are_new asked requests → IsTrue (intake.shows over_files old).is_open
+        → HoldsRequests over_files old requests → EndsIn (store_of new).conn files
+        → HoldSome D.Disk files (old_style_of old) requests decided }
 {}
 
 /// A register that ends as a request that came on a connection is decided, and for which there is room, holds what the

@@ -5,11 +5,12 @@ ghost use Rattle.std.specs.Prelude.{IsTrue, IfOk, OnOk, None, MatchResult};
 ghost use Rattle.std.specs.List.{AllZip, zip};
 ghost use Rattle.filing_model.specs.Request.{Request, has_key};
 ghost use Rattle.intake_core.specs.Calls.{IsRequest};
-ghost use Rattle.intake_core.specs.Group.{DecidesEach};
-ghost use Rattle.intake_core.specs.Looked.{AddsLookedUp, AreNewTo, DatesNew, DecidesNew, TellsWhether};
-ghost use Rattle.intake_core.specs.Moments.{DatesEach};
-ghost use Rattle.intake_core.specs.Together.{AddsGroup, AddsResults, AnswersGroup, AreNewBehind, AreRowsOf};
-ghost use Rattle.intake_core.specs.Together.{IsJudgedAlone, KeepsFirst, LooksUp, RefusesGroup, in_milliseconds};
+ghost use Rattle.intake_core.specs.Group.{DecidesEachIf};
+ghost use Rattle.intake_core.specs.Looked.{AreNewIf, TellsWhether, WasOpen};
+ghost use Rattle.intake_core.specs.Moments.{DatesEachIf};
+ghost use Rattle.intake_core.specs.Together.{AddsGroup, AddsResults, AddsResultsIf, AnswersGroup, AreNewBehind};
+ghost use Rattle.intake_core.specs.Together.{AreRowsOf, IsJudgedAlone, KeepsFirst, LooksUp, RefusesGroup};
+ghost use Rattle.intake_core.specs.Together.{in_milliseconds};
 ghost use Rattle.intake_core.specs.Held.{store_of, limit_of, shows, has_stopped, ForRequests};
 
 use super::{Intake, Unavailable};
@@ -21,12 +22,12 @@ use std::alloc::{AllocError, Global};
 use xbrl_report::{Judged, judge_amendment};
 
 /// What a look-up tells of a request.
-#[derive(Clone, Copy, Debug, PartialEq, Eq)]
+#[derive(Drop)]
 pub enum Looked {
     /// Nothing is kept of its filer and key, so it would be kept.
     New,
-    /// A request of its filer and key is kept.
-    Repeat,
+    /// A request of its filer and key is kept, and this is what `submit` would answer.
+    Repeat(Answer),
     /// Neither is known: the database refused, now or before, or there was no memory.
     Unknown,
 }
@@ -79,49 +80,39 @@ impl<S: Alter> Intake<S> {
     /// Decides requests in their order, as `submit` decides each, but keeps those that are new and replace nothing with
     /// one commit, as far as no repeat and no request with a target comes between. Each came at the moment at its
     /// place. Answers what each request gets. If there is no memory for the answers, nothing is decided.
+    ///
+    /// With `are_new` the caller has looked up each, and `look_up` said `New`. Then the first ones, as far as they are
+    /// kept together, are not looked up again; what the clauses say of the rows holds if no filer and key is held yet,
+    /// and what they say of a crash, if the register is open too. They may share a filer and key: the second one is
+    /// decided as a repeat.
     pub fn submit_all(
         &mut self,
         requests: &[Request<'_>],
         moments: &[Moment],
+        are_new: bool,
     ) -> Result<Vec<Result<Answer, Unavailable>>, AllocError>
         requires requests { All IsRequest requests.now }
         requires moments { length moments.now ≡ length requests.now }
         ensures each { IfOk result (λ results. length results.items ≡ length requests.now) }
-        ensures decides { MatchResult result (λ results.
-            DecidesEach S.Store (zip requests.now results.items) self.old self.new) (λ _. self.new ≡ self.old) }
-        ensures dates { IfOk result (λ results.
-            DatesEach S.Store (zip requests.now results.items) (in_milliseconds moments.now) self.old self.new) }
+        ensures decides { MatchResult result (λ results. DecidesEachIf S.Store (WasOpen S.Store are_new self.old)
+            (AreNewIf are_new requests.now) (zip requests.now results.items) self.old self.new)
+            (λ _. self.new ≡ self.old) }
+        ensures dates { IfOk result (λ results. DatesEachIf S.Store (WasOpen S.Store are_new self.old)
+            (AreNewIf are_new requests.now) (zip requests.now results.items) (in_milliseconds moments.now) self.old
+            self.new) }
     {
+        if requests.is_empty() {
+            return Ok(Vec::new(self.alloc));
+        }
         let mut results = Vec::with_capacity(self.alloc, requests.len())?;
-        self.submit_others(requests, moments, &mut results);
-        Ok(results)
-    }
-
-    /// Decides requests in their order as `submit_all` does, and does not look up again those that it keeps together.
-    /// The caller has looked up each, and `look_up` said `New`: what the clauses say of the rows holds if no filer and
-    /// key is held yet, and what they say of a crash, if the register is open too. They may share a filer and key: the
-    /// second one is decided as a repeat.
-    pub fn submit_new(
-        &mut self,
-        requests: &[Request<'_>],
-        moments: &[Moment],
-    ) -> Result<Vec<Result<Answer, Unavailable>>, AllocError>
-        requires requests { All IsRequest requests.now }
-        requires moments { length moments.now ≡ length requests.now }
-        ensures each { IfOk result (λ results. length results.items ≡ length requests.now) }
-        ensures decides { MatchResult result (λ results. DecidesNew S.Store requests.now
-            (zip requests.now results.items) self.old self.new) (λ _. self.new ≡ self.old) }
-        ensures dates { IfOk result (λ results. DatesNew S.Store requests.now (zip requests.now results.items)
-            (in_milliseconds moments.now) self.old self.new) }
-    {
-        let mut results = Vec::with_capacity(self.alloc, requests.len())?;
-        let count = self.submit_looked_up(requests, moments, &mut results);
+        self.submit_next(requests, moments, are_new, &mut results);
+        let count = results.len();
         self.submit_others(&requests[count..], &moments[count..], &mut results);
         Ok(results)
     }
 
-    /// Tells whether a request is new or a repeat, by its filer and key. Nothing is decided and nothing is written: a
-    /// refusal of the database is left to the call that decides.
+    /// Tells whether a request is new or a repeat, by its filer and key, and what a repeat gets. Nothing is written,
+    /// and nothing else is decided: a refusal of the database is left to the call that decides.
     pub fn look_up(&mut self, request: &Request<'_>) -> Looked
         ensures tells { ForRequests S.Store self.old self.new (λ requests.
             TellsWhether S.Store requests request.now self.old self.new result) }
@@ -131,50 +122,14 @@ impl<S: Alter> Intake<S> {
         if self.is_down {
             return Looked::Unknown;
         }
-        match self.is_new(request) {
-            Ok(true) => Looked::New,
-            Ok(false) => Looked::Repeat,
+        match self.answer_repeat(request) {
+            Ok(Some(answer)) => Looked::Repeat(answer),
+            Ok(None) => Looked::New,
             Err(_) => Looked::Unknown,
         }
     }
 
-    /// Decides the first of these requests, which were looked up, as far as they are kept together, and answers how
-    /// many were decided.
-    fn submit_looked_up(
-        &mut self,
-        requests: &[Request<'_>],
-        moments: &[Moment],
-        results: &mut Vec<Result<Answer, Unavailable>>,
-    ) -> usize
-        requires requests { All IsRequest requests.now }
-        requires moments { length moments.now ≡ length requests.now }
-        requires room { vec_len results.old + length requests.now ≤ vec_capacity results.old }
-        ensures few { result ≤ length requests.now }
-        ensures adds { AddsLookedUp S.Store requests.now (take result requests.now)
-            (take result (in_milliseconds moments.now)) self.old self.new results.old results.new }
-    {
-        if self.is_down {
-            return 0;
-        }
-        let judged = match self.judge_looked_up(requests) {
-            Ok(judged) => judged,
-            Err(_) => return 0,
-        };
-        let count = judged.len();
-        if count == 0 {
-            return 0;
-        }
-        match self.keep_group(&requests[..count], &moments[..count], &judged) {
-            Ok(outcomes) => self.answer_group(&requests[..count], outcomes, results),
-            Err(StoreFault::Memory) => {
-                self.submit_each(&requests[..count], &moments[..count], results)
-            }
-            Err(StoreFault::Store) => self.refuse_group(&requests[..count], results),
-        }
-        count
-    }
-
-    /// Decides these requests in their order, as `submit_all` does.
+    /// Decides these requests in their order, as `submit_all` does, and looks up each.
     fn submit_others(
         &mut self,
         requests: &[Request<'_>],
@@ -191,17 +146,18 @@ impl<S: Alter> Intake<S> {
         for at in 0..requests.len() {
             // Those before `results.len()` were decided together with one before them.
             if at == results.len() - start {
-                self.submit_next(&requests[at..], &moments[at..], results);
+                self.submit_next(&requests[at..], &moments[at..], false, results);
             }
         }
     }
 
-    /// Decides the first of these requests, and those that are kept together with it. If there is no memory for all of
-    /// them, each is decided by itself, so that none takes another down.
+    /// Decides the first of these requests, and those that are kept together with it; with `are_new` each was looked up
+    /// and is new. If there is no memory for all of them, each is decided by itself, so that none takes another down.
     fn submit_next(
         &mut self,
         requests: &[Request<'_>],
         moments: &[Moment],
+        are_new: bool,
         results: &mut Vec<Result<Answer, Unavailable>>,
     )
         requires requests { All IsRequest requests.now }
@@ -209,13 +165,14 @@ impl<S: Alter> Intake<S> {
         requires some { 0 < length requests.now }
         requires room { vec_len results.old + length requests.now ≤ vec_capacity results.old }
         ensures { (count : ℕ) × (0 < count) × (count ≤ length requests.now)
-            × AddsResults S.Store (take count requests.now) (take count (in_milliseconds moments.now)) self.old self.new
-            results.old results.new }
+            × AddsResultsIf S.Store (WasOpen S.Store are_new self.old) (AreNewIf are_new requests.now)
+            (take count requests.now) (take count (in_milliseconds moments.now)) self.old self.new results.old
+            results.new }
     {
         if self.is_down {
             return self.submit_each(requests, moments, results);
         }
-        match self.keep_first(requests, moments) {
+        match self.keep_first(requests, moments, are_new) {
             Together::Kept(outcomes) => {
                 self.answer_group(&requests[..outcomes.len()], outcomes, results)
             }
@@ -261,13 +218,19 @@ impl<S: Alter> Intake<S> {
     }
 
     /// Keeps the first of these requests, and those behind it that may be kept with one commit.
-    fn keep_first(&mut self, requests: &[Request<'_>], moments: &[Moment]) -> Together
+    fn keep_first(
+        &mut self,
+        requests: &[Request<'_>],
+        moments: &[Moment],
+        are_new: bool,
+    ) -> Together
         requires requests { All IsRequest requests.now }
         requires moments { length moments.now ≡ length requests.now }
         requires some { 0 < length requests.now }
-        ensures { KeepsFirst S.Store requests.now (in_milliseconds moments.now) self.old self.new result }
+        ensures { KeepsFirst S.Store (WasOpen S.Store are_new self.old) (AreNewIf are_new requests.now) requests.now
+            (in_milliseconds moments.now) self.old self.new result }
     {
-        match self.judge_group(requests) {
+        match self.judge_group(requests, are_new) {
             // What could not be looked up or judged is tried again by each request for itself.
             Err(_) => Together::Alone(requests.len()),
             Ok(judged) => {
@@ -323,20 +286,26 @@ impl<S: Alter> Intake<S> {
     }
 
     /// How the first of these requests are judged that may be kept together: each is new and replaces nothing, none has
-    /// the filer and key of another, and there is room for all.
-    fn judge_group(&mut self, requests: &[Request<'_>]) -> Result<Vec<Judged>, StoreFault>
+    /// the filer and key of another, and there is room for all. With `are_new` each was looked up and is new.
+    fn judge_group(
+        &mut self,
+        requests: &[Request<'_>],
+        are_new: bool,
+    ) -> Result<Vec<Judged>, StoreFault>
         ensures few { IfOk result (λ judged. length judged.items ≤ length requests.now) }
         ensures judged { IfOk result (λ judged.
             AllZip IsJudgedAlone (take (length judged.items) requests.now) judged.items) }
-        ensures new { ForRequests S.Store self.old self.new (λ F. IfOk result (λ judged. 0 < length judged.items
-            → AreNewBehind F (take (length judged.items) requests.now) × IsTrue (shows S.Store self.new).is_open)) }
+        ensures new { ForRequests S.Store self.old self.new (λ F. AreNewIf are_new requests.now F
+            → IfOk result (λ judged. 0 < length judged.items
+            → AreNewBehind F (take (length judged.items) requests.now)
+            × (WasOpen S.Store are_new self.old → IsTrue (shows S.Store self.new).is_open))) }
         ensures limit { IfOk result (λ judged. 0 < length judged.items
             → (store_of self.new).kept + length judged.items ≤ limit_of self.new) }
         ensures looks { LooksUp S.Store self.old self.new }
     {
         let mut group = Vec::new(self.alloc);
         for (at, request) in requests.iter().enumerate() {
-            if !self.may_join(&requests[..at], request)? {
+            if !self.may_join(&requests[..at], request, are_new)? {
                 break;
             }
             group.reserve(1)?;
@@ -346,40 +315,20 @@ impl<S: Alter> Intake<S> {
         Ok(group)
     }
 
-    /// How the first of these requests are judged that may be kept together, if each was looked up and is new.
-    fn judge_looked_up(&self, requests: &[Request<'_>]) -> Result<Vec<Judged>, StoreFault>
-        ensures few { IfOk result (λ judged. length judged.items ≤ length requests.now) }
-        ensures judged { IfOk result (λ judged.
-            AllZip IsJudgedAlone (take (length judged.items) requests.now) judged.items) }
-        ensures new { (F : List Request) → AreNewTo F requests.now → IfOk result (λ judged.
-            AreNewBehind F (take (length judged.items) requests.now)) }
-        ensures limit { IfOk result (λ judged. 0 < length judged.items
-            → (store_of self.now).kept + length judged.items ≤ limit_of self.now) }
-    {
-        let mut group = Vec::new(self.alloc);
-        for (at, request) in requests.iter().enumerate() {
-            if !self.fits(&requests[..at], request)? {
-                break;
-            }
-            group.reserve(1)?;
-            let judged = judge_amendment(self.alloc, request.filer, request.body, true)?;
-            group.push_reserved(judged);
-        }
-        Ok(group)
-    }
-
-    /// Whether a request may be kept together with these before it.
+    /// Whether a request may be kept together with these before it; with `is_new` it was looked up and is new.
     fn may_join(
         &mut self,
         before: &[Request<'_>],
         request: &Request<'_>,
+        is_new: bool,
     ) -> Result<bool, StoreFault>
         ensures alone { IfOk result (λ joins. joins ≡ true → request.now.target ≡ None) }
         ensures own { IfOk result (λ joins. joins ≡ true → has_key before.now request.now ≡ false) }
         ensures limit { IfOk result (λ joins. joins ≡ true
             → (store_of self.new).kept + length before.now < limit_of self.new) }
         ensures new { ForRequests S.Store self.old self.new (λ requests. IfOk result (λ joins. joins ≡ true
-            → (has_key requests request.now ≡ false) × IsTrue (shows S.Store self.new).is_open)) }
+            → (is_new ≡ true → has_key requests request.now ≡ false) → (has_key requests request.now ≡ false)
+            × (WasOpen S.Store is_new self.old → IsTrue (shows S.Store self.new).is_open))) }
         ensures is_open { ForRequests S.Store self.old self.new (λ requests. IsTrue (shows S.Store self.old).is_open
             → OnOk result (IsTrue (shows S.Store self.new).is_open)) }
         ensures looks { LooksUp S.Store self.old self.new }
@@ -387,7 +336,10 @@ impl<S: Alter> Intake<S> {
         if !self.fits(before, request)? {
             return Ok(false);
         }
-        self.is_new(request)
+        if is_new {
+            return Ok(true);
+        }
+        Ok(self.answer_repeat(request)?.is_none())
     }
 
     /// Whether a request may be kept together with these before it, if nothing is kept of its filer and key.
@@ -403,23 +355,5 @@ impl<S: Alter> Intake<S> {
                 && (before.len() as u64) < self.limit.keys.saturating_sub(kept)
                 && !has_key(before, request),
         )
-    }
-
-    /// Whether nothing is kept of a request's filer and key.
-    fn is_new(&mut self, request: &Request<'_>) -> Result<bool, StoreFault>
-        ensures new { ForRequests S.Store self.old self.new (λ requests. IfOk result (λ new. new ≡ true
-            → (has_key requests request.now ≡ false) × IsTrue (shows S.Store self.new).is_open)) }
-        ensures repeat { ForRequests S.Store self.old self.new (λ requests. IfOk result (λ new. new ≡ false
-            → has_key requests request.now ≡ true)) }
-        ensures is_open { ForRequests S.Store self.old self.new (λ requests. IsTrue (shows S.Store self.old).is_open
-            → OnOk result (IsTrue (shows S.Store self.new).is_open)) }
-        ensures looks { LooksUp S.Store self.old self.new }
-    {
-        let name = name_of(self.alloc, request).ok();
-        if self.recall(request, &name).is_some() {
-            return Ok(false);
-        }
-        let row = self.store.find(request.filer, request.key)?;
-        Ok(row.is_none())
     }
 }

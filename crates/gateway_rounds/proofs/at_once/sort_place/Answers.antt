@@ -23,4 +23,4 @@ pub returns-in-Err : goal.returns-in-Err
 returns-in-Err g c =
     inl (place_unknown g.T.Stream g.S.Store c.args.place _ _ c.args.intake.now c.sort.new.intake
     c.args.port.now.group.items c.args.port.now.group.items c.requires c.give_up.ensures.running c.give_up.ensures.over
-    c.give_up.ensures.others refl c.in-Err.ensures.looks refl)
+    c.give_up.ensures.others (record { asked = refl; bounds = c.give_up.ensures.bounds }) c.in-Err.ensures.looks refl)

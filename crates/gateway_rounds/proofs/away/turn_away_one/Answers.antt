@@ -9,7 +9,8 @@ pub returns-in_default : goal.returns-in_default
 returns-in_default g c =
     turned_away g.T.Stream c.args.place _ _ c.away-mark.result.0 c.away-mark.result.1 c.requires c.away-mark.ensures
     (told_nothing g.T.Stream c.args.place _ _ (λ told. told ≡ render (closing_reply c.away-mark.result.1) true) true
-    c.give_up.ensures.running c.give_up.ensures.over c.give_up.ensures.others refl)
+    c.give_up.ensures.running c.give_up.ensures.over c.give_up.ensures.others
+    (record { asked = refl; bounds = c.give_up.ensures.bounds }))
 
 pub returns : goal.returns
 returns g c =

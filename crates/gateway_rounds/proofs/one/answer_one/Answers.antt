@@ -10,4 +10,5 @@ returns-in-Ok-clause-takes g c =
 pub returns-in-Err-clause-takes : goal.returns-in-Err-clause-takes
 returns-in-Err-clause-takes g c =
     place_lost g.T.Stream g.S.Store c.args.place _ _ c.args.intake.now c.decide_at.new.intake c.give_up.ensures.running
-    c.give_up.ensures.over c.give_up.ensures.others refl c.in-Err.ensures.decided c.decide_at.ensures.setting
+    c.give_up.ensures.over c.give_up.ensures.others (record { asked = refl; bounds = c.give_up.ensures.bounds })
+    c.in-Err.ensures.decided c.decide_at.ensures.setting

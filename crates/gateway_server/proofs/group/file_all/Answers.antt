@@ -8,12 +8,12 @@ use Rattle.gateway_server.proofs.Kept.{keeps_after}
 use Rattle.gateway_server.proofs.group.file_all.Goals as goal
 
 pub returns-clause-decided : goal.returns-clause-decided
-returns-clause-decided g c = λ clean before h.
+returns-clause-decided g c = λ clean before h new.
     let told = c.in_ok-results.ensures.decides in
     let each = c.in_ok-results.ensures.each in
     let given : List Given = c.in_ok-results.results.items in
     let ds = zip c.args.requests.now given in
-    let answers = told.answers clean before h in (
+    let answers = told.answers clean before h new in (
       after before ds,
       answers.1,
       ap (λ n. take n (after before ds)) told.setting.old_style

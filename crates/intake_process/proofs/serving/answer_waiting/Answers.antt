@@ -47,6 +47,12 @@ returns-clause-stays g c =
     (up.went g.T.Stream from to ready last new c.answer_port-by.result c.answer_port-by.ensures
     (λ other. ap (parts g.P.Place.lying) (c.went.ensures.others other)) c.went.ensures.calls)
 
+pub returns-clause-port : goal.returns-clause-port
+returns-clause-port g c =
+    up.keeps_port g.T.Stream (port g.K.Sockets.traffic c.args.port.now)
+    (port g.K.Sockets.traffic c.answer_port-by.new.port) c.open_again-refusal.new.process.intake
+    c.answer_port-by.new.self.intake c.answer_port-by.result c.answer_port-by.ensures.0
+
 pub returns-clause-passes : goal.returns-clause-passes
 returns-clause-passes g c =
     let from = port g.K.Sockets.traffic c.args.port.now in

@@ -1,4 +1,4 @@
-use Rattle.std.proofs.Common.{None, refl, rules, subst, sym, ◌+◌, ◌≡◌}
+use Rattle.std.proofs.Common.{None, ap, refl, rules, subst, sym, ◌+◌, ◌∙◌, ◌≡◌}
 use Rattle.std.specs.Prelude.{IfOk}
 use Rattle.std.specs.Result.{result_ok}
 use Rattle.gateway_rounds.specs.Ports.{port, Runs}
@@ -50,3 +50,6 @@ returns-clause-asked g c =
     let last = port g.K.Sockets.traffic c.serve_port.new.port in
     subst (λ first. IfOk c.serve_port.result (λ taken. last.asked ≡ first.asked + taken)) c.listen.ensures
     c.serve_port.ensures.asked
+
+pub returns-clause-bounds : goal.returns-clause-bounds
+returns-clause-bounds g c = c.serve_port.ensures.bounds ∙ ap (λ port. port.hall.bounds) c.listen.ensures

@@ -19,6 +19,7 @@ loop-taken-init g c =
       stays = up.same old;
       passes = history.none g.T.Stream c.args.limit first first old _ _ (Some 0) refl (λ answers running. running) refl;
       asked = omega arith;
+      bounds = refl;
     }
 
 pub returns-in_err-serve_round-clause-answers : goal.returns-in_err-serve_round-clause-answers
@@ -56,6 +57,7 @@ loop-taken-preserved g c =
       passes = history.join g.T.Stream c.args.limit first mid last old between new _ _ _ c.loop-taken.taken (Some 1)
           c.loop-taken.invariant.passes (rw c.in_ok-serve_round.was at c.serve_round.ensures.passes);
       asked = omega (arith, c.serve_round.ensures.asked, c.loop-taken.invariant.asked);
+      bounds = c.serve_round.ensures.bounds ∙ c.loop-taken.invariant.bounds;
     }
 
 pub returns-in_err-serve_round-clause-stays : goal.returns-in_err-serve_round-clause-stays
@@ -79,3 +81,6 @@ returns-in_err-serve_round-clause-passes g c =
     (history.untold g.T.Stream c.args.limit first last old new _ _ _
     (history.join g.T.Stream c.args.limit first mid last old between new _ _ _ c.loop-taken.taken _
     c.loop-taken.invariant.passes c.serve_round.ensures.passes))
+
+pub returns-in_err-serve_round-clause-bounds : goal.returns-in_err-serve_round-clause-bounds
+returns-in_err-serve_round-clause-bounds g c = c.serve_round.ensures.bounds ∙ c.loop-taken.invariant.bounds

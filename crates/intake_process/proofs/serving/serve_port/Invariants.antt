@@ -19,4 +19,5 @@ invariant-loop-taken g l = record {
       (parts g.P.Place.lying l.fn.process) (parts g.P.Place.lying l.process)
       (g.O.Observer.answers l.fn.observer) (g.O.Observer.answers l.observer) (Some l.taken);
   asked : (port g.K.Sockets.traffic l.port).asked ≡ (port g.K.Sockets.traffic l.fn.port).asked + l.taken;
+  bounds : l.port.hall.bounds ≡ l.fn.port.hall.bounds;
 }

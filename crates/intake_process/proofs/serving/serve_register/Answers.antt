@@ -51,6 +51,7 @@ returns-in-Ok-served g c =
         ends = c.in-Ok-served.ensures.ends;
         shut = c.in-Ok-served.ensures.shut;
         asked = c.in-Ok-served.ensures.asked;
+        bounds = c.listen_and_serve-served.ensures.bounds;
         passes = subst (λ noted. Passes g.T.Stream c.args.limit from to opened served
             (g.O.Observer.answers c.args.observer.now) noted (Some c.in-Ok-served.taken)) (sym c.closed.ensures)
             c.in-Ok-served.ensures.passes;
@@ -85,6 +86,7 @@ returns-in-Err-served g c =
         ends = tt;
         shut = λ shut. tt;
         asked = tt;
+        bounds = c.listen_and_serve-served.ensures.bounds;
         passes = subst (λ noted. Passes g.T.Stream c.args.limit from to opened served
             (g.O.Observer.answers c.args.observer.now) noted None) (sym c.closed.ensures)
             c.in-Err-served.ensures.passes;

@@ -50,7 +50,10 @@ returns-then-waits-clause-passes g c =
     c.answer_waiting.ensures.passes
 
 pub returns-then-waits-clause-asked : goal.returns-then-waits-clause-asked
-returns-then-waits-clause-asked g c = c.answer_waiting.ensures.asked ∙ c.go_on.ensures.asked
+returns-then-waits-clause-asked g c = c.answer_waiting.ensures.port.asked ∙ c.go_on.ensures.asked
+
+pub returns-then-waits-clause-bounds : goal.returns-then-waits-clause-bounds
+returns-then-waits-clause-bounds g c = c.answer_waiting.ensures.port.bounds ∙ c.go_on.ensures.bounds
 
 pub returns-else-waits-clause-answers : goal.returns-else-waits-clause-answers
 returns-else-waits-clause-answers g c = λ honest.

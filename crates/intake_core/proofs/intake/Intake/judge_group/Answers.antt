@@ -1,10 +1,10 @@
-use Rattle.std.proofs.Common.{◌≡◌, ◌+◌, ◌++◌, ◌∷◌, [], true, take, sym, ap}
+use Rattle.std.proofs.Common.{◌≡◌, ◌+◌, ◌++◌, ◌∷◌, [], true, take, sym, ap, inl}
 use Rattle.std.proofs.Common.{subst, ◌∙◌, arith, length-append}
 use Rattle.std.proofs.lemmas.List.{take_more, length-take-le}
 use Rattle.std.proofs.lemmas.Slice.Zip.{all_zipped_more}
 use Rattle.filing_model.specs.Request.{Request}
 use Rattle.intake_core.specs.Together.{AreNewBehind, IsJudgedAlone}
-use Rattle.intake_core.proofs.Together.{has_key-neither, looks_then, new_more}
+use Rattle.intake_core.proofs.Together.{has_key-neither, looks_then, new_at, new_more}
 use Rattle.intake_core.proofs.intake.Intake.judge_group.Goals as goal
 use Rattle.intake_core.proofs.intake.Intake.judge_group.Goals.{else-loop-at-test}
 use Rattle.intake_core.proofs.intake.Intake.judge_group.Goals.{then-loop-at-test+in_ok-may_join+then-not-branch}
@@ -35,15 +35,20 @@ loop-at-preserved g c =
           rw (longer, c.push_reserved.ensures.items, c.in_ok-reserve.ensures.items)
           (all_zipped_more IsJudgedAlone before c.loop-at.group.items r c.in_ok-judged.judged c.loop-at.invariant.judged
           judged);
-      new = λ clean F h.
+      new = λ clean F h holds.
           let cleaned = looks.setting.clean clean in
           let held = c.loop-at.invariant.looks.same cleaned F h in
-          let fresh = c.in_ok-may_join.ensures.new clean F held joins in (
-            subst (AreNewBehind F) (sym longer)
-                (new_more F before r (c.loop-at.invariant.new cleaned F h).0
-                (has_key-neither F before r fresh.0 (c.in_ok-may_join.ensures.own joins))),
-            λ some. fresh.1,
-          );
+          let fresh = c.in_ok-may_join.ensures.new clean F held joins
+          (λ found. new_at F all at r (holds found) c.loop-at-test.true c.index-requests-at.is) in
+          subst (AreNewBehind F) (sym longer)
+          (new_more F before r (c.loop-at.invariant.new cleaned F h holds)
+          (has_key-neither F before r fresh.0 (c.in_ok-may_join.ensures.own joins)));
+      is_open = λ clean F h holds opened some.
+          let cleaned = looks.setting.clean clean in
+          let held = c.loop-at.invariant.looks.same cleaned F h in
+          let fresh = c.in_ok-may_join.ensures.new clean F held joins
+          (λ found. new_at F all at r (holds found) c.loop-at-test.true c.index-requests-at.is) in
+          fresh.1 (λ found. c.loop-at.invariant.is_open cleaned F h holds opened (inl found));
       limit = λ some.
           omega (
             arith,

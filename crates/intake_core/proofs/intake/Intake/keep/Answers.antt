@@ -23,7 +23,6 @@ returns-clause-kept g c = record {
       c.in_ok-free.ensures.tells.setting.old_style
       (left requests (c.in_ok-free.ensures.tells.same cleaned requests h) still (fresh, free)))
       c.is_free.ensures.tells.crash c.keep_judged.ensures.kept.crash;
-  is_open = search rules;
 }
 
 pub returns-clause-dated : goal.returns-clause-dated

@@ -19,7 +19,8 @@ use Rattle.register_rows.specs.declared.moment.Moment.{Moment}
 use Rattle.intake_core.specs.Held.{old_style_of, old_style_in}
 use Rattle.intake_core.specs.Moments.{HoldsMoments}
 use Rattle.intake_core.proofs.Dating.{HoldsMoments-same, moment_new}
-use Rattle.intake_core.proofs.Deciding.{IsKeptIn-new, HoldsRequests-more, HoldsRequests-new, firsts-more, style_of-new}
+use Rattle.intake_core.proofs.Deciding.{IfSome-made, IsKeptIn-new, HoldsRequests-more, HoldsRequests-new, firsts-more}
+use Rattle.intake_core.proofs.Deciding.{style_of-new}
 use Rattle.intake_core.proofs.intake.Intake.keep_judged.Given.{Over}
 use Rattle.intake_core.proofs.intake.Intake.keep_judged.Goals.{In_ok-judged}
 use Rattle.intake_core.proofs.intake.Intake.keep_judged.Goals as goal
@@ -39,7 +40,9 @@ pub returns-clause-kept : goal.returns-clause-kept
 returns-clause-kept g c =
     let at_judged = (goal.at.returns-clause-kept g c).In_ok-judged in
     let r : Request = asked g at_judged in
-    let named : IsNameIfAny r c.args.name = rw (← c.request.view_is) at c.requires.name in
+    let made : IsNameIfAny c.args.request.now c.ok-name.result =
+    rw c.ok-name.ensures.value (IfSome-made c.name_of.result _ c.name_of.ensures) in
+    let named : IsNameIfAny r c.ok-name.result = rw (← c.request.view_is) at made in
     let remembered = rw (← c.request.view_is) at c.remember.ensures.same in
     rw (← c.request.view_is) (record {
       answer = λ clean requests h given.
@@ -73,12 +76,16 @@ returns-clause-kept g c =
           subst (λ (rs : List Request). LeavesRegister (old_style_of c.args.self.now) rs trees)
           (sym (firsts-more requests r h.firsts' given.0))
           (left requests h.rows alive given.0 (fair g at_judged _ given.1))) c.add.ensures.added.crash);
-      is_open = λ clean requests h given.
-          let cleaned : HasCleanDisk (shows g.S.Store c.add.new.self.store) =
-          subst (λ s. HasCleanDisk (shows g.S.Store s)) c.remember.ensures.rest.store clean in
-          subst (λ s. IsTrue (shows g.S.Store s).is_open) (sym c.remember.ensures.rest.store)
-          (c.in_ok-outcome.ensures.added.durable cleaned requests h.rows given.0 (fair g at_judged _ given.1)).0;
     })
+
+pub returns-clause-is_open : goal.returns-clause-is_open
+returns-clause-is_open g c =
+    let at_judged = (goal.at.returns-clause-is_open g c).In_ok-judged in
+    rw (← c.request.view_is) (λ clean requests h new free.
+    let cleaned : HasCleanDisk (shows g.S.Store c.add.new.self.store) =
+    subst (λ s. HasCleanDisk (shows g.S.Store s)) c.remember.ensures.rest.store clean in
+    subst (λ s. IsTrue (shows g.S.Store s).is_open) (sym c.remember.ensures.rest.store)
+    (c.in_ok-outcome.ensures.added.durable cleaned requests h.rows new (fair g at_judged _ free)).0)
 
 pub returns-in_err-outcome-clause-kept : goal.returns-in_err-outcome-clause-kept
 returns-in_err-outcome-clause-kept g c =
@@ -96,7 +103,6 @@ returns-in_err-outcome-clause-kept g c =
           subst (λ (rs : List Request). LeavesRegister (old_style_of c.args.self.now) rs trees)
           (sym (firsts-more requests r h.firsts' given.0))
           (left requests h.rows alive given.0 (fair g at_judged _ given.1))) c.add.ensures.added.crash;
-      is_open = search rules;
     })
 
 pub returns-clause-dated : goal.returns-clause-dated

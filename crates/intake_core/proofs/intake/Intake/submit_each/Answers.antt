@@ -4,7 +4,7 @@ use Rattle.filing_model.specs.Request.{Request}
 use Rattle.register_rows.specs.declared.moment.Moment.{Moment}
 use Rattle.intake_core.specs.Together.{AddsResults, in_milliseconds}
 use Rattle.intake_core.proofs.Dating.{length_milliseconds}
-use Rattle.intake_core.proofs.Group.{adds_none, adds_one, adds_more}
+use Rattle.intake_core.proofs.Group.{adds_none, adds_one, adds_then}
 use Rattle.intake_core.proofs.intake.Intake.submit_each.Goals as goal
 
 pub loop-at-init : goal.loop-at-init
@@ -32,8 +32,9 @@ loop-at-preserved g c =
     c.args.results.now c.push_reserved.new.self) later
     (subst (λ rs. AddsResults g.S.Store rs (in_milliseconds (take i moments) ++ moment.milliseconds ∷ [])
     c.args.self.now c.submit_request-result.new.self c.args.results.now c.push_reserved.new.self) longer
-    (adds_more (take i all) (request ∷ []) (in_milliseconds (take i moments)) (moment.milliseconds ∷ [])
-    c.args.self.now c.loop-at.self c.submit_request-result.new.self c.args.results.now c.loop-at.results
+    (adds_then (Unit {0}) (λ F. Unit {0}) (take i all) (request ∷ []) (in_milliseconds (take i moments))
+    (moment.milliseconds ∷ []) c.args.self.now c.loop-at.self c.submit_request-result.new.self c.args.results.now
+    c.loop-at.results
     c.push_reserved.new.self as_many c.loop-at.invariant
     (adds_one request moment.milliseconds c.submit_request-result.result c.loop-at.self
     c.submit_request-result.new.self c.loop-at.results c.push_reserved.new.self c.submit_request-result.ensures.decides

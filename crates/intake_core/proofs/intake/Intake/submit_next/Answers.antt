@@ -6,8 +6,9 @@ use Rattle.register_rows.specs.declared.moment.Moment.{Moment}
 use Rattle.intake_core.specs.declared.intake.group.Together.TheVariants.{Kept, Alone, Failed}
 use Rattle.intake_core.specs.Together.{AddsResults, AnswersGroup, KeepsFirst, in_milliseconds}
 use Rattle.intake_core.proofs.Dating.{length_milliseconds}
-use Rattle.intake_core.proofs.Group.{adds_always}
-use Rattle.intake_core.proofs.Together.{kept_if, together_alone, together_failed, together_kept}
+use Rattle.intake_core.specs.Looked.{AreNewIf, WasOpen}
+use Rattle.intake_core.proofs.Group.{adds_if}
+use Rattle.intake_core.proofs.Together.{together_alone, together_failed, together_kept}
 use Rattle.intake_core.proofs.intake.Intake.submit_next.Goals as goal
 use Rattle.std.proofs.Common.{rules}
 
@@ -20,10 +21,11 @@ returns-then-self g c =
       length all,
       c.requires.some,
       search rules,
-      subst (λ (rs : List Request). AddsResults g.S.Store rs (take (length all) ms) c.args.self.now
+      adds_if (WasOpen g.S.Store c.args.are_new c.args.self.now) (AreNewIf c.args.are_new all)
+          (subst (λ (rs : List Request). AddsResults g.S.Store rs (take (length all) ms) c.args.self.now
           c.submit_each.new.self c.args.results.now c.submit_each.new.results) (sym (take-length all))
           (subst (λ ms. AddsResults g.S.Store all ms c.args.self.now c.submit_each.new.self c.args.results.now
-          c.submit_each.new.results) (sym whole) c.submit_each.ensures),
+          c.submit_each.new.results) (sym whole) c.submit_each.ensures)),
     )
 
 pub returns-in-Kept : goal.returns-in-Kept
@@ -32,7 +34,8 @@ returns-in-Kept g c =
     let count = length c.in-Kept.outcomes.items in
     let ms = in_milliseconds c.args.moments.now in
     let long_ms : length ms ≡ length all = length_milliseconds c.args.moments.now ∙ c.requires.moments in
-    let keeps : KeepsFirst g.S.Store all ms c.args.self.now c.keep_first.new.self (Kept c.in-Kept.outcomes) =
+    let keeps : KeepsFirst g.S.Store (WasOpen g.S.Store c.args.are_new c.args.self.now)
+    (AreNewIf c.args.are_new all) all ms c.args.self.now c.keep_first.new.self (Kept c.in-Kept.outcomes) =
     rw c.in-Kept.is at c.keep_first.ensures in
     let many : c.len.result ≡ count = search rules in
     let answers : AnswersGroup g.S.Store (take count all) c.in-Kept.outcomes.items c.keep_first.new.self
@@ -40,9 +43,10 @@ returns-in-Kept g c =
       count,
       keeps.some.0,
       keeps.some.1,
-      adds_always (together_kept all ms long_ms c.args.self.now c.keep_first.new.self c.answer_group.new.self
+      (together_kept all ms long_ms c.args.self.now c.keep_first.new.self c.answer_group.new.self
           c.args.results.now
-          c.answer_group.new.results c.if-self.false (Unit {0}) (λ F. Unit {0}) c.in-Kept.outcomes (kept_if keeps)
+          c.answer_group.new.results c.if-self.false
+          (WasOpen g.S.Store c.args.are_new c.args.self.now) (AreNewIf c.args.are_new all) c.in-Kept.outcomes keeps
           answers),
     )
 
@@ -52,14 +56,16 @@ returns-in-Alone g c =
     let count = c.in-Alone.count in
     let ms = in_milliseconds c.args.moments.now in
     let long_ms : length ms ≡ length all = length_milliseconds c.args.moments.now ∙ c.requires.moments in
-    let keeps : KeepsFirst g.S.Store all ms c.args.self.now c.keep_first.new.self (Alone count) =
+    let keeps : KeepsFirst g.S.Store (WasOpen g.S.Store c.args.are_new c.args.self.now)
+    (AreNewIf c.args.are_new all) all ms c.args.self.now c.keep_first.new.self (Alone count) =
     rw c.in-Alone.is at c.keep_first.ensures in (
       count,
       keeps.some.0,
       keeps.some.1,
-      adds_always (together_alone all ms long_ms c.args.self.now c.keep_first.new.self c.submit_each-in-Alone.new.self
-          c.args.results.now c.submit_each-in-Alone.new.results c.if-self.false (Unit {0}) (λ F. Unit {0}) count
-          (kept_if keeps)
+      (together_alone all ms long_ms c.args.self.now c.keep_first.new.self c.submit_each-in-Alone.new.self
+          c.args.results.now c.submit_each-in-Alone.new.results c.if-self.false
+          (WasOpen g.S.Store c.args.are_new c.args.self.now) (AreNewIf c.args.are_new all) count
+          keeps
           (subst (λ ms. AddsResults g.S.Store (take count all) ms c.keep_first.new.self c.submit_each-in-Alone.new.self
           c.args.results.now c.submit_each-in-Alone.new.results)
           (sym (take-map (λ (t : Moment). t.milliseconds) count c.args.moments.now)) c.submit_each-in-Alone.ensures)),
@@ -71,13 +77,15 @@ returns-in-Failed g c =
     let count = c.in-Failed.count in
     let ms = in_milliseconds c.args.moments.now in
     let long_ms : length ms ≡ length all = length_milliseconds c.args.moments.now ∙ c.requires.moments in
-    let keeps : KeepsFirst g.S.Store all ms c.args.self.now c.keep_first.new.self (Failed count) =
+    let keeps : KeepsFirst g.S.Store (WasOpen g.S.Store c.args.are_new c.args.self.now)
+    (AreNewIf c.args.are_new all) all ms c.args.self.now c.keep_first.new.self (Failed count) =
     rw c.in-Failed.is at c.keep_first.ensures in (
       count,
       keeps.some.0,
       keeps.some.1,
-      adds_always (together_failed all ms long_ms c.args.self.now c.keep_first.new.self c.refuse_group.new.self
+      (together_failed all ms long_ms c.args.self.now c.keep_first.new.self c.refuse_group.new.self
           c.args.results.now
-          c.refuse_group.new.results c.if-self.false (Unit {0}) (λ F. Unit {0}) count (kept_if keeps)
+          c.refuse_group.new.results c.if-self.false
+          (WasOpen g.S.Store c.args.are_new c.args.self.now) (AreNewIf c.args.are_new all) count keeps
           c.refuse_group.ensures),
     )

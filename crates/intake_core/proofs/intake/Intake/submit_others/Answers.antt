@@ -1,10 +1,11 @@
 use Rattle.std.proofs.Common.{◌≡◌, ◌+◌, ◌-◌, take, drop, length, vec_len, subst, sym, ap, ◌∙◌, arith}
+use Rattle.std.proofs.Common.{true≢false}
 use Rattle.std.proofs.lemmas.List.{drop-map, length-drop, take_all}
 use Rattle.std.proofs.lemmas.Slice.{between_to_end}
 use Rattle.register_rows.specs.declared.moment.Moment.{Moment}
 use Rattle.intake_core.specs.Together.{AddsResults, in_milliseconds}
 use Rattle.intake_core.proofs.Dating.{length_milliseconds}
-use Rattle.intake_core.proofs.Group.{adds_next, adds_none}
+use Rattle.intake_core.proofs.Group.{adds_next, adds_none, adds_weaker}
 use Rattle.intake_core.proofs.intake.Intake.submit_others.Goals as goal
 use Rattle.intake_core.proofs.intake.Intake.submit_others.Goals.{then-at-len, else-at-len}
 
@@ -29,6 +30,8 @@ loop-at-preserved g c =
     elim c.if-at-len.branch [
       | then-at-len w ↦
           let next = w.submit_next.ensures in
+          let adds = adds_weaker (λ _ is. absurd (true≢false (sym is))) (λ F _ is. absurd (true≢false (sym is)))
+          next.3 in
           let here : vec_len c.loop-at.results - start ≡ at = omega (arith, w.if-at-len.true, c.len.ensures) in
           let before : AddsResults g.S.Store (take at all) (take at ms) c.args.self.now c.loop-at.self
           c.args.results.now c.loop-at.results =
@@ -38,7 +41,7 @@ loop-at-preserved g c =
           drop-map (λ (t : Moment). t.milliseconds) at c.args.moments.now in
           let done =
           adds_next all ms at next.0 c.args.self.now c.loop-at.self w.submit_next.new.self c.args.results.now
-          c.loop-at.results w.submit_next.new.results long_ms before next.3 next.2
+          c.loop-at.results w.submit_next.new.results long_ms before adds next.2
           (between_to_end all at (length all) (omega arith))
           (ap in_milliseconds (between_to_end c.args.moments.now at (length c.args.moments.now) (omega arith))
           ∙ sym rest) (omega (arith, c.loop-at-test.true)) in
