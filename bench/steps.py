@@ -1,7 +1,8 @@
 #!/usr/bin/env python3
 """Counts how often the built `intake` does each step of a new report, by callgrind: how often it parses a head, finds a
-route, looks a key up in the tables, commits, and calls the system for a sync, on one connection and with 64 clients.
-Status 1 if a step is done more often than its bound, or not at all.
+route, looks a key up in the tables, judges, commits, and calls the system for a sync, on one connection and with 64
+clients, and the same of a repeat that is not remembered, since the intake was started again. Status 1 if a step is done
+more often than its bound, or not at all.
 
     bench/steps.py [--intake PROGRAM]
 """
@@ -16,14 +17,15 @@ import loopback
 from programs import NO_REP, Server, example, folder
 
 COUNT = 640
-# A step, the function that does it, and how often it may be done for a new report: on one connection, and with clients.
+# A step, the function that does it, and how often it may be done for a report: a new one on one connection, a new one
+# with clients, and a repeat. What may be done 0 times must not be done.
 STEPS = [
-    ("a head is parsed", r"httparse::start_line::parse_uri", 1, 1),
-    ("a route is found", r"gateway_requests::route::route_of", 1, 1),
-    ("a key is looked up", r"register_store::store::Store::find", 1, 1),
-    ("a report is judged", r"xbrl_report::judging::judge_amendment", 1, 1),
-    ("a transaction is committed", r"sqlite::connection::Connection::commit", 1, 0.1),
-    ("a file is synced", r"found_files::file::FoundFileDisk::sync", 1.1, 0.1),
+    ("a head is parsed", r"httparse::start_line::parse_uri", 1, 1, 1),
+    ("a route is found", r"gateway_requests::route::route_of", 1, 1, 1),
+    ("a key is looked up", r"register_store::store::Store::find", 1, 1, 1),
+    ("a report is judged", r"xbrl_report::judging::judge_amendment", 1, 1, 0),
+    ("a transaction is committed", r"sqlite::connection::Connection::commit", 1, 0.1, 0),
+    ("a file is synced", r"found_files::file::FoundFileDisk::sync", 1.1, 0.1, 0),
 ]
 NAMED = re.compile(r"c?fn=\((\d+)\)(?: (.*))?")
 CALLS = re.compile(r"calls=(\d+) ")
@@ -48,9 +50,13 @@ def calls_in(lines):
     return found
 
 
-def counted(program, send):
-    """How often each function was called while new reports were sent."""
+def counted(program, send, filed_before=()):
+    """How often each function was called while reports were sent; those of these keys were filed before by an intake
+    that was stopped."""
     with folder() as place:
+        if filed_before:
+            with Server(place, 1, program=program) as server:
+                loopback.send_all(server.port, filed_before, example(), True)
         out = os.path.join(place, "calls")
         under = ["valgrind", "--tool=callgrind", f"--callgrind-out-file={out}", "--instr-atstart=no"]
         with Server(place, COUNT + 2, under, NO_REP, program) as server:
@@ -73,11 +79,12 @@ def main():
     ways = [
         ("one connection", counted(program, lambda port: loopback.send_all(port, keys, example(), True))),
         ("64 clients", counted(program, lambda port: loopback.send_at_once(port, keys, example()))),
+        ("a repeat", counted(program, lambda port: loopback.send_all(port, keys, example(), True), keys)),
     ]
-    for what, function, alone, together in STEPS:
-        for (how, counts), most in zip(ways, (alone, together)):
+    for what, function, *bounds in STEPS:
+        for (how, counts), most in zip(ways, bounds):
             times = sum(count for name, count in counts.items() if re.search(function + r"($|::<|')", name))
-            holds = 0 < times <= most * COUNT
+            holds = 0 < times <= most * COUNT if most else times == 0
             failed += not holds
             print(f"{'ok' if holds else 'failed'}: {what}, {how}: {times / COUNT:.3f} times a report, at most {most}")
     sys.exit(1 if failed else 0)
