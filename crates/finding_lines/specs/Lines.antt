@@ -23,7 +23,7 @@ line_with Objects file position pair value words = object_line file position pai
 -- the line of a finding in a body, with its place there
 abbrev pub line : Form → List ℕ → List ℕ → Pair × ValuePlace → List ℕ
 line form file body told =
-    line_with form file told.1.position told.0 (value body told.1) (message body told.1 told.0.code)
+    line_with form file told.1.position told.0 (value body told.1) (message body told.1 told.0)
 
 abbrev pub fault_words : SyntaxFault → List ℕ
 fault_words fault = if fault.is_cut then codes "the body ends too soon" else codes "the body is no JSON text"

@@ -1,8 +1,10 @@
 -- The sentence of a finding.
 use Rattle.std.specs.Prelude.{ℕ, ◌==◌, List, [], ◌∷◌, ◌++◌, length, drop, nat_lt, if◌then◌else◌, codes, Option, Some}
 use Rattle.std.specs.Prelude.{None}
+use Rattle.std.specs.List.{after_last}
 use Rattle.report_places.specs.Shown.{scalar, value_text}
 use Rattle.report_places.specs.declared.place.ValuePlace.{ValuePlace}
+use Rattle.xbrl_report.specs.Pair.{Pair}
 use Rattle.xbrl_report.specs.declared.code.Code.{Code}
 use Rattle.xbrl_report.specs.declared.code.Code.TheVariants.{NotJson, NotObject, DocumentInfo, DocumentType, Namespaces}
 use Rattle.xbrl_report.specs.declared.code.Code.TheVariants.{NamespaceUri, Taxonomy, Facts, Fact, Value, Decimals}
@@ -11,7 +13,7 @@ use Rattle.xbrl_report.specs.declared.code.Code.TheVariants.{Name, UnboundPrefix
 use Rattle.xbrl_report.specs.declared.code.Code.TheVariants.{UnitForm, Number, Language, UnknownDimension, TooMany}
 use Rattle.xbrl_report.specs.declared.code.Code.TheVariants.{NotReplaceable}
 
--- what is wrong with the value at the place; the value stands before it
+-- what is wrong with what the sentence is about, which stands before it
 abbrev pub phrase : Code → List ℕ
 phrase NotJson = codes "is no JSON text"
 phrase NotObject = codes "is no object"
@@ -36,7 +38,7 @@ phrase PeriodOrder = codes "does not begin before it ends"
 phrase UnitForm = codes "is no unit"
 phrase Number = codes "is no number"
 phrase Language = codes "is no language"
-phrase UnknownDimension = codes "belongs to no known dimension"
+phrase UnknownDimension = codes "is no known dimension"
 phrase TooMany = codes "has more findings than are shown"
 phrase NotReplaceable = codes "may not replace that filing"
 
@@ -57,9 +59,19 @@ subject_of _ _ bytes = bracket_words bytes
 abbrev pub subject : List ℕ → List ℕ
 subject bytes = subject_of (value_text bytes) (scalar bytes) bytes
 
-abbrev pub message : List ℕ → ValuePlace → Code → List ℕ
-message body place code =
-    if place.is_there then subject (drop place.offset body) ++ codes " " ++ phrase code
+-- the name of a member, behind the last slash of the pointer to it (RFC 6901, section 3: in a name `~1` stands for a
+-- slash, and `~0` for a tilde)
+abbrev pub last_name : List ℕ → List ℕ
+last_name pointer = after_last (λ b. b == 47) pointer
+
+-- what a finding at the end of this pointer is about: the value there, or the name of a dimension that is not known
+abbrev pub about : Code → List ℕ → List ℕ → List ℕ
+about UnknownDimension pointer bytes = codes "\"" ++ last_name pointer ++ codes "\""
+about other pointer bytes = subject bytes
+
+abbrev pub message : List ℕ → ValuePlace → Pair → List ℕ
+message body place finding =
+    if place.is_there then about finding.code finding.place (drop place.offset body) ++ codes " " ++ phrase finding.code
     else codes "the member is missing"
 
 -- the string, number or literal at a place, as it is in the body

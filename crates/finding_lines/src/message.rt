@@ -1,27 +1,28 @@
 //! The sentence of a finding.
 ghost use Rattle.std.specs.Prelude.{◌≡◌, option_map, IfOk};
-ghost use Rattle.finding_lines.specs.Messages.{phrase, subject, bracket_words, message, value as value_lem};
+ghost use Rattle.finding_lines.specs.Messages.{about, bracket_words, last_name, message, phrase, subject};
+ghost use Rattle.finding_lines.specs.Messages.{value as value_lem};
 
 use crate::text::copied;
 use report_places::{ValuePlace, value_text, whole_value};
 use std::alloc::{AllocError, Global};
-use xbrl_report::Code;
+use xbrl_report::{Code, Finding};
 
-/// The sentence of a finding: the value at its place and what is wrong with it, or that there is no value.
+/// The sentence of a finding: what it is about and what is wrong with that, or that there is no value at its place.
 pub(crate) fn message(
     alloc: Global,
     body: &[u8],
     place: &ValuePlace,
-    code: Code,
+    finding: &Finding,
 ) -> Result<Vec<u8>, AllocError>
-    ensures { IfOk result (λ written. written.items ≡ message body.now place.now code) }
+    ensures { IfOk result (λ written. written.items ≡ message body.now place.now finding.now) }
 {
     if !place.is_there {
         return copied(alloc, b"the member is missing");
     }
-    let mut message = subject(alloc, &body[place.offset.min(body.len())..])?;
+    let mut message = about(alloc, finding, &body[place.offset.min(body.len())..])?;
     message.push(b' ')?;
-    message.extend_from_slice(phrase(code).as_bytes())?;
+    message.extend_from_slice(phrase(finding.code).as_bytes())?;
     Ok(message)
 }
 
@@ -35,6 +36,32 @@ pub(crate) fn value<'a>(body: &'a [u8], place: &ValuePlace) -> Option<&'a [u8]>
     } else {
         None
     }
+}
+
+/// What is wrong: the value with which the bytes begin, or the name of a dimension that is not known.
+fn about(alloc: Global, finding: &Finding, bytes: &[u8]) -> Result<Vec<u8>, AllocError>
+    ensures { IfOk result (λ written. written.items ≡ about finding.now.code finding.now.place bytes.now) }
+{
+    match finding.code {
+        Code::UnknownDimension => {
+            let mut name = copied(alloc, b"\"")?;
+            name.extend_from_slice(last_name(finding.place.as_bytes()))?;
+            name.push(b'"')?;
+            Ok(name)
+        }
+        _ => subject(alloc, bytes),
+    }
+}
+
+/// What stands behind the last slash of a pointer.
+fn last_name(pointer: &[u8]) -> &[u8]
+    ensures { result.now ≡ last_name pointer.now }
+{
+    let mut start = pointer.len();
+    while start > 0 && pointer[start - 1] != b'/' {
+        start -= 1;
+    }
+    &pointer[start..]
 }
 
 fn subject(alloc: Global, bytes: &[u8]) -> Result<Vec<u8>, AllocError>
@@ -61,7 +88,7 @@ fn bracket_words(bytes: &[u8]) -> &'static str
     }
 }
 
-/// What is wrong with the value at the place.
+/// What is wrong with what the sentence is about.
 pub(crate) fn phrase(code: Code) -> &'static str
     ensures { result.now ≡ phrase code }
 {
@@ -89,7 +116,7 @@ pub(crate) fn phrase(code: Code) -> &'static str
         Code::UnitForm => "is no unit",
         Code::Number => "is no number",
         Code::Language => "is no language",
-        Code::UnknownDimension => "belongs to no known dimension",
+        Code::UnknownDimension => "is no known dimension",
         Code::TooMany => "has more findings than are shown",
         Code::NotReplaceable => "may not replace that filing",
     }

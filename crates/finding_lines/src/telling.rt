@@ -88,7 +88,7 @@ fn line(
 ) -> Result<Vec<u8>, AllocError>
     ensures { IfOk result (λ written. written.items ≡ line form file.now body.now (finding.now, place.now)) }
 {
-    let message = message(alloc, body, place, finding.code)?;
+    let message = message(alloc, body, place, finding)?;
     let value = value(body, place);
     line_with(alloc, form, file, place.position, finding, value, &message)
 }

@@ -54,7 +54,7 @@ const SENTENCES: &[(Found, &str)] = &[
             r#"{"a\u000ab":5}"#,
             &[("/a\nb", Code::UnknownDimension)],
         ),
-        "r:1:13: unknown-dimension: 5 belongs to no known dimension (/a\\u000ab)\n",
+        "r:1:13: unknown-dimension: \"a\\u000ab\" is no known dimension (/a\\u000ab)\n",
     ),
     (
         ("r", " {}", &[("", Code::TooMany)]),
