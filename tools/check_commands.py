@@ -137,6 +137,8 @@ AFTER = [
     ("show --db @r.db --filer BETA --key k-1 --body", 4, "", f"r.db: {NO_REQUEST}"),
     ("export --db @r.db --format csv", 0, NAMES + CSV, ""),
     ("export --db @r.db --format csv --filer BETA", 0, NAMES, ""),
+    ("export --db @r.db --format csv --current --after 0", 0, NAMES + CSV, ""),
+    ("export --db @r.db --format csv --current --after 1", 0, NAMES, ""),
     ("export --db @r.db --format jsonl --filer ACME", 0, LINE, ""),
     ("export --db @r.db --format jsonl --filer BETA", 0, "", ""),
     ("digest --db @r.db", 0, f"1 {DIGEST}\n", ""),

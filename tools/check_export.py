@@ -8,6 +8,7 @@ It takes the program that `rt run` builds in its folder, as crates/intake/out/in
 """
 import csv
 import io
+import itertools
 import json
 import shutil
 import subprocess
@@ -19,6 +20,8 @@ from trials import INTAKE, hold, make_register, run, tell, try_all
 
 NAMES = ["number", "filer", "key", "id", "concept", "entity", "period", "unit", "language", "note_id", "dimensions",
          "value", "decimals", "replaced_by", "received"]  # fmt: skip
+# Numbers of filings, of which the register has 1 to 5, and no number.
+AFTER = [None, 0, 1, 2, 3, 4, 5, 6, 2**63 - 1]
 # Debian's Python, for which its package python3-pandas is made.
 PANDAS = ["/usr/bin/python3", "-c"]
 
@@ -77,6 +80,23 @@ def check_csv(folder):
     hold("an empty text is another field than no value", text.count(b',"{}","",'), 4)
     hold("and no value is empty", text.count(b',"{}",,'), 1)
     tells_facts_apart([row for row in rows if row[1] == "007"])
+
+
+def check_wanted(folder):
+    """Exports of some filings: what they have is worked out from what was filed, and what was sent to replace what."""
+    database = folder / "register.db"
+    make(database)
+    hold("a filing that is replaced, and others", {it["number"] for it in records(SENT) if it["replaced_by"]}, {1})
+    for filer, current, after in itertools.product((None, "ACME", "BETA", "NONE"), (False, True), AFTER):
+        wanted = [it for it in records(SENT, filer)
+                  if it["number"] > (after or 0) and not (current and it["replaced_by"])]  # fmt: skip
+        words = [*(["--filer", filer] if filer else []), *(["--current"] if current else []),
+                 *(["--after", after] if after is not None else [])]  # fmt: skip
+        lines = exported(database, "--format", "jsonl", *words).decode().splitlines()
+        hold(f"lines with {words}", [json.loads(line) for line in lines], wanted)
+        text = exported(database, "--format", "csv", *words).decode()
+        hold(f"CSV with {words}", list(csv.reader(io.StringIO(text, newline=""))),
+             [NAMES] + [as_text(it) for it in wanted])
 
 
 def check_lines(folder):
@@ -178,6 +198,8 @@ def check_others(folder):
     hold("no file", (done.returncode, done.stdout), (1, b""))
     done = run(INTAKE, "export", "--db", folder / "empty.db", "--format", "xml")
     hold("no such form", (done.returncode, done.stdout), (2, b""))
+    done = run(INTAKE, "export", "--db", folder / "empty.db", "--format", "csv", "--after", 2**63)
+    hold("no such number", (done.returncode, done.stdout), (2, b""))
     with open("/dev/full", "wb") as full:
         done = subprocess.run([INTAKE, "export", "--db", folder / "empty.db", "--format", "csv"],
                               stdout=full, stderr=subprocess.PIPE, check=False)
@@ -194,5 +216,5 @@ def check_time(folder):
 
 
 if __name__ == "__main__":
-    try_all([INTAKE], [check_csv, check_lines, check_pandas, check_sqlite, check_moments, check_clock, check_others,
-                       check_time])
+    try_all([INTAKE], [check_csv, check_wanted, check_lines, check_pandas, check_sqlite, check_moments, check_clock,
+                       check_others, check_time])

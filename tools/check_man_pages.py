@@ -169,6 +169,8 @@ SCENES = [
     Scene("intake show --db register.db --filer", writes="sent.json"),
     Scene("intake check", prints=r"^sound: 1 kept, 1 filings"),
     Scene("intake export", before=Scratch.copied, writes="facts.csv"),
+    Scene("intake export --db copy.db --format jsonl --current", writes="current.jsonl"),
+    Scene("intake export --db copy.db --format csv --after 1", writes="later.csv"),
     Scene("intake digest", prints=r"^1 [0-9a-f]{64}$"),
     Scene("mkdir -p site && intake pages", writes="site/index.html"),
     Scene("intake migrate", before=Scratch.earlier_register),

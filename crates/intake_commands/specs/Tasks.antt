@@ -4,6 +4,7 @@ use Rattle.std.specs.Prelude.{◌≡◌, ◌⊎◌, ◌≤◌, ◌<◌, ◌^◌,
 use Rattle.std.specs.Prelude.{None, Ok}
 use Rattle.std.specs.Prelude.{Result, Err, MatchBool, map}
 use Rattle.std.specs.Borrow.{Bor}
+use Rattle.std.specs.Option.{option_map_or}
 use Rattle.std.specs.Io.KnownBytes.{Appends}
 use Rattle.sqlite_disk.specs.declared.Disk.{Ghosts}
 use Rattle.key_string.specs.Filer.{is_filer}
@@ -118,7 +119,7 @@ Serves {S = S} s task (Some port) port' old new result =
 abbrev pub is_wanted : Errand → Bool
 is_wanted (asked.List filer dated) = is_filer filer.now
 is_wanted (asked.RequestBody filer key) = is_filer filer.now
-is_wanted (asked.Export form (Some filer)) = is_filer filer.now
+is_wanted (asked.Export form wanted) = option_map_or (λ filer. is_filer filer.now) wanted.filer true
 is_wanted other = true
 
 -- the verdict that is printed, beside the text of a fault on standard error: that of a check or a migration

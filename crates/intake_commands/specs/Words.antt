@@ -13,6 +13,7 @@ use Rattle.key_string.specs.Key.{is_key}
 use Rattle.command_line.specs.declared.fault.CommandFault.TheVariants as command
 use Rattle.register_extracts.specs.declared.facts.record.FactForm.{FactForm}
 use Rattle.register_extracts.specs.declared.facts.record.FactForm.TheVariants.{Csv, JsonLines}
+use Rattle.register_extracts.specs.declared.records.Wanted.{Wanted}
 use Rattle.finding_lines.specs.declared.form.Form.{Form}
 use Rattle.finding_lines.specs.declared.form.Form.TheVariants.{Sentences, Objects}
 use Rattle.intake_process.specs.declared.tasks.errand.Errand.{Errand}
@@ -104,6 +105,13 @@ abbrev pub has_serving : List Row → Bool
 has_serving options = is_some (value (codes "db") options) && (is_some (number 16 (codes "port") options)
     && is_some (number 32 (codes "connections") options))
 
+-- the filings that an export writes out: `--filer`'s, or all filers'; with `--current` those that none replaces; those
+-- behind the number of `--after`
+pub record AreWanted (options : List Row) (wanted : Wanted) : Type 0 where
+  pub filer : option_map (λ text. text.now) wanted.filer ≡ value (codes "filer") options
+  pub current : wanted.current ≡ is_set (codes "current") options
+  pub after : wanted.after ≡ unwrap_or (number 64 (codes "after") options) 0
+
 -- the errand is what this word asks for
 abbrev pub IsErrand : Text → List Row → Errand → Type 0
 IsErrand word options (ListOf filer dated) =
@@ -122,9 +130,8 @@ IsErrand word options (RequestBody filer key) =
 IsErrand word options (Check against) =
     (word ≡ codes "check") × (is_against options ≡ true) × (against_of options ≡ against)
 IsErrand word options Migrate = word ≡ codes "migrate"
-IsErrand word options (Export format filer) =
-    (word ≡ codes "export") × (format_of options ≡ Some format)
-    × (option_map (λ text. text.now) filer ≡ value (codes "filer") options)
+IsErrand word options (Export format wanted) =
+    (word ≡ codes "export") × (format_of options ≡ Some format) × AreWanted options wanted
 IsErrand word options (Digest until) = (word ≡ codes "digest") × (number 64 (codes "until") options ≡ until)
 IsErrand word options (Pages folder) = (word ≡ codes "pages") × (value (codes "into") options ≡ Some folder.now)
 

@@ -6,7 +6,7 @@ ghost use Rattle.clap.specs.Words.{subcommand_rows_of};
 ghost use Rattle.command_line.specs.Values.{is_set, number, options_of};
 ghost use Rattle.command_line.specs.Words.{IsRead, IsReadBy, IsUnread, IsUnreadBy};
 ghost use Rattle.intake_commands.specs.Words.{limit_of, form_of, format_of, has_serving, IsServingOf};
-ghost use Rattle.intake_commands.specs.Words.{unasked};
+ghost use Rattle.intake_commands.specs.Words.{AreWanted, unasked};
 ghost use Rattle.intake_commands.specs.Words.{IsErrandBy, IsTaskBy, IsAsked};
 
 use crate::fault::NotDone;
@@ -22,7 +22,7 @@ use command_line::{
 use finding_lines::Form;
 use intake_process::Errand;
 use key_string::is_key;
-use register_extracts::FactForm;
+use register_extracts::{FactForm, Wanted};
 use std::alloc::{AllocError, Global};
 
 /// How many keys are kept at most.
@@ -118,12 +118,23 @@ fn request_body_of<'a>(values: &ArgMatches<'a>) -> Option<Errand<'a>>
     }
 }
 
+/// Which filings are exported.
+fn wanted_of<'a>(values: &ArgMatches<'a>) -> Wanted<'a>
+    ensures { AreWanted (options_of values.now) result }
+{
+    Wanted {
+        filer: value_of(values, "filer"),
+        current: is_set(values, "current"),
+        after: number_of(values, "after").unwrap_or(0),
+    }
+}
+
 fn export_of<'a>(values: &ArgMatches<'a>) -> Option<Errand<'a>>
     ensures { IsErrandBy (codes "export") (options_of values.now) result }
 {
     Some(Errand::Export {
         form: format_of(values)?,
-        filer: value_of(values, "filer"),
+        wanted: wanted_of(values),
     })
 }
 

@@ -127,7 +127,7 @@ impl<'a> Task<'a> {
                 Errand::RequestBody { filer: _, key: _ } => Access::Reads,
                 Errand::Check { against: _ } => Access::CopiesLog,
                 Errand::Migrate => Access::Writes,
-                Errand::Export { form: _, filer: _ } => Access::Reads,
+                Errand::Export { form: _, wanted: _ } => Access::Reads,
                 Errand::Digest { until: _ } => Access::Reads,
                 Errand::Pages { folder: _ } => Access::Reads,
             },
@@ -263,6 +263,16 @@ fn only_filer<'a>(alloc: Global) -> Arg<'a> {
     .required(false)
 }
 
+fn after<'a>(alloc: Global) -> Arg<'a> {
+    number_option(
+        alloc,
+        "after",
+        "N",
+        "The number of a filing: only facts of filings with a greater one are printed [default: 0]",
+        value_parser!(u64).range(0..=i64::MAX),
+    )
+}
+
 fn folder<'a>(alloc: Global) -> Arg<'a> {
     path_option(
         alloc,
@@ -314,6 +324,8 @@ enum Argument {
     Files,
     Format,
     OnlyFiler,
+    Current,
+    After,
     Folder,
     Until,
     Against,
@@ -354,6 +366,12 @@ impl ToArg for Argument {
             Argument::Files => report_files(alloc),
             Argument::Format => format(alloc),
             Argument::OnlyFiler => only_filer(alloc),
+            Argument::Current => flag(
+                alloc,
+                "current",
+                "Prints no facts of a filing that a later one replaces [default: of all filings]",
+            ),
+            Argument::After => after(alloc),
             Argument::Folder => folder(alloc),
             Argument::Until => until(alloc),
             Argument::Against => against(alloc),
@@ -439,12 +457,18 @@ static WORDS: [Word<Argument>; 10] = [
     },
     Word {
         name: "export",
-        about: "Prints the facts of all filings, or of one filer's, as CSV or as lines of JSON",
-        example: "Example: intake export --db copy.db --format csv > facts.csv",
+        about: "Prints the facts of all filings, of one filer's, of the current ones or of later ones, as CSV or lines of JSON",
+        example: concat!(
+            "Example: intake export --db copy.db --format csv > facts.csv\n",
+            "Example: intake export --db copy.db --format jsonl --current > current.jsonl\n",
+            "Example: intake export --db copy.db --format csv --after 1 > later.csv",
+        ),
         arguments: &[
             Argument::Database,
             Argument::Format,
             Argument::OnlyFiler,
+            Argument::Current,
+            Argument::After,
             Argument::Wait,
         ],
     },

@@ -96,14 +96,10 @@ fn is_wanted(errand: Errand<'_>) -> bool
         Errand::RequestBody { filer, key: _ } => is_filer(filer),
         Errand::Check { against: _ } => true,
         Errand::Migrate => true,
-        Errand::Export {
-            form: _,
-            filer: Some(filer),
-        } => is_filer(filer),
-        Errand::Export {
-            form: _,
-            filer: None,
-        } => true,
+        Errand::Export { form: _, wanted } => match wanted.filer {
+            Some(filer) => is_filer(filer),
+            None => true,
+        },
         Errand::Digest { until: _ } => true,
         Errand::Pages { folder: _ } => true,
     }

@@ -201,7 +201,7 @@ fn shown_verdict(errand: Errand<'_>, fault: &NotDone<'_>) -> Option<DatabaseFlaw
         Errand::RequestBody { filer: _, key: _ } => None,
         Errand::Check { against: _ } => fault.verdict(),
         Errand::Migrate => fault.verdict(),
-        Errand::Export { form: _, filer: _ } => None,
+        Errand::Export { form: _, wanted: _ } => None,
         Errand::Digest { until: _ } => None,
         Errand::Pages { folder: _ } => None,
     }

@@ -38,6 +38,7 @@ use Rattle.register_extracts.specs.Digest.{digest_until}
 use Rattle.register_extracts.specs.Registers.{DigestsRegister, digested}
 use Rattle.register_extracts.specs.Views.{Digested, view_digest}
 use Rattle.register_extracts.specs.declared.facts.record.FactForm.{FactForm}
+use Rattle.register_extracts.specs.declared.records.Wanted.{Wanted}
 use Rattle.register_extracts.specs.Exports.{ExportsFacts}
 use Rattle.register_extracts.specs.Exports.{UnlessOutput}
 use Rattle.register_extracts.specs.Records.{export_begun, export_text}
@@ -89,7 +90,7 @@ no_print (asked.FilingBody number) out out' why same = inr same
 no_print (asked.RequestBody filer key) out out' why same = inr same
 no_print (asked.Check against) out out' why same = inr same
 no_print asked.Migrate out out' why same = inr same
-no_print (asked.Export form filer) out out' why same = λ _. same
+no_print (asked.Export form wanted) out out' why same = λ _. same
 no_print (asked.Digest until) out out' why same = inr same
 no_print (asked.Pages folder) out out' why same = inr same
 
@@ -102,7 +103,7 @@ no_begin (asked.FilingBody number) requests moments out out' why not = tt
 no_begin (asked.RequestBody filer key) requests moments out out' why not = tt
 no_begin (asked.Check against) requests moments out out' why not = tt
 no_begin asked.Migrate requests moments out out' why not = tt
-no_begin (asked.Export form filer) requests moments out out' why not = λ is. absurd (true≢false (sym is ∙ not))
+no_begin (asked.Export form wanted) requests moments out out' why not = λ is. absurd (true≢false (sym is ∙ not))
 no_begin (asked.Digest until) requests moments out out' why not = tt
 no_begin (asked.Pages folder) requests moments out out' why not = tt
 
@@ -739,25 +740,25 @@ module _ {S : Type 0} (g : Ghosts S) (out out' : Option (List ℕ)) (conn : Held
 
 -- ---- export
 
-module _ (form : FactForm) (filer : Option (Bor (List ℕ))) where
+module _ (form : FactForm) (wanted : Wanted) where
   records_may : (requests : List Request) (moments : List (Option ℕ)) (why : RecordsFault)
-      → MayFail (asked.Export form filer) requests moments (records_fault why)
+      → MayFail (asked.Export form wanted) requests moments (records_fault why)
   records_may requests moments (records.Store why) = tt
   records_may requests moments records.Memory = refl
   records_may requests moments records.Output = refl
 
   records_quiet : (out out' : Option (List ℕ)) (why : RecordsFault)
-      → IsQuiet (asked.Export form filer) out out' (records_fault why)
+      → IsQuiet (asked.Export form wanted) out out' (records_fault why)
   records_quiet out out' (records.Store why) = λ is. absurd (true≢false (sym is))
   records_quiet out out' records.Memory = λ is. absurd (true≢false (sym is))
   records_quiet out out' records.Output = λ is. absurd (true≢false (sym is))
 
   records_begun : {S : Type 0} (g : Ghosts S) (out out' : Option (List ℕ)) (old : Held S) (why : RecordsFault)
       → UnlessOutput (ForDatedRows g old (λ requests moments.
-      (many : ℕ) × Appends out out' (export_begun many form (option_map (λ f. f.now) filer) (kept requests) moments)))
+      (many : ℕ) × Appends out out' (export_begun many form wanted (kept requests) moments)))
       why → (old_style : ℕ) (requests : List Request) → IsRegisterOf old_style requests (state g old).now
       → (moments : List (Option ℕ)) → length moments ≡ length requests → Received (state g old).now moments
-      → IsBegun (asked.Export form filer) requests moments out out' (records_fault why)
+      → IsBegun (asked.Export form wanted) requests moments out out' (records_fault why)
   records_begun g out out' old (records.Store why) begun old_style requests rows moments one_each received =
       λ is. begun old_style requests rows moments one_each received
   records_begun g out out' old records.Memory begun old_style requests rows moments one_each received =
@@ -766,18 +767,17 @@ module _ (form : FactForm) (filer : Option (Bor (List ℕ))) where
       λ is. absurd (true≢false (sym is))
 
   records_says : {S : Type 0} (g : Ghosts S) (old new : Held S) (why : RecordsFault)
-      → Says g (asked.Export form filer) old new (records_fault why)
+      → Says g (asked.Export form wanted) old new (records_fault why)
   records_says g old new (records.Store why) = tt
   records_says g old new records.Memory = tt
   records_says g old new records.Output = tt
 
   module _ {S X : Type 0} (g : Ghosts S) (out out' : Option (List ℕ)) (old new : Held S) where
-    pub export_done : (x : X) → ExportsFacts {S = S} {X =
-        X} g form (option_map (λ f. f.now) filer) out out' old new (Ok x)
-        → RunsErrand {S = S} {X = X} g (asked.Export form filer) out out' old new (Ok x)
+    pub export_done : (x : X) → ExportsFacts {S = S} {X = X} g form wanted out out' old new (Ok x)
+        → RunsErrand {S = S} {X = X} g (asked.Export form wanted) out out' old new (Ok x)
     export_done x exports = record {
       told = λ clean old_style requests firsts_are rows moments are. (
-        export_text form (option_map (λ f. f.now) filer) (kept requests) moments,
+        export_text form wanted (kept requests) moments,
         refl,
         exports.exported clean old_style requests rows moments are.0 are.1,
       );
@@ -788,9 +788,9 @@ module _ (form : FactForm) (filer : Option (Bor (List ℕ))) where
       quiet = tt;
     }
 
-    pub export_failed : (why : RecordsFault) → ExportsFacts {S = S} {X =
-        X} g form (option_map (λ f. f.now) filer) out out' old new (Err (export.Records why))
-        → RunsErrand {S = S} {X = X} g (asked.Export form filer) out out' old new (Err (records_fault why))
+    pub export_failed : (why : RecordsFault)
+        → ExportsFacts {S = S} {X = X} g form wanted out out' old new (Err (export.Records why))
+        → RunsErrand {S = S} {X = X} g (asked.Export form wanted) out out' old new (Err (records_fault why))
     export_failed why exports = record {
       told = λ clean old_style requests firsts_are rows moments are. (
         records_may requests moments why,
@@ -805,8 +805,8 @@ module _ (form : FactForm) (filer : Option (Bor (List ℕ))) where
     }
 
     pub export_refused : (why : OpenFault) (holding : Holding)
-        → ExportsFacts {S = S} {X = X} g form (option_map (λ f. f.now) filer) out out' old new (Err (export.Open why))
-        → RunsErrand {S = S} {X = X} g (asked.Export form filer) out out' old new (Err (fault.Open why holding))
+        → ExportsFacts {S = S} {X = X} g form wanted out out' old new (Err (export.Open why))
+        → RunsErrand {S = S} {X = X} g (asked.Export form wanted) out out' old new (Err (fault.Open why holding))
     export_refused why holding exports = record {
       told = λ clean old_style requests firsts_are rows moments are. (
         exports.failed clean old_style requests rows,

@@ -55,7 +55,7 @@ may_files (asked.FilingBody number) requests moments why = tt
 may_files (asked.RequestBody filer key) requests moments why = tt
 may_files (asked.Check against) requests moments why = tt
 may_files asked.Migrate requests moments why = tt
-may_files (asked.Export form filer) requests moments why = tt
+may_files (asked.Export form wanted) requests moments why = tt
 may_files (asked.Digest until) requests moments why = tt
 may_files (asked.Pages folder) requests moments why = tt
 
@@ -71,7 +71,7 @@ module _ {S : Type 0} (g : database.Ghosts S) (old new : Held S) where
   unopened_says (asked.RequestBody filer key) why holding says = says.1
   unopened_says (asked.Check against) why holding says = says.1
   unopened_says asked.Migrate why holding says = absurd says
-  unopened_says (asked.Export form filer) why holding says = says.1
+  unopened_says (asked.Export form wanted) why holding says = says.1
   unopened_says (asked.Digest until) why holding says = says.1
   unopened_says (asked.Pages folder) why holding says = says.1
 
@@ -83,7 +83,7 @@ module _ {S : Type 0} (g : database.Ghosts S) (old new : Held S) where
   files_say (asked.RequestBody filer key) why says = says
   files_say (asked.Check against) why says = says
   files_say asked.Migrate why says = says
-  files_say (asked.Export form filer) why says = says
+  files_say (asked.Export form wanted) why says = says
   files_say (asked.Digest until) why says = says
   files_say (asked.Pages folder) why says = says
 
@@ -97,7 +97,7 @@ module _ {S : Type 0} (g : database.Ghosts S) (old new : Held S) where
   migrate_says (asked.RequestBody filer key) why holding says = absurd says
   migrate_says (asked.Check against) why holding says = absurd says
   migrate_says asked.Migrate why holding says = says.2
-  migrate_says (asked.Export form filer) why holding says = absurd says
+  migrate_says (asked.Export form wanted) why holding says = absurd says
   migrate_says (asked.Digest until) why holding says = absurd says
   migrate_says (asked.Pages folder) why holding says = absurd says
 

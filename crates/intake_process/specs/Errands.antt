@@ -51,8 +51,7 @@ text_of (asked.RequestBody filer key) requests moments = sent_body filer.now key
 text_of (asked.Check against) requests moments =
     if is_held against requests moments then Some (sound_line (length requests) (length (register requests))) else None
 text_of asked.Migrate requests moments = Some migrated_line
-text_of (asked.Export form filer) requests moments =
-    Some (export_text form (option_map (λ f. f.now) filer) (kept requests) moments)
+text_of (asked.Export form wanted) requests moments = Some (export_text form wanted (kept requests) moments)
 text_of (asked.Digest until) requests moments = option_map digest_line (digested until requests moments)
 text_of (asked.Pages folder) requests moments = Some []
 
@@ -64,7 +63,7 @@ IsRegisterFor (asked.Show number dated) old_style requests db = IsRegisterOf old
 IsRegisterFor (asked.FilingBody number) old_style requests db = IsRegisterOf old_style requests db
 IsRegisterFor (asked.RequestBody filer key) old_style requests db = IsRegisterOf old_style requests db
 IsRegisterFor (asked.Check against) old_style requests db = IsRegisterOf old_style requests db
-IsRegisterFor (asked.Export form filer) old_style requests db = IsRegisterOf old_style requests db
+IsRegisterFor (asked.Export form wanted) old_style requests db = IsRegisterOf old_style requests db
 IsRegisterFor (asked.Digest until) old_style requests db = IsRegisterOf old_style requests db
 IsRegisterFor (asked.Pages folder) old_style requests db = IsRegisterOf old_style requests db
 IsRegisterFor asked.Migrate old_style requests db =
@@ -95,7 +94,7 @@ MayFail (asked.Show number dated) requests moments (fault.Store why) = Unit {0}
 MayFail (asked.FilingBody number) requests moments (fault.Store why) = Unit {0}
 MayFail (asked.RequestBody filer key) requests moments (fault.Store why) = Unit {0}
 MayFail (asked.Check against) requests moments (fault.Store why) = IsSome against
-MayFail (asked.Export form filer) requests moments (fault.Store why) = Unit {0}
+MayFail (asked.Export form wanted) requests moments (fault.Store why) = Unit {0}
 MayFail (asked.Digest until) requests moments (fault.Store why) = Unit {0}
 MayFail (asked.Pages folder) requests moments (fault.Store why) = Unit {0}
 MayFail (asked.Pages folder) requests moments fault.Folder = Unit {0}
@@ -126,7 +125,7 @@ is_refusal other = false
 -- Nothing was printed, unless the output failed. An export is printed filing by filing; if the register was refused,
 -- none of it was printed.
 abbrev pub IsQuiet : Errand → Option (List ℕ) → Option (List ℕ) → ErrandFault → Type 0
-IsQuiet (asked.Export form filer) out out' why = is_refusal why ≡ true → out' ≡ out
+IsQuiet (asked.Export form wanted) out out' why = is_refusal why ≡ true → out' ≡ out
 IsQuiet errand out out' why = PrintsNothing (fault.Text Output) out out' why
 
 -- memory or the database failed under way, and not the output
@@ -139,8 +138,8 @@ is_broken_off other = false
 -- others. Each of them is whole.
 abbrev pub IsBegun : Errand → List Request → List (Option ℕ) → Option (List ℕ) → Option (List ℕ) → ErrandFault
     → Type 0
-IsBegun (asked.Export form filer) requests moments out out' why = is_broken_off why ≡ true
-    → (many : ℕ) × Appends out out' (export_begun many form (option_map (λ f. f.now) filer) (kept requests) moments)
+IsBegun (asked.Export form wanted) requests moments out out' why = is_broken_off why ≡ true
+    → (many : ℕ) × Appends out out' (export_begun many form wanted (kept requests) moments)
 IsBegun errand requests moments out out' why = Unit {0}
 
 -- What comes of an errand: its text is printed, or it failed, and nothing was printed, or what an export began with.
@@ -172,7 +171,7 @@ Says g (asked.Show number dated) old new (fault.Store why) = Unit {0}
 Says g (asked.FilingBody number) old new (fault.Store why) = Unit {0}
 Says g (asked.RequestBody filer key) old new (fault.Store why) = Unit {0}
 Says g (asked.Check against) old new (fault.Store why) = IsSome against
-Says g (asked.Export form filer) old new (fault.Store why) = Unit {0}
+Says g (asked.Export form wanted) old new (fault.Store why) = Unit {0}
 Says g (asked.Digest until) old new (fault.Store why) = Unit {0}
 Says g (asked.Pages folder) old new (fault.Store why) = Unit {0}
 Says g (asked.Pages folder) old new fault.Folder = Unit {0}

@@ -20,7 +20,7 @@ use command_line::DatabaseFault;
 use database_places::{Holding, held_in};
 use intake_core::{Intake, Unavailable};
 use register_extracts::{
-    DigestFault, ExportFault, FactForm, RecordsFault, digest_register, export,
+    DigestFault, ExportFault, FactForm, RecordsFault, Wanted, digest_register, export,
 };
 use register_pages::{Folder, PagesFault, WritingFault, write_pages};
 use register_store::{OpenFault, Store, StoreFault};
@@ -158,7 +158,7 @@ pub(crate) fn run_errand<S: Alter + Drop, P: CheckProgress, F: Folder, O: Write>
         Errand::RequestBody { filer, key } => show_request_body(alloc, conn, filer, key, output),
         Errand::Check { against } => check_register(alloc, conn, against, progress, output),
         Errand::Migrate => migrate_register(alloc, conn, output),
-        Errand::Export { form, filer } => export_facts(alloc, conn, form, filer, output),
+        Errand::Export { form, wanted } => export_facts(alloc, conn, form, wanted, output),
         Errand::Digest { until } => digest_requests(alloc, conn, until, output),
         Errand::Pages { folder: _ } => write_site(alloc, conn, folder),
     }
@@ -350,19 +350,19 @@ fn migrate_register<S: Alter + Drop, O: Write>(
     }
 }
 
-/// Writes out the facts of all filers, or of one.
+/// Writes out the facts of the filings that are wanted.
 fn export_facts<S: Alter + Drop, O: Write>(
     alloc: Global,
     mut conn: Connection<S>,
     form: FactForm,
-    filer: Option<&str>,
+    wanted: Wanted<'_>,
     output: &mut O,
 ) -> (Connection<S>, Result<(), ErrandFault>)
     requires { IsAtRest conn }
-    ensures { RunsErrand S.Store (Errand.Export form filer.entry) (O.contents output.old) (O.contents output.new) conn
+    ensures { RunsErrand S.Store (Errand.Export form wanted.entry) (O.contents output.old) (O.contents output.new) conn
         result.0 result.1 }
 {
-    match export(alloc, &mut conn, form, filer, output) {
+    match export(alloc, &mut conn, form, wanted, output) {
         Ok(()) => (conn, Ok(())),
         Err(ExportFault::Records(fault)) => (conn, Err(records_fault(fault))),
         Err(ExportFault::Open(fault)) => {

@@ -102,7 +102,7 @@ for_errand (asked.FilingBody number) = inr (λ requests db is. is)
 for_errand (asked.RequestBody filer key) = inr (λ requests db is. is)
 for_errand (asked.Check against) = inr (λ requests db is. is)
 for_errand asked.Migrate = inl refl
-for_errand (asked.Export form filer) = inr (λ requests db is. is)
+for_errand (asked.Export form wanted) = inr (λ requests db is. is)
 for_errand (asked.Digest until) = inr (λ requests db is. is)
 for_errand (asked.Pages folder) = inr (λ requests db is. is)
 

@@ -19,25 +19,26 @@ use Rattle.register_extracts.proofs.Walks.{found_then, kept_then, nothing_then, 
 use Rattle.register_extracts.specs.declared.fault.ExportFault.TheVariants as fault
 use Rattle.register_extracts.specs.declared.fault.RecordsFault.{RecordsFault}
 use Rattle.register_extracts.specs.declared.fault.RecordsFault.TheVariants as records
+use Rattle.register_extracts.specs.declared.records.Wanted.{Wanted}
 use Rattle.register_extracts.specs.Exports.{ExportsFacts, UnlessOutput}
 use Rattle.register_extracts.specs.Records.{export_begun, export_text}
 
 -- the records of the first filings are written, so many
-abbrev pub Begun : FactForm → Option (List ℕ) → Option (List ℕ) → Option (List ℕ) → List Request → List (Option ℕ)
+abbrev pub Begun : FactForm → Wanted → Option (List ℕ) → Option (List ℕ) → List Request → List (Option ℕ)
     → Type 0
-Begun form filer out out' F moments = (many : ℕ) × Appends out out' (export_begun many form filer (kept F) moments)
+Begun form wanted out out' F moments = (many : ℕ) × Appends out out' (export_begun many form wanted (kept F) moments)
 
 pub unless : {P : Type 0} (why : RecordsFault) → P → UnlessOutput P why
 unless (records.Store fault) p = p
 unless records.Memory p = p
 unless records.Output p = tt
 
-module _ {S : Type 0} (g : Ghosts S) (form : FactForm) (filer : Option (List ℕ)) (out out' : Option (List ℕ))
+module _ {S : Type 0} (g : Ghosts S) (form : FactForm) (wanted : Wanted) (out out' : Option (List ℕ))
     (old mid new : Held S) (counts : Counts) (read : ReadsRegister g old mid (Ok counts)) where
   begun_by : Leaves Ended (state g mid) (state g new) → HasCleanDisk (state g new) → (why : RecordsFault)
       → ForDated g mid new (λ F moments. view_lines counts.catalogue ≡ catalogue_of F
-      → counts.filings ≡ length (register F) → UnlessOutput (Begun form filer out out' F moments) why)
-      → UnlessOutput (ForDatedRows g old (λ F moments. Begun form filer out out' F moments)) why
+      → counts.filings ≡ length (register F) → UnlessOutput (Begun form wanted out out' F moments) why)
+      → UnlessOutput (ForDatedRows g old (λ F moments. Begun form wanted out out' F moments)) why
   begun_by leaves clean (records.Store fault) begun = λ old_style F rows moments one_each received.
       let before : HasCleanDisk (state g mid) = clean_before leaves clean in
       let it = read.only before old_style F rows in
@@ -48,13 +49,13 @@ module _ {S : Type 0} (g : Ghosts S) (form : FactForm) (filer : Option (List ℕ
       begun clean old_style F it.1 moments one_each (still g old mid counts read before it.1 received) it.4 it.3
   begun_by leaves clean records.Output begun = tt
 
-module _ {S X : Type 0} (g : Ghosts S) (form : FactForm) (filer : Option (List ℕ)) (out out' : Option (List ℕ))
+module _ {S X : Type 0} (g : Ghosts S) (form : FactForm) (wanted : Wanted) (out out' : Option (List ℕ))
     (old mid new : Held S) (counts : Counts) (read : ReadsRegister g old mid (Ok counts)) where
   -- all records are written
   pub done : Leaves Passed (state g mid) (state g new)
       → ForDated g mid new (λ F moments. view_lines counts.catalogue ≡ catalogue_of F
-      → counts.filings ≡ length (register F) → Appends out out' (export_text form filer (kept F) moments))
-      → (x : X) → ExportsFacts {S = S} {X = X} g form filer out out' old new (Ok x)
+      → counts.filings ≡ length (register F) → Appends out out' (export_text form wanted (kept F) moments))
+      → (x : X) → ExportsFacts {S = S} {X = X} g form wanted out out' old new (Ok x)
   done leaves exported x =
       let whole = asked_before (opened g old mid counts read) leaves in record {
         exported = λ clean old_style F rows moments one_each received.
@@ -76,11 +77,11 @@ module _ {S X : Type 0} (g : Ghosts S) (form : FactForm) (filer : Option (List �
   -- the database, memory or the output failed before that
   pub broken_off : Leaves Ended (state g mid) (state g new) → (why : RecordsFault)
       → ForDated g mid new (λ F moments. view_lines counts.catalogue ≡ catalogue_of F
-      → counts.filings ≡ length (register F) → UnlessOutput (Begun form filer out out' F moments) why)
-      → ExportsFacts {S = S} {X = X} g form filer out out' old new (Err (fault.Records why))
+      → counts.filings ≡ length (register F) → UnlessOutput (Begun form wanted out out' F moments) why)
+      → ExportsFacts {S = S} {X = X} g form wanted out out' old new (Err (fault.Records why))
   broken_off leaves why begun = record {
     exported = λ _. tt;
-    begun = λ clean. begun_by g form filer out out' old mid new counts read leaves clean why begun;
+    begun = λ clean. begun_by g form wanted out out' old mid new counts read leaves clean why begun;
     found = found_then g old mid counts read new leaves;
     kept = kept_then g old mid counts read new leaves;
     refused = λ _. tt;

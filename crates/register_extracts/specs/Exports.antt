@@ -16,6 +16,7 @@ use Rattle.register_extracts.specs.declared.fault.ExportFault.{ExportFault}
 use Rattle.register_extracts.specs.declared.fault.ExportFault.TheVariants as fault
 use Rattle.register_extracts.specs.declared.fault.RecordsFault.{RecordsFault}
 use Rattle.register_extracts.specs.declared.fault.RecordsFault.TheVariants as records
+use Rattle.register_extracts.specs.declared.records.Wanted.{Wanted}
 use Rattle.register_extracts.specs.Records.{export_begun, export_text}
 
 -- this holds of the fault by which an opening was refused; nothing is said of the faults of a sound register
@@ -39,17 +40,18 @@ UnlessRefused (Ok done) Holds = Holds
 UnlessRefused (Err (fault.Records why)) Holds = Holds
 UnlessRefused (Err (fault.Open why)) Holds = Unit {0}
 
--- What `export` writes out of the register that a database is: all facts, or those of one filer, byte for byte.
-pub record ExportsFacts {S X : Type 0} (g : Ghosts S) (form : FactForm) (filer : Option (List ℕ))
+-- What `export` writes out of the register that a database is: the facts of the filings that are
+-- wanted, byte for byte.
+pub record ExportsFacts {S X : Type 0} (g : Ghosts S) (form : FactForm) (wanted : Wanted)
     (out out' : Option (List ℕ)) (old new : Held S) (result : Result X ExportFault) : Type 0 where
   -- The rows stand for requests with moments, and there is one such list of each at most.
   pub exported : HasCleanDisk (state g new)
       → OnOk result (ForDatedRows g old (λ requests moments.
-      Appends out out' (export_text form filer (kept requests) moments)))
+      Appends out out' (export_text form wanted (kept requests) moments)))
   -- If the writing is broken off, and not by the output, the records of the first filings are written, and no others.
   pub begun : HasCleanDisk (state g new)
       → IfErr result (IfBrokenOff (ForDatedRows g old (λ requests moments.
-      (many : ℕ) × Appends out out' (export_begun many form filer (kept requests) moments))))
+      (many : ℕ) × Appends out out' (export_begun many form wanted (kept requests) moments))))
   -- Unless it is refused, it is read as a register, and what its rows stand for is still committed.
   pub found : HasCleanDisk (state g new) → UnlessRefused result (IsReadAsRegister g old)
   pub kept : HasCleanDisk (state g new)

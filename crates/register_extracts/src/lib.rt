@@ -30,6 +30,7 @@ pub use laws::{
     a_beginning_keeps_its_digest, a_digest_tells_the_requests, a_digest_tells_the_rows,
     a_row_adds_one_step, joined_texts_tell_the_rows, texts_tell_the_rows,
 };
+pub use records::Wanted;
 pub use register::{digest_register, first_digest};
 pub use register_rows::Moment;
 pub use row::Row;

@@ -1,10 +1,10 @@
 //! The records of one filing.
 
-ghost use Rattle.std.specs.Prelude.{◌≡◌, ◌⊎◌, option_map, IfOk, IfErr, OnOk};
+ghost use Rattle.std.specs.Prelude.{◌≡◌, ◌⊎◌, IfOk, IfErr, OnOk};
 ghost use Rattle.std.specs.List.{flat_map};
 ghost use Rattle.std.specs.Io.KnownBytes.{Appends};
 ghost use Rattle.register_extracts.specs.Fields.{record_text, view_head};
-ghost use Rattle.register_extracts.specs.Records.{head_of, is_wanted, records, wanted_records};
+ghost use Rattle.register_extracts.specs.Records.{head_of, is_of, is_wanted, records, wanted_records};
 
 use crate::facts::record::{FactForm, FilingHead, record_text};
 use crate::fault::RecordsFault;
@@ -13,6 +13,17 @@ use command_line::show;
 use std::alloc::{AllocError, Global};
 use std::io::Write;
 use xbrl_report::Fact;
+
+/// Which filings are exported.
+#[derive(Clone, Copy)]
+pub struct Wanted<'a> {
+    /// Those of this filer; of all filers if none is given.
+    pub filer: Option<&'a str>,
+    /// Only those that no later filing replaces.
+    pub current: bool,
+    /// Only those with a greater number. The first filing has the number 1.
+    pub after: u64,
+}
 
 /// Writes a text whole.
 pub(crate) fn print<O: Write>(output: &mut O, text: &[u8]) -> Result<(), RecordsFault>
@@ -25,14 +36,23 @@ pub(crate) fn print<O: Write>(output: &mut O, text: &[u8]) -> Result<(), Records
     }
 }
 
-/// Whether the filings of this filer are written: all filers' are, or those of the one that is asked for.
-fn is_wanted(filer: Option<&str>, own: &str) -> bool
-    ensures { result ≡ is_wanted (option_map (λ s. s.now) filer.entry) own.now }
+/// Whether the filings of this filer are exported: all filers' are, or those of the one that is asked for.
+fn is_of(filer: Option<&str>, own: &str) -> bool
+    ensures { result ≡ is_of filer.entry own.now }
 {
     match filer {
         Some(filer) => own.as_bytes() == filer.as_bytes(),
         None => true,
     }
+}
+
+/// Whether the filing is exported.
+fn is_wanted(wanted: Wanted<'_>, filing: &WholeFiling) -> bool
+    ensures { result ≡ is_wanted wanted.entry filing.now }
+{
+    is_of(wanted.filer, filing.filer.as_str())
+        && !(wanted.current && filing.replaced_by.is_some())
+        && wanted.after < filing.number
 }
 
 /// What the records say of the filing.
@@ -73,20 +93,20 @@ fn records(alloc: Global, form: FactForm, filing: &WholeFiling) -> Result<Vec<u8
     records_of(alloc, form, &head, filing.facts())
 }
 
-/// Writes the records of the filing, if its filer's are written.
+/// Writes the records of the filing, if it is exported.
 pub(crate) fn write_filing<O: Write>(
     alloc: Global,
     form: FactForm,
-    filer: Option<&str>,
+    wanted: Wanted<'_>,
     filing: &WholeFiling,
     output: &mut O,
 ) -> Result<(), RecordsFault>
     ensures quiet { IfErr result (λ fault.
         (fault ≡ RecordsFault.Output) ⊎ (O.contents output.new ≡ O.contents output.old)) }
     ensures written { OnOk result (Appends (O.contents output.old) (O.contents output.new)
-        (wanted_records form (option_map (λ s. s.now) filer.entry) filing.now)) }
+        (wanted_records form wanted.entry filing.now)) }
 {
-    if !is_wanted(filer, filing.filer.as_str()) {
+    if !is_wanted(wanted, filing) {
         return Ok(());
     }
     let text = records(alloc, form, filing)?;

@@ -1,6 +1,6 @@
 //! The records of a register.
 
-ghost use Rattle.std.specs.Prelude.{◌≡◌, ◌⊎◌, ℕ, length, option_map, Some, IfErr, OnOk};
+ghost use Rattle.std.specs.Prelude.{◌≡◌, ◌⊎◌, ℕ, length, Some, IfErr, OnOk};
 ghost use Rattle.std.specs.Io.KnownBytes.{Appends};
 ghost use Rattle.filing_model.specs.Register.{Filing, kept, register};
 ghost use Rattle.table_rows.specs.Leaving.{MayRead};
@@ -13,7 +13,7 @@ ghost use Rattle.register_extracts.specs.Exports.{ExportsFacts, UnlessOutput};
 
 use crate::facts::record::{FactForm, first_line};
 use crate::fault::{ExportFault, RecordsFault};
-use crate::records::{print, write_filing};
+use crate::records::{Wanted, print, write_filing};
 use crate::walk::filing::filing_at;
 use register_rows::Catalogue;
 use register_store::{Counts, Unwatched, read_register};
@@ -21,22 +21,22 @@ use sqlite::{Alter, Connection};
 use std::alloc::Global;
 use std::io::Write;
 
-/// Writes a record of each fact of the register that the database is, or of those of one filer, in the order of the
-/// filings and of their facts. The register is read and checked first, and nothing is written to the database. One
-/// filing is in memory at a time.
+/// Writes a record of each fact of the wanted filings of the register that the database is, in the order of the filings
+/// and of their facts. The register is read and checked first, and nothing is written to the database. One filing is in
+/// memory at a time.
 pub fn export<S: Alter, O: Write>(
     alloc: Global,
     conn: &mut Connection<S>,
     form: FactForm,
-    filer: Option<&str>,
+    wanted: Wanted<'_>,
     output: &mut O,
 ) -> Result<(), ExportFault>
     requires { IsAtRest conn.old }
-    ensures { ExportsFacts S.Store form (option_map (λ s. s.now) filer.entry) (O.contents output.old)
+    ensures { ExportsFacts S.Store form wanted.entry (O.contents output.old)
         (O.contents output.new) conn.old conn.new result }
 {
     let counts = read_register(alloc, conn, &mut Unwatched)?;
-    write_records(alloc, conn, &counts, form, filer, output)?;
+    write_records(alloc, conn, &counts, form, wanted, output)?;
     Ok(())
 }
 
@@ -46,47 +46,51 @@ fn write_records<S: Alter, O: Write>(
     conn: &mut Connection<S>,
     counts: &Counts,
     form: FactForm,
-    filer: Option<&str>,
+    wanted: Wanted<'_>,
     output: &mut O,
 ) -> Result<(), RecordsFault>
     ensures exported { ForDated S.Store conn.old conn.new (λ F moments.
         view_lines counts.now.catalogue ≡ catalogue_of F → counts.now.filings ≡ length (register F)
         → OnOk result (Appends (O.contents output.old) (O.contents output.new)
-        (export_text form (option_map (λ s. s.now) filer.entry) (kept F) moments))) }
+        (export_text form wanted.entry (kept F) moments))) }
     ensures begun { ForDated S.Store conn.old conn.new (λ F moments.
         view_lines counts.now.catalogue ≡ catalogue_of F → counts.now.filings ≡ length (register F)
         → IfErr result (UnlessOutput ((many : ℕ) × Appends (O.contents output.old) (O.contents output.new)
-        (export_begun many form (option_map (λ s. s.now) filer.entry) (kept F) moments)))) }
+        (export_begun many form wanted.entry (kept F) moments)))) }
     ensures leaves { MayRead S.Store conn.old conn.new result }
 {
     print(output, first_line(form).as_bytes())?;
     for at in 0..counts.filings {
-        write_numbered(alloc, conn, &counts.catalogue, at + 1, form, filer, output)?;
+        write_numbered(alloc, conn, &counts.catalogue, at + 1, form, wanted, output)?;
     }
     Ok(())
 }
 
-/// Writes the records of the filing with this number, if its filer's are written.
+/// Writes the records of the filing with this number, if it is wanted.
 fn write_numbered<S: Alter, O: Write>(
     alloc: Global,
     conn: &mut Connection<S>,
     catalogue: &Catalogue,
     number: u64,
     form: FactForm,
-    filer: Option<&str>,
+    wanted: Wanted<'_>,
     output: &mut O,
 ) -> Result<(), RecordsFault>
     ensures written { ForDated S.Store conn.old conn.new (λ F moments.
         (f : Filing) → view_lines catalogue.now ≡ catalogue_of F
         → filing_numbered number (register F) ≡ Some f
         → OnOk result (Appends (O.contents output.old) (O.contents output.new)
-        (filing_records form (option_map (λ s. s.now) filer.entry) (kept F) moments f))) }
+        (filing_records form wanted.entry (kept F) moments f))) }
     ensures quiet { IfErr result (λ fault.
         (fault ≡ RecordsFault.Output) ⊎ (O.contents output.new ≡ O.contents output.old)) }
     ensures leaves { MayRead S.Store conn.old conn.new result }
 {
+    // Its report is not read if the number says enough.
+    if number <= wanted.after {
+        return Ok(());
+    }
     match filing_at(alloc, conn, catalogue, number)? {
-        Some(filing) => write_filing(alloc, form, filer, &filing, output),
+        Some(filing) => write_filing(alloc, form, wanted, &filing, output),
         None => Ok(()),
     }
 }

@@ -2,7 +2,7 @@ use Rattle.std.proofs.Common.{◌≡◌, ◌<◌, ◌+◌, ◌++◌, append-nil,
 use Rattle.std.proofs.Common.{Err, rules, ⊎_elim}
 use Rattle.std.proofs.KnownBytes.{Appends-trans}
 use Rattle.std.proofs.lemmas.List.{take_all}
-use Rattle.std.specs.Prelude.{option_map, IfErr}
+use Rattle.std.specs.Prelude.{IfErr}
 use Rattle.std.specs.List.{flat_map}
 use Rattle.std.specs.Io.KnownBytes.{Appends}
 use Rattle.sqlite.specs.Held.{state}
@@ -39,7 +39,7 @@ loop-at-preserved g c =
           let low : c.loop-at.at < length (register F) = omega (arith, c.loop-at-test.true, count) in
           let next = next_filing 1 c.loop-at.at (register F) (register_numbered F) low in
           let number : 1 + c.loop-at.at ≡ c.loop-at.at + 1 = omega arith in
-          let text = filing_records c.args.form (option_map (λ s. s.now) c.args.filer) (kept F) moments in
+          let text = filing_records c.args.form c.args.wanted (kept F) moments in
           let front = first_line c.args.form in
           let so_far = flat_map text (take c.loop-at.at (register F)) in
           subst (Appends (g.O.Write.contents c.args.output.now) (g.O.Write.contents c.write_numbered.new.output))
@@ -55,7 +55,7 @@ pub returns : goal.returns
 returns g c =
     let had = c.loop-at.invariant in record {
       exported = λ clean old_style F was moments one_each dated is count.
-          let text = filing_records c.args.form (option_map (λ s. s.now) c.args.filer) (kept F) moments in
+          let text = filing_records c.args.form c.args.wanted (kept F) moments in
           subst (λ fs. Appends (g.O.Write.contents c.args.output.now) (g.O.Write.contents c.loop-at.output)
           (first_line c.args.form ++ flat_map text fs))
           (take_all c.loop-at.at (register F) (omega (arith, c.loop-at-test.false, count)))
@@ -77,22 +77,22 @@ pub returns-in_err-print-clause-begun : goal.returns-in_err-print-clause-begun
 returns-in_err-print-clause-begun g c = λ clean old_style F was moments one_each dated is count.
     let came : Err records.Output ≡ c.from_residual.result =
     search (rules, c.in_err-print.ensures.failed) in
-    subst (λ r. IfErr r (UnlessOutput (Begun c.args.form (option_map (λ s. s.now) c.args.filer)
-    (g.O.Write.contents c.args.output.now) (g.O.Write.contents c.print.new.output) F moments))) came tt
+    subst (λ r. IfErr r (UnlessOutput (Begun c.args.form c.args.wanted (g.O.Write.contents c.args.output.now)
+    (g.O.Write.contents c.print.new.output) F moments))) came tt
 
 pub returns-in_err-write_numbered-clause-begun : goal.returns-in_err-write_numbered-clause-begun
 returns-in_err-write_numbered-clause-begun g c = λ clean old_style F was moments one_each dated is count.
     let told = c.in_err-write_numbered.ensures in
     let why = c.in_err-write_numbered.field-0.0 in
     let out = g.O.Write.contents c.args.output.now in
-    let filer = option_map (λ s. s.now) c.args.filer in
     let came : Err why ≡ c.from_residual-in_err-write_numbered.result = search rules in
-    let Written : Type 0 = Begun c.args.form filer out (g.O.Write.contents c.write_numbered.new.output) F moments in
+    let Written : Type 0 =
+    Begun c.args.form c.args.wanted out (g.O.Write.contents c.write_numbered.new.output) F moments in
     subst (λ r. IfErr r (UnlessOutput Written)) came
     (⊎_elim (λ output. subst (UnlessOutput Written) (sym output) tt)
     (λ same. unless why (
       c.loop-at.at,
-      subst (λ o. Appends out o (export_begun c.loop-at.at c.args.form filer (kept F) moments)) (sym same)
+      subst (λ o. Appends out o (export_begun c.loop-at.at c.args.form c.args.wanted (kept F) moments)) (sym same)
           (c.loop-at.invariant.written (clean_before told.leaves clean) old_style F was moments one_each dated is
           count),
     )) told.quiet)

@@ -1,5 +1,4 @@
 use Rattle.std.proofs.Common.{◌≡◌, ◌++◌, ℕ, List, Option, length, take}
-use Rattle.std.specs.Prelude.{option_map}
 use Rattle.std.specs.List.{flat_map}
 use Rattle.std.specs.Io.KnownBytes.{Appends}
 use Rattle.sqlite.specs.Held.{state}
@@ -25,6 +24,6 @@ invariant-loop-at g l =
           → (moments : List (Option ℕ)) → length moments ≡ length F → HasCommitted (λ db. Received db moments) old
           → view_lines l.counts.catalogue ≡ catalogue_of F → l.counts.filings ≡ length (register F)
           → Appends (g.O.Write.contents l.fn.output) (g.O.Write.contents l.output)
-          (first_line l.form ++ flat_map (filing_records l.form (option_map (λ s. s.now) l.filer) (kept F) moments)
+          (first_line l.form ++ flat_map (filing_records l.form l.wanted (kept F) moments)
           (take l.at (register F)));
     }
