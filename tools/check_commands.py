@@ -73,6 +73,11 @@ BEFORE = [
     ("export --db @r.db --format csv --filer a/b", 2, "", f"--filer: {FILER_CODE}"),
     ("serve --db @r.db --port 1 --connections 1", 1, "", "r.db: there is no such file"),
     ("serve --db @none/r.db --port 1 --connections 1 --new", 3, "", "none/r.db: there is no such folder"),
+    (f"serve --db @r.db --socket {'s' * 107} --connections 1", 1, "", "r.db: there is no such file"),
+    (f"serve --db @r.db --socket {'s' * 108} --connections 1", 2, "", "--socket: it is a path of 1 to 107 bytes"),
+    (f"serve --db @r.db --socket {'é' * 54} --connections 1", 2, "", "--socket: it is a path of 1 to 107 bytes"),
+    ("serve --db @r.db --socket /nowhere/s --connections 1 --new", 3, "",
+     "unix:/nowhere/s: No such file or directory (os error 2)"),
     ("init --db @r.db", 2, "", "there is no init: intake serve --new makes a register"),
 ]
 # A file of no bytes is no register, and stays as it is.
@@ -286,6 +291,7 @@ OTHER_OUTBOXES = [
 # Two blanks have an empty name of a file or a folder between them, as has one at the end.
 NAMELESS_TO_INTAKE = [
     "serve --db  --port 1 --connections 1 --new",
+    "serve --db @r.db --socket  --connections 1",
     "list --db  --filer ACME",
     "show --db  --number 1",
     "check --db ",
@@ -318,6 +324,8 @@ OUT_OF_RANGE = [
     *((OUTBOX, line) for line in NAMELESS_TO_OUTBOX),
     (INTAKE, "serve --db @r.db --port 0 --connections 1"),
     (INTAKE, "serve --db @r.db --port 65536 --connections 1"),
+    (INTAKE, "serve --db @r.db --port 1 --socket s --connections 1"),
+    (INTAKE, "serve --db @r.db --connections 1"),
     (INTAKE, "serve --db @r.db --port 1 --connections 0"),
     (INTAKE, "serve --db @r.db --port 1 --connections 1 --at-once 0"),
     (INTAKE, "serve --db @r.db --port 1 --connections 1 --at-once 65536"),

@@ -149,7 +149,9 @@ if words[0] == "check":
     sys.exit(print("sound: 0 kept, 0 filings"))
 assert words[-3:] == ["--connections", "1", "--new"], words
 pathlib.Path(database).write_text("made")
-with socket.create_server(("127.0.0.1", int(words[words.index("--port") + 1]))) as listener:
+at = words[words.index("--connections") - 1]
+unix = {"family": socket.AF_UNIX} if "--socket" in words else {}
+with socket.create_server(at if unix else ("127.0.0.1", int(at)), **unix) as listener:
     peer, _ = listener.accept()
     with peer:
         peer.recv(65536)
@@ -161,6 +163,8 @@ with socket.create_server(("127.0.0.1", int(words[words.index("--port") + 1]))) 
     done = run(*words, cwd=folder, env=paths)
     hold("register-new", (done.returncode, done.stdout), (0, "sound: 0 kept, 0 filings\n"))
     hold("register-new leaves a register that is there", run(*words, cwd=folder, env=paths).returncode, 1)
+    done = run(words[0], "of-socket.db", f"unix:{folder}/socket", cwd=folder, env=paths)
+    hold("register-new by a unix socket", (done.returncode, done.stdout), (0, "sound: 0 kept, 0 filings\n"))
 
 
 # Words with an empty name of a file or a folder, which no script takes for the present folder or for `/`.
@@ -240,6 +244,7 @@ def try_instances():
          {"registers xBRL-JSON reports once": "of the register %i", "intake: of": "intake of", "register.db": "%i.db",
           "PORT=8080 ": "", "Identifier=intake": "Identifier=intake-%i",
           "RuntimeDirectory=berruzpil-intake": "RuntimeDirectory=berruzpil-intake-%i",
+          "%t/berruzpil-intake": "%t/berruzpil-intake-%i",
           "EnvironmentFile=-/etc/default/berruzpil": "EnvironmentFile=/etc/berruzpil/%i.env"},
          []),
         ("berruzpil-outbox", {"outbox: sends": "outbox %i: sends", "outbox.db 8081": "%i.db ${PORT}"},
@@ -542,10 +547,12 @@ def with_odd_users(folder):
 
 
 def nginx_file(folder, port, intakes, outbox_port):
-    """The files of deploy/ as one that runs in a folder, for two registers."""
+    """The files of deploy/ as one that runs in a folder, for two registers. An intake is a port, or the path of a unix
+    socket."""
     fronts = with_odd_users(folder) + second_register()
     for written, own in [("127.0.0.1:8080", intakes[0]), ("127.0.0.1:8082", intakes[1])]:
-        fronts = fronts.replace(written, f"127.0.0.1:{own}")
+        at = f"127.0.0.1:{own}" if isinstance(own, int) else f"unix:{own}"
+        fronts = fronts.replace(f"server {written};", f"server {at};")
     fronts = fronts.replace("listen 443", f"listen 127.0.0.1:{port}")
     fronts = fronts.replace("/etc/nginx/tls/filers-ca.pem", f"{folder}/ca.pem").replace("/etc/nginx/tls", str(folder))
     fronts = fronts.replace("/var/log/berruzpil/", f"{folder}/").replace("/srv/pages/", f"{folder}/pages/")

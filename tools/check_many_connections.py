@@ -1,6 +1,6 @@
 #!/usr/bin/env python3
 """Tries many connections at once on the built intake: silent, slow and broken clients beside others, a full disk, no
-descriptor left, kills, and 600 clients through nginx.
+descriptor left, kills, and 600 clients through nginx, by a port and by a unix socket.
 
     tools/check_many_connections.py [--intake PROGRAM [--unproved]] [TRIAL ..]
     tools/check_many_connections.py --planted [WORD ..]         whether the trials see each fault of PLANTED, or those
@@ -14,9 +14,9 @@ With --planted the trials are made with tools/intake_stand_in.py in place of the
 too, and has one fault after the other: each has to make a check of its trial fail, and without a fault each trial has
 to pass.
 
-It listens on 127.0.0.1 alone. The trial `front` needs nginx and openssl, `repeats` and `accepts` strace, and
-`full_disk` may have to do with a limit on the size of files. The last line says how many checks passed and failed, and
-what a stand-in replaced. Status 1 if one failed.
+It listens on 127.0.0.1 and on unix sockets alone. The trials `front` and `front_of_socket` need nginx and openssl,
+`repeats` and `accepts` strace, and `full_disk` may have to do with a limit on the size of files. The last line says how
+many checks passed and failed, and what a stand-in replaced. Status 1 if one failed.
 """
 import argparse
 import collections
@@ -30,6 +30,7 @@ import resource
 import signal
 import socket
 import ssl
+import stat
 import struct
 import subprocess
 import sys
@@ -92,15 +93,20 @@ def hold(what, found, wanted):
 # ---- the intake
 
 
-class Server:
-    """An intake that serves a register. What it says goes into files, so that it never waits for a reader."""
+def option_of(port):
+    return "--socket" if isinstance(port, pathlib.Path) else "--port"
 
-    def __init__(self, folder, *words, connections=FOREVER, database=None, limits=""):
+
+class Server:
+    """An intake that serves a register. What it says goes into files, so that it never waits for a reader. `port` is
+    where it listens: a number, or the path of a unix socket."""
+
+    def __init__(self, folder, *words, connections=FOREVER, database=None, limits="", port=None):
         self.database = database or folder / "register.db"
-        self.port, self.said, self.log = free_port(), folder / "said", folder / "log"
+        self.port, self.said, self.log = port or free_port(), folder / "said", folder / "log"
         new = [] if self.database.exists() else ["--new"]
-        command = [trials.INTAKE, "serve", "--db", self.database, "--port", self.port, "--connections", connections,
-                   *new, *words]  # fmt: skip
+        command = [trials.INTAKE, "serve", "--db", self.database, option_of(self.port), self.port,
+                   "--connections", connections, *new, *words]  # fmt: skip
         with open(self.said, "wb") as errors, open(self.log, "wb") as output:
             self.process = subprocess.Popen(
                 ["sh", "-c", f'{limits} exec "$@"', "sh", *map(str, command)], stdout=output, stderr=errors,
@@ -168,9 +174,14 @@ class Wrong(Exception):
 
 
 class Client:
-    """A connection to the intake."""
+    """A connection to the intake on a port, or on the unix socket at a path."""
 
     def __init__(self, port, is_narrow=False):
+        if isinstance(port, pathlib.Path):
+            self.peer, self.held = socket.socket(socket.AF_UNIX), b""
+            self.peer.settimeout(sizes.seconds)
+            self.peer.connect(str(port))
+            return
         self.peer, self.held = socket.socket(), b""
         if is_narrow:
             # Linux holds some 100 kB for it, on both ends.
@@ -976,7 +987,7 @@ def ask_front(folder, port, filed, at):
             filed.note("ACME", f"k-{at}-{key}", int(number[1]))
 
 
-def front(folder):
+def front(folder, intake_port=None):
     """600 clients at once through nginx with the files of deploy/: each gets its answers, and none a 503."""
     nginx, openssl = check_deploy.find("nginx"), check_deploy.find("openssl")
     if not nginx or not openssl:
@@ -985,7 +996,7 @@ def front(folder):
     folder.chmod(0o755)
     check_deploy.make_certificates(openssl, folder)
     filed, count = Filed(), MANY * sizes.reports
-    with Server(folder) as server:
+    with Server(folder, port=intake_port) as server:
         port = free_port()
         file = check_deploy.nginx_file(folder, port, (server.port, server.port), free_port())
         if FRONT_FAULT:
@@ -1011,14 +1022,93 @@ def front(folder):
 
 def connections_of(server):
     """The connections that the intake has."""
+    if isinstance(server.port, pathlib.Path):
+        rows = [line.split() for line in pathlib.Path("/proc/net/unix").read_text().splitlines()[1:]]
+        return [row for row in rows if row[5] == "03" and row[7:] == [str(server.port)]]
     port = f":{server.port:04X}"
     rows = [line.split() for line in pathlib.Path("/proc/net/tcp").read_text().splitlines()[1:]]
     return [row for row in rows if row[1].endswith(port) and row[3] == "01"]
 
 
+# ---- a unix socket
+
+
+def front_of_socket(folder):
+    """The same through the unix socket of the intake."""
+    front(folder, folder / "socket")
+
+
+def refusal(folder, path, *words):
+    """The status and the last line of an intake that is to serve a new register at a path, and whether that is made."""
+    database = folder / "other.db"
+    done = trials.run(trials.INTAKE, "serve", "--db", database, "--socket", path, "--connections", 1, "--new", *words)
+    return done.returncode, done.stderr.decode().splitlines()[-1], database.exists()
+
+
+def unix(folder):
+    """A unix socket: what a port answers, who may connect, what is left at its path, and what is refused there."""
+    path, filed = folder / "socket", Filed()
+    with Server(folder, "--patience", 2 * sizes.seconds, port=path) as server:
+        hold("it says where it serves", server.told().split(": ")[:2], ["intake", f"serving unix:{path}"])
+        hold("who may enter the folder may connect", stat.filemode(path.stat().st_mode), "srw-rw-rw-")
+        taken = filed.rush(path, "unix")
+        filed.hold_clients(f"{CLIENTS} clients on a unix socket ({taken:.1f} s)")
+        told = f"intake: unix:{path}: another program listens there"
+        hold("another intake is refused at its path", refusal(folder, path), (3, told, False))
+        filed.rush(path, "after")
+        filed.hold_clients("and the first goes on")
+        filed.repeat(path, sorted(filed.numbers))
+        filed.hold_clients("repeats get what they got")
+        server.stop(signal.SIGKILL)
+    hold("a killed intake leaves its file", path.is_socket(), True)
+    with Server(folder, connections=2, port=path) as server:
+        with Client(path) as client:
+            filed.guard(filed.send, client, "KILLED", "k-1")
+        filed.hold_clients("an intake serves at the path of one that was killed")
+        with Client(path) as client:
+            filed.guard(filed.send, client, "KILLED", "k-2")
+        hold("it ends after its connections", server.process.wait(sizes.seconds), 0)
+    hold("and leaves no file", os.path.lexists(path), False)
+    checked = trials.run(trials.INTAKE, "check", "--db", server.database)
+    count = len(filed.numbers)
+    hold("intake check", checked.stdout, f"sound: {count} kept, {count} filings\n".encode())
+    for what, make in [("a file", path.touch), ("a folder", path.mkdir), ("a link", lambda: path.symlink_to("x"))]:
+        make()
+        told = f"intake: unix:{path}: a file is there that is no socket"
+        hold(f"{what} at the path is refused, and stays", (refusal(folder, path), os.path.lexists(path)),
+             ((3, told, False), True))
+        path.rmdir() if what == "a folder" else path.unlink()
+    (folder / "file").touch()
+    for what, other, told in [
+        ("a folder that is not there", folder / "no" / "socket", "No such file or directory (os error 2)"),
+        ("a folder that is a file", folder / "file" / "socket", "Not a directory (os error 20)"),
+    ]:
+        hold(what, refusal(folder, other), (3, f"intake: unix:{other}: {told}", False))
+    try_without_rights(folder)
+
+
+def try_without_rights(folder):
+    """An intake of the user nobody, in a folder that is not its own."""
+    if os.geteuid():
+        replaced.append("nothing for another user, which root alone can be")
+        return
+    folder.chmod(0o755)
+    own = folder / "own"
+    own.mkdir()
+    os.chown(own, 65534, 65534)
+    path = folder / "socket"
+    done = subprocess.run(
+        ["setpriv", "--reuid", "65534", "--regid", "65534", "--clear-groups", trials.INTAKE, "serve",
+         "--db", own / "r.db", "--socket", path, "--connections", "1", "--new"],
+        capture_output=True, text=True, check=False,
+    )  # fmt: skip
+    hold("a folder of another user", (done.returncode, done.stderr, (own / "r.db").exists()),
+         (3, f"intake: unix:{path}: Permission denied (os error 13)\n", False))
+
+
 TRIALS = {it.__name__: it for it in [
     idle, slow, one, half_closed, resets, pipelined, interim, repeats, full_disk, accepts, descriptors, memory,
-    much_memory, stopped, patience, log, kills, front,
+    much_memory, stopped, patience, log, kills, front, unix, front_of_socket,
 ]}  # fmt: skip
 
 # ---- planted faults
@@ -1057,6 +1147,14 @@ PLANTED = [
     ("front", "serves one connection after another"),
     ("front", "keepalive 4; => keepalive 512;"),
     ("front", "proxy_read_timeout 120s; => proxy_read_timeout 100ms;"),
+    ("unix", "leaves the file of its socket"),
+    ("unix", "lets only its user connect"),
+    ("unix", "takes the path of another"),
+    ("unix", "removes any file"),
+    ("unix", "removes nothing"),
+    ("unix", "forgets keys at a start"),
+    ("front_of_socket", "serves one connection after another"),
+    ("front_of_socket", "keepalive 4; => keepalive 512;"),
 ]
 
 

@@ -6,7 +6,7 @@
     tools/completions.py FOLDER PROGRAMS    the same, of the programs in the folder PROGRAMS
 
 Without PROGRAMS they are those that `rt run` builds. The value of an option is completed as the help says: one of its
-possible values if they are named, <FILE> by files, <FOLDER> by folders, any other by nothing.
+possible values if they are named, <FILE> and <PATH> by files, <FOLDER> by folders, any other by nothing.
 """
 import pathlib
 import re
@@ -69,10 +69,10 @@ def others_of(word, commands):
 def bash(name, own, commands):
     """A function that completes the last word by the command that was given."""
     every = [option for words in [own, *(words for _, _, words in commands)] for option in words.options]
-    files = sorted({it for option in every if option.value == "FILE" for it in option.names})
+    files = sorted({it for option in every if option.value in ("FILE", "PATH") for it in option.names})
     folders = sorted({it for option in every if option.value == "FOLDER" for it in option.names})
     listed = sorted({(it, " ".join(option.values)) for option in every if option.values for it in option.names})
-    others = sorted({it for option in every if option.value not in ("", "FILE", "FOLDER") and not option.values
+    others = sorted({it for option in every if option.value not in ("", "FILE", "PATH", "FOLDER") and not option.values
                      for it in option.names})
     out = [
         f"# bash completion for {name}",
@@ -134,7 +134,8 @@ def zsh_specs(words):
     """Options and files, as _arguments reads them."""
     out = []
     for option in words.options:
-        value = {"": "", "FILE": ":FILE:_files", "FOLDER": ":FOLDER:_files -/"}.get(option.value, f":{option.value}: ")
+        files = {"": "", "FILE": ":FILE:_files", "PATH": ":PATH:_files", "FOLDER": ":FOLDER:_files -/"}
+        value = files.get(option.value, f":{option.value}: ")
         value = f":{option.value}:({' '.join(option.values)})" if option.values else value
         others = f"({' '.join(option.names)})" if len(option.names) > 1 else ""
         out += [f"'{others}{it}[{in_zsh(option.meaning)}]{value}'" for it in option.names]
@@ -177,7 +178,7 @@ def in_fish(text):
 def fish_options(name, words, condition):
     out = []
     for option in words.options:
-        kinds = {"": "", "FILE": " -r -F", "FOLDER": " -x -a '(__fish_complete_directories)'"}
+        kinds = {"": "", "FILE": " -r -F", "PATH": " -r -F", "FOLDER": " -x -a '(__fish_complete_directories)'"}
         kind = f" -x -a '{' '.join(option.values)}'" if option.values else kinds.get(option.value, " -x")
         names = "".join(f" -l {it[2:]}" if it.startswith("--") else f" -s {it[1:]}" for it in option.names)
         out.append(f"complete -c {name}{condition}{names}{kind} -d {in_fish(option.meaning)}")

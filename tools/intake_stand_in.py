@@ -1,8 +1,8 @@
 #!/usr/bin/env python3
 """Stands in for `intake`, as check_many_connections.py needs it, and has a fault if the variable FAULT names one.
 
-    tools/intake_stand_in.py serve --db FILE --port P --connections C [--at-once N] [--memory MB] [--patience SECONDS]
-        [--new] [--log]
+    tools/intake_stand_in.py serve --db FILE --port P|--socket PATH --connections C [--at-once N] [--memory MB]
+        [--patience SECONDS] [--new] [--log]
     tools/intake_stand_in.py check --db FILE
     tools/intake_stand_in.py list --db FILE --filer CODE
 
@@ -16,6 +16,7 @@ import os
 import re
 import selectors
 import socket
+import stat
 import sys
 import time
 
@@ -48,6 +49,11 @@ FAULTS = {
     "forgets keys at a start",
     "writes a line for each request",
     "counts a connection for each request",
+    "leaves the file of its socket",
+    "lets only its user connect",
+    "takes the path of another",
+    "removes any file",
+    "removes nothing",
 }
 FAULT = os.environ.get("FAULT", "")
 INTERIM = b"HTTP/1.1 100 Continue\r\n\r\n"
@@ -150,16 +156,51 @@ class Line:
         return piece is not None and len(self.held) >= piece[1] or len(self.held) > SMALL_ROOM and piece is None
 
 
+def address_of(words):
+    return f"unix:{words.socket}" if words.socket else f"127.0.0.1:{words.port}"
+
+
+def listener_at(words):
+    """What listens at the port or the path of these words, and ends the program if it cannot."""
+    if not words.socket:
+        return socket.create_server(("127.0.0.1", words.port), backlog=4096)
+    try:
+        if os.path.lexists(words.socket):
+            remove_left(words.socket)
+        listener = socket.socket(socket.AF_UNIX)
+        listener.bind(words.socket)
+    except OSError as fault:
+        cause = f"{fault.strerror} (os error {fault.errno})" if fault.errno else fault
+        print(f"intake: {address_of(words)}: {cause}", file=sys.stderr, flush=True)
+        sys.exit(3)
+    listener.listen(4096)
+    os.chmod(words.socket, 0o600 if FAULT == "lets only its user connect" else 0o666)
+    return listener
+
+
+def remove_left(path):
+    """Removes what is at a path, if it is a socket on which nobody listens any more."""
+    is_socket = stat.S_ISSOCK(os.lstat(path).st_mode)
+    if not is_socket and FAULT != "removes any file":
+        raise OSError("a file is there that is no socket")
+    with socket.socket(socket.AF_UNIX) as peer:
+        if is_socket and peer.connect_ex(path) != errno.ECONNREFUSED and FAULT != "takes the path of another":
+            raise OSError("another program listens there")
+    if FAULT != "removes nothing":
+        os.unlink(path)
+
+
 class Serving:
     # What it keeps reports in.
     kind = Register
 
     def __init__(self, words):
         self.words = words
+        # A new register is made once it listens.
+        self.listener = listener_at(words)
         self.register = self.kind(words.db, words.new)
         if FAULT == "forgets keys at a start":
             self.register.kept.clear()
-        self.listener = socket.create_server(("127.0.0.1", words.port), backlog=4096)
         self.listener.setblocking(False)
         self.selector = selectors.DefaultSelector()
         self.lines, self.taken, self.loans = {}, 0, 0
@@ -169,7 +210,7 @@ class Serving:
         self.stalled_until, self.refused = 0, False
         self.lost = None
         kept = f"{len(self.register.kept)} kept, {self.register.next - 1} filings"
-        print(f"intake: serving 127.0.0.1:{words.port}: {kept}, opened in 1 ms", file=sys.stderr, flush=True)
+        print(f"intake: serving {address_of(words)}: {kept}, opened in 1 ms", file=sys.stderr, flush=True)
 
     def run(self):
         while self.lines or self.taken < self.words.connections:
@@ -190,6 +231,8 @@ class Serving:
                 if line.owed and line.peer.fileno() >= 0:
                     self.go_on(line, selectors.EVENT_WRITE)
             self.cut_off()
+        if self.words.socket and FAULT != "leaves the file of its socket":
+            os.unlink(self.words.socket)
         ending = "" if self.taken == 1 else "s"
         print(f"intake: ended after {self.taken} connection{ending}", file=sys.stderr, flush=True)
 
@@ -447,7 +490,8 @@ class Serving:
 def words_of(words):
     parser = argparse.ArgumentParser()
     parser.add_argument("task", choices=["serve", "check", "list"])
-    for name, kind in [("db", str), ("filer", str), ("port", int), ("connections", int), ("patience", int)]:
+    for name, kind in [("db", str), ("filer", str), ("socket", str), ("port", int), ("connections", int),
+                       ("patience", int)]:  # fmt: skip
         parser.add_argument(f"--{name}", type=kind)
     parser.add_argument("--at-once", type=int, default=256)
     parser.add_argument("--memory", type=int, default=256)

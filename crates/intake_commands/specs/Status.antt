@@ -47,10 +47,11 @@ fault_status fault.NoInit = 2
 fault_status fault.Limit = 2
 fault_status fault.Against = 2
 fault_status fault.Key = 2
+fault_status fault.Socket = 2
 fault_status (fault.InMemory why) = 3
 fault_status (fault.Register name why) = visit_status why
 fault_status (fault.Connection why) = 3
-fault_status (fault.Network port error) = 3
+fault_status (fault.Network address error) = 3
 fault_status (fault.Page why) = 3
 
 -- the status of a task, by its result

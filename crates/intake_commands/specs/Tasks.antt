@@ -37,6 +37,7 @@ use Rattle.intake_process.specs.declared.visiting.Visited.{Visited}
 use Rattle.intake_commands.specs.declared.fault.NotDone.{NotDone}
 use Rattle.intake_commands.specs.declared.fault.NotDone.TheVariants as fault
 use Rattle.intake_commands.specs.Status.{status_of, fault_verdict}
+use Rattle.system_sockets.specs.declared.address.Address.{Address}
 use Rattle.intake_commands.specs.ReportedFault.{IsErrandTold, IsOpeningTold}
 
 -- What contracts see of what a task works with, as far as it is known: the connection on standard input and output,
@@ -75,12 +76,12 @@ abbrev pub IsServingTold : Serving → Result ℕ ServingFault → Result ℕ No
 IsServingTold task (Ok taken) result = result ≡ Ok 0
 IsServingTold task (Err (refused.Register why)) result =
     (told : NotDone) × IsOpeningTold task.database why told × (result ≡ Err told)
-IsServingTold task (Err (refused.Port error)) result = result ≡ Err (fault.Network task.port error)
+IsServingTold task (Err (refused.Port error)) result = result ≡ Err (fault.Network task.address error)
 
--- this fault says that this port is not to be had
-abbrev pub IsPortRefused : ℕ → Result ℕ NotDone → Type 0
-IsPortRefused port (Err (fault.Network number error)) = number ≡ port
-IsPortRefused port other = ⊥
+-- this fault says that connections cannot come in at this address
+abbrev pub IsAddressRefused : Address → Result ℕ NotDone → Type 0
+IsAddressRefused address (Err (fault.Network named error)) = named ≡ address
+IsAddressRefused address other = ⊥
 
 -- the port of a new register is not to be had, and nothing is made
 pub record IsWithoutPort {D S : Type 0} {g : Ghosts D} (task : Serving) (port port' : Port S) (old new : Parts g)
@@ -88,7 +89,7 @@ pub record IsWithoutPort {D S : Type 0} {g : Ghosts D} (task : Serving) (port po
   pub new_one : task.new ≡ true
   pub same : port' ≡ port
   pub kept : new ≡ old
-  pub told : IsPortRefused task.port result
+  pub told : IsAddressRefused task.address result
 
 -- how often the port is asked at most, unless it is shut before: the largest number of 64 bits
 abbrev pub most_asked : ℕ

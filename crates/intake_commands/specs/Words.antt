@@ -2,7 +2,7 @@
 -- nothing of which words give which values, since an option may have a value that begins with a hyphen.
 use Rattle.std.specs.Prelude.{◌≡◌, ◌&&◌, ◌||◌, ℕ, Bool, true, false, List, [], ◌∷◌, map, codes, Option, Some, None}
 use Rattle.std.specs.Prelude.{Result, Ok, Err, is_some, option_map, option_and_then, unwrap_or, if◌then◌else◌, eqb}
-use Rattle.std.specs.Prelude.{slice_get}
+use Rattle.std.specs.Prelude.{slice_get, length, nat_lt, not}
 use Rattle.std.specs.List.{after_first, before_first, list_any}
 use Rattle.std.specs.Option.{option_map_or}
 use Rattle.std.specs.Result.{result_ok}
@@ -28,6 +28,8 @@ use Rattle.intake_commands.specs.declared.options.Serving.{Serving}
 use Rattle.intake_commands.specs.declared.options.Task.{Task}
 use Rattle.intake_commands.specs.declared.options.Task.TheVariants.{Run, Serve, Visit, Lint}
 use Rattle.command_line.specs.Values.{value, values, is_set, number, read_decimal}
+use Rattle.system_sockets.specs.declared.address.Address.{Address}
+use Rattle.system_sockets.specs.declared.address.Address.TheVariants.{Port, Socket}
 
 -- ---- what options say
 
@@ -86,12 +88,35 @@ abbrev pub has_shown : List Row → Bool
 has_shown options =
     is_some (number 64 (codes "number") options) || (is_set (codes "body") options && has_request options)
 
+-- whether a unix socket may have this path: the system has room for 107 bytes and a zero
+abbrev pub is_socket_path : Text → Bool
+is_socket_path path = nat_lt 0 (length path) && nat_lt (length path) 108
+
+-- whether the value of `--socket`, if there is one, is such a path
+abbrev pub is_socketed : List Row → Bool
+is_socketed options = option_map_or is_socket_path (value (codes "socket") options) true
+
+-- the address that is served: the port of `--port`, or the unix socket of `--socket`, and not both
+abbrev pub IsAddressOf : List Row → Address → Type 0
+IsAddressOf options (Port number) =
+    (value (codes "socket") options ≡ None) × (number 16 (codes "port") options ≡ Some number)
+IsAddressOf options (Socket path) =
+    (value (codes "socket") options ≡ Some path.now) × (is_socket_path path.now ≡ true)
+    × (number 16 (codes "port") options ≡ None)
+
+-- whether one address is given
+abbrev pub has_address : List Row → Bool
+has_address options =
+    if is_some (value (codes "socket") options)
+    then is_socketed options && not (is_some (number 16 (codes "port") options))
+    else is_some (number 16 (codes "port") options)
+
 -- ---- tasks
 
 -- the register of `--db` is served as the options say: a new one with `--new`, and with lines of what came with `--log`
 pub record IsServingOf (options : List Row) (serving : Serving) : Type 0 where
   pub database : value (codes "db") options ≡ Some serving.database.now
-  pub port : number 16 (codes "port") options ≡ Some serving.port
+  pub address : IsAddressOf options serving.address
   pub connections : number 32 (codes "connections") options ≡ Some serving.connections
   pub at_once : serving.at_once ≡ unwrap_or (number 16 (codes "at-once") options) 256
   pub memory : serving.memory ≡ unwrap_or (number 32 (codes "memory") options) 256
@@ -102,7 +127,7 @@ pub record IsServingOf (options : List Row) (serving : Serving) : Type 0 where
 
 -- whether the values are there that serving needs
 abbrev pub has_serving : List Row → Bool
-has_serving options = is_some (value (codes "db") options) && (is_some (number 16 (codes "port") options)
+has_serving options = is_some (value (codes "db") options) && (has_address options
     && is_some (number 32 (codes "connections") options))
 
 -- the filings that an export writes out: `--filer`'s, or all filers'; with `--current` those that none replaces; those
@@ -185,12 +210,14 @@ folder_of other = []
 
 -- ---- what is asked for
 
--- the fault of options that ask for nothing: the value of `--against` writes no digest, that of `--key` is no key, or
--- there is no task
+-- the fault of options that ask for nothing: the value of `--against` writes no digest, that of `--key` is no key, no
+-- unix socket may have the path of `--socket`, or there is no task
+abbrev pub unserved : List Row → NotDone
+unserved options = if is_socketed options then fault.Command command.NoTask else fault.Socket
+
 abbrev pub unasked : List Row → NotDone
 unasked options =
-    if is_against options then (if is_keyed options then fault.Command command.NoTask else fault.Key)
-    else fault.Against
+    if is_against options then (if is_keyed options then unserved options else fault.Key) else fault.Against
 
 -- a task, if the word that was found asks for one, and its file is waited for as long as `--wait` says, or not at all;
 -- without a word one connection is run, with the limit that is set if nothing is said

@@ -6,7 +6,7 @@ ghost use Rattle.clap.specs.Words.{subcommand_rows_of};
 ghost use Rattle.command_line.specs.Values.{is_set, number, options_of};
 ghost use Rattle.command_line.specs.Words.{IsRead, IsReadBy, IsUnread, IsUnreadBy};
 ghost use Rattle.intake_commands.specs.Words.{limit_of, form_of, format_of, has_serving, IsServingOf};
-ghost use Rattle.intake_commands.specs.Words.{AreWanted, unasked};
+ghost use Rattle.intake_commands.specs.Words.{AreWanted, IsAddressOf, has_address, is_socket_path, unserved, unasked};
 ghost use Rattle.intake_commands.specs.Words.{IsErrandBy, IsTaskBy, IsAsked};
 
 use crate::fault::NotDone;
@@ -24,6 +24,7 @@ use intake_process::Errand;
 use key_string::is_key;
 use register_extracts::{FactForm, Wanted};
 use std::alloc::{AllocError, Global};
+use system_sockets::Address;
 
 /// How many keys are kept at most.
 fn limit_of(values: &ArgMatches<'_>) -> u64
@@ -54,6 +55,28 @@ fn format_of(values: &ArgMatches<'_>) -> Option<FactForm>
     }
 }
 
+/// The most bytes of the path of a unix socket: one less than the system has room for, since a zero follows.
+const MOST_OF_PATH: usize = 107;
+
+/// Whether a unix socket may have this path.
+fn is_socket_path(path: &str) -> bool
+    ensures { result ≡ is_socket_path path.now }
+{
+    !path.is_empty() && path.len() <= MOST_OF_PATH
+}
+
+/// Where connections come in. `None` if no address is given, or two, or a path that no socket may have.
+fn address_of<'a>(values: &ArgMatches<'a>) -> Option<Address<'a>>
+    ensures given { IfSome result (IsAddressOf (options_of values.now)) }
+    ensures not_given { result ≡ None → has_address (options_of values.now) ≡ false }
+{
+    match (value_of(values, "socket"), number_of_16_bits(values, "port")) {
+        (None, Some(port)) => Some(Address::Port(port)),
+        (Some(path), None) if is_socket_path(path) => Some(Address::Socket(path)),
+        _ => None,
+    }
+}
+
 /// What is served, and how. `None` if a value is not there that is needed for it.
 fn serving_of<'a>(values: &ArgMatches<'a>) -> Option<Serving<'a>>
     ensures served { IfSome result (IsServingOf (options_of values.now)) }
@@ -61,7 +84,7 @@ fn serving_of<'a>(values: &ArgMatches<'a>) -> Option<Serving<'a>>
 {
     Some(Serving {
         database: value_of(values, "db")?,
-        port: number_of_16_bits(values, "port")?,
+        address: address_of(values)?,
         connections: number_of_32_bits(values, "connections")?,
         at_once: number_of_16_bits(values, "at-once").unwrap_or(DEFAULT_AT_ONCE),
         memory: number_of_32_bits(values, "memory").unwrap_or(DEFAULT_MEMORY),
@@ -241,6 +264,16 @@ fn default_asked<'a>() -> Asked<'a>
     }
 }
 
+/// Why the values of a word ask for nothing that have a digest and a key in their forms, or none.
+fn unserved<'a>(values: &ArgMatches<'a>) -> NotDone<'a>
+    ensures { result ≡ unserved (options_of values.now) }
+{
+    match value_of(values, "socket") {
+        Some(path) if !is_socket_path(path) => NotDone::Socket,
+        _ => NotDone::Command(CommandFault::NoTask),
+    }
+}
+
 /// Why the values of a word ask for nothing.
 fn unasked<'a>(values: &ArgMatches<'a>) -> NotDone<'a>
     ensures { result ≡ unasked (options_of values.now) }
@@ -249,7 +282,7 @@ fn unasked<'a>(values: &ArgMatches<'a>) -> NotDone<'a>
         Some(text) if read_published(text).is_none() => NotDone::Against,
         _ => match value_of(values, "key") {
             Some(text) if !is_key(text.as_bytes()) => NotDone::Key,
-            _ => NotDone::Command(CommandFault::NoTask),
+            _ => unserved(values),
         },
     }
 }

@@ -1,7 +1,7 @@
 //! A reader that looks at the clock.
 
 use http_wire::{DeviceFailed, Source};
-use tcp_sockets::moment_now;
+use system_sockets::moment_now;
 
 /// A reader that looks at the clock of the system after each read.
 #[derive(Drop)]

@@ -12,6 +12,7 @@ use sqlite::{Error as DatabaseError, ErrorCode};
 use std::alloc::AllocError;
 use std::io::Write;
 use std::{fmt, io};
+use system_sockets::Address;
 use terminal_text::OneLine;
 use thiserror::Error;
 
@@ -217,14 +218,19 @@ pub enum NotDone<'a> {
     Against,
     #[error("--key: it is 1 to 1024 printable ASCII characters")]
     Key,
+    #[error("--socket: it is a path of 1 to 107 bytes")]
+    Socket,
     #[error("{0}")]
     InMemory(CreateFault),
     #[error("{file}: {fault}", file = OneLine(*.name))]
     Register { name: &'a str, fault: VisitFault },
     #[error("{0}")]
     Connection(ConnFault),
-    #[error("127.0.0.1:{port}: {error}")]
-    Network { port: u16, error: io::Error },
+    #[error("{address}: {error}")]
+    Network {
+        address: Address<'a>,
+        error: io::Error,
+    },
     #[error("{0}")]
     Page(PageFault),
 }
@@ -251,10 +257,14 @@ impl NotDone<'_> {
         match self {
             NotDone::Command(fault) => fault.status(),
             NotDone::Register { name: _, fault } => fault.status(),
-            NotDone::Limit | NotDone::Against | NotDone::Key | NotDone::NoInit => 2,
+            NotDone::Limit | NotDone::Against | NotDone::Key | NotDone::Socket => 2,
+            NotDone::NoInit => 2,
             NotDone::InMemory(_) => 3,
             NotDone::Connection(_) => 3,
-            NotDone::Network { port: _, error: _ } => 3,
+            NotDone::Network {
+                address: _,
+                error: _,
+            } => 3,
             NotDone::Page(_) => 3,
         }
     }
@@ -269,10 +279,14 @@ impl NotDone<'_> {
             NotDone::Command(CommandFault::NotText | CommandFault::NoTask | CommandFault::Filer) =>
                 None,
             NotDone::Command(CommandFault::Output | CommandFault::Memory) => None,
-            NotDone::Limit | NotDone::Against | NotDone::Key | NotDone::NoInit => None,
+            NotDone::Limit | NotDone::Against | NotDone::Key | NotDone::Socket => None,
+            NotDone::NoInit => None,
             NotDone::InMemory(_) => None,
             NotDone::Connection(_) => None,
-            NotDone::Network { port: _, error: _ } => None,
+            NotDone::Network {
+                address: _,
+                error: _,
+            } => None,
             NotDone::Page(_) => None,
         }
     }

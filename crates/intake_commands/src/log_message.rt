@@ -2,6 +2,7 @@
 
 use std::fmt;
 use std::io::Write;
+use system_sockets::Address;
 
 /// The text for a register whose database refused a call.
 const DOWN: &str = concat!(
@@ -14,10 +15,10 @@ const PAUSED: &str = "and until then a request gets 503 at once";
 
 /// What is reported of a register that is served, each as a line.
 #[derive(Clone, Copy)]
-pub(crate) enum LogMessage {
+pub(crate) enum LogMessage<'a> {
     /// Connections are taken.
     Ready {
-        port: u16,
+        address: Address<'a>,
         kept: u64,
         filings: u64,
         /// How long the opening took.
@@ -41,17 +42,17 @@ pub(crate) enum LogMessage {
     },
 }
 
-impl fmt::Display for LogMessage {
+impl fmt::Display for LogMessage<'_> {
     fn fmt<W: fmt::Write>(&self, f: &mut fmt::Formatter<W>) -> fmt::Result {
         match self {
             LogMessage::Ready {
-                port,
+                address,
                 kept,
                 filings,
                 milliseconds,
             } => write!(
                 f,
-                "serving 127.0.0.1:{port}: {kept} kept, {filings} filings, opened in {milliseconds} ms"
+                "serving {address}: {kept} kept, {filings} filings, opened in {milliseconds} ms"
             ),
             LogMessage::Down => f.write_str(DOWN),
             LogMessage::Paused { seconds } => write!(
@@ -72,7 +73,7 @@ impl fmt::Display for LogMessage {
     }
 }
 
-impl LogMessage {
+impl LogMessage<'_> {
     /// Writes the text as a line.
     pub(crate) fn tell<E: Write>(&self, errors: &mut E) {
         // Nothing is left to be done if this text can't be written.

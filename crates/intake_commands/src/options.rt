@@ -9,6 +9,7 @@ use database_places::Access;
 use finding_lines::Form;
 use intake_process::Errand;
 use std::alloc::{AllocError, Global};
+use system_sockets::Address;
 
 /// How many keys are kept at most, if the command line does not say so. Each opening reads the register whole: so many
 /// small reports within half a minute.
@@ -33,7 +34,8 @@ const MOST_MEMORY: i64 = 65_536;
 #[derive(Clone, Copy)]
 pub struct Serving<'a> {
     pub(crate) database: &'a str,
-    pub(crate) port: u16,
+    /// Where its connections come in.
+    pub(crate) address: Address<'a>,
     /// How many connections are served.
     pub(crate) connections: u32,
     /// How many of them are served at once.
@@ -65,7 +67,7 @@ pub enum Task<'a> {
     Run {
         limit: u64,
     },
-    /// Serve a number of connections of a port on the register of a file.
+    /// Serve a number of connections of an address on the register of a file.
     Serve(Serving<'a>),
     /// Do this errand with the register of a file.
     Visit {
@@ -144,6 +146,26 @@ fn limit<'a>(alloc: Global) -> Arg<'a> {
         "The most keys that the register keeps, 0 to 4611686018427387904 [default: 1000000]",
         value_parser!(u64),
     )
+}
+
+fn port<'a>(alloc: Global) -> Result<Arg<'a>, AllocError> {
+    port_option(
+        alloc,
+        "The port of 127.0.0.1 to listen on, 1 to 65535; or --socket",
+    )
+    .required(false)
+    .required_unless_present("socket")?
+    .conflicts_with("socket")
+}
+
+fn socket<'a>(alloc: Global) -> Arg<'a> {
+    path_option(
+        alloc,
+        "socket",
+        "PATH",
+        "The path of a unix socket to listen on, of 1 to 107 bytes; who may enter its folder may connect",
+    )
+    .required(false)
 }
 
 fn connections<'a>(alloc: Global) -> Arg<'a> {
@@ -307,6 +329,7 @@ fn against<'a>(alloc: Global) -> Arg<'a> {
 enum Argument {
     Database,
     Port,
+    Socket,
     Connections,
     AtOnce,
     Memory,
@@ -336,7 +359,8 @@ impl ToArg for Argument {
     fn to_arg<'a>(self, alloc: Global) -> Result<Arg<'a>, AllocError> {
         Ok(match self {
             Argument::Database => database_option(alloc, "The database file of the register"),
-            Argument::Port => port_option(alloc, "The port of 127.0.0.1 to listen on, 1 to 65535"),
+            Argument::Port => port(alloc)?,
+            Argument::Socket => socket(alloc),
             Argument::Connections => connections(alloc),
             Argument::AtOnce => at_once(alloc),
             Argument::Memory => memory(alloc),
@@ -394,15 +418,17 @@ static WORDS: [Word<Argument>; 10] = [
     },
     Word {
         name: "serve",
-        about: "Serves a register on a port of 127.0.0.1",
+        about: "Serves a register on a port of 127.0.0.1, or on a unix socket",
         example: concat!(
             "Example: intake serve --db register.db --port 8080 --connections 4294967295 --patience 60 --new\n",
-            "Example: intake serve --db register.db --port 8080 --connections 4294967295 --patience 60\n\n",
-            "The first makes the register, and is refused if it is there; the second opens it.",
+            "Example: intake serve --db register.db --port 8080 --connections 4294967295 --patience 60\n",
+            "Example: intake serve --db register.db --socket /run/intake/socket --connections 4294967295\n\n",
+            "The first makes the register, and is refused if it is there; the others open it.",
         ),
         arguments: &[
             Argument::Database,
             Argument::Port,
+            Argument::Socket,
             Argument::Connections,
             Argument::AtOnce,
             Argument::Memory,

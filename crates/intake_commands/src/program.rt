@@ -23,7 +23,7 @@ use http_wire::Device;
 use intake_process::IntakeProcess;
 use sqlite_disk::Disk;
 use std::io::{IsTerminal, Stderr, Stdout, Write};
-use tcp_sockets::{TcpLine, TcpSockets};
+use system_sockets::{SystemLine, SystemSockets};
 
 /// The text if requests are read from a terminal.
 const READING: &str = concat!(
@@ -32,13 +32,13 @@ const READING: &str = concat!(
 );
 
 /// A connection of this machine, with what is noted of it.
-type Line = Recorded<TcpLine>;
+type Line = Recorded<SystemLine>;
 
 /// The sockets of this machine, whose connections are reported on the standard streams.
-type SystemSockets<'r> = ReportedSockets<TcpSockets<'r>, Stdout, Stderr>;
+type Reported<'r> = ReportedSockets<SystemSockets<'r>, Stdout, Stderr>;
 
 /// A port of this machine, or none.
-type SystemPort<'r> = Option<Port<Line, SystemSockets<'r>>>;
+type SystemPort<'r> = Option<Port<Line, Reported<'r>>>;
 
 /// How much of a port is served at once, and how many connections in all.
 fn bounds_of(serving: &Serving<'_>) -> Bounds
@@ -53,13 +53,13 @@ fn bounds_of(serving: &Serving<'_>) -> Bounds
 }
 
 /// The port that is served, which does not listen yet; none if there is no memory for it.
-fn port_of<'r>(rt: &'r HostRuntime, serving: &Serving<'_>) -> SystemPort<'r>
+fn port_of<'r>(rt: &'r HostRuntime, serving: &Serving<'r>) -> SystemPort<'r>
     ensures { IsFresh ⟦<Line as Stream>⟧ serving.now
-        (option_map (view_port ⟦<SystemSockets<'r> as Sockets>⟧.traffic) result) }
+        (option_map (view_port ⟦<Reported<'r> as Sockets>⟧.traffic) result) }
 {
     let bounds = bounds_of(serving);
     let log = if serving.log { Some(rt.stdout()) } else { None };
-    let sockets = TcpSockets::new(rt, serving.port, bounds.places);
+    let sockets = SystemSockets::new(rt, serving.address, bounds.places);
     let reported = ReportedSockets::new(rt.alloc(), sockets, log, rt.stderr(), serving.patience);
     match Port::new(rt.alloc(), reported, bounds) {
         Ok(port) => Some(port),

@@ -94,7 +94,7 @@ impl<E: Write> Observer for Reporter<'_, '_, '_, E> {
 
     fn ready(&mut self, totals: Totals) {
         LogMessage::Ready {
-            port: self.serving.port,
+            address: self.serving.address,
             kept: totals.kept,
             filings: totals.filings,
             milliseconds: self.milliseconds(),

@@ -69,7 +69,7 @@ fn serve_port<
     };
     if let Err(error) = listen_before(port, serving.new) {
         return Err(NotDone::Network {
-            port: serving.port,
+            address: serving.address,
             error,
         });
     }
@@ -127,7 +127,7 @@ fn serving_fault<'a, D: Disk + Drop, P: Place<D>>(
     match fault {
         ServingFault::Register(fault) => opening_fault(alloc, place, serving.database, fault),
         ServingFault::Port(error) => NotDone::Network {
-            port: serving.port,
+            address: serving.address,
             error,
         },
     }

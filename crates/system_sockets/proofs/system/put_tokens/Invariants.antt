@@ -1,6 +1,6 @@
 use Rattle.std.proofs.Common.{◌≡◌, take, vec_len, vec_capacity}
-use Rattle.tcp_sockets.specs.Seen.{tokens_in}
-use Rattle.tcp_sockets.proofs.tcp.put_tokens.Given as goal
+use Rattle.system_sockets.specs.Seen.{tokens_in}
+use Rattle.system_sockets.proofs.system.put_tokens.Given as goal
 
 abbrev pub invariant-loop-event : goal.invariant-loop-event
 invariant-loop-event l =

@@ -1,32 +1,28 @@
 //! The sockets of this machine, found ready by the system.
 
-ghost use Rattle.std.specs.Prelude.{◌≡◌, ◌≢◌, ◌≤◌, ◌++◌, [], IfOk, IfSome, Some, None, false, length, vec_capacity};
+ghost use Rattle.std.specs.Prelude.{◌≡◌, ◌≤◌, ◌++◌, [], IfOk, IfSome, Some, None, false, length, vec_capacity};
 ghost use Rattle.std.specs.Option.{option_map_or};
 ghost use Rattle.mio.specs.Events.{items, capacity as events_capacity};
 ghost use Rattle.connection_hall.specs.Arriving.{IsFresh};
-ghost use Rattle.connection_hall.specs.Streams.{got_len, took_len};
-ghost use Rattle.connection_hall.specs.declared.stream.Got.TheVariants as got;
-ghost use Rattle.tcp_sockets.specs.Seen.{bytes_in, tokens_in};
+ghost use Rattle.system_sockets.specs.Seen.{bytes_in, tokens_in};
 
+use crate::address::Address;
+use crate::listener::Listener;
+use crate::socket::{Socket, is_not_now};
 use connection_hall::{Broken, Got, Sockets, Stream, Why};
 use http_server::Log;
 use mio::event::Event;
-use mio::net::{TcpListener, TcpStream};
-use mio::{Events, Interest, Poll, Token};
-use std::io::{self, ErrorKind, Read, Write};
-use std::net::{IpAddr, Ipv4Addr, SocketAddr};
+use mio::{Events, Poll, Token};
+use std::io::{self, ErrorKind};
 use std::time::{Duration, Instant, SystemTime};
 
 /// The token of the listener; those of connections are their places.
 const LISTENER: Token = Token(usize::MAX);
 
-/// How often a call is made again that the system interrupts.
-const TRIES: u32 = 64;
-
 /// A connection of this machine.
 #[derive(Drop)]
-pub struct TcpLine {
-    stream: TcpStream,
+pub struct SystemLine {
+    socket: Socket,
     place: usize,
     /// What came and what went, which only clauses read: no memory holds it.
     came: Log<u8, bool>,
@@ -37,16 +33,16 @@ pub struct TcpLine {
     is_broken: bool,
 }
 
-impl TcpLine {
+impl SystemLine {
     /// A connection in this place, of which nothing was read and on which nothing was written.
-    fn new(stream: TcpStream, place: usize) -> TcpLine
+    fn new(socket: Socket, place: usize) -> SystemLine
         ensures place { result.place ≡ place }
         ensures came { result.came.items ≡ [] }
         ensures went { result.went.items ≡ [] }
         ensures ended { result.is_ended ≡ false }
     {
-        TcpLine {
-            stream,
+        SystemLine {
+            socket,
             place,
             came: Log::new(),
             went: Log::new(),
@@ -67,7 +63,7 @@ fn note(log: &mut Log<u8, bool>, bytes: &[u8])
     }
 }
 
-impl Stream for TcpLine {
+impl Stream for SystemLine {
     type Note = ();
 
     ghost place = { λ line. line.place };
@@ -85,7 +81,7 @@ impl Stream for TcpLine {
     ghost is_broken = { λ line. line.is_broken };
 
     fn read(&mut self, room: &mut [u8]) -> Got {
-        let got = read(&mut self.stream, room);
+        let got = self.socket.read(room);
         if let Got::Bytes(count) = got {
             note(&mut self.came, &room[..count]);
         }
@@ -95,7 +91,7 @@ impl Stream for TcpLine {
     }
 
     fn write(&mut self, text: &[u8]) -> Result<usize, Broken> {
-        let taken = write(&mut self.stream, text);
+        let taken = self.socket.write(text);
         if let Ok(count) = taken {
             note(&mut self.went, &text[..count]);
         }
@@ -108,43 +104,6 @@ impl Stream for TcpLine {
     }
 
     fn note(&mut self, _note: &()) {}
-}
-
-/// Whether a call only cannot be answered now.
-fn is_not_now(error: &io::Error) -> bool {
-    error.kind() == ErrorKind::WouldBlock
-}
-
-/// Reads what is there. One that is interrupted again and again is broken.
-fn read(stream: &mut TcpStream, room: &mut [u8]) -> Got
-    ensures bound { got_len result ≤ length room.new }
-    ensures some { result ≢ got.Bytes 0 }
-{
-    for _ in 0..TRIES {
-        match stream.read(room) {
-            Ok(0) => return Got::End,
-            Ok(count) => return Got::Bytes(count),
-            Err(error) if is_not_now(&error) => return Got::Nothing,
-            Err(error) if error.kind() == ErrorKind::Interrupted => {}
-            Err(_) => return Got::End,
-        }
-    }
-    Got::End
-}
-
-/// Writes what goes now.
-fn write(stream: &mut TcpStream, text: &[u8]) -> Result<usize, Broken>
-    ensures { took_len result ≤ length text.now }
-{
-    for _ in 0..TRIES {
-        match stream.write(text) {
-            Ok(count) => return Ok(count),
-            Err(error) if is_not_now(&error) => return Ok(0),
-            Err(error) if error.kind() == ErrorKind::Interrupted => {}
-            Err(_) => return Err(Broken),
-        }
-    }
-    Err(Broken)
 }
 
 /// How many milliseconds passed since 1970-01-01T00:00:00Z by the clock of the system; 0 if it fails, or is set to an
@@ -161,38 +120,38 @@ pub fn moment_now(rt: &HostRuntime) -> u64 {
 
 /// What the system is asked by.
 #[derive(Drop)]
-struct Listening {
+struct Listening<'r> {
     poll: Poll,
     events: Events,
     /// The tokens of what may go on, as the system said when it was asked last.
     named: Vec<usize>,
-    listener: TcpListener,
+    listener: Listener<'r>,
     /// Whether a connection may wait to be accepted.
     is_coming: bool,
     ghost room: { events_capacity events ≤ vec_capacity named },
 }
 
-/// The connections that come on a port of 127.0.0.1.
+/// The connections that come in at an address.
 #[derive(Drop)]
-pub struct TcpSockets<'r> {
+pub struct SystemSockets<'r> {
     rt: &'r HostRuntime,
-    number: u16,
+    address: Address<'r>,
     /// How many connections the system reports at once at most.
     most: usize,
     /// `None` until it listens.
-    listening: Option<Listening>,
+    listening: Option<Listening<'r>>,
     /// The moment from which on time is counted; `None` if the system has no clock.
     start: Option<Instant>,
     /// How many milliseconds had passed when the system was asked last.
     now: u64,
 }
 
-impl<'r> TcpSockets<'r> {
-    /// The connections of the port of this number, which does not listen yet.
-    pub fn new(rt: &'r HostRuntime, number: u16, most: usize) -> TcpSockets<'r> {
-        TcpSockets {
+impl<'r> SystemSockets<'r> {
+    /// The connections of this address, at which nothing listens yet.
+    pub fn new(rt: &'r HostRuntime, address: Address<'r>, most: usize) -> SystemSockets<'r> {
+        SystemSockets {
             rt,
-            number,
+            address,
             most,
             listening: None,
             start: Instant::now(rt).ok(),
@@ -200,13 +159,11 @@ impl<'r> TcpSockets<'r> {
         }
     }
 
-    /// Listens on the port.
-    fn bind(&self) -> io::Result<Listening> {
-        let address = SocketAddr::new(IpAddr::V4(Ipv4Addr::new(127, 0, 0, 1)), self.number);
-        let mut listener = TcpListener::bind(self.rt, address)?;
+    /// Listens at the address.
+    fn bind(&self) -> io::Result<Listening<'r>> {
+        let mut listener = Listener::bind(self.rt, self.address)?;
         let poll = Poll::new(self.rt)?;
-        poll.registry()
-            .register(&mut listener, LISTENER, Interest::READABLE)?;
+        listener.watch(poll.registry(), LISTENER)?;
         Ok(Listening {
             poll,
             events: Events::with_capacity(self.rt.alloc(), self.most)?,
@@ -228,29 +185,20 @@ impl<'r> TcpSockets<'r> {
     }
 }
 
-impl Listening {
+impl Listening<'_> {
     /// A connection that waits, if one does. It is watched under the number of the place. If the system has no room for
     /// one more, it goes on waiting.
-    fn accept(&mut self, place: usize) -> io::Result<Option<TcpLine>>
-        ensures fresh { IfOk result (λ line. IfSome line (IsFresh ⟦<TcpLine as Stream>⟧)) }
+    fn accept(&mut self, place: usize) -> io::Result<Option<SystemLine>>
+        ensures fresh { IfOk result (λ line. IfSome line (IsFresh ⟦<SystemLine as Stream>⟧)) }
         ensures place { IfOk result (λ line. IfSome line (λ came. came.place ≡ place)) }
         ensures named { self.new.named ≡ self.old.named }
     {
         match self.listener.accept() {
-            Ok((mut stream, _)) => {
-                // Replies are written whole, and without this each may wait until the peer acknowledges the one before.
-                let _ = stream.set_nodelay(true);
-                let interest = Interest::READABLE | Interest::WRITABLE;
-                match self
-                    .poll
-                    .registry()
-                    .register(&mut stream, Token(place), interest)
-                {
-                    Ok(()) => Ok(Some(TcpLine::new(stream, place))),
-                    // It is turned away, and the others go on.
-                    Err(_) => Ok(None),
-                }
-            }
+            Ok(mut socket) => match socket.watch(self.poll.registry(), Token(place)) {
+                Ok(()) => Ok(Some(SystemLine::new(socket, place))),
+                // It is turned away, and the others go on.
+                Err(_) => Ok(None),
+            },
             Err(error) if is_not_now(&error) => {
                 self.is_coming = false;
                 Ok(None)
@@ -306,8 +254,8 @@ fn is_for_now(error: &io::Error) -> bool {
     }
 }
 
-impl Sockets for TcpSockets<'_> {
-    type Stream = TcpLine;
+impl Sockets for SystemSockets<'_> {
+    type Stream = SystemLine;
 
     ghost traffic = { λ _. None };
 
@@ -323,7 +271,7 @@ impl Sockets for TcpSockets<'_> {
         Ok(())
     }
 
-    fn accept(&mut self, place: usize) -> io::Result<Option<TcpLine>> {
+    fn accept(&mut self, place: usize) -> io::Result<Option<SystemLine>> {
         match &mut self.listening {
             Some(listening) if listening.is_coming => listening.accept(place),
             Some(_) => Ok(None),
@@ -356,7 +304,7 @@ impl Sockets for TcpSockets<'_> {
     }
 
     // A stream that is let go is closed, and the system watches it no more.
-    fn end(&mut self, stream: TcpLine, _number: u32, _why: Why) {
+    fn end(&mut self, stream: SystemLine, _number: u32, _why: Why) {
         drop(stream);
     }
 }
