@@ -747,6 +747,35 @@ def outbox_upgrade(page, supervisor, filer):
                 "mv present/* .; rmdir present; systemctl start berruzpil-outbox.timer")
 
 
+# ---- a unix socket
+
+
+def socket(page, supervisor, filer):
+    """The intake on a unix socket, by the commands of the page: nginx and the health check reach it, nobody else."""
+    path, on_port = "/run/berruzpil-intake/socket", "curl -s http://127.0.0.1:8080/filings/ACME"
+    ask, site = f"curl -s --unix-socket {path} http://localhost/filings/ACME", "/etc/nginx/conf.d/nginx-intake.conf"
+    before = supervisor.paste(on_port)
+    play(supervisor, "a unix socket", page.block("How many clients does it serve at once?", "echo SOCKET="))
+    hold("nginx's user reaches it", supervisor.paste(f"runuser -u www-data -- {ask}"), before)
+    hold("and no other one", supervisor.paste(f"runuser -u nobody -- {ask}"), (7, ""))
+    hold("nor does the port", supervisor.paste(on_port), (7, ""))
+    hold("the unit of the check", supervisor.paste("systemctl start berruzpil-health@intake.service"), (0, ""))
+    hold("a filer reaches it",
+         filer.until("curl -s http://127.0.0.1:8081/filings/ACME", lambda *it: it == before), before)
+    supervisor.paste("systemctl start berruzpil-metrics")
+    info = f'berruzpil_intake_info{{register="register",address="unix:{path}"}} 1\n'
+    hold("numbers name it", info in supervisor.file(METRICS).read_text(), True)
+    hold("an intake is killed", supervisor.paste("systemctl kill --signal=KILL berruzpil-intake"), (0, ""))
+    hold("and comes back there", supervisor.until(f"intake-health unix:{path}", seconds=patience()),
+         (0, f"unix:{path}: serving\n"))
+    supervisor.paste("sed -i /^SOCKET=/d /etc/default/berruzpil; "
+                     f"sed -i 's,^    server unix:.*,    server 127.0.0.1:8080;,' {site}; "
+                     "systemctl disable --quiet --now berruzpil-health@intake.timer; "
+                     "systemctl restart berruzpil-intake nginx; "
+                     "systemctl enable --quiet --now berruzpil-health@8080.timer")
+    hold("on the port again", supervisor.until(ask_health(page, supervisor), seconds=patience())[0], 0)
+
+
 # ---- several
 
 
@@ -816,7 +845,8 @@ def health(page, supervisor, filer):
          (1, "intake-health: https://intake.example/health: answered 403\n"))
     program = direct.split()[0]
     hold("a page that is no intake's", supervisor.paste(f"{program} http://127.0.0.1:80/")[0], 1)
-    hold("a wrong word", supervisor.paste(f"{program} 8080"), (2, "usage: intake-health URL [OPTION OF curl ..]\n"))
+    hold("a wrong word", supervisor.paste(f"{program} 8080"),
+         (2, "usage: intake-health URL|unix:PATH [OPTION OF curl ..]\n"))
     sent = (
         front.replace(f"{program} https", "curl -s https")
         + " -X POST --data-binary '{}' -H 'Idempotency-Key: \"k-1\"'"
@@ -1114,7 +1144,7 @@ def man_pages(page, supervisor, filer):
 PARTS = {it.__name__: it for it in [
     days, units, restore, disk, clock, hang, timers, metrics, readers, officers, slow, abort, certificates,
     stunnel, damaged, upgrade, outbox_upgrade, health, stops, power, taken, many, lines, names, expiry, own_client,
-    several, man_pages,
+    socket, several, man_pages,
 ]}  # fmt: skip
 
 

@@ -1038,11 +1038,12 @@ def front_of_socket(folder):
     front(folder, folder / "socket")
 
 
-def refusal(folder, path, *words):
+def refusal(folder, path):
     """The status and the last line of an intake that is to serve a new register at a path, and whether that is made."""
     database = folder / "other.db"
-    done = trials.run(trials.INTAKE, "serve", "--db", database, "--socket", path, "--connections", 1, "--new", *words)
-    return done.returncode, done.stderr.decode().splitlines()[-1], database.exists()
+    words = [trials.INTAKE, "serve", "--db", database, "--socket", path, "--connections", "1", "--new"]
+    done = subprocess.run(words, capture_output=True, text=True, timeout=sizes.seconds, check=False)
+    return done.returncode, done.stderr.splitlines()[-1], database.exists()
 
 
 def unix(folder):
@@ -1100,7 +1101,7 @@ def try_without_rights(folder):
     done = subprocess.run(
         ["setpriv", "--reuid", "65534", "--regid", "65534", "--clear-groups", trials.INTAKE, "serve",
          "--db", own / "r.db", "--socket", path, "--connections", "1", "--new"],
-        capture_output=True, text=True, check=False,
+        capture_output=True, text=True, timeout=sizes.seconds, check=False,
     )  # fmt: skip
     hold("a folder of another user", (done.returncode, done.stderr, (own / "r.db").exists()),
          (3, f"intake: unix:{path}: Permission denied (os error 13)\n", False))
@@ -1152,7 +1153,6 @@ PLANTED = [
     ("unix", "takes the path of another"),
     ("unix", "removes any file"),
     ("unix", "removes nothing"),
-    ("unix", "forgets keys at a start"),
     ("front_of_socket", "serves one connection after another"),
     ("front_of_socket", "keepalive 4; => keepalive 512;"),
 ]

@@ -10,6 +10,7 @@ import os
 import pathlib
 import re
 import shlex
+import shutil
 import signal
 import subprocess
 import sys
@@ -46,8 +47,8 @@ class Unit:
                 self.values.setdefault(key.strip(), []).append(self.spelled_out(value.strip()))
 
     def spelled_out(self, text):
-        specifiers = {"i": self.instance, "n": self.name, "p": self.prefix, "%": "%"}
-        return re.sub("%([inp%])", lambda found: specifiers[found[1]], text)
+        specifiers = {"i": self.instance, "n": self.name, "p": self.prefix, "t": "/run", "%": "%"}
+        return re.sub("%([inpt%])", lambda found: specifiers[found[1]], text)
 
     def all_of(self, key):
         return self.values.get(key, [])
@@ -81,14 +82,18 @@ class Unit:
             re.sub(r"\$\$|\$\{(\w+)\}", lambda found: environment.get(found[1], "") if found[1] else "$", word)
             for word in shlex.split(line)
         ]
-        if "+" in prefix:
+        user, group = self.user()
+        if "+" in prefix or not user:
             return words
-        user, group = (
-            ("nobody", "nogroup")
-            if self.one("DynamicUser") == "yes"
-            else (self.one("User"), self.one("Group") or self.one("User"))
-        )
-        return ["setpriv", f"--reuid={user}", f"--regid={group}", "--init-groups", "--", *words] if user else words
+        more = self.one("SupplementaryGroups")
+        groups = f"--groups={more}" if more else "--init-groups"
+        return ["setpriv", f"--reuid={user}", f"--regid={group}", groups, "--", *words]
+
+    def user(self):
+        """The user and the group of the unit, which are empty if it runs as root."""
+        if self.one("DynamicUser") == "yes":
+            return "nobody", "nogroup"
+        return self.one("User"), self.one("Group") or self.one("User")
 
     def begin(self, line, more=()):
         """Starts a command of the unit, with its output in the log."""
@@ -97,7 +102,11 @@ class Unit:
         for name in self.all_of("StateDirectory"):
             pathlib.Path("/var/lib", name).mkdir(exist_ok=True)
         for name in self.all_of("RuntimeDirectory"):
-            pathlib.Path("/run", name).mkdir(exist_ok=True)
+            folder = pathlib.Path("/run", name)
+            folder.mkdir(exist_ok=True)
+            folder.chmod(int(self.one("RuntimeDirectoryMode", "0755"), 8))
+            if all(self.user()):
+                shutil.chown(folder, *self.user())
             environment["RUNTIME_DIRECTORY"] = f"/run/{name}"
         STATE.mkdir(exist_ok=True)
         with open(self.log, "ab") as log:
@@ -138,6 +147,7 @@ def keep(unit):
     while not ends:
         current.append(unit.begin(unit.one("ExecStart")))
         (STATE / f"{unit.name}.main").write_text(str(current[-1].pid))
+        unit.run_all("ExecStartPost")
         status = current[-1].wait()
         unit.run_all("ExecStopPost", result_of(status, bool(ends)))
         if not ends and (
