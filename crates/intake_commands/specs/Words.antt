@@ -2,7 +2,7 @@
 -- nothing of which words give which values, since an option may have a value that begins with a hyphen.
 use Rattle.std.specs.Prelude.{◌≡◌, ◌&&◌, ◌||◌, ℕ, Bool, true, false, List, [], ◌∷◌, map, codes, Option, Some, None}
 use Rattle.std.specs.Prelude.{Result, Ok, Err, is_some, option_map, option_and_then, unwrap_or, if◌then◌else◌, eqb}
-use Rattle.std.specs.Prelude.{slice_get, length, nat_lt, not}
+use Rattle.std.specs.Prelude.{slice_get, length, nat_le, nat_lt, not}
 use Rattle.std.specs.List.{after_first, before_first, list_any}
 use Rattle.std.specs.Option.{option_map_or}
 use Rattle.std.specs.Result.{result_ok}
@@ -90,7 +90,7 @@ has_shown options =
 
 -- whether a unix socket may have this path: the system has room for 107 bytes and a zero
 abbrev pub is_socket_path : Text → Bool
-is_socket_path path = nat_lt 0 (length path) && nat_lt (length path) 108
+is_socket_path path = nat_lt 0 (length path) && nat_le (length path) 107
 
 -- whether the value of `--socket`, if there is one, is such a path
 abbrev pub is_socketed : List Row → Bool
@@ -108,7 +108,7 @@ IsAddressOf options (Socket path) =
 abbrev pub has_address : List Row → Bool
 has_address options =
     if is_some (value (codes "socket") options)
-    then is_socketed options && not (is_some (number 16 (codes "port") options))
+    then not (is_some (number 16 (codes "port") options)) && is_socketed options
     else is_some (number 16 (codes "port") options)
 
 -- ---- tasks

@@ -3,7 +3,7 @@
 ghost use Rattle.std.specs.Prelude.{◌≡◌, IfOk, IfErr, IfSome, string_bytes, unwrap_or, map, codes, Some, None};
 ghost use Rattle.std.specs.Prelude.{true, false};
 ghost use Rattle.clap.specs.Words.{subcommand_rows_of};
-ghost use Rattle.command_line.specs.Values.{is_set, number, options_of};
+ghost use Rattle.command_line.specs.Values.{is_set, number, options_of, value};
 ghost use Rattle.command_line.specs.Words.{IsRead, IsReadBy, IsUnread, IsUnreadBy};
 ghost use Rattle.intake_commands.specs.Words.{limit_of, form_of, format_of, has_serving, IsServingOf};
 ghost use Rattle.intake_commands.specs.Words.{AreWanted, IsAddressOf, has_address, is_socket_path, unserved, unasked};
@@ -65,15 +65,27 @@ fn is_socket_path(path: &str) -> bool
     !path.is_empty() && path.len() <= MOST_OF_PATH
 }
 
+/// The unix socket at this path, which `--socket` gives. `None` if a port is given too, or no socket may have the path.
+fn socket_at<'a>(values: &ArgMatches<'a>, path: &'a str) -> Option<Address<'a>>
+    requires { value (codes "socket") (options_of values.now) ≡ Some path.now }
+    ensures given { IfSome result (IsAddressOf (options_of values.now)) }
+    ensures not_given { result ≡ None → has_address (options_of values.now) ≡ false }
+{
+    match number_of_16_bits(values, "port") {
+        Some(_) => None,
+        None if is_socket_path(path) => Some(Address::Socket(path)),
+        None => None,
+    }
+}
+
 /// Where connections come in. `None` if no address is given, or two, or a path that no socket may have.
 fn address_of<'a>(values: &ArgMatches<'a>) -> Option<Address<'a>>
     ensures given { IfSome result (IsAddressOf (options_of values.now)) }
     ensures not_given { result ≡ None → has_address (options_of values.now) ≡ false }
 {
-    match (value_of(values, "socket"), number_of_16_bits(values, "port")) {
-        (None, Some(port)) => Some(Address::Port(port)),
-        (Some(path), None) if is_socket_path(path) => Some(Address::Socket(path)),
-        _ => None,
+    match value_of(values, "socket") {
+        Some(path) => socket_at(values, path),
+        None => Some(Address::Port(number_of_16_bits(values, "port")?)),
     }
 }
 

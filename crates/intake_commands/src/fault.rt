@@ -223,7 +223,10 @@ pub enum NotDone<'a> {
     #[error("{0}")]
     InMemory(CreateFault),
     #[error("{file}: {fault}", file = OneLine(*.name))]
-    Register { name: &'a str, fault: VisitFault },
+    Register {
+        name: &'a str,
+        fault: VisitFault,
+    },
     #[error("{0}")]
     Connection(ConnFault),
     #[error("{address}: {error}")]
