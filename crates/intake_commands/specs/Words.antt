@@ -98,8 +98,8 @@ is_socketed options = option_map_or is_socket_path (value (codes "socket") optio
 
 -- the address that is served: the port of `--port`, or the unix socket of `--socket`, and not both
 abbrev pub IsAddressOf : List Row → Address → Type 0
-IsAddressOf options (Port number) =
-    (value (codes "socket") options ≡ None) × (number 16 (codes "port") options ≡ Some number)
+IsAddressOf options (Port port) =
+    (value (codes "socket") options ≡ None) × (number 16 (codes "port") options ≡ Some port)
 IsAddressOf options (Socket path) =
     (value (codes "socket") options ≡ Some path.now) × (is_socket_path path.now ≡ true)
     × (number 16 (codes "port") options ≡ None)
