@@ -163,6 +163,7 @@ SCENES = [
     Scene("outbox show", prints=r"^entry 1 confirmed 1, 393 bytes, key 2024-annual-1$"),
     Scene("outbox show --db outbox.db --entry 1 --body", prints=r'^\{"documentInfo":\{.*\}$'),
     Scene("intake serve --db register.db --port 8080 --connections 4294967295 --patience 60", serves=True),
+    Scene("intake serve --db register.db --socket intake.socket --connections 4294967295 --patience 60", serves=True),
     Scene("intake list", before=Scratch.stop, prints=r'^\{"filings":\[\{"facts":1,"number":1\}\]\}$'),
     Scene("intake show", prints=rf'"concept":"{FACT}"'),
     Scene("intake show --db register.db --number 1 --body", writes="filed.json"),

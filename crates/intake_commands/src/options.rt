@@ -422,7 +422,7 @@ static WORDS: [Word<Argument>; 10] = [
         example: concat!(
             "Example: intake serve --db register.db --port 8080 --connections 4294967295 --patience 60 --new\n",
             "Example: intake serve --db register.db --port 8080 --connections 4294967295 --patience 60\n",
-            "Example: intake serve --db register.db --socket /run/intake/socket --connections 4294967295\n\n",
+            "Example: intake serve --db register.db --socket intake.socket --connections 4294967295 --patience 60\n\n",
             "The first makes the register, and is refused if it is there; the others open it.",
         ),
         arguments: &[
