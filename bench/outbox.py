@@ -6,7 +6,7 @@ no words.
 Times are processor time of the command, by itself and by the system for it; instructions are those in user mode, by
 callgrind, if valgrind is installed. Each figure is the best of three runs, but for `send --all`, which is run once, and
 for instructions, of two. Databases lie in /dev/shm where there is one. A command opens the database and so reads each
-entry once; that is why ten times the entries may take twelve times the time, and no more.
+entry; that is why ten times the entries may take twelve times the time, and no more.
 """
 
 import os
