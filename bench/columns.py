@@ -158,6 +158,7 @@ def filings():
             yield f"{what}, repeated, each on a connection of its own", on_connections(50 * [pipelined([1], body)])
         yield "list of 10 filings", on_file(ten, 10 * (ASKS % b"ACME"), 10, 200)
         yield "list of 1,000 filings", on_file(thousand, ASKS % b"ACME", 1, 200)
+        yield "list of 10,000 filings", on_file(most, ASKS % b"ACME", 1, 200)
         yield "one filing of 1,000", on_file(thousand, 4 * (ASKS % b"ACME/500"), 4, 200)
         yield "one filing of 10,000", on_file(most, ASKS % b"ACME/5000", 1, 200)
         yield "amendment after no other", on_file(thousand, amendments(range(1, 11), small), 10)

@@ -55,6 +55,7 @@ COSTS = {
     "100 kB, repeated, each on a connection of its own": 248_000,
     "list of 10 filings": 66_300,
     "list of 1,000 filings": 3_870_000,
+    "list of 10,000 filings": 38_700_000,
     "one filing of 1,000": 39_700,
     "one filing of 10,000": 81_900,
     "amendment after no other": 462_000,
