@@ -165,6 +165,10 @@ with socket.create_server(at if unix else ("127.0.0.1", int(at)), **unix) as lis
     hold("register-new leaves a register that is there", run(*words, cwd=folder, env=paths).returncode, 1)
     done = run(words[0], "of-socket.db", f"unix:{folder}/socket", cwd=folder, env=paths)
     hold("register-new by a unix socket", (done.returncode, done.stdout), (0, "sound: 0 kept, 0 filings\n"))
+    done = run(words[0], "another.db", f"unix:{folder}/socket", cwd=folder, env=paths)
+    hold("register-new leaves what is at the path of its socket",
+         (done.returncode, done.stderr, (folder / "socket").is_socket()),
+         (1, f"register-new: {folder}/socket is there already\n", True))
 
 
 # Words with an empty name of a file or a folder, which no script takes for the present folder or for `/`.
