@@ -63,9 +63,11 @@ DEFINITION = re.compile(r" *(?:(?:pub(?:\([^)]*\))?|abbrev|unfoldable|opaque|dat
 
 # An error of the prover, by its place and the goal or the definition that it is about.
 ERROR = re.compile(r"(?:\./)?(?P<file>\S+?):\d+:\d+: error: (?:(?P<goal>`[^`]*`): )?(?P<said>.*)")
-# What it says of a goal, of a name that is gone, of a text that makes no sense, and of a limit of its own.
+# What it says of a goal, of a name that is gone, of what names a lemma that was refused itself, of a text that makes no
+# sense, and of a limit of its own.
 GOAL = re.compile(r"it is not proved that .*\((`[^`]+`)\)")
-GONE = re.compile(r"has no field|is not in scope|has no `|was not admitted")
+GONE = re.compile(r"has no field|is not in scope|has no `")
+DEPENDS = re.compile(r"was not admitted")
 NO_SENSE = re.compile(r"is not in scope|has no field|is no name|operand is missing|expected the end|cannot continue")
 LIMIT = re.compile(r"antt ran out of (stack|the (steps|memory) that the check of one declaration may (take|use))|"
                    r"(outgrew the memory limit|stopped at the step limit) \(")  # fmt: skip
@@ -204,7 +206,9 @@ def verdict_of(status, said):
     if status == 3 and (limit := next(filter(LIMIT.search, lines), None)):
         return BY_LIMIT, function, limit
     if status == 1:
-        errors = [it for it in map(ERROR.match, lines) if it]
+        found = [it for it in map(ERROR.match, lines) if it]
+        # What depends on a lemma that is refused says nothing of its own: why that is refused is said beside it.
+        errors = [it for it in found if not DEPENDS.search(it["said"])]
         senseless = [it[0] for it in errors if it["file"].startswith(("src/", "specs/"))
                      and (not it["goal"] or NO_SENSE.search(it["said"]))]  # fmt: skip
         senseless += [line for line in lines if re.search(r"\berror\[[\w-]+\]", line)]
@@ -215,8 +219,8 @@ def verdict_of(status, said):
             return UNREAD, "", senseless[0]
         if goals:
             return BESIDE if gone else REFUSED, function, goals[0]
-        if gone:
-            return BY_NAME, function, gone[0][0]
+        if gone or len(errors) < len(found):
+            return BY_NAME, function, (gone or found)[0][0]
         if failed:
             return REFUSED, function, failed[0]
     return UNTRIED, function, f"status {status}, {lines[-1] if lines else 'and no word'}"
