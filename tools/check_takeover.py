@@ -735,11 +735,13 @@ PARTS = ["states", "units", "planned", "kills", "torn", "dead_second", "cut_cabl
 STAND_IN = """#!/bin/sh
 name=${0##*/}
 echo "$name $*" >> /run/called
+# Whether the other machine answers (`answers`), and whether one has the register's address, are asked by one program.
+case "$name $*" in "arping "*-D*) ;; "arping "*) name=answers ;; esac
 # No intake is active before it is started.
 [ "$name $1" != "systemctl --quiet" ] || exit 3
 [ ! -e "/run/said/$name" ] || { cat "/run/said/$name" | tail -n +2; exit "$(head -n 1 "/run/said/$name")"; }
 """
-STOOD_FOR = ["arping", "curl", "drbdadm", "findmnt", "intake", "ip", "journalctl", "logger", "mountpoint", "runuser",
+STOOD_FOR = ["arping", "curl", "drbdadm", "findmnt", "getent", "intake", "ip", "journalctl", "logger", "mountpoint", "runuser",
              "sleep", "ssh", "systemctl", "mirror-state", "switch"]  # fmt: skip
 SITE = [
     ('"fence_ipmilan -a 192.0.2.102 -l fence -P SECRET --lanplus -o off"', '"switch"'),
@@ -766,6 +768,9 @@ STATES = [
     ("register-takeover", ALONE, {"arping": "1"}, 1, "b is not surely down: a machine has 192.0.2.10 still", False),
     ("register-takeover --is-off b", ALONE, {"switch": "1 no answer"}, 0, "serves since", True),
     ("register-takeover --is-off b", ALONE, {"arping": "1"}, 1, "a machine has 192.0.2.10 still", False),
+    ("register-takeover", ALONE, {"answers": "0"}, 1, "b is not surely down: 192.0.2.2 answers still: pull its plug",
+     False),
+    ("register-takeover --is-off b", ALONE, {"answers": "0"}, 1, "192.0.2.2 answers still", False),
     ("register-takeover --is-off c", ALONE, {}, 2, "the other machine is b, and not c", False),
     ("register-takeover --is-off", ALONE, {}, 2, "usage: register-takeover", False),
     ("register-takeover --off b", ALONE, {}, 2, "usage: register-takeover", False),
@@ -786,6 +791,12 @@ STATES = [
     ("register-takeover", "SyncTarget Secondary/Primary Inconsistent/UpToDate C r 9", {}, 1, "is Inconsistent", False),
     ("register-takeover", ALONE.replace("WFConnection", "StandAlone"), {}, 1, "split brain", False),
     ("register-takeover", SERVING.replace("Connected", "StandAlone"), {}, 1, "split brain", False),
+    ("register-takeover", ALONE.replace(" C ", " A "), {}, 1, "the protocol of the mirror is A and not C, so filings that"
+     " were answered may be missing here: start b", False),
+    # Another disk is there in its place, or none.
+    ("register-takeover", WHOLE, {"findmnt": "0 /dev/vdb1"}, 1, "/dev/vdb1 is mounted at /var/lib/berruzpil, and not the"
+     " mirrored disk: umount", False),
+    ("register-takeover", SERVING, {"findmnt": "1"}, 1, "nothing is mounted at /var/lib/berruzpil", False),
     # The register is not served.
     ("register-takeover", ALONE, {"runuser": "1 damaged at row 3"}, 1,
      "intake check does not pass /var/lib/berruzpil/register.db (damaged at row 3)", False),
@@ -813,14 +824,15 @@ STATES = [
     ("register-release now", SERVING, {}, 2, "usage: register-release", False),
     # Alarms unless everything is on both disks at once.
     ("mirror-health", WHOLE, {}, 0, "Connected, Secondary/Secondary, UpToDate/UpToDate", False),
-    ("mirror-health", SERVING, {"findmnt": "0 /dev/drbd0"}, 0, "Connected, Primary/Secondary, UpToDate/UpToDate",
-     False),
+    ("mirror-health", SERVING, {}, 0, "Connected, Primary/Secondary, UpToDate/UpToDate", False),
     ("mirror-health", SERVING, {"findmnt": "0 /dev/vdb"}, 1, "/var/lib/berruzpil is not the mirrored disk", False),
-    ("mirror-health", SERVING.replace(" C ", " A "), {"findmnt": "0 /dev/drbd0"}, 1, "the protocol is A", False),
+    ("mirror-health", SERVING.replace(" C ", " A "), {}, 1, "the protocol is A", False),
     ("mirror-health", SERVED.replace("C r", "C s"), {}, 1, "nothing is written until the other machine", False),
     ("mirror-health", ALONE, {}, 1, "what is filed now is on one disk alone", False),
     ("mirror-health", "SyncSource Secondary/Primary UpToDate/Inconsistent C r 12", {}, 1,
      "12 KiB behind: the second disk is being brought up to date", False),
+    ("mirror-health", ALONE.replace("WFConnection", "StandAlone").replace("C", "?"), {}, 1,
+     "what is filed now is on one disk alone", False),
     ("mirror-health", "", {"mirror-state": "3"}, 3, "", False),
     ("mirror-health a b", WHOLE, {}, 2, "usage: mirror-health", False),
 ]  # fmt: skip
@@ -856,7 +868,8 @@ def play_state(folder, words, state, ends, wanted):
         it.unlink()
     given = ", ".join(ends) or "none"
     ends = {"mirror-state": f"0 {state}", "runuser": "0 sound: 2 kept, 1 filings", "systemctl": "0 active",
-            "mountpoint": "0", "ip": "0", **ends}  # fmt: skip
+            "mountpoint": "0", "ip": "0", "findmnt": "0 /dev/drbd0", "getent": "0 192.0.2.2 STREAM b", "answers": "1",
+            **ends}  # fmt: skip
     for program, end in ends.items():
         (folder / "run/said" / program).write_text(end.replace(" ", "\n", 1) + "\n" * (" " in end))
     (folder / "run/called").write_text("")
@@ -976,6 +989,12 @@ FAULTS = {
     "a split brain is gone over": ("states", "register-takeover", "!= StandAlone", "!= Alone", "split brain"),
     "a register that is damaged is served": (
         "states", "register-takeover", "$(runuser -u", "$(true runuser -u", "intake check does not pass"),
+    "a power switch that lies is believed": (
+        "states", "register-takeover", "    ! answers ||", "    true ||", "answers still"),
+    "what an asynchronous mirror has is served": (
+        "states", "register-takeover", '[ "$protocol" = C ]', "true", "the protocol of"),
+    "whatever is mounted is served": (
+        "states", "register-takeover", '[ "$at" = /dev/drbd0 ]', "true", "is mounted at"),
     "the disk was not let go of": (
         "states", "register-release", "&& ! mountpoint -q /var/lib/berruzpil && drbdadm", "; drbdadm", "a file below"),
     "an asynchronous mirror is whole": (

@@ -1,7 +1,7 @@
 """Two machines with a mirrored disk between them, on which tools/check_takeover.py plays take-overs.
 
-A machine is a Debian 12 with a kernel, a systemd and a power of its own: a virtual one of QEMU, by KVM if this machine
-lets it, else slowly, with Debian's kernel and its DRBD. Both are joined by a network of the filers, in which this
+A machine is a Debian 12 with a kernel, a systemd and a power of its own: a virtual one of QEMU, with Debian's kernel and
+its DRBD, or Debian's User-mode Linux, which has the same DRBD and needs no virtualization. Both are joined by a network of the filers, in which this
 program is, too, and by the cable of the mirror; both are bridges with addresses that nobody else sees. The power switch
 is this program: to take the power from a machine is to kill its process. What a machine wrote to its disk is in a file
 of this one and survives that, as on a disk whose cache has a battery.
@@ -30,11 +30,13 @@ from machines import PATIENCE, NotPossible, run
 ROOT = machines.ROOT
 ADDRESS, SWITCH = "192.0.2.10", "192.0.2.254"
 QEMU = "qemu-system-x86_64"
-# Where KVM is there but runs no kernel of Debian's, as inside some virtual machines, this says `tcg` alone.
-ACCELERATORS = os.environ.get("BERRUZPIL_ACCELERATORS", "kvm tcg").split()
-NEEDED = ["ip", "bridge", "unshare", "apt-get", "dpkg-deb", "mkfs.ext4", "e2fsck", "debugfs", "ssh", "ssh-keygen", QEMU]
+# `uml` for User-mode Linux, or accelerators of QEMU, the first of which that is there is taken: `kvm`, `tcg`.
+ACCELERATORS = os.environ.get("BERRUZPIL_ACCELERATORS", "uml").split()
+BY_QEMU = "uml" not in ACCELERATORS
+NEEDED = ["ip", "bridge", "unshare", "apt-get", "dpkg-deb", "mkfs.ext4", "e2fsck", "debugfs", "ssh", "ssh-keygen",
+          *[QEMU] * BY_QEMU]  # fmt: skip
 PACKAGES = """nginx-light drbd-utils systemd systemd-sysv kmod iproute2 iputils-arping openssh-server openssh-client
-    curl e2fsprogs procps netbase python3 linux-image-amd64 busybox-static base-files base-passwd bash bsdutils
+    curl e2fsprogs procps netbase python3 linux-image-amd64 user-mode-linux busybox-static base-files base-passwd bash bsdutils
     coreutils dash debianutils diffutils findutils grep gzip hostname libc-bin login mawk ncurses-base sed tar
     util-linux""".split()
 # The modules of the kernel that a machine begins with, those that it loads later, and the program that loads the first.
@@ -47,9 +49,12 @@ for it in {}; do /bin/busybox insmod "/$it.ko"; done
 exec /bin/busybox switch_root /root /sbin/init
 """
 MEGABYTE = 1 << 20
-# What a machine does at its start, before ssh: its networks, as the kernel's words have its number.
+# What a machine does at its start, before ssh: its networks, as the kernel's words have its number. User-mode Linux has
+# names of its own for disks and networks.
 BEGIN = """#!/bin/sh
 number=$(sed 's/.*number=\\([12]\\).*/\\1/' /proc/cmdline)
+for it in b c; do [ ! -e /dev/ubd$it ] || ln -s ubd$it /dev/vd$it; done
+for it in 0 1; do ip link set vec$it name eth$it; done 2> /dev/null
 ip link set lo up
 ip address add 192.0.2.$number/24 dev eth0
 ip address add 198.51.100.$number/24 dev eth1
@@ -225,29 +230,38 @@ def archive(files):
     return b"".join(parts)
 
 
-def take_kernel(tree, folder):
-    """Writes `linux` and `initrd` of a machine. The tree keeps the modules that it may need, and no others."""
+def keep_modules(tree, modules):
+    """Keeps the modules of a kernel that a machine may need, and no others."""
+    run("chroot", tree, "/sbin/depmod", "-a", modules.name, stderr=subprocess.DEVNULL)
+    kept = with_what_they_need(modules, FIRST_MODULES + LATER_MODULES)
+    for it in modules.rglob("*.ko"):
+        if str(it.relative_to(modules)) not in kept:
+            it.unlink()
+    run("chroot", tree, "/sbin/depmod", "-a", modules.name, stderr=subprocess.DEVNULL)
+
+
+def take_kernels(tree, folder):
+    """Writes `linux` and `initrd` of a machine, and `linux.uml`."""
     [modules] = (tree / "usr/lib/modules").iterdir()
     shutil.move(tree / "boot" / f"vmlinuz-{modules.name}", folder / "linux")
     shutil.rmtree(tree / "boot")
-    run("chroot", tree, "/sbin/depmod", "-a", modules.name)
+    keep_modules(tree, modules)
     first = with_what_they_need(modules, FIRST_MODULES)
-    kept = with_what_they_need(modules, FIRST_MODULES + LATER_MODULES)
     files = {f"{pathlib.Path(it).stem}.ko": (modules / it).read_bytes() for it in first}
     names = " ".join(pathlib.Path(it).stem for it in first)
     (folder / "initrd").write_bytes(archive({
         "bin": None, "dev": None, "root": None, "bin/busybox": (tree / "usr/bin/busybox").read_bytes(),
         "init": INIT.format(names).encode(), **files}))  # fmt: skip
-    for it in modules.rglob("*.ko"):
-        if str(it.relative_to(modules)) not in kept:
-            it.unlink()
-    run("chroot", tree, "/sbin/depmod", "-a", modules.name)
+    shutil.move(tree / "usr/bin/linux.uml", folder / "linux.uml")
+    [modules] = (tree / "usr/lib/uml/modules").iterdir()
+    keep_modules(tree, shutil.move(modules, tree / "usr/lib/modules" / modules.name))
 
 
 def base():
-    """The folder with the files of a machine: `image`, its disk; `linux` and `initrd`, its kernel; `key`, to come in
-    by. The first call makes it, from Debian's mirror."""
-    sources = [inspect.getsource(it) for it in (unpack, furnish, take_kernel, archive, with_what_they_need)]
+    """The folder with the files of a machine: `image`, its disk; `linux` and `initrd`, its kernel, or `linux.uml`; `key`,
+    to come in by. The first call makes it, from Debian's mirror."""
+    sources = [inspect.getsource(it) for it in (unpack, furnish, take_kernels, keep_modules, archive,
+                                                with_what_they_need)]  # fmt: skip
     recipe = repr((PACKAGES, FIRST_MODULES, LATER_MODULES, INIT, BEGIN, BEGIN_UNIT, MANAGER, MASKED, sources))
     kept = machines.CACHE / f"mirrored-{hashlib.sha256(recipe.encode()).hexdigest()[:16]}"
     if kept.exists():
@@ -257,7 +271,7 @@ def base():
     with tempfile.TemporaryDirectory(prefix="mirrored-", dir=machines.CACHE) as name:
         folder = pathlib.Path(name)
         tree = unpack(folder)
-        take_kernel(tree, folder)
+        take_kernels(tree, folder)
         furnish(tree)
         shutil.copy(tree / "lab/key", folder / "key")
         with open(folder / "image", "wb") as file:
@@ -284,6 +298,7 @@ class Machine:
             with open(path, "wb") as file:
                 file.truncate(lab.size * MEGABYTE)
         self.root = lab.scratch / f"{name}.root"
+        self.kernel = f"number={number} systemd.hostname={name} net.ifnames=0 panic=1"
         run("cp", "--sparse=always", lab.base / "image", self.root)
         for net in (0, 1):
             run("ip", "tuntap", "add", f"{name}{net}", "mode", "tap")
@@ -293,7 +308,13 @@ class Machine:
         """Gives it power."""
         for net in (0, 1):
             self.plug(net, True)
-        kernel = f"console=ttyS0 quiet number={self.number} systemd.hostname={self.name} net.ifnames=0 panic=1"
+        words = self.by_qemu() if BY_QEMU else self.by_user_mode_linux()
+        with open(self.lab.scratch / f"{self.name}.console", "ab") as log:
+            self.process = subprocess.Popen(list(map(str, words)), stdin=subprocess.DEVNULL, stdout=log, stderr=log,
+                                            start_new_session=True)  # fmt: skip
+
+    def by_qemu(self):
+        kernel = f"console=ttyS0 quiet {self.kernel}"
         words = [QEMU, "-cpu", "max", "-m", "384M", "-nodefaults", "-no-user-config", "-display", "none", "-monitor",
                  "none", "-serial", "stdio", "-kernel", self.lab.base / "linux", "-initrd", self.lab.base / "initrd",
                  "-append", kernel]  # fmt: skip
@@ -304,9 +325,14 @@ class Machine:
         for net in (0, 1):
             words += ["-netdev", f"tap,id=net{net},ifname={self.name}{net},script=no,downscript=no", "-device",
                       f"virtio-net-pci,netdev=net{net},mac=52:54:00:00:0{net}:0{self.number},romfile="]  # fmt: skip
-        with open(self.lab.scratch / f"{self.name}.console", "ab") as log:
-            self.process = subprocess.Popen(list(map(str, words)), stdin=subprocess.DEVNULL, stdout=log, stderr=log,
-                                            start_new_session=True)  # fmt: skip
+        return words
+
+    def by_user_mode_linux(self):
+        return [self.lab.base / "linux.uml", f"umid={self.name}", f"uml_dir={self.lab.scratch}/", "mem=384M",
+                f"ubda={self.root}", f"ubdb={self.disk}", f"ubdc={self.plain}", "root=/dev/ubda", "rw", "con=null",
+                "con0=null,fd:1", *self.kernel.split(),
+                *(f"vec{net}:transport=tap,ifname={self.name}{net},mac=52:54:00:00:0{net}:0{self.number},gro=1"
+                  for net in (0, 1))]  # fmt: skip
 
     def off(self):
         """Takes its power. Once this is back, no process of it is there."""
