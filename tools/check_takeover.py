@@ -6,11 +6,11 @@ file.
     tools/check_takeover.py --planted INTAKE OUTBOX [WORD]
 
 INTAKE and OUTBOX are the built programs. The two machines are set up by the commands of docs/OPERATIONS.md, which are
-read out of the page, and have Debian's own kernel, DRBD and systemd (tools/mirrored_machines.py says what is virtual in
-them). So it needs root, /dev/net/tun, and the Debian packages iproute2, e2fsprogs, openssh-client and qemu-system-x86.
-The first run makes the files of a machine from the mirror of this one, below ~/.cache/berruzpil (400 MB, some minutes).
-Without /dev/kvm it is slow, and where KVM runs no kernel of Debian's the variable BERRUZPIL_ACCELERATORS has to be
-`tcg`: then a busy machine wants a BERRUZPIL_PATIENCE of 5.
+read out of the page, and have a kernel, DRBD and systemd of Debian's (tools/mirrored_machines.py says what is virtual in
+them). So it needs root, /dev/net/tun, and the Debian packages iproute2, e2fsprogs and openssh-client. The first run
+makes the files of a machine from the mirror of this one, below ~/.cache/berruzpil (400 MB, some minutes). A machine is
+Debian's User-mode Linux, in which no program runs that was built with the address sanitizer, as `rt try` builds them.
+If the variable BERRUZPIL_ACCELERATORS is `kvm` or `tcg`, it is one of QEMU with that (Debian: qemu-system-x86).
 
 Each answer 201 that a client read whole is noted with its number and the digest of its report. After each take-over,
 with all clients at rest, the register is read by Python's sqlite3: it has to have each of these under its number and
@@ -243,8 +243,10 @@ class Watch:
     """Asks both machines all the time, each at its own address, for a list."""
 
     def __init__(self, lab):
-        self.served, self.has_ended = [], False
-        for it in (lab.a, lab.b):
+        self.lab, self.served, self.has_ended = lab, [], False
+
+    def begin(self):
+        for it in (self.lab.a, self.lab.b):
             threading.Thread(target=self.ask, args=(it,), daemon=True).start()
 
     def ask(self, machine):
@@ -337,6 +339,8 @@ class Play:
             watching = page.block(SECTION, "systemctl enable --quiet --now berruzpil-mirror-health")
             self.paste(it, "what watches", watching)
             it.ssh("sync")
+        # No earlier: an intake that makes a register takes one connection, and this would be it.
+        self.watch.begin()
         say("both machines are set up")
 
     def read(self, machine):
@@ -741,8 +745,8 @@ case "$name $*" in "arping "*-D*) ;; "arping "*) name=answers ;; esac
 [ "$name $1" != "systemctl --quiet" ] || exit 3
 [ ! -e "/run/said/$name" ] || { cat "/run/said/$name" | tail -n +2; exit "$(head -n 1 "/run/said/$name")"; }
 """
-STOOD_FOR = ["arping", "curl", "drbdadm", "findmnt", "getent", "intake", "ip", "journalctl", "logger", "mountpoint", "runuser",
-             "sleep", "ssh", "systemctl", "mirror-state", "switch"]  # fmt: skip
+STOOD_FOR = ["arping", "curl", "drbdadm", "findmnt", "getent", "intake", "ip", "journalctl", "logger", "mountpoint",
+             "runuser", "sleep", "ssh", "systemctl", "mirror-state", "switch"]  # fmt: skip
 SITE = [
     ('"fence_ipmilan -a 192.0.2.102 -l fence -P SECRET --lanplus -o off"', '"switch"'),
     ("FIRST=a", "FIRST=$(uname -n)"),
@@ -791,11 +795,11 @@ STATES = [
     ("register-takeover", "SyncTarget Secondary/Primary Inconsistent/UpToDate C r 9", {}, 1, "is Inconsistent", False),
     ("register-takeover", ALONE.replace("WFConnection", "StandAlone"), {}, 1, "split brain", False),
     ("register-takeover", SERVING.replace("Connected", "StandAlone"), {}, 1, "split brain", False),
-    ("register-takeover", ALONE.replace(" C ", " A "), {}, 1, "the protocol of the mirror is A and not C, so filings that"
-     " were answered may be missing here: start b", False),
+    ("register-takeover", ALONE.replace(" C ", " A "), {}, 1, "the protocol of the mirror is A and not C, so filings"
+     " that were answered may be missing here: start b", False),
     # Another disk is there in its place, or none.
-    ("register-takeover", WHOLE, {"findmnt": "0 /dev/vdb1"}, 1, "/dev/vdb1 is mounted at /var/lib/berruzpil, and not the"
-     " mirrored disk: umount", False),
+    ("register-takeover", WHOLE, {"findmnt": "0 /dev/vdb1"}, 1, "/dev/vdb1 is mounted at /var/lib/berruzpil, and not"
+     " the mirrored disk: umount", False),
     ("register-takeover", SERVING, {"findmnt": "1"}, 1, "nothing is mounted at /var/lib/berruzpil", False),
     # The register is not served.
     ("register-takeover", ALONE, {"runuser": "1 damaged at row 3"}, 1,
@@ -966,11 +970,13 @@ def plain_disk(play):
         it.ssh("mkfs.ext4 -q -F -E nodiscard /dev/vdc")
 
 
-# The part that has to fail, a file of deploy/ (or what stands for what in the names of the site), which text in it
-# becomes which, and what is prepared; of STATES, a word of those that are played.
+# The part that has to fail, a file of deploy/ (or what stands for what in the names of the site), which text in it, or
+# which texts, become which, and what is prepared; of STATES, a word of those that are played.
 FAULTS = {
     "fencing that answers yes without doing it": ("isolated", "berruzpil-mirror.conf", "curl -sSf", "true", None),
-    "protocol A": ("torn", "drbd-register.res", "protocol C;", "protocol A;", None),
+    # With the fencing of that file DRBD refuses this protocol.
+    "protocol A": ("torn", "drbd-register.res", ("protocol C;", "fencing resource-and-stonith;"),
+                   ("protocol A;", "fencing resource-only;"), None),
     "a mount without the mirror": (
         "kills", "berruzpil-mirror.service", "errors=panic /dev/drbd0", "errors=panic /dev/vdc", plain_disk),
     "a mirror that does not fence": (
@@ -1014,9 +1020,11 @@ def with_fault(name, folder):
         NAMES[:] = [(before, after.replace(old, new)) for before, after in NAMES]
     else:
         content = (deploy / file).read_text()
-        if content.count(old) != 1:
-            raise SystemExit(f"{file} has {content.count(old)} times: {old}")
-        (deploy / file).write_text(content.replace(old, new))
+        for before, after in zip(old, new) if isinstance(old, tuple) else [(old, new)]:
+            if content.count(before) != 1:
+                raise SystemExit(f"{file} has {content.count(before)} times: {before}")
+            content = content.replace(before, after)
+        (deploy / file).write_text(content)
     return deploy
 
 

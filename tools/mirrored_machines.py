@@ -1,10 +1,10 @@
 """Two machines with a mirrored disk between them, on which tools/check_takeover.py plays take-overs.
 
-A machine is a Debian 12 with a kernel, a systemd and a power of its own: a virtual one of QEMU, with Debian's kernel and
-its DRBD, or Debian's User-mode Linux, which has the same DRBD and needs no virtualization. Both are joined by a network of the filers, in which this
-program is, too, and by the cable of the mirror; both are bridges with addresses that nobody else sees. The power switch
-is this program: to take the power from a machine is to kill its process. What a machine wrote to its disk is in a file
-of this one and survives that, as on a disk whose cache has a battery.
+A machine is a Debian 12 with a kernel, a systemd and a power of its own: Debian's User-mode Linux, or a virtual machine
+of QEMU, each with Debian's DRBD. Both are joined by a network of the filers, in which this program is, too, and by the
+cable of the mirror; both are bridges with addresses that nobody else sees. The power switch is this program: to take
+the power from a machine is to kill its processes. What a machine wrote to its disk is in a file of this one and
+survives that, as on a disk whose cache has a battery.
 
 `apart` runs the caller in namespaces, so that nothing of it is left: no process, no mount, no network.
 """
@@ -36,8 +36,8 @@ BY_QEMU = "uml" not in ACCELERATORS
 NEEDED = ["ip", "bridge", "unshare", "apt-get", "dpkg-deb", "mkfs.ext4", "e2fsck", "debugfs", "ssh", "ssh-keygen",
           *[QEMU] * BY_QEMU]  # fmt: skip
 PACKAGES = """nginx-light drbd-utils systemd systemd-sysv kmod iproute2 iputils-arping openssh-server openssh-client
-    curl e2fsprogs procps netbase python3 linux-image-amd64 user-mode-linux busybox-static base-files base-passwd bash bsdutils
-    coreutils dash debianutils diffutils findutils grep gzip hostname libc-bin login mawk ncurses-base sed tar
+    curl e2fsprogs procps netbase python3 linux-image-amd64 user-mode-linux busybox-static base-files base-passwd bash
+    bsdutils coreutils dash debianutils diffutils findutils grep gzip hostname libc-bin login mawk ncurses-base sed tar
     util-linux""".split()
 # The modules of the kernel that a machine begins with, those that it loads later, and the program that loads the first.
 FIRST_MODULES = ["crc32c_generic", "virtio_pci", "virtio_blk", "virtio_net", "ext4"]
@@ -258,8 +258,8 @@ def take_kernels(tree, folder):
 
 
 def base():
-    """The folder with the files of a machine: `image`, its disk; `linux` and `initrd`, its kernel, or `linux.uml`; `key`,
-    to come in by. The first call makes it, from Debian's mirror."""
+    """The folder with the files of a machine: `image`, its disk; its kernel, which is `linux.uml`, or `linux` and
+    `initrd`; `key`, to come in by. The first call makes it, from Debian's mirror."""
     sources = [inspect.getsource(it) for it in (unpack, furnish, take_kernels, keep_modules, archive,
                                                 with_what_they_need)]  # fmt: skip
     recipe = repr((PACKAGES, FIRST_MODULES, LATER_MODULES, INIT, BEGIN, BEGIN_UNIT, MANAGER, MASKED, sources))
