@@ -6,8 +6,8 @@ file.
     tools/check_takeover.py --planted INTAKE OUTBOX [WORD]
 
 INTAKE and OUTBOX are the built programs. The two machines are set up by the commands of docs/OPERATIONS.md, which are
-read out of the page, and have a kernel, DRBD and systemd of Debian's (tools/mirrored_machines.py says what is virtual in
-them). So it needs root, /dev/net/tun, and the Debian packages iproute2, e2fsprogs and openssh-client. The first run
+read out of the page, and have a kernel, DRBD and systemd of Debian's (tools/mirrored_machines.py says what is virtual
+in them). So it needs root, /dev/net/tun, and the Debian packages iproute2, e2fsprogs and openssh-client. The first run
 makes the files of a machine from the mirror of this one, below ~/.cache/berruzpil (400 MB, some minutes). A machine is
 Debian's User-mode Linux, in which no program runs that was built with the address sanitizer, as `rt try` builds them.
 If the variable BERRUZPIL_ACCELERATORS is `kvm` or `tcg`, it is one of QEMU with that (Debian: qemu-system-x86).
