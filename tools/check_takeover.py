@@ -840,6 +840,21 @@ STATES = [
     ("mirror-health", "", {"mirror-state": "3"}, 3, "", False),
     ("mirror-health a b", WHOLE, {}, 2, "usage: mirror-health", False),
 ]  # fmt: skip
+# What DRBD 8.4 has in /proc/drbd after two lines on itself, and the line that mirror-state makes of it, if any.
+MIRRORS = [
+    (" 0: cs:Connected ro:Primary/Secondary ds:UpToDate/UpToDate C r-----\n"
+     "    ns:28664 nr:3228 dw:44268 dr:1782 al:13 bm:0 lo:0 pe:0 ua:0 ap:0 ep:1 wo:f oos:0\n",
+     "Connected Primary/Secondary UpToDate/UpToDate C r 0"),
+    (" 0: cs:WFConnection ro:Primary/Unknown ds:UpToDate/DUnknown C s-----\n"
+     "    ns:0 nr:0 dw:8 dr:1782 al:13 bm:0 lo:0 pe:0 ua:0 ap:0 ep:1 wo:f oos:1240\n",
+     "WFConnection Primary/Unknown UpToDate/DUnknown C s 1240"),
+    # Without settings of the network there is no protocol.
+    (" 0: cs:StandAlone ro:Primary/Unknown ds:UpToDate/DUnknown   r-----\n"
+     "    ns:0 nr:0 dw:8 dr:1782 al:13 bm:0 lo:0 pe:0 ua:0 ap:0 ep:1 wo:f oos:12\n",
+     "StandAlone Primary/Unknown UpToDate/DUnknown ? r 12"),
+    (" 0: cs:Unconfigured\n", ""),
+    ("", ""),
+]
 # Whatever serves: the disk, an intake or the address, but no question of whether one is there.
 BEGUN = re.compile(r"(?m)^systemctl start berruzpil-(intake|address)")
 
@@ -863,6 +878,12 @@ def play_states(deploy, script="", word=""):
         for words, state, ends, *wanted in STATES:
             if words.startswith(script) and word in f"{state} {ends} {wanted}":
                 play_state(folder, words, state, ends, tuple(wanted))
+        for said, line in MIRRORS if script in ("", "mirror-state") else []:
+            (folder / "etc/drbd").write_text(f"version: 8.4.11 (api:1/proto:86-101)\nsrcversion: 059B1B4\n{said}")
+            words = ["unshare", "--mount", "--propagation", "private", "sh", "-c",
+                     'mount --bind "$0/etc" /proc && exec "$0/bin/mirror-state"', folder]  # fmt: skip
+            done = subprocess.run(words, stdout=subprocess.PIPE, stderr=subprocess.DEVNULL, text=True, check=False)
+            hold(f"mirror-state, of {said!r}", (done.returncode, done.stdout.strip()), (0 if line else 3, line))
     say("the states of a mirror were played")
 
 
@@ -1003,6 +1024,7 @@ FAULTS = {
         "states", "register-takeover", '[ "$at" = /dev/drbd0 ]', "true", "is mounted at"),
     "the disk was not let go of": (
         "states", "register-release", "&& ! mountpoint -q /var/lib/berruzpil && drbdadm", "; drbdadm", "a file below"),
+    "a mirror without a protocol has five words": ("states", "mirror-state", " | sed 's/   / ? /'", "", ""),
     "an asynchronous mirror is whole": (
         "states", "mirror-health", "UpToDate/UpToDate:C:r)", "UpToDate/UpToDate:*:r)", "the protocol is A"),
     "another disk is mounted": ("states", "mirror-health", "!= /dev/drbd0", "= /dev/null", "not the mirrored disk"),
