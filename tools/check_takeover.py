@@ -797,6 +797,8 @@ STATES = [
     ("register-takeover", SERVING.replace("Connected", "StandAlone"), {}, 1, "split brain", False),
     ("register-takeover", ALONE.replace(" C ", " A "), {}, 1, "the protocol of the mirror is A and not C, so filings"
      " that were answered may be missing here: start b", False),
+    ("register-takeover", SERVED.replace(" C ", " A "), {"ssh": "255"}, 1, "the protocol of the mirror is A", False),
+    ("register-takeover", SERVED.replace(" C ", " A "), {}, 0, "serves since", True),
     # Another disk is there in its place, or none.
     ("register-takeover", WHOLE, {"findmnt": "0 /dev/vdb1"}, 1, "/dev/vdb1 is mounted at /var/lib/berruzpil, and not"
      " the mirrored disk: umount", False),
