@@ -1094,10 +1094,11 @@ def play_on_machines(given, deploy, parts):
         if given.filings:
             hold("the filings to begin with", it.filers.until(given.filings, 1800))
         for part in parts:
-            say(f"part {part}")
-            getattr(it, part)()
+            # A fault may show before its part begins.
             if failed and given.fault:
                 break
+            say(f"part {part}")
+            getattr(it, part)()
         if not given.fault:
             hold("the end: the outbox comes to its end", it.outbox.finish())
             it.compare("the end")

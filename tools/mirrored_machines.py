@@ -391,7 +391,12 @@ class Machine:
         return [(int(status), printed) for status, printed in zip(parts[::2], parts[1::2])]
 
     def state(self):
-        return self.ssh("mirror-state")[1].split()
+        """The six words of mirror-state."""
+        for _ in range(9):
+            status, said = self.ssh("mirror-state")
+            if status == 0:
+                return said.split()
+        return ["?"] * 6
 
     def is_whole(self, seconds=600):
         return self.until("mirror-state", lambda _, said: said.split()[:1] + said.split()[2:5]
