@@ -1139,8 +1139,11 @@ def main(words):
             raise NotPossible(why)
         if given.planted:
             return plant(given)
-        if {*([FAULTS[given.fault][0]] if given.fault else given.part or PARTS)} - {"states", "units"}:
+        on_machines = {*([FAULTS[given.fault][0]] if given.fault else given.part or PARTS)} - {"states", "units"}
+        if on_machines and machines.APART not in os.environ:
             mirrored_machines.base()
+            if not mirrored_machines.BY_QEMU:
+                mirrored_machines.try_kernel()
         status = mirrored_machines.apart()
         return play(given) if status is None else status
     except NotPossible as fault:

@@ -284,6 +284,19 @@ def base():
     return kept
 
 
+def try_kernel():
+    """Fails if User-mode Linux does not start here. Without a disk it comes as far as to look for one."""
+    with tempfile.TemporaryDirectory() as folder:
+        words = [base() / "linux.uml", "mem=64M", f"uml_dir={folder}/", "con=null", "con0=null,fd:1", "panic=-1"]
+        with contextlib.suppress(subprocess.TimeoutExpired), open(f"{folder}/said", "wb") as said:
+            subprocess.run(list(map(str, words)), stdin=subprocess.DEVNULL, stdout=said, stderr=said, check=False,
+                           timeout=60 * PATIENCE)  # fmt: skip
+        said = pathlib.Path(folder, "said").read_text(errors="replace")
+    if "VFS: " not in said:
+        raise NotPossible("User-mode Linux does not start: " + (said.strip().splitlines() or ["it says nothing"])[-1]
+                          + "; BERRUZPIL_ACCELERATORS=tcg takes QEMU")  # fmt: skip
+
+
 # ---- machines
 
 
