@@ -2,7 +2,9 @@ pub mod Accesses
 pub mod Changes
 pub mod Closing
 pub mod Faults
+pub mod History
 pub mod Left
+pub mod Numbers
 pub mod Opening
 pub mod Places
 pub mod ReadOnly
