@@ -2,6 +2,7 @@ pub mod Accesses
 pub mod Asking
 pub mod Certainty
 pub mod Finding
+pub mod GivenBack
 pub mod Laying
 pub mod Leaving
 pub mod Lying
