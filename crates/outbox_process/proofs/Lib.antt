@@ -1,4 +1,5 @@
 mod Asked
+mod Cleaning
 mod Keeping
 mod Looks
 mod Migrating
