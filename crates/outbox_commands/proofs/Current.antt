@@ -28,7 +28,7 @@ module _ {D : Type 0} {g : Ghosts D} (old new : Parts g) (closed : old.outbox �
     pub why : OpeningFault
     pub opens : OpensProcess g Migrated old new (Err why)
     pub told_as : IsToldAs why told
-    pub current : IfCurrent old told
+    pub current : IfCurrent old new told
 
   not_migrated_by : (came : Result (Unit {0}) OpeningFault) (told : OpeningFault) → OpensProcess g Migrated old new came
       → IsTold came (Err told) → IsNotMigrated told
@@ -41,8 +41,7 @@ module _ {D : Type 0} {g : Ghosts D} (old new : Parts g) (closed : old.outbox �
         opens = opens;
         told_as = kept;
         current =
-            λ honest certain it keeps.
-            told_too why told kept (opens.current honest refl closed certain it keeps).1;
+            λ start sure it keeps. told_too why told kept (opens.current refl closed start sure it keeps).1;
       }
 
   pub not_migrated : (told : OpeningFault) → OpensTold g Migrated old new (Err told) → IsNotMigrated told
