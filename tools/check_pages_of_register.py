@@ -59,6 +59,7 @@ class Page(html.parser.HTMLParser):
     def __init__(self, text):
         super().__init__(convert_charrefs=True)
         self.tags, self.links, self.rows, self.classes, self.open = set(), [], [], [], []
+        self.table, self.tables = None, []
         self.next, self.before, self.policy, self.texts, self.linked = None, None, "", {}, []
         self.terms, self.ids, self.footer = [], set(), ""
         self.faults = []
@@ -73,7 +74,10 @@ class Page(html.parser.HTMLParser):
         self.ids |= {value for name, value in attrs if name == "id"}
         self.links += [value for name, value in attrs if name in ("href", "src")]
         self.faults += [f"{tag} has {name}" for name, _ in attrs if name.startswith("on") or name == "style"]
+        if tag == "table":
+            self.table = its.get("class")
         if tag == "tr":
+            self.tables.append(self.table)
             self.rows.append([])
             self.classes.append([])
             self.linked.append([])
@@ -93,6 +97,10 @@ class Page(html.parser.HTMLParser):
             self.policy = its["content"]
         if tag not in VOID:
             self.open.append(tag)
+
+    def rows_of(self, table, its=None):
+        """The rows of the table of this class but for its head, or what `its` has of them."""
+        return [row for row, of in zip(its or self.rows, self.tables) if of == table][1:]
 
     def inside(self, *tags):
         return any(tag in self.open for tag in tags)
@@ -191,7 +199,7 @@ def check_texts(folder):
     for number, (_, _, _, facts) in enumerate(valid, 1):
         hold(f"filing {number}: its report", (site / f"filing-{number}.json").read_bytes(), report(facts))
         hold(f"filing {number}: links its report", f"filing-{number}.json" in read[f"filing-{number}.html"].links, True)
-        rows = read[f"filing-{number}.html"].rows[1:]
+        rows = read[f"filing-{number}.html"].rows_of("facts")
         names = sorted(facts, key=lambda it: it.encode())
         hold(f"filing {number}: facts", [row[0] for row in rows], [seen(name) for name in names])
         texts = [row["value"] for row in records(SENT) if row["number"] == number]
@@ -204,6 +212,12 @@ def check_texts(folder):
              f"lei:{valid[number - 1][0]}")
         hold(f"filing {number}: when it was received", dict(read[f"filing-{number}.html"].terms)["Received"],
              shown(MOMENTS[number - 1]))
+    hold("an amendment and the filing that it replaces link each other",
+         [dict(read["filing-3.html"].terms).get("Replaces"), dict(read["filing-1.html"].terms).get("Replaced by")],
+         ["Filing 1", "Filing 3"])
+    hold("what an amendment changed", read["filing-3.html"].rows_of("changes"), changed(SENT[0][3], SENT[2][3]))
+    hold("other filings changed nothing", [number for number in range(1, len(valid) + 1)
+                                           if "changes" in read[f"filing-{number}.html"].tables], [3])
     hold("the keys of ACME", [row[1] for row in read["filer-ACME.html"].rows[1:]], ["k<1>'&", "k-2"])
     hold("when they were received", [row[2] for row in read["filer-ACME.html"].rows[1:]],
          [shown(MOMENTS[0]), shown(MOMENTS[2])])
@@ -233,6 +247,69 @@ def check_texts(folder):
          {f"Register of {len(SENT)} requests, the last received: {shown(MOMENTS[-1])}. Digest: {line}"})
 
 
+def side(its):
+    """The cells of one filing's side of a change."""
+    if its is None:
+        return ["no fact", ""]
+    return ["nil" if its["value"] is None else seen(its["value"]), str(its.get("decimals", ""))]
+
+
+def changed(before, after):
+    """What a page has to show side by side, worked out from the facts of both reports: a fact is compared with one of
+    the same dimensions, and of several of these the first with the first, by their names."""
+    left = [before[name] for name in sorted(before, key=str.encode)]
+    both, came = [], []
+    for name in sorted(after, key=str.encode):
+        fits = [its for its in left if its["dimensions"] == after[name]["dimensions"]]
+        if fits:
+            left = [its for its in left if its is not fits[0]]
+            both.append((fits[0], after[name]))
+        else:
+            came.append((None, after[name]))
+    rows = [pair for pair in both if side(pair[0]) != side(pair[1])] + came + [(its, None) for its in left]
+    return [[concept_of(new or old), (new or old)["dimensions"]["period"].removesuffix("T00:00:00"),
+             (new or old)["dimensions"].get("unit", ""), *side(old), *side(new)] for old, new in rows]
+
+
+def check_changes(folder):
+    """An amendment that changes values and decimals, and has facts more and less; one that changes names and the order
+    of members alone; no change at all; and 1,500 changes, of which a page has 1,000."""
+    unit = "iso4217:EUR"
+    first = {"a": fact("NEW", "1", unit, 0), "b": fact("NEW", "2", unit, 0), "c": fact("NEW", "x<y>"),
+             "d": fact("NEW", None, noteId="n"), "e": fact("NEW", "5", unit, 0, **{REGION: "eg:North"}),
+             "f": fact("NEW", "6", unit, 0, **{REGION: "eg:South", "eg:Typed": "t"})}
+    turned = dict(reversed(first["f"]["dimensions"].items()))
+    second = {"a": fact("NEW", "1", unit, 0), "b": fact("NEW", "3", unit, 0), "c": fact("NEW", "x<z>"),
+              "d": fact("NEW", "", noteId="n"), "g": fact("NEW", "7", unit, 0, **{REGION: "eg:West"}),
+              "h": {"value": "6", "decimals": 0, "dimensions": turned}}
+    third = {**second, "h": {"value": "6", "decimals": -3, "dimensions": turned}}
+    many_facts = [{f"f{at:04}": fact("WIDE", str(at * by), unit, 0, **{REGION: f"eg:r{at}"}) for at in range(1_500)}
+                  for by in (1, 2)]
+    begin = len(SENT) - REFUSED
+    more = [("NEW", "n-1", None, first), ("NEW", "n-2", begin + 1, second), ("NEW", "n-3", begin + 2, third),
+            ("NEW", "n-4", begin + 3, third), ("WIDE", "w-1", None, many_facts[0]),
+            ("WIDE", "w-2", begin + 5, many_facts[1])]
+    make_odd_register(folder / "register.db", more)
+    site = folder / "site"
+    site.mkdir()
+    pages_of(folder / "register.db", site)
+    rows = changed(first, second)
+    hold("values that changed, facts that came and went", [row[3::2] for row in rows],
+         [["2", "3"], ["x<y>", "x<z>"], ["nil", ""], ["no fact", "7"], ["5", "no fact"]])
+    hold("decimals that changed", [row[3:] for row in changed(second, third)], [["6", "0", "6", "-3"]])
+    for at, (old, new) in enumerate([(first, second), (second, third), (third, third)], begin + 2):
+        its = page(site, f"filing-{at}.html")
+        hold(f"filing {at}: what it changed", its.rows_of("changes"), changed(old, new))
+        hold(f"filing {at}: faults and tags", (its.faults, its.tags - TAGS), ([], set()))
+    hold("no change at all is said", "<p>No fact changed" in (site / f"filing-{begin + 4}.html").read_text(), True)
+    its = page(site, f"filing-{begin + 6}.html")
+    wanted = [row for row in changed(*many_facts) if row[3] != row[5]]
+    hold("as many changes as a page has rows", its.rows_of("changes"), wanted[:ROWS])
+    text = (site / f"filing-{begin + 6}.html").read_text()
+    hold("how many more", f"<p>and {len(wanted) - ROWS} more changes" in text, True)
+    hold("they are on the first page alone", "changes" in page(site, f"filing-{begin + 6}~2.html").tables, False)
+
+
 def check_looks(folder):
     """Links, names, hashes, classes, symbols and columns."""
     make_odd_register(folder / "register.db", MORE)
@@ -257,10 +334,12 @@ def check_looks(folder):
     for number, (_, _, _, facts) in enumerate(valid, 1):
         its = read[f"filing-{number}.html"]
         wanted = [("amount" if "unit" in facts[at]["dimensions"] else None) for at in sorted(facts, key=str.encode)]
-        hold(f"filing {number}: amounts on the right", [row[4] for row in its.classes[1:]], wanted)
-        hold(f"filing {number}: periods", {row[2] for row in its.classes[1:]}, {"period"})
-        hold(f"filing {number}: decimals on the right", {row[5] for row in its.classes[1:]}, {"number"})
-        hold(f"filing {number}: columns", {len(row) for row in its.rows}, {6})
+        classes = its.rows_of("facts", its.classes)
+        hold(f"filing {number}: amounts on the right", [row[4] for row in classes], wanted)
+        hold(f"filing {number}: periods", {row[2] for row in classes}, {"period"})
+        hold(f"filing {number}: decimals on the right", {row[5] for row in classes}, {"number"})
+        hold(f"filing {number}: columns", {len(row) for row in its.rows},
+             {6, 7} if "changes" in its.tables else {6})
     style = read["index.html"].texts["style"]
     hold("moments on one line", {row[2] for row in read["filer-ACME.html"].classes[1:]}, {"moment"})
     for rule in (".amount { text-align: right; }", ".moment { white-space: nowrap; }", "@media print {"):
@@ -496,7 +575,7 @@ def check_browser(folder):
                        capture_output=True, check=False, timeout=60)
 
 
-TRIALS = [check_texts, check_looks, check_parts, check_hostile, check_folder, check_browser, check_time]
+TRIALS = [check_texts, check_changes, check_looks, check_parts, check_hostile, check_folder, check_browser, check_time]
 # Which trial sees what.
 FAULTS = [
     (check_texts, "filing-1.html", "it&#39;s &amp; ", "it&#39;s "),
@@ -505,6 +584,10 @@ FAULTS = [
     (check_texts, "filing-2.html", "unknown", "1970-01-01T00:00:00.000Z"),
     (check_texts, "filing-4.html", "23:59:59.999Z", "24:00:00.000Z"),
     (check_texts, "filer-ACME.html", "1970-01-01T00:00:00.000Z", "1970-01-01T00:00:00Z"),
+    (check_texts, "filing-1.html", 'href="filing-3.html"', 'href="filing-2.html"'),
+    (check_changes, "filing-7.html", "<td>3</td>", "<td>2</td>"),
+    (check_changes, "filing-7.html", "<td><em>no fact</em></td>", "<td></td>"),
+    (check_changes, "filing-8.html", ">-3<", ">0<"),
     (check_looks, "filer-ACME.html", 'class="moment"', 'class="text"'),
     (check_looks, "index.html", "filer-ACME.html", "filer-NONE.html"),
     (check_looks, "index.html", "text-align: right", "text-align:right"),
