@@ -1,14 +1,16 @@
 #!/usr/bin/env python3
 """Tries `intake pages` of the built program: each text that was filed is read back from the pages, and no other tag is
 in them. Pages have at most 1,000 rows, and each names the next one. What a hostile filer sends stays within bounds, on
-the disk and in memory. If there is a Chromium, it opens them, and looks for errors and for what the search box shows.
+the disk and in memory. If there is a Chromium, it opens them, and looks for errors, for what the search box shows, and
+for what is not in sight on a wide screen, on a narrow one, in the dark or on paper.
 
-    tools/check_pages_of_register.py [SCREENSHOT]
+    tools/check_pages_of_register.py [--only WORD] [--pictures FOLDER]
     tools/check_pages_of_register.py --planted        # damages the pages in each way of FAULTS: whether that is seen
 
-It takes the program that `rt run` builds in its folder, as crates/intake/out/intake. With a name it keeps a screenshot
-of a page there, outside of the repository. Status 1 if a trial fails, or if a fault is not seen.
+It takes the program that `rt run` builds in its folder, as crates/intake/out/intake. With a folder it keeps pictures of
+pages there, outside of the repository. Status 1 if a trial fails, or if a fault is not seen.
 """
+import argparse
 import base64
 import contextlib
 import functools
@@ -25,6 +27,8 @@ import tempfile
 import threading
 import time
 
+import browsers
+from browsers import CONTRAST, plain_options, resize, start_driver, try_keyboard
 from odd_register import MOMENTS, REGION, SENT, REFUSED, date_register, fact, make_odd_register, many, moment_text
 from odd_register import records, report
 from trials import INTAKE, ROOT, failures, hold, run, tell, try_all
@@ -154,6 +158,8 @@ def hash_of(text):
     return f"'sha256-{base64.b64encode(hashlib.sha256(text.encode()).digest()).decode()}'"
 
 
+# What was given on the command line.
+given = argparse.Namespace(only="", pictures=None)
 # What damages a folder of pages, by the trial that has to see it: the file, what it has, and what it gets.
 planted = []
 
@@ -271,43 +277,48 @@ def changed(before, after):
              (new or old)["dimensions"].get("unit", ""), *side(old), *side(new)] for old, new in rows]
 
 
+# The facts of three reports. The second one has other values, facts more and less, and a name and an order of members
+# that say the same; the third one other decimals.
+EUR = "iso4217:EUR"
+LAST = fact("NEW", "6", EUR, 0, **{REGION: "eg:South", "eg:Typed": "t"})
+TURNED = dict(reversed(LAST["dimensions"].items()))
+FIRST = {"a": fact("NEW", "1", EUR, 0), "b": fact("NEW", "2", EUR, 0), "c": fact("NEW", "x<y>"),
+         "d": fact("NEW", None, noteId="n"), "e": fact("NEW", "5", EUR, 0, **{REGION: "eg:North"}), "f": LAST}
+SECOND = {"a": fact("NEW", "1", EUR, 0), "b": fact("NEW", "3", EUR, 0), "c": fact("NEW", "x<z>"),
+          "d": fact("NEW", "", noteId="n"), "g": fact("NEW", "7", EUR, 0, **{REGION: "eg:West"}),
+          "h": {"value": "6", "decimals": 0, "dimensions": TURNED}}
+THIRD = {**SECOND, "h": {"value": "6", "decimals": -3, "dimensions": TURNED}}
+MANY_FACTS = [{f"f{at:04}": fact("WIDE", str(at * by), EUR, 0, **{REGION: f"eg:r{at}"}) for at in range(1_500)}
+              for by in (1, 2)]
+# The number of the first of the filings that have these facts.
+BEGIN = len(SENT) - REFUSED + 1
+AMENDMENTS = [("NEW", "n-1", None, FIRST), ("NEW", "n-2", BEGIN, SECOND), ("NEW", "n-3", BEGIN + 1, THIRD),
+              ("NEW", "n-4", BEGIN + 2, THIRD), ("WIDE", "w-1", None, MANY_FACTS[0]),
+              ("WIDE", "w-2", BEGIN + 4, MANY_FACTS[1])]
+
+
 def check_changes(folder):
     """An amendment that changes values and decimals, and has facts more and less; one that changes names and the order
     of members alone; no change at all; and 1,500 changes, of which a page has 1,000."""
-    unit = "iso4217:EUR"
-    first = {"a": fact("NEW", "1", unit, 0), "b": fact("NEW", "2", unit, 0), "c": fact("NEW", "x<y>"),
-             "d": fact("NEW", None, noteId="n"), "e": fact("NEW", "5", unit, 0, **{REGION: "eg:North"}),
-             "f": fact("NEW", "6", unit, 0, **{REGION: "eg:South", "eg:Typed": "t"})}
-    turned = dict(reversed(first["f"]["dimensions"].items()))
-    second = {"a": fact("NEW", "1", unit, 0), "b": fact("NEW", "3", unit, 0), "c": fact("NEW", "x<z>"),
-              "d": fact("NEW", "", noteId="n"), "g": fact("NEW", "7", unit, 0, **{REGION: "eg:West"}),
-              "h": {"value": "6", "decimals": 0, "dimensions": turned}}
-    third = {**second, "h": {"value": "6", "decimals": -3, "dimensions": turned}}
-    many_facts = [{f"f{at:04}": fact("WIDE", str(at * by), unit, 0, **{REGION: f"eg:r{at}"}) for at in range(1_500)}
-                  for by in (1, 2)]
-    begin = len(SENT) - REFUSED
-    more = [("NEW", "n-1", None, first), ("NEW", "n-2", begin + 1, second), ("NEW", "n-3", begin + 2, third),
-            ("NEW", "n-4", begin + 3, third), ("WIDE", "w-1", None, many_facts[0]),
-            ("WIDE", "w-2", begin + 5, many_facts[1])]
-    make_odd_register(folder / "register.db", more)
+    make_odd_register(folder / "register.db", AMENDMENTS)
     site = folder / "site"
     site.mkdir()
     pages_of(folder / "register.db", site)
-    rows = changed(first, second)
+    rows = changed(FIRST, SECOND)
     hold("values that changed, facts that came and went", [row[3::2] for row in rows],
          [["2", "3"], ["x<y>", "x<z>"], ["nil", ""], ["no fact", "7"], ["5", "no fact"]])
-    hold("decimals that changed", [row[3:] for row in changed(second, third)], [["6", "0", "6", "-3"]])
-    for at, (old, new) in enumerate([(first, second), (second, third), (third, third)], begin + 2):
+    hold("decimals that changed", [row[3:] for row in changed(SECOND, THIRD)], [["6", "0", "6", "-3"]])
+    for at, (old, new) in enumerate([(FIRST, SECOND), (SECOND, THIRD), (THIRD, THIRD)], BEGIN + 1):
         its = page(site, f"filing-{at}.html")
         hold(f"filing {at}: what it changed", its.rows_of("changes"), changed(old, new))
         hold(f"filing {at}: faults and tags", (its.faults, its.tags - TAGS), ([], set()))
-    hold("no change at all is said", "<p>No fact changed" in (site / f"filing-{begin + 4}.html").read_text(), True)
-    its = page(site, f"filing-{begin + 6}.html")
-    wanted = [row for row in changed(*many_facts) if row[3] != row[5]]
+    hold("no change at all is said", "<p>No fact changed" in (site / f"filing-{BEGIN + 3}.html").read_text(), True)
+    its = page(site, f"filing-{BEGIN + 5}.html")
+    wanted = [row for row in changed(*MANY_FACTS) if row[3] != row[5]]
     hold("as many changes as a page has rows", its.rows_of("changes"), wanted[:ROWS])
-    text = (site / f"filing-{begin + 6}.html").read_text()
+    text = (site / f"filing-{BEGIN + 5}.html").read_text()
     hold("how many more", f"<p>and {len(wanted) - ROWS} more changes" in text, True)
-    hold("they are on the first page alone", "changes" in page(site, f"filing-{begin + 6}~2.html").tables, False)
+    hold("they are on the first page alone", "changes" in page(site, f"filing-{BEGIN + 5}~2.html").tables, False)
 
 
 def check_looks(folder):
@@ -567,15 +578,105 @@ def check_browser(folder):
                           capture_output=True, check=False, timeout=60)
     hold("the search", re.search(r"<title>(.*?)</title>", done.stdout.decode()).group(1), "BETA")
     check_lists(folder, words)
-    if len(sys.argv) > 1:
-        kept = pathlib.Path(sys.argv[1]).resolve()
-        if ROOT in kept.parents:
-            sys.exit("the screenshot is kept outside of the repository")
-        subprocess.run([*words, f"--screenshot={kept}", "--window-size=1280,900", f"file://{site}/filing-1.html"],
-                       capture_output=True, check=False, timeout=60)
 
 
-TRIALS = [check_texts, check_changes, check_looks, check_parts, check_hostile, check_folder, check_browser, check_time]
+# The cells that are not in sight as a whole: outside of the screen, cut off, of no size, or, on a narrow screen,
+# without the name of their column.
+OUT_OF_SIGHT = """
+    const is_narrow = arguments[0];
+    const cells = [...document.querySelectorAll("main td, main th")]
+        .filter((it) => it.textContent.trim() && !(is_narrow && it.closest("thead")));
+    const is_seen = (it) => {
+        const range = document.createRange();
+        range.selectNodeContents(it);
+        const boxes = [...range.getClientRects()].filter((box) => box.width > 0);
+        const label = getComputedStyle(it, "::before").content;
+        return it.checkVisibility() && boxes.length > 0 &&
+            boxes.every((box) => box.left >= 0 && box.right <= innerWidth + 1 && box.height >= 8) &&
+            it.scrollWidth <= it.clientWidth + 1 &&
+            (!is_narrow || it.tagName === "TH" || label.length > 3);
+    };
+    return cells.filter((it) => !is_seen(it)).map((it) => `${it.tagName} ${it.textContent.slice(0, 40)}`);
+"""
+# What a printed page shows that can only be pressed.
+ON_PAPER = """
+    return [...document.querySelectorAll("nav, .skip, #search-box, #parts")].filter((it) => it.checkVisibility())
+        .map((it) => it.textContent);
+"""
+# The widths of screens, and of a sheet of A4 with a margin of a centimetre.
+WIDE, NARROW, PAPER = 1200, 390, 718
+
+
+def check_sight(folder):
+    """What tells rows apart is in sight on screens and on paper, light and dark, and the keyboard reaches everything."""
+    if browsers.webdriver is None or not shutil.which("chromedriver"):
+        print("left out: there is no Chromium with a driver (apt-get install chromium-driver python3-selenium)")
+        return
+    make_odd_register(folder / "register.db", [*AMENDMENTS, *MORE])
+    date_register(folder / "register.db", MOMENTS)
+    site = folder / "site"
+    site.mkdir()
+    pages_of(folder / "register.db", site)
+    with contextlib.closing(Sight(folder)) as sight:
+        for name in ("index", "findings", "filer-NEW", "filing-1", f"filing-{BEGIN + 1}", f"filing-{BEGIN + 5}",
+                     "refused-BETA"):
+            sight.open(f"file://{site}/{name}.html")
+            for width, is_dark, is_printed in [(WIDE, False, False), (WIDE, True, False), (NARROW, False, False),
+                                               (NARROW, True, False), (PAPER, False, True), (PAPER, True, True)]:
+                sight.look(name, width, is_dark, is_printed)
+        sight.open(f"file://{site}/filer-NEW.html")
+        try_keyboard(sight.driver)
+        sight.sort()
+
+
+class Sight:
+    """A Chromium that looks at pages."""
+
+    def __init__(self, folder):
+        self.driver = start_driver(plain_options(folder / "profile", WIDE), folder)
+
+    def close(self):
+        self.driver.quit()
+
+    def open(self, address):
+        self.driver.get(address)
+
+    def run(self, script, *words):
+        return self.driver.execute_script(script, *words)
+
+    def look(self, name, width, is_dark, is_printed):
+        """Looks at the page that is open, on a screen of this width or on paper."""
+        scheme = {"name": "prefers-color-scheme", "value": "dark" if is_dark else "light"}
+        self.driver.execute_cdp_cmd("Emulation.setEmulatedMedia",
+                                    {"media": "print" if is_printed else "screen", "features": [scheme]})
+        resize(self.driver, width, 1000)
+        how = f"{name}-{'paper' if is_printed else width}{'-dark' if is_dark else ''}"
+        hold(f"{how}: nothing is wider than the screen",
+             self.run("return document.scrollingElement.scrollWidth <= innerWidth"), True)
+        hold(f"{how}: each cell is in sight", self.run(OUT_OF_SIGHT, width == NARROW), [])
+        hold(f"{how}: contrast", self.run(CONTRAST), [])
+        hold(f"{how}: the colours", self.run("return matchMedia('(prefers-color-scheme: dark)').matches"), is_dark)
+        if is_printed:
+            hold(f"{how}: nothing that can only be pressed", self.run(ON_PAPER), [])
+        if given.pictures:
+            resize(self.driver, width, min(3_000, self.run("return document.scrollingElement.scrollHeight")))
+            picture = self.driver.execute_cdp_cmd("Page.captureScreenshot", {"format": "png"})["data"]
+            (given.pictures / f"{how}.png").write_bytes(base64.b64decode(picture))
+
+    def sort(self):
+        """Sorts the list of the page that is open by its last column, and by the keyboard alone."""
+        heads = "[...document.querySelectorAll('thead button')]"
+        self.run(f"{heads}.at(1).focus()")
+        for way in ("ascending", "descending"):
+            browsers.ActionChains(self.driver).send_keys(browsers.Keys.ENTER).perform()
+            self.run("return new Promise((done) => setTimeout(done, 500))")
+            keys = self.run("return [...document.querySelectorAll('tbody tr')].map((it) => it.cells[1].textContent)")
+            hold(f"sorted by the keyboard, {way}", keys, sorted(keys, reverse=way == "descending"))
+            hold(f"the head says {way}", self.run(f"return {heads}.at(1).closest('th').ariaSort"), way)
+
+
+TRIALS = [check_texts, check_changes, check_looks, check_parts, check_hostile, check_folder, check_browser, check_sight,
+          check_time]
 # Which trial sees what.
 FAULTS = [
     (check_texts, "filing-1.html", "it&#39;s &amp; ", "it&#39;s "),
@@ -620,7 +721,7 @@ FAULTS = [
 def try_faults():
     """Plants one fault after another. Each has to be seen."""
     unseen = []
-    for trial, *fault in FAULTS:
+    for trial, *fault in [fault for fault in FAULTS if given.only in fault[0].__name__]:
         planted[:] = [fault]
         failures.clear()
         with contextlib.redirect_stdout(None), tempfile.TemporaryDirectory() as folder:
@@ -631,6 +732,13 @@ def try_faults():
 
 
 if __name__ == "__main__":
-    if sys.argv[1:] == ["--planted"]:
+    parser = argparse.ArgumentParser(usage=__doc__)
+    parser.add_argument("--planted", action="store_true")
+    parser.add_argument("--only", default="")
+    parser.add_argument("--pictures", type=pathlib.Path)
+    parser.parse_args(namespace=given)
+    if given.pictures and ROOT in given.pictures.resolve().parents:
+        sys.exit("the pictures are kept outside of the repository")
+    if given.planted:
         try_faults()
-    try_all([INTAKE], TRIALS)
+    try_all([INTAKE], [trial for trial in TRIALS if given.only in trial.__name__])
