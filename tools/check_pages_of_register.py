@@ -608,7 +608,7 @@ WIDE, NARROW, PAPER = 1200, 390, 718
 
 
 def check_sight(folder):
-    """What tells rows apart is in sight on screens and on paper, light and dark, and the keyboard reaches everything."""
+    """What tells rows apart is in sight on screens and on paper, light and dark. The keyboard reaches everything."""
     if browsers.webdriver is None or not shutil.which("chromedriver"):
         print("left out: there is no Chromium with a driver (apt-get install chromium-driver python3-selenium)")
         return

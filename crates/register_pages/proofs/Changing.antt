@@ -1,12 +1,16 @@
 -- A change more is listed.
 use Rattle.std.proofs.Common.{◌≡◌, ◌<◌, ◌+◌, ℕ, List, [], ◌∷◌, ◌++◌, length, map, filter, get_or, append_assoc, refl}
-use Rattle.std.proofs.Common.{ap, subst, sym, take, ◌∙◌, Bor, arith}
+use Rattle.std.proofs.Common.{Option, None, Some, ap, codes, subst, sym, take, ◌∙◌, Bor, arith}
+use Rattle.std.specs.Prelude.{option_map}
 use Rattle.std.proofs.lemmas.List.{get_or-map, length-map, map-append, map_more, take_more}
 use Rattle.std.proofs.lemmas.List.Elements.{filter-append}
 use Rattle.xbrl_report.specs.FactRecord.{FactRecord}
 use Rattle.register_pages.specs.Changes.{Changed, another, changes_in, differs, view_change}
 use Rattle.register_pages.specs.Compared.{facts_in, pairs_in}
-use Rattle.register_pages.specs.ShownChanges.{AddsChange, AddsChanges}
+use Rattle.register_pages.specs.Reading.{AddsText}
+use Rattle.register_pages.specs.ShownChanges.{AddsChange, AddsChanges, AddsDecimals, AddsSide, AddsValue, after_in}
+use Rattle.register_pages.specs.ShownChanges.{before_in, fact_in}
+use Rattle.register_pages.specs.Visible.{visible}
 use Rattle.register_pages.specs.declared.changes.Change.{Change}
 use Rattle.register_pages.proofs.Comparing.{fact_at}
 
@@ -51,8 +55,56 @@ pair_more pairs at p old mid new within is had adds =
 
 -- ---- rows
 
+-- the two cells of a fact
+pub side_added : (f : FactRecord) (old opened said between shown new : List ℕ) → opened ≡ old ++ codes "<td>"
+    → AddsValue f.value opened said → between ≡ said ++ codes "</td><td class=\"number\">"
+    → AddsDecimals f.decimals between shown → new ≡ shown ++ codes "</td>" → AddsSide (Some f) old new
+side_added f old opened said between shown new begins says goes_on counts ends = (
+  said,
+  shown,
+  subst (λ s. AddsValue f.value s said) begins says,
+  subst (λ s. AddsDecimals f.decimals s shown) goes_on counts,
+  ends,
+)
+
+-- the row of a change
+pub row_of : (c : Changed) (old opened said more front first both new : List ℕ)
+    → opened ≡ old ++ codes "<tr><th scope=\"row\">" → AddsText (visible (fact_in c).concept) opened said
+    → front ≡ said ++ more → AddsSide (before_in c) front first → AddsSide (after_in c) first both
+    → new ≡ both ++ codes "</tr>\n" → AddsChange c old new
+row_of c old opened said more front first both new begins says goes_on before after ends = (
+  said,
+  front,
+  first,
+  both,
+  subst (λ s. AddsText (visible (fact_in c).concept) s said) begins says,
+  (more, goes_on),
+  before,
+  after,
+  ends,
+)
+
 -- a row more
 pub changes_more : (changes : List Changed) (c : Changed) (old mid new : List ℕ) → AddsChanges changes old mid
     → AddsChange c mid new → AddsChanges (changes ++ c ∷ []) old new
 changes_more [] c old mid new p q = (new, subst (λ start. AddsChange c start new) p q, refl)
 changes_more (first ∷ changes) c old mid new p q = (p.0, p.1, changes_more changes c p.0 mid new p.2 q)
+
+-- ---- the earlier filing
+
+-- what is said of something that was found
+pub told_of : {X Y Z : Type 0} (view : X → Y) (part : Y → Z) (found : Option X) (y : Y) (z : Z)
+    → Some y ≡ option_map view found → option_map (λ x. part (view x)) found ≡ Some z → part y ≡ z
+told_of view part None y z told there = absurd (cc told)
+told_of view part (Some x) y z told there =
+    let one : Some y ≡ Some (view x) = told in
+    let other : Some (part (view x)) ≡ Some z = there in
+    let same : y ≡ view x = cc one in
+    let here : part (view x) ≡ z = cc other in
+    ap part same ∙ here
+
+-- nothing was found, so nothing is said of it
+pub told_none : {X Y Z : Type 0} (view : X → Y) (said : X → Z) (found : Option X) (z : Z)
+    → option_map view found ≡ None → option_map said found ≡ Some z → ⊥
+told_none view said None z none there = let both : None ≡ Some z = there in cc both
+told_none view said (Some x) z none there = let both : Some (view x) ≡ None = none in cc both
