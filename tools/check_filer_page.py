@@ -31,12 +31,17 @@ import tempfile
 import threading
 import time
 
-import browsers
-from browsers import CONTRAST, plain_options, start_driver, try_keyboard
 from trials import INTAKE, OUTBOX, REPORT, ROOT, exchange, failures, free_port, hold, request, tell
 
-if browsers.webdriver:
-    from browsers import ActionChains, Keys, WebDriverException
+try:
+    from selenium import webdriver
+    from selenium.common.exceptions import WebDriverException
+    from selenium.webdriver import ActionChains
+    from selenium.webdriver.chrome.options import Options
+    from selenium.webdriver.chrome.service import Service
+    from selenium.webdriver.common.keys import Keys
+except ImportError:
+    webdriver = None
 
 PROGRAMS = ["chromium", "chromedriver", "certutil", "pk12util", "node", "nginx", "openssl"]
 HOST, OTHER = "intake.example", "other.example"
@@ -313,13 +318,31 @@ def is_listening(port):
         return True
 
 
+def start_driver(options, home):
+    """A driver of a new browser. Another program may take the port that was found for it; then another is found."""
+    for left in (2, 1, 0):
+        try:
+            service = Service(shutil.which("chromedriver"), env={**os.environ, "HOME": str(home)})
+            return webdriver.Chrome(service=service, options=options)
+        except WebDriverException:
+            if left == 0:
+                raise
+
+
 class Browser:
     """A Chromium with the profile and the certificates of a folder."""
 
     def __init__(self, bench, width, is_dark=False):
         self.bench, self.profile = bench, bench.folder / "profile"
-        options = plain_options(self.profile, width, is_dark)
-        options.add_argument(f"--host-resolver-rules=MAP *:443 127.0.0.1:{bench.front.port}")
+        options = Options()
+        options.binary_location = shutil.which("chromium")
+        for word in ["headless=new", "no-sandbox", "disable-gpu", "disable-dev-shm-usage", "no-first-run",
+                     f"window-size={width},1000", f"user-data-dir={self.profile}", "disable-background-networking",
+                     f"host-resolver-rules=MAP *:443 127.0.0.1:{bench.front.port}"]:
+            options.add_argument(f"--{word}")
+        if is_dark:
+            options.add_argument("--force-dark-mode")
+        options.set_capability("goog:loggingPrefs", {"browser": "ALL"})
         # For this host the browser takes the certificate that it has, and does not ask which one.
         chosen = {f"https://{HOST}:443,*": {"setting": {"filters": [{}]}}}
         setting = "profile.content_settings.exceptions.auto_select_certificate"
@@ -406,7 +429,8 @@ class Browser:
         return self.driver.execute_cdp_cmd(name, words)
 
     def resize(self, width, height):
-        browsers.resize(self.driver, width, height)
+        size = {"width": width, "height": height, "deviceScaleFactor": 1, "mobile": False}
+        self.command("Emulation.setDeviceMetricsOverride", **size)
 
     def saved(self, name):
         """The bytes of a file that the page gave, once it is there."""
@@ -830,7 +854,7 @@ def try_looks(folder):
                 browser.file(list(zip(["annual-2024.json", "quarter.json", "late.json"], bodies)),
                              ["2024-annual-1", "2024-q4-1", "k-open"])
                 wait_until("two are settled", lambda browser=browser: browser.states()[:2] == ["confirmed", "refused"])
-                try_keyboard(browser.driver)
+                try_keyboard(browser)
             browser.resize(width, 1000)
             browser.drop([("correction.json", bench.report(6)), ("annual-2024.json", bench.report(1))])
             wait_until("they are chosen", lambda browser=browser: browser.chosen() == 2)
@@ -845,6 +869,46 @@ def try_looks(folder):
             hold(f"{name}: contrast of the findings", browser.run(CONTRAST), [])
             take_picture(browser, f"{name}-findings", width, 900)
             browser.close()
+
+
+def try_keyboard(browser):
+    """Each thing that can be pressed has a name, and is reached by the key Tab, from the top to the bottom."""
+    tree = browser.command("Accessibility.getFullAXTree")["nodes"]
+    named = {"button", "textbox", "link", "radio", "heading"}
+    shown = [node for node in tree if not node.get("ignored") and node.get("role", {}).get("value") in named]
+    hold("what can be pressed has a name",
+         [node["role"]["value"] for node in shown if not node.get("name", {}).get("value")], [])
+    wanted = browser.run("return [...document.querySelectorAll('button, input, a')].filter((it) => it.checkVisibility()"
+                         " && !(it.type === 'radio' && !it.checked)).length")
+    browser.run("document.activeElement.blur(); document.body.tabIndex = -1; document.body.focus()")
+    seen = set()
+    for _ in range(wanted + 2):
+        browser.type(Keys.TAB)
+        seen.add(browser.run("const it = document.activeElement; return it === document.body ? '' : "
+                             "[it.id, it.ariaLabel, it.innerText, it.name].join(' ')"))
+    hold("each is reached by Tab", len(seen - {""}), wanted)
+
+
+# The texts whose contrast with what lies behind them is less than 4.5 (WCAG 2.2, 1.4.3).
+CONTRAST = """
+    const parse = (text) => text.match(/[\\d.]+/g).map(Number);
+    const light = ([red, green, blue]) => [red, green, blue].map((it) => it / 255).map((it) =>
+        it <= 0.04045 ? it / 12.92 : ((it + 0.055) / 1.055) ** 2.4)
+        .reduce((sum, it, at) => sum + it * [0.2126, 0.7152, 0.0722][at], 0);
+    const behind = (element) => {
+        for (let it = element; it; it = it.parentElement) {
+            const colour = parse(getComputedStyle(it).backgroundColor);
+            if (colour.length === 3 || colour[3] === 1) { return colour; }
+        }
+        return [255, 255, 255];
+    };
+    const texts = [...document.querySelectorAll("body *")].filter((it) => it.checkVisibility() &&
+        [...it.childNodes].some((node) => node.nodeType === 3 && node.data.trim()));
+    return texts.filter((it) => {
+        const [one, other] = [light(parse(getComputedStyle(it).color)), light(behind(it))];
+        return (Math.max(one, other) + 0.05) / (Math.min(one, other) + 0.05) < 4.5;
+    }).map((it) => `${it.tagName} ${it.className} ${it.textContent.slice(0, 30)}`);
+"""
 
 
 def take_picture(browser, name, width, height=None):
@@ -917,7 +981,7 @@ def main():
     parser.add_argument("--pictures", type=pathlib.Path, metavar="FOLDER")
     parser.parse_args(namespace=given)
     missing = [program for program in PROGRAMS if shutil.which(program) is None]
-    missing += [] if browsers.webdriver else ["python3-selenium"]
+    missing += [] if webdriver else ["python3-selenium"]
     if missing:
         print(f"not tried: {', '.join(missing)}: not installed")
         return 77

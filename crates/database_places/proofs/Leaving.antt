@@ -1,11 +1,10 @@
 -- What the files hold that a store leaves, by what the store allows.
-use Rattle.std.proofs.Common.{◌≡◌, inl, inr, ℕ, IsTrue, refl, sym, ap, subst, ◌∙◌, arith}
+use Rattle.std.proofs.Common.{◌≡◌, inl, inr, ℕ, IsTrue, refl, sym, ap, subst, ◌∙◌}
 use Rattle.std.proofs.Math.Logic.{∥∥₁_elim, ∥∥₁_map}
 use mathlib.Core.HLevel.{Σ_prop_path}
 use Rattle.sqlite_disk.specs.declared.Disk.{Ghosts}
 use Rattle.sqlite_disk.specs.declared.Files.{Files}
 use Rattle.sqlite_pages.specs.PageMap.{PageMap}
-use Rattle.sqlite_wal.specs.Reads.{AreClean}
 use Rattle.sqlite_wal.specs.Recovery.{Image}
 use Rattle.sqlite_wal.proofs.LogLemmas.{SeenMayStay}
 use Rattle.sqlite_pool.specs.Pool as pool
@@ -26,13 +25,11 @@ use Rattle.sqlite_catalog.specs.Listing.{IsSound}
 use Rattle.sqlite.specs.Effect.{Database, IsDatabase}
 use Rattle.sqlite.specs.Held.{Held, AreDatabases}
 use Rattle.sqlite.specs.declared.error.Error.{Error}
-use Rattle.sqlite.specs.Files.{image_of, file_state, HoldsDatabase, IsOpened, IsClosed}
-use Rattle.sqlite.specs.State.{HasCleanDisk}
-use Rattle.table_rows.proofs.CleanLemmas.{are_clean}
+use Rattle.sqlite.specs.Files.{image_of, file_state, HoldsDatabase, IsOpened}
+use Rattle.table_rows.proofs.CleanLemmas.{always_clean, are_clean}
 use Rattle.table_rows.specs.Files.{HoldsDatabase as HoldsClosed}
 use Rattle.table_rows.specs.Standing.{CommitsNothing, HasCommitted}
 use Rattle.database_places.specs.Closing.{IsClosedIn, IsGivenUp, IsNotClosed}
-use Rattle.database_places.specs.GivenBack.{HoldTogether}
 use Rattle.database_places.specs.Places.{IsHonest}
 use Rattle.database_places.specs.Left.{AreLeftByKill, AreLeftByStop, AreLeftBy, IsNumbered, IsLastOf, EndsIn}
 use Rattle.database_places.specs.Left.{HoldWithLog}
@@ -47,19 +44,9 @@ pages_of size left found =
     (λ it. (it.0, ∣ it.1 ∣₁))
 
 module _ {D : Type 0} {g : Ghosts D} where
-  abbrev AreCleanIn : FileStore D g → Type 0
-  AreCleanIn it = AreClean g (store.files it).0 (store.files it).1
-
-  -- a store whose files gave back what was written is clean
-  clean_store : (it : FileStore D g) → AreCleanIn it → IsClean (view it)
-  unfolding pool.state pool.files doubt
-  clean_store it clean = ap doubt clean
-
-  all_clean : IsHonest g → (it : FileStore D g) → AreCleanIn it
-  all_clean honest it = are_clean g honest (store.files it).0 (store.files it).1
-
   pub store_is_clean : IsHonest g → (it : FileStore D g) → IsClean (view it)
-  store_is_clean honest it = clean_store it (all_clean honest it)
+  unfolding pool.state doubt
+  store_is_clean honest it = rw (honest it.pool.backing.pager.log.log, honest it.pool.backing.pager.log.db) refl
 
   module _ (it : FileStore D g) where
     -- Each image that a crash may leave holds a database, which is one of those that the store allows, and is known.
@@ -99,9 +86,13 @@ module _ {D : Type 0} {g : Ghosts D} where
         db = subst (g.may_leave (store.files it).1) (sym left.db) (stays (store.files it).1);
       }
 
-    module _ (clean : AreCleanIn it) (stays : SeenMayStay g) (files : Files D) where
+    module _ (honest : IsHonest g) (stays : SeenMayStay g) (files : Files D) where
       stopped_may_be_left : AreLeftByStop it files → (state it).may_leave (image_of g files)
-      stopped_may_be_left left = may_leave_is it.pool (image_of g files) clean (left.log, left.db)
+      stopped_may_be_left left =
+          may_leave_is it.pool (image_of g files) (are_clean g honest (store.files it).0 (store.files it).1) (
+            left.log,
+            left.db,
+          )
 
       may_be_left : AreLeftBy it files → (state it).may_leave (image_of g files)
       may_be_left (inl killed) = stopped_may_be_left (killed_as_stopped stays files killed)
@@ -116,13 +107,6 @@ module _ {D : Type 0} {g : Ghosts D} where
           leaves_one numbered (λ db allowed. sound db (each db allowed)) (image_of g files) (may_be_left left) in
           (found.0, each found.0 found.1, found.2)
 
-  -- a connection is clean if its last store is
-  quiet_clean : {conn : Held (FileStore D g)} (last : FileStore D g) → IsClosed conn last → IsClean (view last)
-      → HasCleanDisk (file_state conn)
-  quiet_clean last closed clean =
-      let falls = closed.quiet.clean in
-      omega (arith, falls, clean)
-
   -- a close that failed leaves what a kill of the process after it leaves
   pub closed_as_killed : (conn : Held (FileStore D g)) (files : Files D) (error : Error)
       (failed : IsNotClosed conn files error) → AreLeftByKill failed.last files
@@ -131,48 +115,19 @@ module _ {D : Type 0} {g : Ghosts D} where
     db = ap (λ (p : D × D). g.seen p.1) (sym failed.same);
   }
 
-  module _ (conn : Held (FileStore D g)) where
+  module _ (honest : IsHonest g) (stays : SeenMayStay g) (conn : Held (FileStore D g)) where
     last_recovers : (last : FileStore D g) → IsLastOf conn last → (db : Trees) → recovers last db
         → recovers conn.store db
     last_recovers last (inl same) db allowed = subst (λ it. recovers it db) same allowed
     last_recovers last (inr closed) db allowed = closed.quiet.outcomes db allowed
 
     -- The files that a connection's process leaves hold one of the databases that a crash leaves of it.
-    clean_ends_with_one : SeenMayStay g → (files : Files D) (ends : EndsIn conn files) → AreCleanIn ends.last
-        → {X : Trees → Type 0} → ((db : Trees) → recovers conn.store db → X db)
-        → ((db : Trees) → X db → (schema : Schema) × IsSound schema db)
-        → (db : Trees) × X db × ∥ HoldsDatabase (image_of g files) db ∥₁
-    clean_ends_with_one stays files ends clean each sound =
-        holds_one ends.last clean stays files ends.numbered ends.left
-        (λ db allowed. each db (last_recovers ends.last ends.is_last db allowed)) sound
-
-    -- a connection that was given up is clean if its files are
-    given_store : (files : Files D) (given : IsGivenUp conn files) → AreClean g files.log files.db
-        → AreCleanIn given.last
-    given_store files given clean = subst (λ (p : D × D). AreClean g p.0 p.1) (sym given.same) clean
-
-    pub given_clean : (files : Files D) → IsGivenUp conn files → AreClean g files.log files.db
-        → HasCleanDisk (file_state conn)
-    given_clean files given clean =
-        quiet_clean given.last given.closed (clean_store given.last (given_store files given clean))
-
-    given_ends : (files : Files D) (given : IsGivenUp conn files) → IsClean (view given.last) → EndsIn conn files
-    given_ends files given clean = record {
-      last = given.last;
-      is_last = inr given.closed;
-      numbered = given.numbered clean;
-      left = inl (record {
-        log = ap (λ (p : D × D). g.seen p.0) (sym given.same);
-        db = ap (λ (p : D × D). g.seen p.1) (sym given.same);
-      });
-    }
-
-  module _ (honest : IsHonest g) (stays : SeenMayStay g) (conn : Held (FileStore D g)) where
     pub ends_with_one : (files : Files D) → EndsIn conn files → {X : Trees → Type 0}
         → ((db : Trees) → recovers conn.store db → X db) → ((db : Trees) → X db → (schema : Schema) × IsSound schema db)
         → (db : Trees) × X db × ∥ HoldsDatabase (image_of g files) db ∥₁
     ends_with_one files ends each sound =
-        clean_ends_with_one conn stays files ends (all_clean honest ends.last) each sound
+        holds_one ends.last honest stays files ends.numbered ends.left
+        (λ db allowed. each db (last_recovers ends.last ends.is_last db allowed)) sound
 
     -- while the connection is open, what was committed is all that a crash leaves
     pub leaves_now : IsTrue (file_state conn).is_open → (file_state conn).committed ≡ (file_state conn).now
@@ -180,55 +135,46 @@ module _ {D : Type 0} {g : Ghosts D} where
     leaves_now is_open committed db allowed =
         settled_at conn.store stays db is_open allowed ∙ ap (λ (d : Database). d.trees) committed
 
-  -- A connection to a database, to which nothing was committed, leaves that database in clean files, if it is given up.
-  pub clean_given_up : SeenMayStay g → (old new : Held (FileStore D g)) (files : Files D) → IsOpened old
-      → CommitsNothing (file_state old) (file_state new) → IsGivenUp new files → AreClean g files.log files.db
-      → HoldTogether (image_of g files) (file_state old).now
-  unfolding given_ends
-  clean_given_up stays old new files opened nothing given clean =
+    given_ends : (files : Files D) → IsGivenUp conn files → EndsIn conn files
+    given_ends files given = record {
+      last = given.last;
+      is_last = inr given.closed;
+      numbered = given.numbered (store_is_clean honest given.last);
+      left = inl (record {
+        log = ap (λ (p : D × D). g.seen p.0) (sym given.same);
+        db = ap (λ (p : D × D). g.seen p.1) (sym given.same);
+      });
+    }
+
+  -- A connection to a database, to which nothing was committed, leaves that database if it is given up.
+  pub given_up : IsHonest g → SeenMayStay g → (old new : Held (FileStore D g)) (files : Files D) → IsOpened old
+      → CommitsNothing (file_state old) (file_state new) → IsGivenUp new files
+      → HoldWithLog g files (file_state old).now
+  given_up honest stays old new files opened nothing given =
       let db = (file_state old).now in
       let sound = (opened.1 opened.0.is_open).0 in
-      let last = given_store new files given clean in
+      let is_open = opened.0.is_open in
       let one =
-      clean_ends_with_one new stays files (given_ends new files given (clean_store given.last last)) last
-      {X = λ trees. trees ≡ db.trees}
-      (λ trees allowed. elim (nothing.crash (given_clean new files given clean) trees allowed) [
-        | inl was ↦ settled_at old.store stays trees opened.0.is_open was
-            ∙ ap (λ (d : Database). d.trees) (sym opened.0.clean)
-        | inr none ↦ absurd none
-      ])
+      ends_with_one honest stays new files (given_ends honest stays new files given) {X = λ trees. trees ≡ db.trees}
+      (λ trees allowed. elim (nothing.crash (always_clean honest new) trees allowed)
+      [ inl was ↦ leaves_now honest stays old is_open (sym opened.0.clean) trees was | inr none ↦ absurd none ])
       (λ trees is. (db.schema, subst (IsSound db.schema) (sym is) sound)) in
       record {
         sound = sound;
         held = subst (λ trees. ∥ HoldsDatabase (image_of g files) trees ∥₁) one.1 one.2;
       }
 
-  pub given_up : IsHonest g → SeenMayStay g → (old new : Held (FileStore D g)) (files : Files D) → IsOpened old
-      → CommitsNothing (file_state old) (file_state new) → IsGivenUp new files
-      → HoldWithLog g files (file_state old).now
-  given_up honest stays old new files opened nothing given =
-      let it = clean_given_up stays old new files opened nothing given (are_clean g honest files.log files.db) in
-      record { sound = it.sound; held = it.held }
-
   -- files that were closed hold their database so, since the database file does alone
   pub closed_with_log : (files : Files D) (db : Database) → HoldsClosed g files db → HoldWithLog g files db
   closed_with_log files db it = record { sound = it.sound; held = it.held.both }
 
-  -- So clean files that a connection was closed in hold what it had committed.
-  pub clean_closed_leaves : (conn : Held (FileStore D g)) (files : Files D) → IsClosedIn g conn files
-      → AreClean g files.log files.db → {Is : Database → Type 0} → HasCommitted Is (file_state conn)
-      → ((db : Database) → Is db → IsDatabase db)
-      → Is (file_state conn).now × HoldTogether (image_of g files) (file_state conn).now
-  clean_closed_leaves conn files closed clean stands sound =
-      let is_open = (closed.copied clean).was_open in
-      let now = (file_state conn).now in
-      let is = stands.now is_open in
-      let alone = closed.holds clean now (sound now is) (stands.committed is_open) in
-      (is, record { sound = alone.sound; held = alone.held.both })
-
+  -- So files that a connection was closed in hold what it had committed.
   pub closed_leaves : IsHonest g → (conn : Held (FileStore D g)) (files : Files D) → IsClosedIn g conn files
       → {Is : Database → Type 0} → HasCommitted Is (file_state conn) → ((db : Database) → Is db → IsDatabase db)
       → Is (file_state conn).now × HoldWithLog g files (file_state conn).now
   closed_leaves honest conn files closed stands sound =
-      let left = clean_closed_leaves conn files closed (are_clean g honest files.log files.db) stands sound in
-      (left.0, record { sound = left.1.sound; held = left.1.held })
+      let clean = are_clean g honest files.log files.db in
+      let is_open = (closed.copied clean).was_open in
+      let now = (file_state conn).now in
+      let is = stands.now is_open in
+      (is, closed_with_log files now (closed.holds clean now (sound now is) (stands.committed is_open)))

@@ -1,5 +1,5 @@
 -- What closing a database leaves in its files.
-use Rattle.std.specs.Prelude.{◌≡◌, Option, Some, None, Result, Ok, Err}
+use Rattle.std.specs.Prelude.{◌≡◌, Option, Some, None}
 use Rattle.sqlite_disk.specs.declared.Disk.{Ghosts}
 use Rattle.sqlite_disk.specs.declared.Files.{Files}
 use Rattle.sqlite_store.specs.declared.store.FileStore.{FileStore}
@@ -13,7 +13,6 @@ use Rattle.sqlite.specs.Held.{Held}
 use Rattle.sqlite.specs.Files.{file_state, IsClosed, FailsToClose}
 use Rattle.sqlite.specs.declared.error.Error.{Error}
 use Rattle.table_rows.specs.Files.{HoldsDatabase, AreUsable}
-use Rattle.database_places.specs.History.{History, and_left}
 use Rattle.database_places.specs.Left.{IsNumbered}
 
 -- The files can be opened. If the disk gave back what was written, the connection was open, and they hold what it
@@ -44,10 +43,3 @@ module _ {D : Type 0} {g : Ghosts D} where
   abbrev pub LieGivenUp : Option (Option (Files D)) → Option (Option (Files D)) → Held (FileStore D g) → Type 0
   LieGivenUp None new conn = Unit {0}
   LieGivenUp (Some there) new conn = (files : Files D) × (new ≡ Some (Some files)) × IsGivenUp conn files
-
--- Files were left, with all that was committed in the database file, or with the error for which it is not.
-abbrev pub ClosesFiles : {D : Type 0} (g : Ghosts D) → Held (FileStore D g) → History D → History D
-    → Result (Unit {0}) Error → Type 0
-ClosesFiles {D} g conn old new (Ok done) = (files : Files D) × (new ≡ and_left old files) × IsClosedIn g conn files
-ClosesFiles {D} g conn old new (Err error) =
-    (files : Files D) × (new ≡ and_left old files) × IsNotClosed conn files error

@@ -2,10 +2,7 @@ pub mod Accesses
 pub mod Changes
 pub mod Closing
 pub mod Faults
-pub mod GivenBack
-pub mod History
 pub mod Left
-pub mod Numbers
 pub mod Opening
 pub mod Places
 pub mod ReadOnly

@@ -1,6 +1,5 @@
 -- What opening the database that lies in a place does.
-use Rattle.std.specs.Prelude.{◌≡◌, ◌⊎◌, Bool, true, false, [], Option, Some, None, Result, Ok, Err, IfOk}
-use Rattle.std.specs.Prelude.{IfErr, ⊤}
+use Rattle.std.specs.Prelude.{◌≡◌, Bool, true, false, [], Option, Some, None, Result, Err, IfOk, IfErr, ⊤}
 use Rattle.sqlite_disk.specs.declared.Disk.{Ghosts}
 use Rattle.sqlite_disk.specs.declared.Files.{Files}
 use Rattle.sqlite_store.specs.declared.store.FileStore.{FileStore}
@@ -16,8 +15,7 @@ use Rattle.command_line.specs.declared.fault.DatabaseFault.TheVariants.{Missing,
 use Rattle.database_places.specs.declared.opening.Opening.{Opening}
 use Rattle.database_places.specs.declared.opening.Opening.TheVariants.{Found, Made}
 use Rattle.database_places.specs.declared.opening.Unopened.{Unopened}
-use Rattle.database_places.specs.Faults.{database_fault, is_absence}
-use Rattle.database_places.specs.History.{History, and_given, and_left, and_missing, and_empty, asked}
+use Rattle.database_places.specs.Faults.{database_fault}
 
 -- the database has to be there
 abbrev pub is_found : Opening → Bool
@@ -84,35 +82,3 @@ pub record OpensPlace {D : Type 0} (g : Ghosts D) (has_to_be_there : Bool) (old 
   pub absent : has_to_be_there ≡ true → old ≡ Some None → result ≡ Err (untouched Missing)
   pub missing : IfErr result (λ it. it.fault ≡ Missing → (has_to_be_there ≡ true) × LacksFiles old)
   pub empty : IfErr result (λ it. it.fault ≡ Empty → (has_to_be_there ≡ true) × LacksBytes g old)
-
--- ---- by the files that were given and those that were left, of any place
-
--- nothing was moved, or files were given and left as they were
-abbrev pub TriesAgain : {D : Type 0} → History D → History D → Type 0
-TriesAgain {D} old new = (new ≡ old) ⊎ ((files : Files D) × (new ≡ and_left (and_given old files) files))
-
-module _ {D : Type 0} (g : Ghosts D) where
-  -- nothing was moved; or files were given, and what the refused opening left of them was left
-  abbrev pub RefusesFiles : Bool → DatabaseFault → History D → History D → Type 0
-  RefusesFiles false fault old new = new ≡ old
-  RefusesFiles true fault old new =
-      (files : Files D) × (there : Files D) × IsRefused g files there fault
-      × TriesAgain (and_left (and_given old files) there) new
-
-  -- The files that were given are open, with what they held if the disk gave back what was written; or it is refused,
-  -- and not since no file is there.
-  abbrev pub MakesFiles : History D → History D → Result (Held (FileStore D g)) Unopened → Type 0
-  MakesFiles old new (Ok conn) = (files : Files D) × (new ≡ and_given old files) × IsFoundIn files conn
-  MakesFiles old new (Err it) = RefusesFiles it.was_taken it.fault old new × (is_absence it.fault ≡ false)
-
-  -- The database has to be there. If it was told that no file is, or one without bytes, that is the fault.
-  abbrev pub FindsFiles : History D → History D → Result (Held (FileStore D g)) Unopened → Type 0
-  FindsFiles old new result =
-      ((new ≡ and_missing old true) × (result ≡ Err (untouched Missing)))
-      ⊎ (((new ≡ and_empty (and_missing old false) true) × (result ≡ Err (untouched Empty)))
-      ⊎ MakesFiles (asked true old) new result)
-
-  -- what opening the database of a place does, which has to be there or is made
-  abbrev pub OpensFiles : Bool → History D → History D → Result (Held (FileStore D g)) Unopened → Type 0
-  OpensFiles true old new result = FindsFiles old new result
-  OpensFiles false old new result = MakesFiles old new result

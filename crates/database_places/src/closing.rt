@@ -1,9 +1,8 @@
 //! A database is closed, and its files are left in a place.
 
-ghost use Rattle.std.specs.Prelude.{◌≡◌, OnOk, IfErr};
+ghost use Rattle.std.specs.Prelude.{OnOk, IfErr};
 ghost use Rattle.sqlite_disk.specs.declared.Files.{Files as Pair};
-ghost use Rattle.database_places.specs.Closing.{IsClosedIn, IsNotClosed, IsGivenUp, ClosesFiles};
-ghost use Rattle.database_places.specs.History.{and_left};
+ghost use Rattle.database_places.specs.Closing.{IsClosedIn, IsNotClosed, IsGivenUp};
 ghost use Rattle.database_places.specs.Places.{Leaves};
 
 use crate::place::Place;
@@ -20,7 +19,6 @@ pub fn close<D: Disk + Drop, P: Place<D>>(
         × IsClosedIn D.Disk conn files) }
     ensures refused { IfErr result (λ error. (files : Pair D)
         × Leaves (P.lying place.old) (P.lying place.new) files × IsNotClosed conn files error) }
-    ensures files { ClosesFiles D.Disk conn (P.history place.old) (P.history place.new) result }
 {
     match conn.close_files() {
         Ok(files) => {
@@ -37,9 +35,7 @@ pub fn close<D: Disk + Drop, P: Place<D>>(
 /// Leaves the files of a connection in a place, and neither reads nor writes them: for a database that is damaged, or
 /// another program's. What is in the log stays there.
 pub fn give_up<D: Disk + Drop, P: Place<D>>(place: &mut P, conn: Connection<FileStore<D>>)
-    ensures left { (files : Pair D) × Leaves (P.lying place.old) (P.lying place.new) files × IsGivenUp conn files }
-    ensures files { (files : Pair D) × (P.history place.new ≡ and_left (P.history place.old) files)
-        × IsGivenUp conn files }
+    ensures { (files : Pair D) × Leaves (P.lying place.old) (P.lying place.new) files × IsGivenUp conn files }
 {
     place.leave(conn.into_store().close());
 }

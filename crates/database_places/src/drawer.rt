@@ -1,11 +1,9 @@
 //! A place in memory.
 
 ghost use Rattle.std.specs.Prelude.{◌≡◌, [], Some, None, IsTrue};
-ghost use Rattle.database_places.specs.History.{history_of, unasked, and_left};
 ghost use Rattle.database_places.specs.Places.{Leaves};
 
 use crate::place::Place;
-use crate::recorder::Recorder;
 use command_line::DatabaseFault;
 use sqlite::Files;
 use sqlite_disk::{Disk, Memory};
@@ -33,26 +31,17 @@ impl Blank for Memory {
 pub struct Drawer<D: Blank> {
     alloc: Global,
     files: Option<Files<D>>,
-    recorder: Recorder<D>,
 }
 
 impl<D: Blank> Drawer<D> {
     /// A place in which nothing lies.
-    pub fn new(alloc: Global) -> Drawer<D>
-        ensures { history_of result.recorder ≡ unasked }
-    {
-        Drawer {
-            alloc,
-            files: None,
-            recorder: Recorder::new(),
-        }
+    pub fn new(alloc: Global) -> Drawer<D> {
+        Drawer { alloc, files: None }
     }
 }
 
 impl<D: Blank> Place<D> for Drawer<D> {
     ghost lying = { λ drawer. Some drawer.files };
-
-    ghost history = { λ drawer. history_of drawer.recorder };
 
     ghost file = { λ _. None };
 
@@ -60,15 +49,12 @@ impl<D: Blank> Place<D> for Drawer<D> {
         Some(SEED)
     }
 
-    fn is_missing(&mut self) -> bool {
-        let told = self.files.is_none();
-        self.recorder.tells_missing(told);
-        told
+    fn is_missing(&self) -> bool {
+        self.files.is_none()
     }
 
     // An opening finds out whether files have a database.
-    fn is_empty(&mut self) -> bool {
-        self.recorder.tells_empty(false);
+    fn is_empty(&self) -> bool {
         false
     }
 
@@ -88,28 +74,25 @@ impl<D: Blank> Place<D> for Drawer<D> {
     fn remove_empty_log(&self) {}
 
     fn take(&mut self) -> Result<Files<D>, DatabaseFault> {
-        let files = match self.files.take() {
+        match self.files.take() {
             Some(files) => {
-                if !files.may_be_used() {
+                if files.may_be_used() {
+                    Ok(files)
+                } else {
                     self.files = Some(files);
-                    return Err(DatabaseFault::Disk);
+                    Err(DatabaseFault::Disk)
                 }
-                files
             }
-            None => Files {
+            None => Ok(Files {
                 log: D::empty(self.alloc),
                 db: D::empty(self.alloc),
-            },
-        };
-        self.recorder.gives(&files);
-        Ok(files)
+            }),
+        }
     }
 
     fn leave(&mut self, files: Files<D>)
         ensures left { Leaves (Some self.old.files) (Some self.new.files) files }
-        ensures got { history_of self.new.recorder ≡ and_left (history_of self.old.recorder) files }
     {
-        self.recorder.gets(&files);
         self.files = Some(files);
     }
 }

@@ -3,7 +3,7 @@
 ghost use Rattle.std.specs.Prelude.{◌≡◌, true, false, IfOk, IfErr};
 ghost use Rattle.database_places.specs.Opening.{untouched};
 ghost use Rattle.table_rows.specs.Standing.{IsAtRest};
-ghost use Rattle.database_places.specs.Opening.{OpensPlace, is_found, TriesAgain, OpensFiles};
+ghost use Rattle.database_places.specs.Opening.{OpensPlace, is_found};
 ghost use Rattle.database_places.specs.Places.{KeepsLying};
 
 use crate::fault::fault_of;
@@ -76,7 +76,6 @@ pub fn open<D: Disk + Drop, P: Place<D>>(
 ) -> Result<Connection<FileStore<D>>, Unopened>
     ensures rest { IfOk result IsAtRest }
     ensures opens { OpensPlace D.Disk (is_found opening) (P.lying place.old) (P.lying place.new) result }
-    ensures files { OpensFiles D.Disk (is_found opening) (P.history place.old) (P.history place.new) result }
 {
     match opening {
         Opening::Found(cache) => find(alloc, place, cache),
@@ -92,7 +91,6 @@ fn find<D: Disk + Drop, P: Place<D>>(
 ) -> Result<Connection<FileStore<D>>, Unopened>
     ensures rest { IfOk result IsAtRest }
     ensures opens { OpensPlace D.Disk true (P.lying place.old) (P.lying place.new) result }
-    ensures files { OpensFiles D.Disk true (P.history place.old) (P.history place.new) result }
 {
     if place.is_missing() {
         return Err(Unopened::from(DatabaseFault::Missing));
@@ -111,7 +109,6 @@ fn make<D: Disk + Drop, P: Place<D>>(
 ) -> Result<Connection<FileStore<D>>, Unopened>
     ensures rest { IfOk result IsAtRest }
     ensures opens { OpensPlace D.Disk false (P.lying place.old) (P.lying place.new) result }
-    ensures files { OpensFiles D.Disk false (P.history place.old) (P.history place.new) result }
 {
     let options = options(place.seed(), pages(cache, place.len()))?;
     let had_log = place.has_log();
@@ -135,8 +132,7 @@ fn make<D: Disk + Drop, P: Place<D>>(
 /// Removes the empty log that an opening made beside a file that is not ours, unless there was a log before. The files
 /// are taken for that, so that no other program has them.
 pub fn remove_new_log<D: Disk + Drop, P: Place<D>>(place: &mut P, had_log: bool)
-    ensures lies { KeepsLying (P.lying place.old) (P.lying place.new) }
-    ensures again { TriesAgain (P.history place.old) (P.history place.new) }
+    ensures { KeepsLying (P.lying place.old) (P.lying place.new) }
 {
     if had_log {
         return;

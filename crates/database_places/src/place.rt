@@ -1,9 +1,8 @@
 //! A place in which the files of a database lie.
 
-ghost use Rattle.std.specs.Prelude.{◌≡◌, ℕ, false, IsTrue, IfOk, IfErr, OnErr, List, Option};
+ghost use Rattle.std.specs.Prelude.{◌≡◌, ℕ, false, IsTrue, IfOk, IfErr, List, Option};
 ghost use Rattle.sqlite_disk.specs.declared.Files.{Files};
 ghost use Rattle.database_places.specs.Faults.{is_absence};
-ghost use Rattle.database_places.specs.History.{History, and_given, and_left, and_missing, and_empty};
 ghost use Rattle.database_places.specs.Places.{TellsMissing, TellsEmpty, Takes, Leaves};
 
 use command_line::DatabaseFault;
@@ -17,9 +16,6 @@ pub trait Place<D: Disk + Drop> {
     // If it is known what lies there: the files, if there are some.
     ghost lying: { Self → Option (Option (Files D)) };
 
-    // What it gave, what was left in it, and what it told.
-    ghost history: { Self → History D };
-
     // The name of the database file, if it has one in the file system.
     ghost file: { Self → Option (List ℕ) };
 
@@ -28,18 +24,12 @@ pub trait Place<D: Disk + Drop> {
     fn seed(&self) -> Option<u64>;
 
     /// Whether there is no database file.
-    fn is_missing(&mut self) -> bool
-        ensures says { TellsMissing (lying self.old) result }
-        ensures lies { lying self.new ≡ lying self.old }
-        ensures told { history self.new ≡ and_missing (history self.old) result }
-        ensures named { file self.new ≡ file self.old };
+    fn is_missing(&self) -> bool
+        ensures { TellsMissing (lying self.now) result };
 
     /// Whether the database file is there and has no bytes, and no database is in the log beside it.
-    fn is_empty(&mut self) -> bool
-        ensures says { TellsEmpty D.Disk (lying self.old) result }
-        ensures lies { lying self.new ≡ lying self.old }
-        ensures told { history self.new ≡ and_empty (history self.old) result }
-        ensures named { file self.new ≡ file self.old };
+    fn is_empty(&self) -> bool
+        ensures { TellsEmpty D.Disk (lying self.now) result };
 
     /// The first bytes of the database file, up to the page of a new file; none if they cannot be read. To be called
     /// while the files are not taken.
@@ -59,14 +49,11 @@ pub trait Place<D: Disk + Drop> {
         ensures log { IfOk result (λ files. IsTrue (D.Disk.is_usable files.log)) }
         ensures database { IfOk result (λ files. IsTrue (D.Disk.is_usable files.db)) }
         ensures taken { Takes D.Disk (lying self.old) (lying self.new) result }
-        ensures given { IfOk result (λ files. history self.new ≡ and_given (history self.old) files) }
-        ensures kept { OnErr result (history self.new ≡ history self.old) }
         ensures made { IfErr result (λ fault. is_absence fault ≡ false) }
         ensures named { file self.new ≡ file self.old };
 
     /// Puts files in, which may be taken again then, also by another program.
     fn leave(&mut self, files: Files<D>)
         ensures left { Leaves (lying self.old) (lying self.new) files }
-        ensures got { history self.new ≡ and_left (history self.old) files }
         ensures named { file self.new ≡ file self.old };
 }

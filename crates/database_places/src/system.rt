@@ -3,15 +3,13 @@
 ghost use Rattle.std.specs.Prelude.{◌≡◌, Some, None, false, IsTrue, IfOk, IfErr, OnErr};
 ghost use Rattle.found_files.specs.Openings.{IsNext};
 ghost use Rattle.database_places.specs.Faults.{is_absence};
-ghost use Rattle.database_places.specs.History.{history_of, unasked, and_given, and_left};
 ghost use Rattle.database_places.specs.Places.{Leaves};
 
 use crate::fault::{fault_of_files, fault_of_io};
-use crate::numbered::Numbered;
 use crate::opening::PAGE_LEN;
 use crate::place::Place;
 use command_line::{DatabaseFault, read_up_to};
-use found_files::{Found, FoundFile, NotedFile};
+use found_files::{Found, FoundFile, NotedFile, Openings};
 use http_wire::Device;
 use sqlite::{File, Files, Unknown};
 use sqlite_disk::Disk;
@@ -34,28 +32,26 @@ pub type SystemFile<'f> = FoundFile<'f, NotedFile<File>>;
 pub struct SystemPlace<'a, 'r> {
     pub(crate) rt: &'r HostRuntime,
     pub(crate) name: &'a str,
-    visits: Numbered<'r, NotedFile<File>>,
+    pub(crate) openings: Openings<'r>,
 }
 
 impl<'a, 'r> SystemPlace<'a, 'r> {
     /// The place of the file of this name, whose openings find this.
     pub fn new(rt: &'r HostRuntime, name: &'a str, found: &'r Found) -> SystemPlace<'a, 'r>
         ensures file { result.name ≡ name.entry }
-        ensures found { result.visits.openings.found ≡ found.entry }
-        ensures unasked { history_of result.visits.recorder ≡ unasked }
+        ensures found { result.openings.found ≡ found.entry }
+        ensures first { result.openings.opened ≡ 0 }
     {
         SystemPlace {
             rt,
             name,
-            visits: Numbered::new(found),
+            openings: Openings::new(found),
         }
     }
 }
 
 impl<'r> Place<SystemFile<'r>> for SystemPlace<'_, 'r> {
     ghost lying = { λ _. None };
-
-    ghost history = { λ place. history_of place.visits.recorder };
 
     ghost file = { λ place. Some place.name.now };
 
@@ -66,17 +62,15 @@ impl<'r> Place<SystemFile<'r>> for SystemPlace<'_, 'r> {
         }
     }
 
-    fn is_missing(&mut self) -> bool {
-        let told = matches!(fs::exists(self.rt, self.name), Ok(false));
-        self.visits.tells_missing(told)
+    fn is_missing(&self) -> bool {
+        matches!(fs::exists(self.rt, self.name), Ok(false))
     }
 
-    fn is_empty(&mut self) -> bool {
-        let told = match fs::metadata(self.rt, self.name) {
+    fn is_empty(&self) -> bool {
+        match fs::metadata(self.rt, self.name) {
             Ok(found) => found.is_file() && found.len() == 0 && is_log_empty(self.rt, self.name),
             Err(_) => false,
-        };
-        self.visits.tells_empty(told)
+        }
     }
 
     fn first_page(&self, alloc: Global) -> Vec<u8> {
@@ -111,11 +105,8 @@ impl<'r> Place<SystemFile<'r>> for SystemPlace<'_, 'r> {
     fn take(&mut self) -> Result<Files<SystemFile<'r>>, DatabaseFault>
         ensures log { IfOk result (λ files. IsTrue (⟦<SystemFile<'r> as Disk>⟧.is_usable files.log)) }
         ensures database { IfOk result (λ files. IsTrue (⟦<SystemFile<'r> as Disk>⟧.is_usable files.db)) }
-        ensures next { IfOk result (IsNext self.old.visits.openings self.new.visits.openings) }
-        ensures given { IfOk result (λ files. history_of self.new.visits.recorder
-            ≡ and_given (history_of self.old.visits.recorder) files) }
-        ensures refused { OnErr result (self.new.visits.openings ≡ self.old.visits.openings) }
-        ensures kept { OnErr result (history_of self.new.visits.recorder ≡ history_of self.old.visits.recorder) }
+        ensures next { IfOk result (IsNext self.old.openings self.new.openings) }
+        ensures refused { OnErr result (self.new.openings ≡ self.old.openings) }
         ensures made { IfErr result (λ fault. is_absence fault ≡ false) }
         ensures named { self.new.name ≡ self.old.name }
     {
@@ -125,7 +116,7 @@ impl<'r> Place<SystemFile<'r>> for SystemPlace<'_, 'r> {
                 let key = files.db.key();
                 let log = NotedFile::new(files.log, key);
                 let db = NotedFile::new(files.db, key);
-                Ok(self.visits.gives(log, db, key))
+                Ok(self.openings.next(log, db, key))
             }
             Err(OpenError::Io(error)) if error.kind() == ErrorKind::Unsupported => {
                 Err(fault_of_name(self.rt, self.name))
@@ -137,10 +128,8 @@ impl<'r> Place<SystemFile<'r>> for SystemPlace<'_, 'r> {
     // Files that are let go are closed.
     fn leave(&mut self, files: Files<SystemFile<'r>>)
         ensures left { Leaves None None files.entry }
-        ensures got { history_of self.new.visits.recorder ≡ and_left (history_of self.old.visits.recorder) files.entry }
         ensures named { self.new.name.now ≡ self.old.name.now }
     {
-        self.visits.gets(&files);
         drop(files);
     }
 }

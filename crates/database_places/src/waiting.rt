@@ -1,7 +1,6 @@
 //! A place whose files are waited for.
 
 ghost use Rattle.std.specs.Prelude.{◌≡◌};
-ghost use Rattle.database_places.specs.History.{and_left};
 ghost use Rattle.database_places.specs.Places.{Leaves};
 
 use crate::place::Place;
@@ -56,19 +55,17 @@ impl<'r, P, C: Clock> WaitingPlace<'r, P, C> {
 impl<D: Disk + Drop, P: Place<D>, C: Clock> Place<D> for WaitingPlace<'_, P, C> {
     ghost lying = { λ waiting. P.lying waiting.place };
 
-    ghost history = { λ waiting. P.history waiting.place };
-
     ghost file = { λ waiting. P.file waiting.place };
 
     fn seed(&self) -> Option<u64> {
         self.place.seed()
     }
 
-    fn is_missing(&mut self) -> bool {
+    fn is_missing(&self) -> bool {
         self.place.is_missing()
     }
 
-    fn is_empty(&mut self) -> bool {
+    fn is_empty(&self) -> bool {
         self.place.is_empty()
     }
 
@@ -104,7 +101,6 @@ impl<D: Disk + Drop, P: Place<D>, C: Clock> Place<D> for WaitingPlace<'_, P, C> 
 
     fn leave(&mut self, files: Files<D>)
         ensures left { Leaves (P.lying self.old.place) (P.lying self.new.place) files }
-        ensures got { P.history self.new.place ≡ and_left (P.history self.old.place) files }
         ensures named { P.file self.new.place ≡ P.file self.old.place }
     {
         self.place.leave(files);

@@ -28,7 +28,7 @@ module _ {D : Type 0} {g : Ghosts D} (old new : Parts g) (closed : old.outbox �
     pub why : OpeningFault
     pub opens : OpensProcess g Migrated old new (Err why)
     pub told_as : IsToldAs why told
-    pub current : IfCurrent old new told
+    pub current : IfCurrent old told
 
   not_migrated_by : (came : Result (Unit {0}) OpeningFault) (told : OpeningFault) → OpensProcess g Migrated old new came
       → IsTold came (Err told) → IsNotMigrated told
@@ -41,7 +41,8 @@ module _ {D : Type 0} {g : Ghosts D} (old new : Parts g) (closed : old.outbox �
         opens = opens;
         told_as = kept;
         current =
-            λ start sure it keeps. told_too why told kept (opens.current refl closed start sure it keeps).1;
+            λ honest certain it keeps.
+            told_too why told kept (opens.current honest refl closed certain it keeps).1;
       }
 
   pub not_migrated : (told : OpeningFault) → OpensTold g Migrated old new (Err told) → IsNotMigrated told

@@ -1,7 +1,6 @@
 //! Performs a task, and says how the program ends.
 
 ghost use Rattle.std.specs.Prelude.{◌≡◌, map, string_bytes, Some, None, Ok};
-ghost use Rattle.database_places.specs.History.{unasked};
 ghost use Rattle.outbox_process.specs.Process.{parts};
 ghost use Rattle.outbox_commands.specs.Performing.{PerformsOver, Performs, ended_without};
 ghost use Rattle.outbox_commands.specs.Status.{opening_status, status_of, status_by};
@@ -34,7 +33,7 @@ fn init<'a, D: Disk + Drop, P: Place<D> + Drop, E: Write>(
     errors: &mut E,
 ) -> Result<(), NotDone<'a>>
     requires { process.old.outbox ≡ None }
-    ensures { MakesOutbox D.Disk filer.entry (parts P.history process.old) (parts P.history process.new)
+    ensures { MakesOutbox D.Disk filer.entry (parts P.lying process.old) (parts P.lying process.new)
         (status_by result) }
 {
     if !is_filer(filer) {
@@ -90,8 +89,8 @@ fn migrate<'a, D: Disk + Drop, P: Place<D> + Drop, O: Write, E: Write>(
     errors: &mut E,
 ) -> Result<(), NotDone<'a>>
     requires { process.old.outbox ≡ None }
-    ensures { MigratesOutbox D.Disk (O.contents output.old) (O.contents output.new) (parts P.history process.old)
-        (parts P.history process.new) (status_by result) }
+    ensures { MigratesOutbox D.Disk (O.contents output.old) (O.contents output.new) (parts P.lying process.old)
+        (parts P.lying process.new) (status_by result) }
 {
     if let Err(fault) = open(alloc, process, Beginning::Migrated) {
         if is_current(fault) {
@@ -127,7 +126,7 @@ pub(crate) fn perform_task<'a, D: Disk + Drop, P: Place<D> + Drop, N: Network, O
 ) -> Result<(), NotDone<'a>>
     requires { process.old.outbox ≡ None }
     ensures { Does D.Disk task.entry (N.traffic network.old) (N.traffic network.new) (O.contents output.old)
-        (O.contents output.new) (parts P.history process.old) (parts P.history process.new) result }
+        (O.contents output.new) (parts P.lying process.old) (parts P.lying process.new) result }
 {
     let alloc = rt.alloc();
     let name = task.database();
@@ -194,9 +193,8 @@ fn perform_in<D: Disk + Drop, P: Place<D> + Drop, O: Write, E: Write>(
     output: &mut O,
     errors: &mut E,
 ) -> u8
-    requires named { P.file place ≡ Some (database_of task).now }
-    requires unasked { P.history place ≡ unasked }
-    ensures { PerformsOver D.Disk task.entry (O.contents output.old) (O.contents output.new) result }
+    requires { P.file place ≡ Some (database_of task).now }
+    ensures { PerformsOver D.Disk task.entry (P.lying place) (O.contents output.old) (O.contents output.new) result }
 {
     let mut network = match PeerDial::new(rt, task.peer()) {
         Ok(network) => network,

@@ -1,5 +1,4 @@
 mod Asked
-mod Cleaning
 mod Keeping
 mod Looks
 mod Migrating

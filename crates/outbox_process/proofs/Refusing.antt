@@ -1,184 +1,141 @@
 -- What an opening that is refused leaves.
-use Rattle.std.proofs.Common.{◌≡◌, Bool, true, false, true≢false, Option, Some, None, refl, sym, ◌∙◌, subst, inl, inr, ap}
+use Rattle.std.proofs.Common.{◌≡◌, Bool, true, false, true≢false, Option, Some, None, refl, sym, subst, inl, inr}
 use Rattle.sqlite_disk.specs.declared.Disk.{Ghosts}
 use Rattle.sqlite_disk.specs.declared.Files.{Files}
 use Rattle.sqlite_store.specs.declared.store.FileStore.{FileStore}
-use Rattle.sqlite_wal.specs.Recovery.{Image}
 use Rattle.sqlite_wal.proofs.LogLemmas.{SeenMayStay}
 use Rattle.sqlite.specs.Held.{Held}
-use Rattle.sqlite.specs.Files.{file_state, over_files, image_of, IsOpened}
-use Rattle.sqlite.specs.State.{HasCleanDisk}
+use Rattle.sqlite.specs.Files.{file_state, over_files}
 use Rattle.table_rows.specs.Standing.{CommitsNothing}
+use Rattle.table_rows.proofs.CleanLemmas.{always_clean}
 use Rattle.table_rows.proofs.StepLemmas.{nothing_yet}
 use Rattle.outbox_tables.specs.Entries.{Contents}
 use Rattle.outbox_tables.specs.Faults.{IsFailure}
 use Rattle.outbox_tables.specs.Rows.{IsOutboxOf}
 use Rattle.outbox_tables.specs.declared.fault.OutboxFault.TheVariants.{NotOurs}
-use Rattle.database_places.specs.Closing.{IsGivenUp}
-use Rattle.database_places.specs.GivenBack.{BytesLie, HoldTogether, lies_after, IsGivenBack}
-use Rattle.database_places.specs.History.{History, and_given, and_left, asked}
-use Rattle.database_places.specs.Opening.{IsFoundIn, TriesAgain}
-use Rattle.database_places.proofs.GivenBack.{before_given, before_left, before_asked, before_refused, not_moved, tried}
-use Rattle.database_places.proofs.GivenBack.{shows_held, those}
-use Rattle.database_places.proofs.Leaving.{clean_given_up, given_clean}
+use Rattle.command_line.specs.declared.fault.DatabaseFault.TheVariants.{Missing}
+use Rattle.database_places.specs.Closing.{LieGivenUp}
+use Rattle.database_places.specs.Opening.{ComesFrom}
+use Rattle.database_places.specs.Places.{IsHonest, Lie}
+use Rattle.database_places.proofs.Finding.{found_lying}
+use Rattle.database_places.proofs.Lying.{given_leaves, not_taken}
+use Rattle.database_places.proofs.Nothing.{nothing_lying}
 use Rattle.outbox_process.specs.declared.beginning.Beginning.{Beginning}
 use Rattle.outbox_process.specs.declared.beginning.Beginning.TheVariants.{Found, Made, Migrated}
 use Rattle.outbox_process.specs.declared.fault.OpeningFault.{OpeningFault}
 use Rattle.outbox_process.specs.declared.fault.OpeningFault.TheVariants.{Files as Unopened, Taken, Create, Open}
 use Rattle.outbox_process.specs.declared.fault.OpeningFault.TheVariants.{IsCurrent, Migrate}
-use Rattle.outbox_process.specs.Process.{HoldOutbox, IsNotOpened, IsOfCurrent, has_to_be_there, leaves_doubt}
+use Rattle.outbox_process.specs.Process.{HoldOutboxWithLog, IsNotOpened, IsOfCurrent, has_to_be_there, leaves_doubt}
 use Rattle.outbox_process.specs.Refusals.{RefusesOutbox}
-use Rattle.outbox_process.proofs.Cleaning.{was_clean}
 
 not_ours : IsFailure NotOurs → ⊥
 not_ours (inl is) = cc
 not_ours (inr is) = cc
 
-module _ {D : Type 0} {g : Ghosts D} where
+module _ {D : Type 0} {g : Ghosts D} (honest : IsHonest g) where
   -- ---- the connection to an outbox of this version
+
+  shows_outbox : (old new : Option (Option (Files D))) (conn : Held (FileStore D g)) (it : Contents)
+      → ComesFrom old new conn → Lie old (λ files. HoldOutboxWithLog g files it) → IsOutboxOf it (file_state conn).now
+  shows_outbox old new conn it comes lie =
+      let shown = found_lying honest old new conn comes lie.2.db (lie.0, lie.1, lie.2.held) in
+      subst (IsOutboxOf it) (sym shown.1) lie.2.outbox
 
   -- a refusal that leaves no doubt commits nothing to it
   commits_nothing : (beginning : Beginning) (conn back : Held (FileStore D g)) (why : OpeningFault)
-      → RefusesOutbox over_files beginning conn back why → leaves_doubt true why ≡ false
-      → HasCleanDisk (file_state back) → (it : Contents) → (HasCleanDisk (file_state conn)
-      → IsOutboxOf it (file_state conn).now) → CommitsNothing (file_state conn) (file_state back)
-  commits_nothing beginning conn back (Unopened fault) is sure clean it rows = absurd (true≢false sure)
-  commits_nothing beginning conn back (Create fault) is sure clean it rows = absurd (true≢false sure)
-  commits_nothing (Made filer) conn back (Taken holding) is sure clean it rows =
+      → RefusesOutbox over_files beginning conn back why → leaves_doubt true why ≡ false → (it : Contents)
+      → IsOutboxOf it (file_state conn).now → CommitsNothing (file_state conn) (file_state back)
+  commits_nothing beginning conn back (Unopened fault) is sure it rows = absurd (true≢false sure)
+  commits_nothing beginning conn back (Create fault) is sure it rows = absurd (true≢false sure)
+  commits_nothing (Made filer) conn back (Taken holding) is sure it rows =
       subst (λ (b : Held (FileStore D g)). CommitsNothing (file_state conn) (file_state b)) (sym is.1)
       (nothing_yet (file_state conn))
-  commits_nothing Found conn back (Open fault holding) is sure clean it rows = is.crash
-  commits_nothing Migrated conn back IsCurrent is sure clean it rows =
+  commits_nothing Found conn back (Open fault holding) is sure it rows = is.crash
+  commits_nothing Migrated conn back IsCurrent is sure it rows =
       subst (λ (b : Held (FileStore D g)). CommitsNothing (file_state conn) (file_state b)) (sym is.2) is.1.crash
-  commits_nothing Migrated conn back (Migrate fault holding) is sure clean it rows = elim is [
+  commits_nothing Migrated conn back (Migrate fault holding) is sure it rows = elim is [
     | inl direct ↦ direct.1.crash
-    | inr late ↦
-        let mid = was_clean late.2.crash clean in
-        absurd (not_ours (late.1.sound mid it (rows (was_clean late.1.crash mid))))
+    | inr late ↦ absurd (not_ours (late.1.sound (always_clean honest late.0) it rows))
   ]
-  commits_nothing Found conn back (Taken holding) is sure clean it rows = absurd is
-  commits_nothing Migrated conn back (Taken holding) is sure clean it rows = absurd is
-  commits_nothing (Made filer) conn back (Open fault holding) is sure clean it rows = absurd is
-  commits_nothing Migrated conn back (Open fault holding) is sure clean it rows = absurd is
-  commits_nothing Found conn back IsCurrent is sure clean it rows = absurd is
-  commits_nothing (Made filer) conn back IsCurrent is sure clean it rows = absurd is
-  commits_nothing Found conn back (Migrate fault holding) is sure clean it rows = absurd is
-  commits_nothing (Made filer) conn back (Migrate fault holding) is sure clean it rows = absurd is
+  commits_nothing Found conn back (Taken holding) is sure it rows = absurd is
+  commits_nothing Migrated conn back (Taken holding) is sure it rows = absurd is
+  commits_nothing (Made filer) conn back (Open fault holding) is sure it rows = absurd is
+  commits_nothing Migrated conn back (Open fault holding) is sure it rows = absurd is
+  commits_nothing Found conn back IsCurrent is sure it rows = absurd is
+  commits_nothing (Made filer) conn back IsCurrent is sure it rows = absurd is
+  commits_nothing Found conn back (Migrate fault holding) is sure it rows = absurd is
+  commits_nothing (Made filer) conn back (Migrate fault holding) is sure it rows = absurd is
 
-  -- an outbox that lay there is shown
-  shows_outbox : (lying : Option Image) (files : Files D) (conn : Held (FileStore D g)) (it : Contents)
-      → IsFoundIn files conn → ((image : Image) → lying ≡ Some image → image_of g files ≡ image)
-      → (lie : BytesLie lying (λ image. HoldOutbox image it)) → HasCleanDisk (file_state conn)
-      → IsOpened conn × ((file_state conn).now ≡ lie.2.db)
-  shows_outbox lying files conn it found same lie clean =
-      let both = found clean in
-      (both.1, shows_held lie.0 files conn (same lie.0 lie.1) both.0 both.1 lie.2.db lie.2.held)
+  -- ---- what lies there
 
-  -- ---- the files of a connection that was given up
+  module _ (stays : SeenMayStay g) (beginning : Beginning) (old new : Option (Option (Files D))) (it : Contents)
+      (lie : Lie old (λ files. HoldOutboxWithLog g files it)) where
+    -- it was given up, and lies there again
+    lies_again : (why : OpeningFault) → leaves_doubt true why ≡ false
+        → (is : (conn : Held (FileStore D g)) × (back : Held (FileStore D g)) × ComesFrom old (Some None) conn
+        × RefusesOutbox over_files beginning conn back why × LieGivenUp old new back)
+        → Lie new (λ files. HoldOutboxWithLog g files it)
+    lies_again why sure is =
+        let rows = shows_outbox old (Some None) is.0 it is.2 lie in
+        let nothing = commits_nothing beginning is.0 is.1 why is.3 sure it rows in
+        let left =
+        given_leaves honest stays old (Some None) new is.0 is.1 is.2 nothing is.4 lie.2.db
+        (lie.0, lie.1, lie.2.held) in
+        (left.0, left.1, record { db = lie.2.db; outbox = lie.2.outbox; held = left.2 })
 
-  abbrev IsGivenBackOver : Beginning → History D → History D → OpeningFault → Type 0
-  IsGivenBackOver beginning old new why =
-      (files : Files D) × (conn : Held (FileStore D g)) × (back : Held (FileStore D g)) × (there : Files D)
-      × IsFoundIn files conn × RefusesOutbox over_files beginning conn back why × IsGivenUp back there
-      × TriesAgain (and_left (and_given (asked (has_to_be_there beginning) old) files) there) new
-
-  module _ (start : Option Image) (beginning : Beginning) (old new : History D) (why : OpeningFault)
-      (is : IsGivenBackOver beginning old new why) (given : IsGivenBack g start new) where
-    was_left : IsGivenBack g start (and_left (and_given (asked (has_to_be_there beginning) old) is.0) is.3)
-        × (lies_after g start new.moves ≡ Some (image_of g is.3))
-    was_left = tried g start (and_given (asked (has_to_be_there beginning) old) is.0) new is.3 is.7 given
-
-    was_given : IsGivenBack g start (and_given (asked (has_to_be_there beginning) old) is.0)
-    was_given =
-        before_left g start (and_given (asked (has_to_be_there beginning) old) is.0) is.3 was_left.0
-
-    given_over : IsGivenBack g start old
-    given_over =
-        before_asked g start (has_to_be_there beginning) old
-        (before_given g start (asked (has_to_be_there beginning) old) is.0 was_given)
-
-    back_clean : HasCleanDisk (file_state is.2)
-    back_clean = given_clean is.2 is.3 is.6 was_left.0.moves.0
-
-    same_bytes : (image : Image) → lies_after g start old.moves ≡ Some image → image_of g is.0 ≡ image
-    same_bytes image lies = those g (lies_after g start old.moves) is.0 was_given.moves.0 image lies
-
-    -- an outbox that lay there lies there again
-    lies_again : SeenMayStay g → leaves_doubt true why ≡ false → (it : Contents)
-        → BytesLie (lies_after g start old.moves) (λ image. HoldOutbox image it)
-        → BytesLie (lies_after g start new.moves) (λ image. HoldOutbox image it)
-    lies_again stays sure it lie =
-        let shown = shows_outbox (lies_after g start old.moves) is.0 is.1 it is.4 same_bytes lie in
-        let nothing =
-        commits_nothing beginning is.1 is.2 why is.5 sure back_clean it
-        (λ clean. subst (IsOutboxOf it) (sym (shown clean).1) lie.2.outbox) in
-        let now = shown (was_clean nothing back_clean) in (
-          image_of g is.3,
-          was_left.1,
-          record {
-            db = lie.2.db;
-            outbox = lie.2.outbox;
-            held = subst (HoldTogether (image_of g is.3)) now.1
-                (clean_given_up stays is.1 is.2 is.3 now.0 nothing is.6 was_left.0.moves.0);
-          },
-        )
-
-  -- ---- what lies there, and was given back before
-
-  pub given_first : (start : Option Image) (beginning : Beginning) (old new : History D) (was_taken : Bool)
-      (why : OpeningFault) → IsNotOpened g beginning old new was_taken why → IsGivenBack g start new
-      → IsGivenBack g start old
-  given_first start beginning old new was_taken (Unopened fault) is given =
-      before_refused g start (has_to_be_there beginning) old new _ is given
-  given_first start beginning old new was_taken (Taken holding) is given =
-      given_over start beginning old new (Taken holding) is given
-  given_first start beginning old new was_taken (Create fault) is given =
-      given_over start beginning old new (Create fault) is given
-  given_first start beginning old new was_taken (Open fault holding) is given =
-      given_over start beginning old new (Open fault holding) is given
-  given_first start beginning old new was_taken IsCurrent is given =
-      given_over start beginning old new IsCurrent is given
-  given_first start beginning old new was_taken (Migrate fault holding) is given =
-      given_over start beginning old new (Migrate fault holding) is given
-
-  -- the outbox lies there after a refusal that leaves no doubt
-  pub lies_still : SeenMayStay g → (start : Option Image) (beginning : Beginning) (old new : History D)
-      (was_taken : Bool) (why : OpeningFault) → leaves_doubt was_taken why ≡ false
-      → IsNotOpened g beginning old new was_taken why → IsGivenBack g start new → (it : Contents)
-      → BytesLie (lies_after g start old.moves) (λ image. HoldOutbox image it)
-      → BytesLie (lies_after g start new.moves) (λ image. HoldOutbox image it)
-  lies_still stays start beginning old new true (Unopened fault) sure is given it lie = absurd (true≢false sure)
-  lies_still stays start beginning old new false (Unopened fault) sure is given it lie =
-      subst (λ moves. BytesLie (lies_after g start moves) (λ image. HoldOutbox image it))
-      (sym (not_moved g (has_to_be_there beginning) old new fault is)) lie
-  lies_still stays start beginning old new was_taken (Create fault) sure is given it lie = absurd (true≢false sure)
-  lies_still stays start beginning old new was_taken (Taken holding) sure is given it lie =
-      lies_again start beginning old new (Taken holding) is given stays refl it lie
-  lies_still stays start beginning old new was_taken (Open fault holding) sure is given it lie =
-      lies_again start beginning old new (Open fault holding) is given stays refl it lie
-  lies_still stays start beginning old new was_taken IsCurrent sure is given it lie =
-      lies_again start beginning old new IsCurrent is given stays refl it lie
-  lies_still stays start beginning old new was_taken (Migrate fault holding) sure is given it lie =
-      lies_again start beginning old new (Migrate fault holding) is given stays refl it lie
+    -- the outbox lies there after a refusal that leaves no doubt
+    pub lies_still : (was_taken : Bool) (why : OpeningFault) → leaves_doubt was_taken why ≡ false
+        → IsNotOpened g beginning old new was_taken why → Lie new (λ files. HoldOutboxWithLog g files it)
+    lies_still true (Unopened fault) sure is = absurd (true≢false sure)
+    lies_still false (Unopened fault) sure is = not_taken g old new fault is.refused lie
+    lies_still was_taken (Create fault) sure is = absurd (true≢false sure)
+    lies_still was_taken (Taken holding) sure is = lies_again (Taken holding) refl is
+    lies_still was_taken (Open fault holding) sure is = lies_again (Open fault holding) refl is
+    lies_still was_taken IsCurrent sure is = lies_again IsCurrent refl is
+    lies_still was_taken (Migrate fault holding) sure is = lies_again (Migrate fault holding) refl is
 
   -- ---- why an outbox of this version is not migrated
 
-  pub of_current : (start : Option Image) (old new : History D) (was_taken : Bool) (why : OpeningFault) (it : Contents)
-      → IsNotOpened g Migrated old new was_taken why → IsGivenBack g start new
-      → BytesLie (lies_after g start old.moves) (λ image. HoldOutbox image it) → IsOfCurrent why
-  of_current start old new was_taken (Unopened fault) it is given lie = tt
-  of_current start old new was_taken (Taken holding) it is given lie = absurd is.5
-  of_current start old new was_taken (Create fault) it is given lie = absurd is.5
-  of_current start old new was_taken (Open fault holding) it is given lie = absurd is.5
-  of_current start old new was_taken IsCurrent it is given lie = tt
-  of_current start old new was_taken (Migrate fault holding) it is given lie =
-      let clean = back_clean start Migrated old new (Migrate fault holding) is given in
-      let rows = λ (c : HasCleanDisk (file_state is.1)). subst (IsOutboxOf it)
-      (sym (shows_outbox (lies_after g start old.moves) is.0 is.1 it is.4
-      (same_bytes start Migrated old new (Migrate fault holding) is given) lie c).1) lie.2.outbox in
-      elim is.5 [
-        | inl direct ↦ direct.1.sound clean it (rows (was_clean direct.1.crash clean))
-        | inr late ↦
-            let mid = was_clean late.2.crash clean in
-            absurd (not_ours (late.1.sound mid it (rows (was_clean late.1.crash mid))))
+  pub of_current : (old new : Option (Option (Files D))) (was_taken : Bool) (why : OpeningFault) (it : Contents)
+      → IsNotOpened g Migrated old new was_taken why → Lie old (λ files. HoldOutboxWithLog g files it)
+      → IsOfCurrent why
+  of_current old new was_taken (Unopened fault) it is lie = tt
+  of_current old new was_taken (Taken holding) it is lie = absurd is.3
+  of_current old new was_taken (Create fault) it is lie = absurd is.3
+  of_current old new was_taken (Open fault holding) it is lie = absurd is.3
+  of_current old new was_taken IsCurrent it is lie = tt
+  of_current old new was_taken (Migrate fault holding) it is lie =
+      let rows = shows_outbox old (Some None) is.0 it is.2 lie in
+      elim is.3 [
+        | inl direct ↦ direct.1.sound (always_clean honest is.1) it rows
+        | inr late ↦ absurd (not_ours (late.1.sound (always_clean honest late.0) it rows))
       ]
+
+-- ---- where no files lay
+
+module _ {D : Type 0} (g : Ghosts D) where
+  missing_stays : (beginning : Beginning) (new : Option (Option (Files D))) (was_taken : Bool) (why : OpeningFault)
+      → leaves_doubt was_taken why ≡ false → IsNotOpened g beginning (Some None) new was_taken why
+      → why ≡ Unopened Missing → new ≡ Some None
+  missing_stays beginning new true why sure is same =
+      absurd (true≢false (subst (λ w. leaves_doubt true w ≡ false) same sure))
+  missing_stays beginning new false why sure is same =
+      (subst (λ w. IsNotOpened g beginning (Some None) new false w) same is).refused
+
+  -- none lie there after a refusal that leaves no doubt
+  pub still_vacant : IsHonest g → (beginning : Beginning) (new : Option (Option (Files D))) (was_taken : Bool)
+      (why : OpeningFault) → leaves_doubt was_taken why ≡ false
+      → IsNotOpened g beginning (Some None) new was_taken why
+      → (has_to_be_there beginning ≡ true → why ≡ Unopened Missing) → new ≡ Some None
+  still_vacant honest Found new was_taken why sure is absent =
+      missing_stays Found new was_taken why sure is (absent refl)
+  still_vacant honest Migrated new was_taken why sure is absent =
+      missing_stays Migrated new was_taken why sure is (absent refl)
+  still_vacant honest (Made filer) new true (Unopened fault) sure is absent = absurd (true≢false sure)
+  still_vacant honest (Made filer) new false (Unopened fault) sure is absent = is.refused
+  still_vacant honest (Made filer) new was_taken (Taken holding) sure is absent =
+      absurd (is.3.0 (nothing_lying honest (Some None) is.0 is.2))
+  still_vacant honest (Made filer) new was_taken (Create fault) sure is absent = absurd (true≢false sure)
+  still_vacant honest (Made filer) new was_taken (Open fault holding) sure is absent = absurd is.3
+  still_vacant honest (Made filer) new was_taken IsCurrent sure is absent = absurd is.3
+  still_vacant honest (Made filer) new was_taken (Migrate fault holding) sure is absent = absurd is.3

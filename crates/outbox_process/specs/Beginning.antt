@@ -50,10 +50,6 @@ abbrev pub MigratesOutbox : {S : Type 0} → Ghosts S → Held S → OutboxParts
 MigratesOutbox g conn outbox =
     HasCleanDisk (shows g outbox) → HasEarlier g conn outbox × ((it : Contents) → ¬ IsOutboxOf it (state g conn).now)
 
--- if the disk of the outbox gave back what was written, so did that of the connection
-abbrev pub WasClean : {S : Type 0} → Ghosts S → Held S → OutboxParts S → Type 0
-WasClean g conn outbox = HasCleanDisk (shows g outbox) → HasCleanDisk (state g conn)
-
 abbrev pub BeginsOutbox : {S : Type 0} → Ghosts S → Beginning → Held S → OutboxParts S → Type 0
 BeginsOutbox g Found conn outbox = FindsOutbox g conn outbox
 BeginsOutbox g (Made filer) conn outbox = MakesOutbox g filer.now conn outbox

@@ -6,7 +6,7 @@ ghost use Rattle.table_rows.specs.Standing.{IsAtRest};
 ghost use Rattle.table_rows.specs.Tables.{no_schema};
 ghost use Rattle.outbox_core.specs.Refusals.{GivesBackMigrating};
 ghost use Rattle.outbox_process.specs.Beginning.{FindsOutbox, MakesOutbox, MigratesEarlier, MigratesOutbox};
-ghost use Rattle.outbox_process.specs.Beginning.{BeginsOutbox, WasClean};
+ghost use Rattle.outbox_process.specs.Beginning.{BeginsOutbox};
 ghost use Rattle.outbox_process.specs.Refusals.{RefusesFinding, RefusesMaking, IsNotEarlier, RefusesMigrating};
 ghost use Rattle.outbox_process.specs.Refusals.{RefusesOutbox};
 
@@ -44,7 +44,6 @@ fn find_outbox<S: Alter + Drop>(
     requires { IsAtRest conn }
     ensures found { IfOk result (FindsOutbox S.Store conn) }
     ensures up { IfOk result (λ outbox. outbox.has_failed ≡ false) }
-    ensures clean { IfOk result (WasClean S.Store conn) }
     ensures refused { IfErr result (λ refusal. RefusesFinding S.Store conn refusal.1 refusal.0) }
 {
     match Outbox::open_or_back(alloc, conn) {
@@ -65,7 +64,6 @@ fn make_outbox<S: Alter + Drop>(
     requires { IsAtRest conn }
     ensures made { IfOk result (MakesOutbox S.Store filer.now conn) }
     ensures up { IfOk result (λ outbox. outbox.has_failed ≡ false) }
-    ensures clean { IfOk result (WasClean S.Store conn) }
     ensures refused { IfErr result (λ refusal. RefusesMaking S.Store filer.now conn refusal.1 refusal.0) }
 {
     if !is_empty(conn.schema()) {
@@ -106,7 +104,6 @@ fn migrate_outbox<S: Alter + Drop>(
     requires { IsAtRest conn }
     ensures migrated { IfOk result (MigratesOutbox S.Store conn) }
     ensures up { IfOk result (λ outbox. outbox.has_failed ≡ false) }
-    ensures clean { IfOk result (WasClean S.Store conn) }
     ensures refused { IfErr result (λ refusal. RefusesMigrating S.Store conn refusal.1 refusal.0) }
 {
     // Opening reads it whole: by its tables alone it may look like an outbox of this version.
@@ -130,7 +127,6 @@ pub(crate) fn begin<S: Alter + Drop>(
     requires { IsAtRest conn }
     ensures begins { IfOk result (BeginsOutbox S.Store beginning.entry conn) }
     ensures up { IfOk result (λ outbox. outbox.has_failed ≡ false) }
-    ensures clean { IfOk result (WasClean S.Store conn) }
     ensures refused { IfErr result (λ refusal. RefusesOutbox S.Store beginning.entry conn refusal.1 refusal.0) }
 {
     match beginning {

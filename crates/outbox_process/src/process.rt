@@ -45,7 +45,7 @@ impl<D: Disk + Drop, P: Place<D> + Drop> OutboxProcess<D, P> {
 
     /// The outbox that lies in this place, or will be made there. It is closed.
     pub fn new(place: P) -> OutboxProcess<D, P>
-        ensures { parts P.history result ≡ record { outbox = None; history = P.history place; is_certain = true } }
+        ensures { parts P.lying result ≡ record { outbox = None; lying = P.lying place; is_certain = true } }
     {
         OutboxProcess {
             place,
@@ -56,7 +56,7 @@ impl<D: Disk + Drop, P: Place<D> + Drop> OutboxProcess<D, P> {
 
     /// The place.
     pub fn place(&self) -> &P
-        ensures { P.history result.now ≡ P.history self.now.place }
+        ensures { P.lying result.now ≡ P.lying self.now.place }
     {
         &self.place
     }
@@ -85,7 +85,7 @@ impl<D: Disk + Drop, P: Place<D> + Drop> OutboxProcess<D, P> {
     /// Opens it, if it is closed. A refusal leaves the files in the place, and leaves a database that is damaged or no
     /// outbox as it was.
     pub fn open(&mut self, alloc: Global, beginning: Beginning<'_>) -> Result<(), OpeningFault>
-        ensures { OpensProcess D.Disk beginning.entry (parts P.history self.old) (parts P.history self.new) result }
+        ensures { OpensProcess D.Disk beginning.entry (parts P.lying self.old) (parts P.lying self.new) result }
     {
         if self.outbox.is_some() {
             return Ok(());
@@ -125,7 +125,7 @@ impl<D: Disk + Drop, P: Place<D> + Drop> OutboxProcess<D, P> {
     ) -> Result<Done, TaskFault>
         requires { IsSome self.old.outbox }
         ensures { PerformsErrand errand (N.traffic network.old) (N.traffic network.new) (O.contents output.old)
-            (O.contents output.new) (parts P.history self.old) (parts P.history self.new) result }
+            (O.contents output.new) (parts P.lying self.old) (parts P.lying self.new) result }
     {
         match &mut self.outbox {
             Some(outbox) => do_errand(alloc, network, outbox, errand, output),
@@ -136,7 +136,7 @@ impl<D: Disk + Drop, P: Place<D> + Drop> OutboxProcess<D, P> {
     /// Closes it, if it is open, and leaves the files in the place in any case. A fault says why what was committed is
     /// not all in the database file, but in the log still.
     pub fn close(&mut self) -> Result<(), Error>
-        ensures { ClosesProcess D.Disk (parts P.history self.old) (parts P.history self.new) result }
+        ensures { ClosesProcess D.Disk (parts P.lying self.old) (parts P.lying self.new) result }
     {
         let Some(outbox) = self.outbox.take() else {
             return Ok(());

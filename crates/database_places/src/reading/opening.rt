@@ -2,12 +2,11 @@
 
 ghost use Rattle.std.specs.Prelude.{◌≡◌, IfOk, OnErr};
 ghost use Rattle.found_files.specs.Openings.{IsNext};
-ghost use Rattle.database_places.specs.History.{history_of, and_given};
 ghost use Rattle.database_places.specs.ReadOnly.{IsSettled};
 
-use crate::numbered::Numbered;
 use crate::reading::ReadingFile;
 use crate::reading::read_only::ReadOnlyFile;
+use found_files::Openings;
 use os::RangeLock;
 use sqlite_disk::Files;
 use sqlite_std_file::OpenError;
@@ -29,11 +28,10 @@ const LOCKED_BYTES: u64 = 512;
 pub(crate) fn open_for_reading<'f>(
     rt: &HostRuntime,
     path: &str,
-    visits: &mut Numbered<'f, ReadOnlyFile>,
+    openings: &mut Openings<'f>,
 ) -> Result<Files<ReadingFile<'f>>, OpenError>
-    ensures next { IfOk result (IsNext visits.old.openings visits.new.openings) }
-    ensures given { IfOk result (λ files. history_of visits.new.recorder ≡ and_given (history_of visits.old.recorder) files) }
-    ensures refused { OnErr result (visits.new ≡ visits.old) }
+    ensures next { IfOk result (IsNext openings.old openings.new) }
+    ensures refused { OnErr result (openings.new ≡ openings.old) }
 {
     // As in SQLite, the files lie where a link leads, and no link is followed after that.
     let real = fs::canonicalize(rt, path)?;
@@ -54,7 +52,7 @@ pub(crate) fn open_for_reading<'f>(
         key,
     )?;
     let db = ReadOnlyFile::new(rt.alloc(), db, key)?;
-    Ok(visits.gives(log, db, key))
+    Ok(openings.next(log, db, key))
 }
 
 /// Opens a regular file with one name that is no link, for reading.

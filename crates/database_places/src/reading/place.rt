@@ -3,15 +3,12 @@
 ghost use Rattle.std.specs.Prelude.{◌≡◌, Some, None, false, IsTrue, IfOk, IfErr, OnErr};
 ghost use Rattle.found_files.specs.Openings.{IsNext};
 ghost use Rattle.database_places.specs.Faults.{is_absence};
-ghost use Rattle.database_places.specs.History.{history_of, unasked, and_given, and_left};
 ghost use Rattle.database_places.specs.Places.{Leaves};
 
-use crate::numbered::Numbered;
 use crate::place::Place;
 use crate::reading::ReadingFile;
 use crate::reading::fault::fault_of;
 use crate::reading::opening::open_for_reading;
-use crate::reading::read_only::ReadOnlyFile;
 use crate::system::SystemPlace;
 use command_line::DatabaseFault;
 use found_files::Found;
@@ -27,19 +24,17 @@ use std::io;
 pub struct ReadingPlace<'a, 'r> {
     /// The same files, which it does not take.
     system: SystemPlace<'a, 'r>,
-    visits: Numbered<'r, ReadOnlyFile>,
 }
 
 impl<'a, 'r> ReadingPlace<'a, 'r> {
     /// The place of the file of this name, whose openings find this.
     pub fn new(rt: &'r HostRuntime, name: &'a str, found: &'r Found) -> ReadingPlace<'a, 'r>
         ensures file { result.system.name ≡ name.entry }
-        ensures found { result.visits.openings.found ≡ found.entry }
-        ensures unasked { history_of result.visits.recorder ≡ unasked }
+        ensures found { result.system.openings.found ≡ found.entry }
+        ensures first { result.system.openings.opened ≡ 0 }
     {
         ReadingPlace {
             system: SystemPlace::new(rt, name, found),
-            visits: Numbered::new(found),
         }
     }
 }
@@ -47,22 +42,18 @@ impl<'a, 'r> ReadingPlace<'a, 'r> {
 impl<'r> Place<ReadingFile<'r>> for ReadingPlace<'_, 'r> {
     ghost lying = { λ _. None };
 
-    ghost history = { λ place. history_of place.visits.recorder };
-
     ghost file = { λ place. Some place.system.name.now };
 
     fn seed(&self) -> Option<u64> {
         self.system.seed()
     }
 
-    fn is_missing(&mut self) -> bool {
-        let told = self.system.is_missing();
-        self.visits.tells_missing(told)
+    fn is_missing(&self) -> bool {
+        self.system.is_missing()
     }
 
-    fn is_empty(&mut self) -> bool {
-        let told = self.system.is_empty();
-        self.visits.tells_empty(told)
+    fn is_empty(&self) -> bool {
+        self.system.is_empty()
     }
 
     fn first_page(&self, alloc: Global) -> Vec<u8> {
@@ -83,16 +74,13 @@ impl<'r> Place<ReadingFile<'r>> for ReadingPlace<'_, 'r> {
     fn take(&mut self) -> Result<Files<ReadingFile<'r>>, DatabaseFault>
         ensures log { IfOk result (λ files. IsTrue (⟦<ReadingFile<'r> as Disk>⟧.is_usable files.log)) }
         ensures database { IfOk result (λ files. IsTrue (⟦<ReadingFile<'r> as Disk>⟧.is_usable files.db)) }
-        ensures next { IfOk result (IsNext self.old.visits.openings self.new.visits.openings) }
-        ensures given { IfOk result (λ files. history_of self.new.visits.recorder
-            ≡ and_given (history_of self.old.visits.recorder) files) }
-        ensures refused { OnErr result (self.new.visits.openings ≡ self.old.visits.openings) }
-        ensures kept { OnErr result (history_of self.new.visits.recorder ≡ history_of self.old.visits.recorder) }
+        ensures next { IfOk result (IsNext self.old.system.openings self.new.system.openings) }
+        ensures refused { OnErr result (self.new.system.openings ≡ self.old.system.openings) }
         ensures made { IfErr result (λ fault. is_absence fault ≡ false) }
         ensures named { self.new.system.name ≡ self.old.system.name }
     {
         let (rt, name) = (self.system.rt, self.system.name);
-        match open_for_reading(rt, name, &mut self.visits) {
+        match open_for_reading(rt, name, &mut self.system.openings) {
             Ok(files) => Ok(files),
             Err(error) => Err(fault_of(rt, name, &error)),
         }
@@ -101,10 +89,8 @@ impl<'r> Place<ReadingFile<'r>> for ReadingPlace<'_, 'r> {
     // What was written in memory ends here, and the file is unlocked.
     fn leave(&mut self, files: Files<ReadingFile<'r>>)
         ensures left { Leaves None None files.entry }
-        ensures got { history_of self.new.visits.recorder ≡ and_left (history_of self.old.visits.recorder) files.entry }
         ensures named { self.new.system.name.now ≡ self.old.system.name.now }
     {
-        self.visits.gets(&files);
         drop(files);
     }
 }

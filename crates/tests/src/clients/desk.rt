@@ -1,11 +1,10 @@
 //! A place in memory whose disk refuses at some call, and what is seen of the register that lies there.
 
-ghost use Rattle.std.specs.Prelude.{◌≡◌, None};
-ghost use Rattle.database_places.specs.History.{history_of, and_left};
+ghost use Rattle.std.specs.Prelude.{None};
 ghost use Rattle.database_places.specs.Places.{Leaves};
 
 use command_line::DatabaseFault;
-use database_places::{Place, Recorder};
+use database_places::Place;
 use intake_process::{Closed, Observer, OpeningFault, Totals, Went};
 use sqlite::Files;
 use sqlite_disk::{Crash, Fuse, Memory};
@@ -18,7 +17,6 @@ pub struct Desk {
     pub alloc: Global,
     pub calls: u64,
     pub files: Option<Files<Fuse<Memory>>>,
-    pub recorder: Recorder<Fuse<Memory>>,
 }
 
 impl Desk {
@@ -41,22 +39,17 @@ impl Desk {
 impl Place<Fuse<Memory>> for Desk {
     ghost lying = { λ _. None };
 
-    ghost history = { λ desk. history_of desk.recorder };
-
     ghost file = { λ _. None };
 
     fn seed(&self) -> Option<u64> {
         Some(1)
     }
 
-    fn is_missing(&mut self) -> bool {
-        let told = self.files.is_none();
-        self.recorder.tells_missing(told);
-        told
+    fn is_missing(&self) -> bool {
+        self.files.is_none()
     }
 
-    fn is_empty(&mut self) -> bool {
-        self.recorder.tells_empty(false);
+    fn is_empty(&self) -> bool {
         false
     }
 
@@ -77,7 +70,6 @@ impl Place<Fuse<Memory>> for Desk {
     fn take(&mut self) -> Result<Files<Fuse<Memory>>, DatabaseFault> {
         let files = self.taken();
         if files.may_be_used() {
-            self.recorder.gives(&files);
             Ok(files)
         } else {
             Err(DatabaseFault::Disk)
@@ -86,9 +78,7 @@ impl Place<Fuse<Memory>> for Desk {
 
     fn leave(&mut self, files: Files<Fuse<Memory>>)
         ensures left { Leaves None None files }
-        ensures got { history_of self.new.recorder ≡ and_left (history_of self.old.recorder) files }
     {
-        self.recorder.gets(&files);
         self.files = Some(files);
     }
 }

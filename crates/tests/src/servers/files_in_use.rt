@@ -1,7 +1,6 @@
 //! Files that another program has for a while, in a place that waits for them, on a clock that the test turns.
 
-ghost use Rattle.std.specs.Prelude.{◌≡◌, None};
-ghost use Rattle.database_places.specs.History.{history_of, and_left};
+ghost use Rattle.std.specs.Prelude.{None};
 ghost use Rattle.database_places.specs.Places.{Leaves};
 
 use command_line::DatabaseFault;
@@ -57,19 +56,17 @@ struct Taken<'a> {
 impl Place<Memory> for Taken<'_> {
     ghost lying = { λ _. None };
 
-    ghost history = { λ taken. history_of taken.drawer.recorder };
-
     ghost file = { λ _. None };
 
     fn seed(&self) -> Option<u64> {
         self.drawer.seed()
     }
 
-    fn is_missing(&mut self) -> bool {
+    fn is_missing(&self) -> bool {
         self.drawer.is_missing()
     }
 
-    fn is_empty(&mut self) -> bool {
+    fn is_empty(&self) -> bool {
         self.drawer.is_empty()
     }
 
@@ -101,7 +98,6 @@ impl Place<Memory> for Taken<'_> {
 
     fn leave(&mut self, files: Files<Memory>)
         ensures left { Leaves None None files }
-        ensures got { history_of self.new.drawer.recorder ≡ and_left (history_of self.old.drawer.recorder) files }
     {
         self.drawer.leave(files);
     }

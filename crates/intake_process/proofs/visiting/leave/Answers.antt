@@ -15,11 +15,11 @@ returns-then-is_of_others g c =
     let old = g.P.Place.lying c.args.place.now in
     let mid = g.P.Place.lying c.give_up.new.place in
     let new = g.P.Place.lying c.remove_new_log.new.place in
-    given_in old new c.args.conn (is_refused c.args.done.now) c.give_up.ensures.left.0 (sym c.if-not-is_refused.ensures)
-    (kept_lying old mid new c.give_up.ensures.left.0 c.give_up.ensures.left.1 c.remove_new_log.ensures.lies) c.give_up.ensures.left.2
+    given_in old new c.args.conn (is_refused c.args.done.now) c.give_up.ensures.0 (sym c.if-not-is_refused.ensures)
+    (kept_lying old mid new c.give_up.ensures.0 c.give_up.ensures.1 c.remove_new_log.ensures) c.give_up.ensures.2
 
 pub returns-else-is_of_others : goal.returns-else-is_of_others
 returns-else-is_of_others g c =
     given_in (g.P.Place.lying c.args.place.now) (g.P.Place.lying c.give_up.new.place) c.args.conn
-    (is_refused c.args.done.now) c.give_up.ensures.left.0 (sym c.if-not-is_refused.ensures) c.give_up.ensures.left.1
-    c.give_up.ensures.left.2
+    (is_refused c.args.done.now) c.give_up.ensures.0 (sym c.if-not-is_refused.ensures) c.give_up.ensures.1
+    c.give_up.ensures.2

@@ -1,6 +1,5 @@
 use Rattle.std.proofs.Common.{refl}
 use Rattle.outbox_core.specs.OutboxParts.{contents}
-use Rattle.outbox_process.proofs.Cleaning.{was_clean}
 use Rattle.outbox_process.proofs.beginning.find_outbox.Goals as goal
 
 pub returns-in-Ok-clause-found : goal.returns-in-Ok-clause-found
@@ -14,6 +13,3 @@ returns-in-Ok-clause-found g c =
       );
       only = λ clean it is. let same = outcome.same clean it is in (same.1, same.0);
     }
-
-pub returns-in-Ok-clause-clean : goal.returns-in-Ok-clause-clean
-returns-in-Ok-clause-clean g c = was_clean c.in-Ok.ensures.outcome.crash

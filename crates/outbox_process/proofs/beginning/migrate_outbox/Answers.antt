@@ -1,4 +1,3 @@
-use Rattle.outbox_process.proofs.Cleaning.{earlier_clean}
 use Rattle.outbox_process.proofs.Migrating.{all_migrated, all_refused}
 use Rattle.outbox_process.proofs.beginning.migrate_outbox.Goals as goal
 
@@ -7,11 +6,6 @@ returns-in-Err-NotOurs-default-clause-migrated g c =
     all_migrated g.S.Store c.args.conn c.in-Err-NotOurs-default.back
     (rw c.in-Err-NotOurs-default.field-0-0-is at c.in-Err-NotOurs-default.ensures.back) c.migrate_earlier.result
     c.migrate_earlier.ensures.migrated
-
-pub returns-in-Err-NotOurs-default-clause-clean : goal.returns-in-Err-NotOurs-default-clause-clean
-returns-in-Err-NotOurs-default-clause-clean g c =
-    earlier_clean g.S.Store c.args.conn c.in-Err-NotOurs-default.back c.migrate_earlier.result
-    c.in-Err-NotOurs-default.ensures.back.crash c.migrate_earlier.ensures.migrated
 
 pub returns-in-Err-NotOurs-default-clause-refused : goal.returns-in-Err-NotOurs-default-clause-refused
 returns-in-Err-NotOurs-default-clause-refused g c =

@@ -40,10 +40,10 @@ returns-then-is_of_others g c =
     let new = g.P.Place.lying c.remove_new_log.new.place in
     refuses g.met.D.Disk.seen_may_stay (is_found c.args.opening) c.args.limit _ _ true _
     (falls c.args.self.now.is_certain doubt.result _ doubt.ensures) closed closed refl
-    (not_begun (is_found c.args.opening) old mid new c.in-Ok.conn c.in-Err-begin.back c.give_up.ensures.left.0
+    (not_begun (is_found c.args.opening) old mid new c.in-Ok.conn c.in-Err-begin.back c.give_up.ensures.0
     c.in-Err-begin.fault c.in-Ok.ensures.opens.comes c.in-Err-begin.ensures.refused
-    (kept_lying mid (g.P.Place.lying c.give_up.new.place) new c.give_up.ensures.left.0 c.give_up.ensures.left.1
-    c.remove_new_log.ensures.lies) c.give_up.ensures.left.2)
+    (kept_lying mid (g.P.Place.lying c.give_up.new.place) new c.give_up.ensures.0 c.give_up.ensures.1
+    c.remove_new_log.ensures) c.give_up.ensures.2)
     (there (is_found c.args.opening) old _ c.in-Ok.conn c.in-Ok.ensures.opens)
 
 pub returns-else-is_of_others : goal.returns-else-is_of_others
@@ -54,6 +54,6 @@ returns-else-is_of_others g c =
     refuses g.met.D.Disk.seen_may_stay (is_found c.args.opening) c.args.limit _ _ true _
     (falls c.args.self.now.is_certain doubt.result _ doubt.ensures) closed closed refl
     (not_begun (is_found c.args.opening) old (g.P.Place.lying c.open.new.place) (g.P.Place.lying c.give_up.new.place)
-    c.in-Ok.conn c.in-Err-begin.back c.give_up.ensures.left.0 c.in-Err-begin.fault c.in-Ok.ensures.opens.comes
-    c.in-Err-begin.ensures.refused c.give_up.ensures.left.1 c.give_up.ensures.left.2)
+    c.in-Ok.conn c.in-Err-begin.back c.give_up.ensures.0 c.in-Err-begin.fault c.in-Ok.ensures.opens.comes
+    c.in-Err-begin.ensures.refused c.give_up.ensures.1 c.give_up.ensures.2)
     (there (is_found c.args.opening) old _ c.in-Ok.conn c.in-Ok.ensures.opens)

@@ -1,60 +1,57 @@
-use Rattle.std.proofs.Common.{true, inl, refl, sym, ◌∙◌}
-use Rattle.database_places.proofs.Asking.{left_again}
+use Rattle.std.proofs.Common.{true, sym, ◌∙◌, refl, ap}
 use Rattle.database_places.proofs.Certainty.{falls}
-use Rattle.database_places.proofs.GivenBack.{was_opened}
+use Rattle.database_places.proofs.Lying.{kept_lying, missing, there}
 use Rattle.database_places.proofs.Options.{none_of}
+use Rattle.outbox_process.specs.declared.fault.OpeningFault.TheVariants.{Files as Unopened}
 use Rattle.outbox_process.specs.Process.{parts, has_to_be_there}
-use Rattle.outbox_process.proofs.Keeping.{refuses, is_open, not_begun, opens_over}
+use Rattle.outbox_process.proofs.Keeping.{refuses, is_open, not_begun, opens}
 use Rattle.outbox_process.proofs.process.OutboxProcess.open.Goals as goal
 
 pub returns-then-is_some : goal.returns-then-is_some
 returns-then-is_some g c =
-    is_open c.args.beginning (parts g.P.Place.history c.args.self.now) (sym c.is_some.ensures ∙ c.if-is_some.true)
+    is_open c.args.beginning (parts g.P.Place.lying c.args.self.now) (sym c.is_some.ensures ∙ c.if-is_some.true)
 
 pub returns-in-Err : goal.returns-in-Err
 returns-in-Err g c =
     let closed = none_of c.args.self.now.outbox (sym c.is_some.ensures ∙ c.if-is_some.false) in
-    refuses g.met.D.Disk.seen_may_stay c.args.beginning _ _ c.in-Err.unopened.was_taken _
-    (falls c.args.self.now.is_certain c.leaves_doubt.result _ c.leaves_doubt.ensures) closed closed
-    (rw c.opening_of.ensures at c.in-Err.ensures.files)
+    let opens = rw c.opening_of.ensures at c.in-Err.ensures.opens in
+    let taken = c.in-Err.unopened.was_taken in
+    refuses g.met.D.Disk.seen_may_stay c.args.beginning _ _ taken _
+    (falls c.args.self.now.is_certain c.leaves_doubt.result _ c.leaves_doubt.ensures) closed closed opens
+    (λ is none. ap Unopened (missing (has_to_be_there c.args.beginning) (g.P.Place.lying c.args.self.now.place) _
+    c.in-Err.unopened opens is none).0)
 
 pub returns-in-Ok-begin : goal.returns-in-Ok-begin
 returns-in-Ok-begin g c =
-    opens_over c.args.beginning (parts g.P.Place.history c.args.self.now) (g.P.Place.history c.open.new.place)
-    c.in-Ok.conn c.in-Ok-begin.outbox (none_of c.args.self.now.outbox (sym c.is_some.ensures ∙ c.if-is_some.false))
-    (was_opened g.D.Disk (has_to_be_there c.args.beginning) (g.P.Place.history c.args.self.now.place)
-    (g.P.Place.history c.open.new.place) c.in-Ok.conn (rw c.opening_of.ensures at c.in-Ok.ensures.files))
-    c.in-Ok-begin.ensures.begins c.in-Ok-begin.ensures.up c.in-Ok-begin.ensures.clean
+    opens c.args.beginning _ _ c.in-Ok.conn c.in-Ok-begin.outbox
+    (none_of c.args.self.now.outbox (sym c.is_some.ensures ∙ c.if-is_some.false)) refl refl
+    c.in-Ok.ensures.opens.comes c.in-Ok-begin.ensures.begins c.in-Ok-begin.ensures.up
+    (there (has_to_be_there c.args.beginning) (g.P.Place.lying c.args.self.now.place) _ c.in-Ok.conn
+    (rw c.opening_of.ensures at c.in-Ok.ensures.opens))
 
 pub returns-then-is_of_others : goal.returns-then-is_of_others
 returns-then-is_of_others g c =
     let closed = none_of c.args.self.now.outbox (sym c.is_some.ensures ∙ c.if-is_some.false) in
     let doubt = c.leaves_doubt-in-Err-begin in
-    let old = g.P.Place.history c.args.self.now.place in
-    let new = g.P.Place.history c.remove_new_log.new.place in
-    let made =
-    was_opened g.D.Disk (has_to_be_there c.args.beginning) old (g.P.Place.history c.open.new.place) c.in-Ok.conn
-    (rw c.opening_of.ensures at c.in-Ok.ensures.files) in
-    let given = c.give_up.ensures.files in
+    let old = g.P.Place.lying c.args.self.now.place in
+    let mid = g.P.Place.lying c.open.new.place in
+    let new = g.P.Place.lying c.remove_new_log.new.place in
     refuses g.met.D.Disk.seen_may_stay c.args.beginning _ _ true _
     (falls c.args.self.now.is_certain doubt.result _ doubt.ensures) closed closed
-    (not_begun c.args.beginning old new made.0 given.0 c.in-Ok.conn c.in-Err-begin.back c.in-Err-begin.fault made.2
-    c.in-Err-begin.ensures.refused given.2
-    (left_again old (g.P.Place.history c.open.new.place) (g.P.Place.history c.give_up.new.place) new made.0 given.0
-    made.1 given.1 c.remove_new_log.ensures.again))
+    (not_begun c.args.beginning old mid new c.in-Ok.conn c.in-Err-begin.back c.give_up.ensures.0
+    c.in-Err-begin.fault c.in-Ok.ensures.opens.comes c.in-Err-begin.ensures.refused
+    (kept_lying mid (g.P.Place.lying c.give_up.new.place) new c.give_up.ensures.0 c.give_up.ensures.1
+    c.remove_new_log.ensures) c.give_up.ensures.2)
+    (there (has_to_be_there c.args.beginning) old _ c.in-Ok.conn (rw c.opening_of.ensures at c.in-Ok.ensures.opens))
 
 pub returns-else-is_of_others : goal.returns-else-is_of_others
 returns-else-is_of_others g c =
     let closed = none_of c.args.self.now.outbox (sym c.is_some.ensures ∙ c.if-is_some.false) in
     let doubt = c.leaves_doubt-in-Err-begin in
-    let old = g.P.Place.history c.args.self.now.place in
-    let new = g.P.Place.history c.give_up.new.place in
-    let made =
-    was_opened g.D.Disk (has_to_be_there c.args.beginning) old (g.P.Place.history c.open.new.place) c.in-Ok.conn
-    (rw c.opening_of.ensures at c.in-Ok.ensures.files) in
-    let given = c.give_up.ensures.files in
+    let old = g.P.Place.lying c.args.self.now.place in
     refuses g.met.D.Disk.seen_may_stay c.args.beginning _ _ true _
     (falls c.args.self.now.is_certain doubt.result _ doubt.ensures) closed closed
-    (not_begun c.args.beginning old new made.0 given.0 c.in-Ok.conn c.in-Err-begin.back c.in-Err-begin.fault made.2
-    c.in-Err-begin.ensures.refused given.2
-    (left_again old (g.P.Place.history c.open.new.place) new new made.0 given.0 made.1 given.1 (inl refl)))
+    (not_begun c.args.beginning old (g.P.Place.lying c.open.new.place) (g.P.Place.lying c.give_up.new.place)
+    c.in-Ok.conn c.in-Err-begin.back c.give_up.ensures.0 c.in-Err-begin.fault c.in-Ok.ensures.opens.comes
+    c.in-Err-begin.ensures.refused c.give_up.ensures.1 c.give_up.ensures.2)
+    (there (has_to_be_there c.args.beginning) old _ c.in-Ok.conn (rw c.opening_of.ensures at c.in-Ok.ensures.opens))
