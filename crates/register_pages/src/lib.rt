@@ -4,7 +4,10 @@
 #![tactic(auto)]
 
 mod about;
+mod change_rows;
+mod changes;
 mod chart;
+mod compared;
 mod escaping;
 mod fault;
 mod filer;
