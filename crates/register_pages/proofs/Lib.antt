@@ -9,6 +9,3 @@ pub mod Showing
 pub mod Characters
 pub mod ReadingLemmas
 pub mod VisibleLemmas
-pub mod Changing
-pub mod Comparing
-pub mod Growing

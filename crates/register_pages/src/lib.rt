@@ -4,10 +4,7 @@
 #![tactic(auto)]
 
 mod about;
-mod change_rows;
-mod changes;
 mod chart;
-mod compared;
 mod escaping;
 mod fault;
 mod filer;
