@@ -15,12 +15,7 @@ use Rattle.sqlite.proofs.Callers.{one_permutation}
 use Rattle.xbrl_report.specs.Pair.{Pair}
 use Rattle.xbrl_report.specs.CodeNumber.{number_of}
 use Rattle.xbrl_report.specs.declared.code.Code.{Code}
-use Rattle.xbrl_report.specs.declared.code.Code.TheVariants.{NotJson, NotObject, DocumentInfo, DocumentType, Namespaces}
-use Rattle.xbrl_report.specs.declared.code.Code.TheVariants.{NamespaceUri, Taxonomy, Facts, Fact, Value, Decimals}
-use Rattle.xbrl_report.specs.declared.code.Code.TheVariants.{Dimensions, ConceptMissing, EntityMissing, DimensionValue}
-use Rattle.xbrl_report.specs.declared.code.Code.TheVariants.{Name, UnboundPrefix, NotTheFiler, Period, PeriodOrder}
-use Rattle.xbrl_report.specs.declared.code.Code.TheVariants.{UnitForm, Number, Language, UnknownDimension, TooMany}
-use Rattle.xbrl_report.specs.declared.code.Code.TheVariants.{NotReplaceable}
+use Rattle.xbrl_report.specs.declared.code.Code.TheVariants.{NotJson}
 use Rattle.filing_model.specs.Request.{Request, same_key, has_key, firsts}
 use Rattle.filing_model.specs.Register.{Kept, kept}
 use Rattle.filing_model.specs.Answer.{kept_for}
@@ -310,31 +305,7 @@ has_same_key s filer key target another body other is =
 -- what a row says of its finding
 pub code_back : (c : Code) → code_in (Int (pos (number_of c))) ≡ c
 code_back NotJson = refl
-code_back NotObject = refl
-code_back DocumentInfo = refl
-code_back DocumentType = refl
-code_back Namespaces = refl
-code_back NamespaceUri = refl
-code_back Taxonomy = refl
-code_back Facts = refl
-code_back Fact = refl
-code_back Value = refl
-code_back Decimals = refl
-code_back Dimensions = refl
-code_back ConceptMissing = refl
-code_back EntityMissing = refl
-code_back DimensionValue = refl
-code_back Name = refl
-code_back UnboundPrefix = refl
-code_back NotTheFiler = refl
-code_back Period = refl
-code_back PeriodOrder = refl
-code_back UnitForm = refl
-code_back Number = refl
-code_back Language = refl
-code_back UnknownDimension = refl
-code_back TooMany = refl
-code_back NotReplaceable = refl
+code_back _ = refl
 
 pairs_back : (seq at : ℕ) (fs : List Pair) → map finding_in (map pair_in (counted_from (finding_row seq) at fs)) ≡ fs
 pairs_back seq at [] = refl

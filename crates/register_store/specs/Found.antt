@@ -14,13 +14,8 @@ use Rattle.sqlite_sql.specs.declared.ops.CompareOp.TheVariants.{Eq}
 use Rattle.sqlite.specs.Collation.TheVariants.{Binary}
 use Rattle.xbrl_report.specs.Pair.{Pair}
 use Rattle.xbrl_report.specs.declared.code.Code.{Code}
-use Rattle.xbrl_report.specs.declared.code.Code.TheVariants.{NotJson, NotObject, DocumentInfo, DocumentType, Namespaces}
-use Rattle.xbrl_report.specs.declared.code.Code.TheVariants.{NamespaceUri, Taxonomy, Facts, Fact, Value as ValueCode}
-use Rattle.xbrl_report.specs.declared.code.Code.TheVariants.{Decimals, Dimensions, ConceptMissing, EntityMissing}
-use Rattle.xbrl_report.specs.declared.code.Code.TheVariants.{DimensionValue, Name, UnboundPrefix, NotTheFiler, Period}
-use Rattle.xbrl_report.specs.declared.code.Code.TheVariants.{PeriodOrder, UnitForm, Number, Language, UnknownDimension}
-use Rattle.xbrl_report.specs.declared.code.Code.TheVariants.{TooMany, NotReplaceable}
-use Rattle.xbrl_report.specs.CodeNumber.{number_of as code_number}
+use Rattle.xbrl_report.specs.declared.code.Code.TheVariants.{NotJson}
+use Rattle.xbrl_report.specs.CodeNumber.{all_codes, number_of as code_number}
 use Rattle.filing_model.specs.Request.{Request}
 use Rattle.filing_model.specs.Register.{Kept, kept}
 use Rattle.filing_model.specs.Answer.{kept_for}
@@ -60,13 +55,6 @@ target_alone row = column row 1 ∷ []
 -- the columns `seq`, `body` and `number` of a kept request at its place
 abbrev pub found_row : ℕ → Kept → Row
 found_row seq k = Int (pos seq) ∷ Blob k.request.body ∷ or_null (λ n. Int (pos n)) (number_of k.outcome) ∷ []
-
--- the codes, by number
-abbrev pub all_codes : List Code
-all_codes =
-    NotJson ∷ NotObject ∷ DocumentInfo ∷ DocumentType ∷ Namespaces ∷ NamespaceUri ∷ Taxonomy ∷ Facts ∷ Fact ∷ ValueCode
-    ∷ Decimals ∷ Dimensions ∷ ConceptMissing ∷ EntityMissing ∷ DimensionValue ∷ Name ∷ UnboundPrefix ∷ NotTheFiler
-    ∷ Period ∷ PeriodOrder ∷ UnitForm ∷ Number ∷ Language ∷ UnknownDimension ∷ TooMany ∷ NotReplaceable ∷ []
 
 -- whether the value is this whole number
 abbrev pub is_whole : Value → ℕ → Bool

@@ -2,6 +2,7 @@
 use Rattle.std.proofs.Common.{◌≡◌, ℕ, ◌↔◌, List, [], ◌∷◌, length, true, cond, refl, sym, ap, ◌∙◌, subst, arith, eqb}
 use Rattle.std.proofs.Common.{nat_le, inl, inr, Decides, Ordering, Less, Equal, Greater, is_eq, true≢false}
 use Rattle.std.proofs.lemmas.Bool.{and_from}
+use Rattle.std.specs.Prelude.{get_or}
 use Rattle.std.specs.List.{AllByRecursion, IsDistinct}
 use Rattle.std.specs.List.Sorted.{IsStrictlySortedBy}
 use Rattle.std.specs.Ordering.{match_ordering, ordering_reverse, eq_by_cmp}
@@ -15,13 +16,8 @@ use Rattle.std.proofs.lemmas.List.Elements.{All-from_recursion, recursion_from_A
 use Rattle.std.proofs.lemmas.Map.Made.{is_member-Decides, length-le_from_is_member}
 use Rattle.xbrl_values.proofs.Bools.{left_of, right_of}
 use Rattle.xbrl_report.specs.declared.code.Code.{Code}
-use Rattle.xbrl_report.specs.declared.code.Code.TheVariants.{NotJson, NotObject, DocumentInfo, DocumentType, Namespaces}
-use Rattle.xbrl_report.specs.declared.code.Code.TheVariants.{NamespaceUri, Taxonomy, Facts, Fact, Value, Decimals}
-use Rattle.xbrl_report.specs.declared.code.Code.TheVariants.{Dimensions, ConceptMissing, EntityMissing, DimensionValue}
-use Rattle.xbrl_report.specs.declared.code.Code.TheVariants.{Name, UnboundPrefix, NotTheFiler, Period, PeriodOrder}
-use Rattle.xbrl_report.specs.declared.code.Code.TheVariants.{UnitForm, Number, Language, UnknownDimension, TooMany}
-use Rattle.xbrl_report.specs.declared.code.Code.TheVariants.{NotReplaceable}
-use Rattle.xbrl_report.specs.CodeNumber.{number_of}
+use Rattle.xbrl_report.specs.declared.code.Code.TheVariants.{NotJson}
+use Rattle.xbrl_report.specs.CodeNumber.{all_codes, number_of}
 use Rattle.xbrl_report.specs.Findings.{AreFindings, IsAllFindings, HasTooMany}
 use Rattle.xbrl_report.specs.InOrder.{put_pair, in_order}
 use Rattle.xbrl_report.specs.Pair.{Pair, pair_cmp, fits, IsAscending}
@@ -32,47 +28,12 @@ use Rattle.xbrl_report.proofs.Pairs.{pair_cmp-total}
 -- ---- pairs that tie are the same
 
 code_at : ℕ → Code
-code_at n =
-    cond (eqb n 1) NotJson (cond (eqb n 2) NotObject
-    (cond (eqb n 3) DocumentInfo (cond (eqb n 4) DocumentType (cond (eqb n 5) Namespaces (
-    cond (eqb n 6) NamespaceUri (cond (eqb n 7) Taxonomy
-    (cond (eqb n 8) Facts (cond (eqb n 9) Fact (cond (eqb n 10) Value (
-    cond (eqb n 11) Decimals (cond (eqb n 12) Dimensions
-    (cond (eqb n 13) ConceptMissing (cond (eqb n 14) EntityMissing (cond (eqb n 15) DimensionValue (
-    cond (eqb n 16) Name (cond (eqb n 17) UnboundPrefix
-    (cond (eqb n 18) NotTheFiler (cond (eqb n 19) Period (cond (eqb n 20) PeriodOrder (
-    cond (eqb n 21) UnitForm (cond (eqb n 22) Number
-    (cond (eqb n 23) Language (cond (eqb n 24) UnknownDimension
-    (cond (eqb n 25) TooMany NotReplaceable))))))))))))))))))))))))
+code_at n = get_or (NotJson ∷ all_codes) n NotJson
 
 code_at-number_of : (c : Code) → code_at (number_of c) ≡ c
 unfolding code_at
 code_at-number_of NotJson = refl
-code_at-number_of NotObject = refl
-code_at-number_of DocumentInfo = refl
-code_at-number_of DocumentType = refl
-code_at-number_of Namespaces = refl
-code_at-number_of NamespaceUri = refl
-code_at-number_of Taxonomy = refl
-code_at-number_of Facts = refl
-code_at-number_of Fact = refl
-code_at-number_of Value = refl
-code_at-number_of Decimals = refl
-code_at-number_of Dimensions = refl
-code_at-number_of ConceptMissing = refl
-code_at-number_of EntityMissing = refl
-code_at-number_of DimensionValue = refl
-code_at-number_of Name = refl
-code_at-number_of UnboundPrefix = refl
-code_at-number_of NotTheFiler = refl
-code_at-number_of Period = refl
-code_at-number_of PeriodOrder = refl
-code_at-number_of UnitForm = refl
-code_at-number_of Number = refl
-code_at-number_of Language = refl
-code_at-number_of UnknownDimension = refl
-code_at-number_of TooMany = refl
-code_at-number_of NotReplaceable = refl
+code_at-number_of _ = refl
 
 pub number_of-injective : (c e : Code) → number_of c ≡ number_of e → c ≡ e
 number_of-injective c e same = sym (code_at-number_of c) ∙ (ap code_at same ∙ code_at-number_of e)
