@@ -11,7 +11,6 @@ use Rattle.outbox_tables.specs.Migrating.{MigratesOutbox}
 use Rattle.outbox_tables.specs.Opening.{ReadsOutbox}
 use Rattle.outbox_tables.specs.Rows.{IsOutboxOf}
 use Rattle.outbox_core.specs.HandedOut.{FindsOrGivesBack, MigratesOrGivesBack, over}
-use Rattle.outbox_core.specs.Refusals.{GivesBackMigrating, GivesBackOpening}
 use Rattle.outbox_core.proofs.ListLemmas.{leaves_last}
 use Rattle.outbox_core.proofs.UniqueLemmas.{holds_same, one_earlier, one_outbox}
 
@@ -41,20 +40,11 @@ module _ {S : Type 0} (g : Ghosts S) (conn last : Held S) (unlimited : conn.step
                 (lasts trees alive may),
           );
       crash = h.crash;
-      refused = tt;
       no_other = tt;
     };
     back = tt;
   }
   opened (Err fault) lasts h =
-      let back : GivesBackOpening g conn fault last = record {
-        autocommit = h.autocommit;
-        unlimited = h.crash.limit ∙ unlimited;
-        same = λ clean. (h.kept clean, λ alive. settled alive ∙ (h.kept clean).committed alive);
-        why = h.refused;
-        sound = h.sound;
-        crash = h.crash;
-      } in
       record {
         outcome = record {
           opened = tt;
@@ -63,11 +53,16 @@ module _ {S : Type 0} (g : Ghosts S) (conn last : Held S) (unlimited : conn.step
           same = tt;
           durable = tt;
           crash = tt;
-          refused =
-              (last, back);
           no_other = h.others;
         };
-        back = back;
+        back = record {
+          autocommit = h.autocommit;
+          unlimited = h.crash.limit ∙ unlimited;
+          same = λ clean. (h.kept clean, λ alive. settled alive ∙ (h.kept clean).committed alive);
+          why = h.refused;
+          sound = h.sound;
+          crash = h.crash;
+        };
       }
 
   pub migrated : (r : Result FoundOutbox OutboxFault) → MigratesOutbox g conn last r
@@ -82,7 +77,6 @@ module _ {S : Type 0} (g : Ghosts S) (conn last : Held S) (unlimited : conn.step
           holds_same g _ found.0 outbox one (record { stands = found.2; count = found.3 });
       able = refl;
       ran = h.ran;
-      refused = tt;
       crash = h.crash;
       durable = λ clean entries had.
           let alive = (h.ran clean).written.is_open in (
@@ -98,24 +92,22 @@ module _ {S : Type 0} (g : Ghosts S) (conn last : Held S) (unlimited : conn.step
     back = tt;
   }
   migrated (Err fault) h =
-      let back : GivesBackMigrating g conn fault last = record {
-        autocommit = h.autocommit;
-        unlimited = h.crash.limit ∙ unlimited;
-        same = λ clean. (h.undone clean, λ alive. settled alive ∙ (h.undone clean).committed alive);
-        why = h.refused;
-        sound = h.sound;
-        crash = h.crash;
-      } in
       record {
         outcome = record {
           migrated = tt;
           only = tt;
           able = tt;
           ran = tt;
-          refused = (last, back);
           crash = tt;
           durable =
               tt;
         };
-        back = back;
+        back = record {
+          autocommit = h.autocommit;
+          unlimited = h.crash.limit ∙ unlimited;
+          same = λ clean. (h.undone clean, λ alive. settled alive ∙ (h.undone clean).committed alive);
+          why = h.refused;
+          sound = h.sound;
+          crash = h.crash;
+        };
       }

@@ -1,5 +1,5 @@
 -- What the texts on some rows mean under the declared tables.
-use Rattle.std.proofs.Common.{◌≡◌, ℕ, pos, List, [], ◌∷◌, codes, refl, subst, sym}
+use Rattle.std.proofs.Common.{◌≡◌, ℕ, pos, List, [], ◌∷◌, codes, refl}
 use Rattle.sqlite_tied.specs.Compute.{everything}
 use Rattle.sqlite.specs.declared.types.Value.TheVariants.{Null, Int}
 use Rattle.sqlite.specs.Table.{Table}
@@ -16,6 +16,7 @@ use Rattle.sqlite.proofs.Callers.{IsPlain, command_of}
 use Rattle.table_rows.specs.Tables.{schema_with}
 use Rattle.table_rows.proofs.SelectLemmas.{one_table}
 use Rattle.table_rows.proofs.QueryLemmas.{Asks}
+use Rattle.table_rows.proofs.QuestionLemmas.{on_begun}
 use Rattle.table_rows.proofs.TextLemmas.{IsQueryText}
 use Rattle.outbox_tables.specs.Schema.{outbox_tables, IsDeclared}
 use Rattle.outbox_tables.proofs.Texts.{equals, by_id, entry_query, names}
@@ -121,37 +122,6 @@ module _ (tables : List Table) (indexes : List Index) (views : List View) where
   abbrev schema : Schema
   schema = schema_with outbox_tables tables indexes views
 
-  asks_by_key : Asks schema by_key_text key_query
-  unfolding understood everything
-  asks_by_key = record { names = codes "id" ∷ []; is = refl; plain = (refl, refl); listing = refl }
-
-  asks_by_id : Asks schema by_id_text (entry_query (equals 0))
-  unfolding understood everything
-  asks_by_id = record { names = names; is = refl; plain = (refl, refl); listing = refl }
-
-  asks_state : Asks schema state_text state_query
-  unfolding understood everything
-  asks_state = record { names = codes "state" ∷ codes "number" ∷ []; is = refl; plain = (refl, refl); listing = refl }
-
-  asks_by_state : Asks schema by_state_text (entry_query (equals 4))
-  unfolding understood everything
-  asks_by_state = record { names = names; is = refl; plain = (refl, refl); listing = refl }
-
-  asks_states : Asks schema states_text states_query
-  unfolding understood everything
-  asks_states =
-      record {
-        names = codes "id" ∷ codes "state" ∷ codes "number" ∷ [];
-        is = refl;
-        plain = (refl, refl);
-        listing =
-            refl;
-      }
-
-  asks_target : Asks schema target_text target_query
-  unfolding understood everything
-  asks_target = record { names = codes "number" ∷ []; is = refl; plain = (refl, refl); listing = refl }
-
   pub does_insert : command_of (understood schema insert_text) ≡ insert_command
   unfolding understood everything
   does_insert = refl
@@ -168,51 +138,63 @@ module _ (tables : List Table) (indexes : List Index) (views : List View) where
   unfolding understood everything
   plain_insert_target = (refl, refl)
 
-  does_update : command_of (understood schema update_text) ≡ update_command
-  unfolding understood everything
-  does_update = refl
+-- ---- what they are under any schema that begins with our tables
 
-  plain_update : IsPlain (understood schema update_text)
-  unfolding understood everything
-  plain_update = (refl, refl)
+begun : (Holds : Schema → Type 0) → ((tables : List Table) (indexes : List Index) (views : List View)
+    → Holds (schema_with outbox_tables tables indexes views)) → (s : Schema) → IsDeclared s → Holds s
+begun Holds holds s d = on_begun outbox_tables Holds holds s d.begins
 
-module _ (schema : Schema) (d : IsDeclared schema) where
-  pub by_key_asks : Asks schema by_key_text key_query
-  by_key_asks =
-      subst (λ s. Asks s by_key_text key_query) (sym d.begins.is)
-      (asks_by_key d.begins.tables d.begins.indexes d.begins.views)
+pub by_key_asks : (s : Schema) → IsDeclared s → Asks s by_key_text key_query
+unfolding understood everything
+by_key_asks =
+    begun (λ s. Asks s by_key_text key_query)
+    (λ tables indexes views. record { names = codes "id" ∷ []; is = refl; plain = (refl, refl); listing = refl })
 
-  pub by_id_asks : Asks schema by_id_text (entry_query (equals 0))
-  by_id_asks =
-      subst (λ s. Asks s by_id_text (entry_query (equals 0))) (sym d.begins.is)
-      (asks_by_id d.begins.tables d.begins.indexes d.begins.views)
+pub by_id_asks : (s : Schema) → IsDeclared s → Asks s by_id_text (entry_query (equals 0))
+unfolding understood everything
+by_id_asks =
+    begun (λ s. Asks s by_id_text (entry_query (equals 0)))
+    (λ tables indexes views. record { names = names; is = refl; plain = (refl, refl); listing = refl })
 
-  pub state_asks : Asks schema state_text state_query
-  state_asks =
-      subst (λ s. Asks s state_text state_query) (sym d.begins.is)
-      (asks_state d.begins.tables d.begins.indexes d.begins.views)
+pub state_asks : (s : Schema) → IsDeclared s → Asks s state_text state_query
+unfolding understood everything
+state_asks =
+    begun (λ s. Asks s state_text state_query)
+    (λ tables indexes views. record {
+      names = codes "state" ∷ codes "number" ∷ [];
+      is = refl;
+      plain = (refl, refl);
+      listing = refl;
+    })
 
-  pub by_state_asks : Asks schema by_state_text (entry_query (equals 4))
-  by_state_asks =
-      subst (λ s. Asks s by_state_text (entry_query (equals 4))) (sym d.begins.is)
-      (asks_by_state d.begins.tables d.begins.indexes d.begins.views)
+pub by_state_asks : (s : Schema) → IsDeclared s → Asks s by_state_text (entry_query (equals 4))
+unfolding understood everything
+by_state_asks =
+    begun (λ s. Asks s by_state_text (entry_query (equals 4)))
+    (λ tables indexes views. record { names = names; is = refl; plain = (refl, refl); listing = refl })
 
-  pub states_asks : Asks schema states_text states_query
-  states_asks =
-      subst (λ s. Asks s states_text states_query) (sym d.begins.is)
-      (asks_states d.begins.tables d.begins.indexes d.begins.views)
+pub states_asks : (s : Schema) → IsDeclared s → Asks s states_text states_query
+unfolding understood everything
+states_asks =
+    begun (λ s. Asks s states_text states_query)
+    (λ tables indexes views. record {
+      names = codes "id" ∷ codes "state" ∷ codes "number" ∷ [];
+      is = refl;
+      plain = (refl, refl);
+      listing = refl;
+    })
 
-  pub target_asks : Asks schema target_text target_query
-  target_asks =
-      subst (λ s. Asks s target_text target_query) (sym d.begins.is)
-      (asks_target d.begins.tables d.begins.indexes d.begins.views)
+pub target_asks : (s : Schema) → IsDeclared s → Asks s target_text target_query
+unfolding understood everything
+target_asks =
+    begun (λ s. Asks s target_text target_query)
+    (λ tables indexes views. record { names = codes "number" ∷ []; is = refl; plain = (refl, refl); listing = refl })
 
-  pub update_is : command_of (understood schema update_text) ≡ update_command
-  update_is =
-      subst (λ s. command_of (understood s update_text) ≡ update_command) (sym d.begins.is)
-      (does_update d.begins.tables d.begins.indexes d.begins.views)
+pub update_is : (s : Schema) → IsDeclared s → command_of (understood s update_text) ≡ update_command
+unfolding understood everything
+update_is =
+    begun (λ s. command_of (understood s update_text) ≡ update_command) (λ tables indexes views. refl)
 
-  pub update_plain : IsPlain (understood schema update_text)
-  update_plain =
-      subst (λ s. IsPlain (understood s update_text)) (sym d.begins.is)
-      (plain_update d.begins.tables d.begins.indexes d.begins.views)
+pub update_plain : (s : Schema) → IsDeclared s → IsPlain (understood s update_text)
+unfolding understood everything
+update_plain = begun (λ s. IsPlain (understood s update_text)) (λ tables indexes views. (refl, refl))

@@ -1,11 +1,11 @@
 -- What is promised of an outbox that a call hands out over a connection, and of the connection if the call refuses.
 use Rattle.std.specs.Prelude.{◌≡◌, ◌↔◌, true, false, ℕ, List, [], Result, Ok, Err, IsTrue, IfOk, IfErr, string_bytes}
-use Rattle.std.specs.Result.{result_map_both}
 use Rattle.key_string.specs.Filer.{is_filer}
 use Rattle.sqlite.specs.Store.{Ghosts}
 use Rattle.sqlite.specs.Held.{Held, state}
 use Rattle.sqlite.specs.State.{Survives}
 use Rattle.filing_model.specs.Outbox.{Entry}
+use Rattle.table_rows.specs.Giving.{OrGivesBack}
 use Rattle.table_rows.specs.Tables.{no_schema}
 use Rattle.table_rows.specs.Standing.{CommitsNothing}
 use Rattle.table_rows.specs.Statements.{AreCommitted}
@@ -21,10 +21,9 @@ use Rattle.outbox_tables.specs.Promises.{ForOutbox}
 use Rattle.outbox_tables.specs.Making.{making, LeavesMade}
 use Rattle.outbox_tables.specs.Earlier.{ForEarlier, IsAlone, IsEarlierOf, IsMigrated, LeavesMigrated}
 use Rattle.outbox_tables.specs.Audit.{SaysOutbox}
-use Rattle.outbox_core.specs.Refusals.{GivesBackMaking, GivesBackOpening, GivesBackMigrating, GivesUpMaking}
-use Rattle.outbox_core.specs.Refusals.{GivesUpOpening, GivesUpMigrating}
+use Rattle.outbox_core.specs.Refusals.{GivesBackMaking, GivesBackOpening, GivesBackMigrating}
 
--- An outbox of the filer of this code was made, in one transaction; or it was refused, and the connection is given up.
+-- An outbox of the filer of this code was made, in one transaction; or it was refused.
 pub record HandsOutMade {S : Type 0} (g : Ghosts S) (code : List ℕ) (conn : Held S)
     (result : Result (OutboxParts S) OutboxFault) : Type 0 where
   -- If the database had no tables before, the outbox has no entry.
@@ -37,14 +36,11 @@ pub record HandsOutMade {S : Type 0} (g : Ghosts S) (code : List ℕ) (conn : He
   pub no_other : IfErr result IsOfMaking
   -- Whatever tables there were, the four statements, and they alone, were run in one transaction and committed.
   pub ran : HandsOut g result (λ outbox. AreCommitted g (making code) conn outbox.conn)
-  -- Of some last state of the connection, which is given up: `create_or_back` says it of the one that comes back.
-  pub refused : IfErr result (GivesUpMaking g code conn)
   -- A crash in the call leaves what one before it could leave, or the outbox with no entry; one after it, that outbox.
   pub crash : IfOk result (λ outbox. Survives (state g conn) (shows g outbox) (LeavesMade g code conn))
   pub durable : HandsOut g result (λ outbox. (state g conn).now.schema ≡ no_schema → IsDurableAs g outbox (empty code))
 
--- The outbox that the database holds was opened; or it was refused, and the connection is given up. Nothing was
--- written.
+-- The outbox that the database holds was opened; or it was refused. Nothing was written.
 pub record HandsOutFound {S : Type 0} (g : Ghosts S) (conn : Held S)
     (result : Result (OutboxParts S) OutboxFault) : Type 0 where
   -- If the tables are declared as an outbox has them, the rows are those of the outbox's entries.
@@ -60,12 +56,10 @@ pub record HandsOutFound {S : Type 0} (g : Ghosts S) (conn : Held S)
       × HasEntries g outbox it.entries))
   pub durable : IfOk result (λ outbox. ForOutbox g conn outbox.conn (IsDurableAs g outbox))
   pub crash : IfOk result (λ outbox. CommitsNothing (state g conn) (shows g outbox))
-  -- Of some last state of the connection, which is given up: `open_or_back` says it of the one that comes back.
-  pub refused : IfErr result (GivesUpOpening g conn)
   pub no_other : IfErr result IsOfOpening
 
 -- The outbox that the database holds in the earlier form was brought into the present one, in one transaction, and
--- opened; or it was refused, and the connection is given up.
+-- opened; or it was refused.
 pub record HandsOutMigrated {S : Type 0} (g : Ghosts S) (conn : Held S)
     (result : Result (OutboxParts S) OutboxFault) : Type 0 where
   -- If the database has no other tables, the rows were in that form those of the outbox's entries.
@@ -79,18 +73,12 @@ pub record HandsOutMigrated {S : Type 0} (g : Ghosts S) (conn : Held S)
   -- Whatever tables there were, the filer and the count are those of the rows that were read. Then both statements, and
   -- they alone, were run in one transaction and committed.
   pub ran : HandsOut g result (λ outbox. IsMigrated g outbox.filer outbox.count conn outbox.conn)
-  -- Of some last state of the connection, which is given up: `migrate_or_back` says it of the one that comes back.
-  pub refused : IfErr result (GivesUpMigrating g conn)
   -- A crash in the call leaves what it could leave before, or the migrated rows; one after it, the migrated rows.
   pub crash : IfOk result (λ outbox. Survives (state g conn) (shows g outbox) (LeavesMigrated g conn))
   pub durable : HandsOut g result (λ outbox. (entries : List Entry) → HasEntries g outbox entries
       → IsDurableAs g outbox (contents outbox entries))
 
 -- ---- an outbox is handed out, or the connection comes back
-
--- the outbox, or the fault without the connection that comes back beside it
-abbrev pub without_conn : {T E C : Type 0} → Result T (E × C) → Result T E
-without_conn = result_map_both (λ outbox. outbox) (λ refusal. refusal.0)
 
 -- over this connection, the outbox that was found; or the fault and the connection
 abbrev pub over : {S : Type 0} → Held S → Result FoundOutbox OutboxFault → Result (OutboxParts S) (OutboxFault × Held S)
@@ -99,19 +87,13 @@ over conn (Ok found) =
 over conn (Err fault) = Err (fault, conn)
 
 -- What `create_or_back` does: what `create` does, and a connection that comes back is as it says.
-pub record MakesOrGivesBack {S : Type 0} (g : Ghosts S) (code : List ℕ) (conn : Held S)
-    (result : Result (OutboxParts S) (OutboxFault × Held S)) : Type 0 where
-  pub outcome : HandsOutMade g code conn (without_conn result)
-  pub back : IfErr result (λ refusal. GivesBackMaking g code conn refusal.0 refusal.1)
+abbrev pub MakesOrGivesBack : {S : Type 0} → Ghosts S → List ℕ → Held S
+    → Result (OutboxParts S) (OutboxFault × Held S) → Type 0
+MakesOrGivesBack g code conn = OrGivesBack (HandsOutMade g code conn) (GivesBackMaking g code conn)
 
--- What `open_or_back` does: what `open` does, and a connection that comes back is as it says.
-pub record FindsOrGivesBack {S : Type 0} (g : Ghosts S) (conn : Held S)
-    (result : Result (OutboxParts S) (OutboxFault × Held S)) : Type 0 where
-  pub outcome : HandsOutFound g conn (without_conn result)
-  pub back : IfErr result (λ refusal. GivesBackOpening g conn refusal.0 refusal.1)
+abbrev pub FindsOrGivesBack : {S : Type 0} → Ghosts S → Held S → Result (OutboxParts S) (OutboxFault × Held S) → Type 0
+FindsOrGivesBack g conn = OrGivesBack (HandsOutFound g conn) (GivesBackOpening g conn)
 
--- What `migrate_or_back` does: what `migrate` does, and a connection that comes back is as it says.
-pub record MigratesOrGivesBack {S : Type 0} (g : Ghosts S) (conn : Held S)
-    (result : Result (OutboxParts S) (OutboxFault × Held S)) : Type 0 where
-  pub outcome : HandsOutMigrated g conn (without_conn result)
-  pub back : IfErr result (λ refusal. GivesBackMigrating g conn refusal.0 refusal.1)
+abbrev pub MigratesOrGivesBack : {S : Type 0} → Ghosts S → Held S
+    → Result (OutboxParts S) (OutboxFault × Held S) → Type 0
+MigratesOrGivesBack g conn = OrGivesBack (HandsOutMigrated g conn) (GivesBackMigrating g conn)

@@ -1,4 +1,4 @@
--- What a refusal says of the connection that it gives back, and what is left to say of one that it gives up.
+-- What a refusal says of the connection that it gives back.
 use Rattle.std.specs.Prelude.{◌≡◌, ◌≢◌, ◌⊎◌, ℕ, false, List, None, IsTrue}
 use Rattle.sqlite.specs.Store.{Ghosts}
 use Rattle.sqlite.specs.Held.{Held, state}
@@ -12,8 +12,6 @@ use Rattle.outbox_tables.specs.Entries.{Contents}
 use Rattle.outbox_tables.specs.Faults.{IsFailure}
 use Rattle.outbox_tables.specs.Making.{LeavesMade, IsNotMade}
 use Rattle.outbox_tables.specs.Promises.{ForOutbox}
-
--- ---- the connection comes back
 
 -- What is written is what was committed, and it is still committed: so the rows are as they were.
 abbrev pub ShowsCommitted : {S : Type 0} → Ghosts S → Held S → Held S → Type 0
@@ -57,16 +55,3 @@ pub record GivesBackMigrating {S : Type 0} (g : Ghosts S) (conn : Held S) (fault
       → is_blocked (state g conn).now.schema ≡ false → IsFailure fault
   -- A crash leaves what it could leave before, or the migrated rows.
   pub crash : Survives (state g conn) (state g back) (LeavesMigrated g conn)
-
--- ---- the connection is given up
-
--- No clause can name the last state of a connection that is given up: this says that some such state is its last. The
--- calls that give the connection back say it of the one that comes back.
-abbrev pub GivesUpMaking : {S : Type 0} → Ghosts S → List ℕ → Held S → OutboxFault → Type 0
-GivesUpMaking {S} g filer conn fault = (last : Held S) × GivesBackMaking g filer conn fault last
-
-abbrev pub GivesUpOpening : {S : Type 0} → Ghosts S → Held S → OutboxFault → Type 0
-GivesUpOpening {S} g conn fault = (last : Held S) × GivesBackOpening g conn fault last
-
-abbrev pub GivesUpMigrating : {S : Type 0} → Ghosts S → Held S → OutboxFault → Type 0
-GivesUpMigrating {S} g conn fault = (last : Held S) × GivesBackMigrating g conn fault last

@@ -152,12 +152,14 @@ impl<S: Alter> Outbox<S> {
 
 impl<S: Alter + Drop> Outbox<S> {
     ghost use Rattle.outbox_core.specs.HandedOut.{HandsOutFound, HandsOutMade, HandsOutMigrated};
+    ghost use Rattle.outbox_core.specs.Refusals.{GivesBackMaking, GivesBackMigrating, GivesBackOpening};
+    ghost use Rattle.table_rows.specs.Giving.{OrGivesUp};
 
     /// As `create_or_back`, but a refusal gives the connection up. An outbox's file is its own: if the database had a
     /// table before, no clause says what the rows stand for.
     pub fn create(alloc: Global, conn: Connection<S>, filer: &str) -> Result<Outbox<S>, OutboxFault>
         requires { IsAtRest conn }
-        ensures { HandsOutMade S.Store filer.now conn result }
+        ensures { OrGivesUp (HandsOutMade S.Store filer.now conn) (GivesBackMaking S.Store filer.now conn) result }
     {
         Outbox::create_or_back(alloc, conn, filer).map_err(|(fault, _conn)| fault)
     }
@@ -165,19 +167,15 @@ impl<S: Alter + Drop> Outbox<S> {
     /// As `open_or_back`, but a refusal gives the connection up.
     pub fn open(alloc: Global, conn: Connection<S>) -> Result<Outbox<S>, OutboxFault>
         requires { IsAtRest conn }
-        ensures { HandsOutFound S.Store conn result }
+        ensures { OrGivesUp (HandsOutFound S.Store conn) (GivesBackOpening S.Store conn) result }
     {
-        // The proof by hand of a `map_err` would be longer than this.
-        match Outbox::open_or_back(alloc, conn) {
-            Ok(outbox) => Ok(outbox),
-            Err((fault, _conn)) => Err(fault),
-        }
+        Outbox::open_or_back(alloc, conn).map_err(|(fault, _conn)| fault)
     }
 
     /// As `migrate_or_back`, but a refusal gives the connection up.
     pub fn migrate(alloc: Global, conn: Connection<S>) -> Result<Outbox<S>, OutboxFault>
         requires { IsAtRest conn }
-        ensures { HandsOutMigrated S.Store conn result }
+        ensures { OrGivesUp (HandsOutMigrated S.Store conn) (GivesBackMigrating S.Store conn) result }
     {
         Outbox::migrate_or_back(alloc, conn).map_err(|(fault, _conn)| fault)
     }

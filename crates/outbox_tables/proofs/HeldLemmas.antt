@@ -15,9 +15,10 @@ use Rattle.sqlite_value.specs.declared.keys.Key.{Key}
 use Rattle.sqlite_keyed.proofs.ListLemmas.{filter_all, all_of, map_same, map-map}
 use Rattle.table_rows.specs.Rows.{shown, TableHas}
 use Rattle.table_rows.proofs.SelectLemmas.{one_table, selects}
+use Rattle.table_rows.proofs.QuestionLemmas.{asked}
 use Rattle.outbox_tables.specs.Schema.{IsDeclared, HasCommon, meta_table, entry_table, target_table}
 use Rattle.outbox_tables.specs.Audit.{meta_text, targets_text, entries_text}
-use Rattle.outbox_tables.proofs.Texts.{meta_terms, meta_asks, target_terms, targets_asks, entry_columns, entries_asks}
+use Rattle.outbox_tables.proofs.Texts.{meta_terms, asks_meta, target_terms, asks_targets, entry_columns, asks_entries}
 use Rattle.outbox_tables.proofs.Texts.{by_id}
 
 -- all rows, with all columns
@@ -40,14 +41,14 @@ whole table tree columns order show trees rows shows same answer =
 module _ (old new : State) (d : HasCommon old.now.schema) (rows : List Row) where
   pub meta_held : Shown meta_text [] old new rows → TableHas old.now meta_table rows
   meta_held h =
-      let it = meta_asks old.now.schema d in
+      let it = asked asks_meta old.now.schema d in
       let answer = (reads_as meta_text [] old new old.now.schema refl _ it.is it.plain it.listing rows h).answer in
       whole meta_table 0 meta_terms [] (λ w. ([], column w 0 ∷ column w 1 ∷ column w 2 ∷ column w 3 ∷ [])) old.now.trees
       rows (λ r. refl) (λ r. refl) answer
 
   pub entries_held : Shown entries_text [] old new rows → TableHas old.now entry_table rows
   entries_held h =
-      let it = entries_asks old.now.schema d in
+      let it = asked asks_entries old.now.schema d in
       let answer = (reads_as entries_text [] old new old.now.schema refl _ it.is it.plain it.listing rows h).answer in
       whole entry_table 1 entry_columns by_id (λ w. (
         column w 0 ∷ [],
@@ -58,7 +59,7 @@ module _ (old new : State) (d : HasCommon old.now.schema) (rows : List Row) wher
 module _ (old new : State) (d : IsDeclared old.now.schema) (rows : List Row) where
   pub targets_held : Shown targets_text [] old new rows → TableHas old.now target_table rows
   targets_held h =
-      let it = targets_asks old.now.schema d in
+      let it = asked asks_targets old.now.schema d.begins in
       let answer = (reads_as targets_text [] old new old.now.schema refl _ it.is it.plain it.listing rows h).answer in
       whole target_table 3 target_terms [] (λ w. ([], column w 0 ∷ column w 1 ∷ [])) old.now.trees rows (λ r. refl)
       (λ r. refl) answer

@@ -23,7 +23,7 @@ use Rattle.table_rows.specs.declared.cause.Cause.{Cause}
 use Rattle.table_rows.specs.declared.cause.Cause.TheVariants.{Other}
 use Rattle.outbox_tables.specs.declared.fault.OutboxFault.TheVariants as fault
 use Rattle.outbox_tables.specs.Faults.{meta_fault_by, entry_fault_by}
-use Rattle.table_rows.proofs.FailLemmas.{failure_cause}
+use Rattle.table_rows.proofs.QuestionLemmas.{asked, question_fails}
 use Rattle.outbox_tables.specs.Schema.{HasCommon, IsDeclared, meta_table, entry_table}
 use Rattle.table_rows.specs.Rows.{TableHas}
 use Rattle.outbox_tables.specs.Entries.{Contents, IsOutbox, FitsNumber, numbered_from, target_at}
@@ -31,8 +31,7 @@ use Rattle.outbox_tables.specs.Rows.{code_of, number_of, form_row, entry_row, en
 use Rattle.outbox_tables.specs.Rows.{target_rows}
 use Rattle.outbox_tables.specs.Audit.{meta_text, targets_text, entries_text, is_int, is_state, filer_in, is_entry}
 use Rattle.outbox_tables.specs.Audit.{is_target, with_id, is_id_to, is_left_over, first_damaged, damaged_row, IsKept}
-use Rattle.outbox_tables.proofs.Texts.{meta_terms, target_terms, entry_columns, by_id, meta_asks, meta_whole}
-use Rattle.outbox_tables.proofs.Texts.{targets_asks, targets_whole, entries_asks, entries_whole}
+use Rattle.outbox_tables.proofs.Texts.{asks_entries, asks_meta, asks_targets}
 use Rattle.outbox_tables.proofs.SelectLemmas.{entries_selected}
 use Rattle.outbox_tables.proofs.HeldLemmas.{meta_held}
 use Rattle.outbox_tables.proofs.TargetLemmas.{own_id, target_with, few_rows}
@@ -147,27 +146,21 @@ module _ (old new : State) (c : HasCommon old.now.schema) where
       → AllByRecursion IsKept es → IsPermutation (target_rows es) targets → Shown entries_text [] old new rows
       → damaged_row targets rows ≡ None
   no_damage es targets rows held kept same h =
-      let asks = entries_asks old.now.schema c in
+      let asks = asked asks_entries old.now.schema c in
       let answer =
       (reads_as entries_text [] old new old.now.schema refl _ asks.is asks.plain asks.listing rows h).answer in
       ap (damaged_row targets) (entries_selected es old.now.trees rows held answer) ∙ none_unsound es targets kept same
 
   module _ (unlimited : old.step_limit ≡ None) where
     pub meta_readable : (e : Error) → FailsToQuery meta_text [] old new e → cause_of e ≢ Other
-    meta_readable e h =
-        failure_cause meta_text 0 [] meta_terms [] old new (meta_asks old.now.schema c) (meta_whole old.now.schema c)
-        unlimited e h
+    meta_readable = question_fails asks_meta old new c unlimited
 
     pub entries_readable : (e : Error) → FailsToQuery entries_text [] old new e → cause_of e ≢ Other
-    entries_readable e h =
-        failure_cause entries_text 1 [] entry_columns by_id old new (entries_asks old.now.schema c)
-        (entries_whole old.now.schema c) unlimited e h
+    entries_readable = question_fails asks_entries old new c unlimited
 
 pub targets_readable : (old new : State) → IsDeclared old.now.schema → old.step_limit ≡ None → (e : Error)
     → FailsToQuery targets_text [] old new e → cause_of e ≢ Other
-targets_readable old new d unlimited e h =
-    failure_cause targets_text 3 [] target_terms [] old new (targets_asks old.now.schema d)
-    (targets_whole old.now.schema d) unlimited e h
+targets_readable old new d unlimited = question_fails asks_targets old new d.begins unlimited
 
 -- ---- so a failure to read them is told as one of memory or of the disk
 

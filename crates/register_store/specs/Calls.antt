@@ -1,8 +1,7 @@
 -- What the calls of a store do.
 use Rattle.std.specs.Prelude.{◌≡◌, ◌↔◌, ◌+◌, ◌++◌, ◌∷◌, [], ℕ, List, take, map, length, option_map, Option}
 use Rattle.std.specs.Prelude.{None, replicate, Result, Ok, Err}
-use Rattle.std.specs.Prelude.{Vec, IsTrue, IfOk, IfErr, IfSome, OnOk, OnErr}
-use Rattle.std.specs.Result.{result_map_both}
+use Rattle.std.specs.Prelude.{Vec, IsTrue, IfOk, IfSome, OnOk, OnErr}
 use Rattle.std.specs.declared.alloc.Global.{Global}
 use Rattle.sqlite.specs.Store.{Ghosts}
 use Rattle.sqlite.specs.Held.{Held, state}
@@ -12,6 +11,7 @@ use Rattle.filing_model.specs.Register.{kept, judged}
 use Rattle.filing_model.specs.Answer.{kept_for}
 use Rattle.filing_model.specs.Style.{style_of}
 use Rattle.filing_model.specs.Views.{the_request, view_outcome}
+use Rattle.table_rows.specs.Giving.{OrGivesBack}
 use Rattle.table_rows.specs.Tables.{no_schema}
 use Rattle.table_rows.specs.Standing.{CommitsNothing}
 use Rattle.register_tables.specs.declared.fault.CreateFault.{CreateFault}
@@ -27,8 +27,7 @@ use Rattle.register_store.specs.Moments.{ForMoments, HasMoments, IsDurableWith, 
 use Rattle.register_store.specs.NewRows.{AreNew, request_of}
 use Rattle.register_store.specs.Outcomes.{kept_as, outcomes_behind}
 use Rattle.register_tables.specs.Opening.{SaysRegister}
-use Rattle.register_tables.specs.Refusals.{GivesBackMaking, GivesBackMigrating, GivesBackOpening, GivesUpMaking}
-use Rattle.register_tables.specs.Refusals.{GivesUpMigrating, GivesUpOpening}
+use Rattle.register_tables.specs.Refusals.{GivesBackMaking, GivesBackMigrating, GivesBackOpening}
 use Rattle.register_rows.specs.Schema.{is_taken, IsDeclared}
 use Rattle.register_store.specs.Store.{StoreParts, shows, ForNew, ForRequests, HandsOut, HasRequests}
 use Rattle.register_store.specs.Store.{IsDurableAs, SurvivesAs}
@@ -44,8 +43,6 @@ pub record CreatesStore {S : Type 0} (g : Ghosts S) (conn : Held S) (result : Re
   pub counts : IfOk result (λ store. (store.kept ≡ 0) × (store.filings ≡ 0) × (store.old_style ≡ 0))
   -- The answer is Taken if and only if one of the names is in use.
   pub taken : (result ≡ Err Taken) ↔ IsTrue (is_taken (state g conn).now.schema)
-  -- Of some last state of the connection, which is given up: `create_or_back` says it of the one that comes back.
-  pub refused : IfErr result (GivesUpMaking g conn)
   -- A crash in the call leaves what one before it could leave, or the empty register; one after it, the empty register.
   pub crash : IfOk result (λ store. Survives (state g conn) (shows g store)
       (λ trees. (state g conn).now.schema ≡ no_schema → LeavesRegister 0 [] trees))
@@ -62,8 +59,6 @@ pub record OpensStore {S : Type 0} (g : Ghosts S) (conn : Held S) (result : Resu
   -- However the tables are declared, only a database that says so is opened as a register.
   pub says : HandsOut g result (λ _. SaysRegister g conn)
   pub same : HandsOut g result (λ store. IsUnchanged (state g conn) (shows g store))
-  -- Of some last state of the connection, which is given up: `open_or_back` says it of the one that comes back.
-  pub refused : IfErr result (GivesUpOpening g conn)
   -- A crash in the call leaves what it could leave before; one after it, these requests.
   pub crash : IfOk result (λ store. CommitsNothing (state g conn) (shows g store))
   pub durable : HandsOut g result (λ store. ForRows g conn (IsDurableAs g store))
@@ -79,8 +74,6 @@ pub record MigratesStore {S : Type 0} (g : Ghosts S) (conn : Held S) (result : R
       × HasRequests g store F))
   -- A register in the present form is not migrated.
   pub current : HandsOut g result (λ store. ForRows g conn (λ _ _. ⊥))
-  -- Of some last state of the connection, which is given up: `migrate_or_back` says it of the one that comes back.
-  pub refused : IfErr result (GivesUpMigrating g conn)
   -- A crash in the call leaves what it could leave before, or the migrated rows; one after it, the migrated rows.
   pub crash : IfOk result (λ store. Survives (state g conn) (shows g store)
       (λ trees. ForEarlier g conn (λ _ old_style F. LeavesRegister old_style F trees)))
@@ -91,27 +84,15 @@ pub record MigratesStore {S : Type 0} (g : Ghosts S) (conn : Held S) (result : R
 
 -- ---- a store is handed out, or the connection comes back
 
--- the store, or the fault without the connection that comes back beside it
-abbrev pub without_conn : {T E C : Type 0} → Result T (E × C) → Result T E
-without_conn = result_map_both (λ store. store) (λ refusal. refusal.0)
-
 -- What `create_or_back` does: what `create` does, and a connection that comes back is as it says.
-pub record CreatesOrGivesBack {S : Type 0} (g : Ghosts S) (conn : Held S)
-    (result : Result (StoreParts S) (CreateFault × Held S)) : Type 0 where
-  pub outcome : CreatesStore g conn (without_conn result)
-  pub back : IfErr result (λ refusal. GivesBackMaking g conn refusal.0 refusal.1)
+abbrev pub CreatesOrGivesBack : {S : Type 0} → Ghosts S → Held S → Result (StoreParts S) (CreateFault × Held S) → Type 0
+CreatesOrGivesBack g conn = OrGivesBack (CreatesStore g conn) (GivesBackMaking g conn)
 
--- What `open_or_back` does: what `open` does, and a connection that comes back is as it says.
-pub record OpensOrGivesBack {S : Type 0} (g : Ghosts S) (conn : Held S)
-    (result : Result (StoreParts S) (OpenFault × Held S)) : Type 0 where
-  pub outcome : OpensStore g conn (without_conn result)
-  pub back : IfErr result (λ refusal. GivesBackOpening g conn refusal.0 refusal.1)
+abbrev pub OpensOrGivesBack : {S : Type 0} → Ghosts S → Held S → Result (StoreParts S) (OpenFault × Held S) → Type 0
+OpensOrGivesBack g conn = OrGivesBack (OpensStore g conn) (GivesBackOpening g conn)
 
--- What `migrate_or_back` does: what `migrate` does, and a connection that comes back is as it says.
-pub record MigratesOrGivesBack {S : Type 0} (g : Ghosts S) (conn : Held S)
-    (result : Result (StoreParts S) (OpenFault × Held S)) : Type 0 where
-  pub outcome : MigratesStore g conn (without_conn result)
-  pub back : IfErr result (λ refusal. GivesBackMigrating g conn refusal.0 refusal.1)
+abbrev pub MigratesOrGivesBack : {S : Type 0} → Ghosts S → Held S → Result (StoreParts S) (OpenFault × Held S) → Type 0
+MigratesOrGivesBack g conn = OrGivesBack (MigratesStore g conn) (GivesBackMigrating g conn)
 
 -- ---- a store is asked
 

@@ -10,6 +10,8 @@ ghost use Rattle.register_store.specs.Calls.{AddsMoments, AddsRequest, AddsReque
 ghost use Rattle.register_store.specs.Calls.{FindsRow, KeepsRows};
 ghost use Rattle.register_store.specs.Calls.{MigratesOrGivesBack, MigratesStore, OpensOrGivesBack, OpensStore};
 ghost use Rattle.register_store.specs.NewRows.{IsKeepable};
+ghost use Rattle.register_tables.specs.Refusals.{GivesBackMaking, GivesBackMigrating, GivesBackOpening};
+ghost use Rattle.table_rows.specs.Giving.{OrGivesUp};
 ghost use Rattle.table_rows.specs.Standing.{IsAtRest};
 
 pub(crate) mod files;
@@ -174,7 +176,7 @@ impl<S: Alter + Drop> Store<S> {
     /// table before, no clause says what the rows stand for.
     pub fn create(alloc: Global, conn: Connection<S>) -> Result<Store<S>, CreateFault>
         requires { IsAtRest conn }
-        ensures { CreatesStore S.Store conn result }
+        ensures { OrGivesUp (CreatesStore S.Store conn) (GivesBackMaking S.Store conn) result }
     {
         Store::create_or_back(alloc, conn).map_err(|(fault, _conn)| fault)
     }
@@ -182,19 +184,15 @@ impl<S: Alter + Drop> Store<S> {
     /// As `open_or_back`, but a refusal gives the connection up.
     pub fn open(alloc: Global, conn: Connection<S>) -> Result<Store<S>, OpenFault>
         requires { IsAtRest conn }
-        ensures { OpensStore S.Store conn result }
+        ensures { OrGivesUp (OpensStore S.Store conn) (GivesBackOpening S.Store conn) result }
     {
-        // The proof by hand of a `map_err` would be longer than this.
-        match Store::open_or_back(alloc, conn) {
-            Ok(store) => Ok(store),
-            Err((fault, _conn)) => Err(fault),
-        }
+        Store::open_or_back(alloc, conn).map_err(|(fault, _conn)| fault)
     }
 
     /// As `migrate_or_back`, but a refusal gives the connection up.
     pub fn migrate(alloc: Global, conn: Connection<S>) -> Result<Store<S>, OpenFault>
         requires { IsAtRest conn }
-        ensures { MigratesStore S.Store conn result }
+        ensures { OrGivesUp (MigratesStore S.Store conn) (GivesBackMigrating S.Store conn) result }
     {
         Store::migrate_or_back(alloc, conn).map_err(|(fault, _conn)| fault)
     }

@@ -19,11 +19,12 @@ use Rattle.register_tables.specs.Earlier.{tables_in, SaysAmends}
 use Rattle.register_tables.specs.Faults.{table_fault}
 use Rattle.register_tables.specs.Opening.{all_migrated, all_amends, all_received, KnowsAmends}
 use Rattle.register_tables.specs.Opening.{KnowsMigrated, SaysDates, SaysMigrated}
-use Rattle.register_tables.specs.Reads.{AsksOurs, HasInOrder, IsKnown, Never, ReadsOurs}
-use Rattle.register_tables.proofs.FailLemmas.{received_fail}
-use Rattle.register_tables.proofs.OpenLemmas.{got_third, third_fails, third_in, got_fourth, fourth_fails, fourth_in}
+use Rattle.register_tables.specs.Reads.{HasInOrder, IsKnown, Never, ReadsOurs}
+use Rattle.register_tables.proofs.OpenLemmas.{got_third, third_in, got_fourth, fourth_in}
 use Rattle.register_tables.proofs.OpenLemmas.{got_received, known}
 use Rattle.register_tables.proofs.Ours.{asked, not_read}
+use Rattle.register_tables.proofs.Questions.{not_asked}
+use Rattle.register_tables.proofs.ReadTexts.{asks_amends, asks_migrated, asks_received}
 
 says_migrated : (form : Option Earlier) → form ≢ Some Second → (rows : Vec Row Global) (db : Database)
     → HasInOrder migrated_table rows.items db → SaysMigrated form (Some rows) db
@@ -74,7 +75,7 @@ module _ {S : Type 0} (g : Ghosts S) (a b : Held S) where
         → ReadsOurs (tables_in form) g a b (Ok (Some rows)) (λ rows db. SaysMigrated form rows db) Never
     migrated_read rows shown leaves = asked g (Some rows) (record {
       told = λ clean ours. says_migrated form apart rows (state g a).now
-          (got_third (state g a) (state g b) (third_in form apart (state g a).now.schema ours.declared) rows.items
+          (got_third (state g a) (state g b) rows.items (third_in form apart (state g a).now.schema ours.declared)
           (shown clean));
       fails = λ clean ours. tt;
       leaves = leaves;
@@ -85,17 +86,8 @@ module _ {S : Type 0} (g : Ghosts S) (a b : Held S) where
         → Leaves (Stopped e) (state g a) (state g b)
         → ReadsOurs (tables_in form) g a b (Err (table_fault e)) (λ rows db. SaysMigrated form rows db) Never
     migrated_failed e failed leaves = not_read g (λ rows db. SaysMigrated form rows db) Never e
-        (no_rows e failed leaves)
-      where
-        no_rows : (e : Error) → (HasCleanDisk (state g b) → FailsToQuery all_migrated [] (state g a) (state g b) e)
-            → Leaves (Stopped e) (state g a) (state g b)
-            → AsksOurs (tables_in form) g a b (Err e) (λ (rows : Vec Row Global) db. Unit {0})
-        no_rows e failed leaves = record {
-          told = λ clean ours. tt;
-          fails = λ clean ours. third_fails (state g a) (state g b)
-              (third_in form apart (state g a).now.schema ours.declared) ours.unlimited e (failed clean);
-          leaves = leaves;
-        }
+        (not_asked g a b asks_migrated (third_in form apart (state g a).now.schema) {X = Unit {0}}
+        {Says = λ _ _. Unit {0}} e failed leaves)
 
     module _ (other : form ≢ Some Third) where
       pub amends_read : (rows : Vec Row Global)
@@ -104,8 +96,8 @@ module _ {S : Type 0} (g : Ghosts S) (a b : Held S) where
           → ReadsOurs (tables_in form) g a b (Ok rows) (λ rows db. SaysAmends form rows.items db) Never
       amends_read rows shown leaves = asked g rows (record {
         told = λ clean ours. says_amends form apart other rows.items (state g a).now
-            (got_fourth (state g a) (state g b) (fourth_in form apart other (state g a).now.schema ours.declared)
-            rows.items (shown clean));
+            (got_fourth (state g a) (state g b) rows.items
+            (fourth_in form apart other (state g a).now.schema ours.declared) (shown clean));
         fails = λ clean ours. tt;
         leaves = leaves;
       })
@@ -116,17 +108,9 @@ module _ {S : Type 0} (g : Ghosts S) (a b : Held S) where
           → ReadsOurs (tables_in form) g a b (Err (table_fault e))
           (λ (rows : Vec Row Global) db. SaysAmends form rows.items db) Never
       amends_failed e failed leaves =
-          not_read g (λ (rows : Vec Row Global) db. SaysAmends form rows.items db) Never e (no_rows e failed leaves)
-        where
-          no_rows : (e : Error) → (HasCleanDisk (state g b) → FailsToQuery all_amends [] (state g a) (state g b) e)
-              → Leaves (Stopped e) (state g a) (state g b)
-              → AsksOurs (tables_in form) g a b (Err e) (λ (rows : Vec Row Global) db. Unit {0})
-          no_rows e failed leaves = record {
-            told = λ clean ours. tt;
-            fails = λ clean ours. fourth_fails (state g a) (state g b)
-                (fourth_in form apart other (state g a).now.schema ours.declared) ours.unlimited e (failed clean);
-            leaves = leaves;
-          }
+          not_read g (λ (rows : Vec Row Global) db. SaysAmends form rows.items db) Never e
+          (not_asked g a b asks_amends (fourth_in form apart other (state g a).now.schema) {X = Unit {0}}
+          {Says = λ _ _. Unit {0}} e failed leaves)
 
   pub dates_read : (rows : Vec Row Global) (dates : Dates) → AreDates rows.items dates
       → (HasCleanDisk (state g b) → Shown all_received [] (state g a) (state g b) rows.items)
@@ -145,13 +129,6 @@ module _ {S : Type 0} (g : Ghosts S) (a b : Held S) where
   pub dates_failed : (e : Error) → (HasCleanDisk (state g b) → FailsToQuery all_received [] (state g a) (state g b) e)
       → Leaves (Stopped e) (state g a) (state g b)
       → ReadsOurs (tables_in None) g a b (Err (table_fault e)) (λ dates db. SaysDates None dates db) Never
-  dates_failed e failed leaves = not_read g (λ dates db. SaysDates None dates db) Never e (no_rows e failed leaves)
-    where
-      no_rows : (e : Error) → (HasCleanDisk (state g b) → FailsToQuery all_received [] (state g a) (state g b) e)
-          → Leaves (Stopped e) (state g a) (state g b)
-          → AsksOurs (tables_in None) g a b (Err e) (λ (rows : Vec Row Global) db. Unit {0})
-      no_rows e failed leaves = record {
-        told = λ clean ours. tt;
-        fails = λ clean ours. received_fail (state g a) (state g b) ours.declared ours.unlimited e (failed clean);
-        leaves = leaves;
-      }
+  dates_failed e failed leaves =
+      not_read g (λ dates db. SaysDates None dates db) Never e
+      (not_asked g a b asks_received (λ d. d) {X = Unit {0}} {Says = λ _ _. Unit {0}} e failed leaves)

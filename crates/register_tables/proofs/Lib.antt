@@ -1,9 +1,7 @@
 pub mod Beside
 pub mod Calls
 pub mod CommonLemmas
-pub mod CountLemmas
 pub mod CreateTexts
-pub mod FailLemmas
 pub mod Holding
 pub mod KeptOrder
 pub mod Leading
@@ -15,9 +13,9 @@ pub mod OpenLemmas
 pub mod Opened
 pub mod OurGains
 pub mod Ours
-pub mod PickFails
 pub mod PickLemmas
 pub mod PickTexts
+pub mod Questions
 pub mod ReadLemmas
 pub mod ReadTexts
 pub mod Surveyed

@@ -29,7 +29,8 @@ use Rattle.register_tables.specs.Reads.{CanBeRead, IsOurs, StopsForDisk}
 use Rattle.register_tables.specs.Registers.{ForRows, IsRegisterOf}
 use Rattle.register_tables.proofs.Calls.{kept_on_err, same_on_ok, then_ok}
 use Rattle.register_tables.proofs.CommonLemmas.{has_common}
-use Rattle.register_tables.proofs.FailLemmas.{meta_fails}
+use Rattle.table_rows.proofs.QuestionLemmas.{question_fails}
+use Rattle.register_tables.proofs.ReadTexts.{asks_meta}
 use Rattle.register_tables.proofs.Holding.{holds_register, register_of}
 use Rattle.register_tables.proofs.Ours.{disk_fails, disk_then, ours_then}
 use Rattle.register_tables.proofs.OpenLemmas.{got_meta}
@@ -76,7 +77,7 @@ module _ {S : Type 0} (g : Ghosts S) (a : Held S) (d : HasCommon (state g a).now
       → TableHas (state g a).now meta_table (form_row (number_of_form f) ∷ []) → (why : OpenFault)
       → HasNoForm g why a b → IsFailure why
   form_sound b f unlimited meta fault.NotOurs (inl h) =
-      absurd (meta_fails (state g a) (state g b) d unlimited h.0 h.1 h.2)
+      absurd (question_fails asks_meta (state g a) (state g b) d unlimited h.0 h.1 h.2)
   form_sound b f unlimited meta fault.NotOurs (inr h) =
       absurd (h.2 f ((got_meta (state g a) (state g b) h.0 d h.1.shown).ordered (form_row (number_of_form f) ∷ []) meta
       (tt, tt)))

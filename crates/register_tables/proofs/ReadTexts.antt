@@ -1,5 +1,5 @@
 -- What the texts of the SELECTs mean under the declared tables.
-use Rattle.std.proofs.Common.{ℕ, List, [], ◌∷◌, codes, refl, sym, subst}
+use Rattle.std.proofs.Common.{ℕ, List, [], ◌∷◌, codes, refl, le_refl}
 use Rattle.sqlite_schema.specs.declared.schema.Index.{Index}
 use Rattle.sqlite_schema.specs.declared.schema.View.{View}
 use Rattle.sqlite.specs.Table.{Table}
@@ -11,35 +11,16 @@ use Rattle.sqlite_sql.specs.declared.ops.CompareOp.TheVariants.{Eq}
 use Rattle.sqlite_tied.specs.Compute.{everything}
 use Rattle.sqlite.specs.Listing.{understood}
 use Rattle.sqlite.specs.Query.{Query}
-use Rattle.table_rows.specs.Tables.{BeginsWith, schema_with}
+use Rattle.table_rows.specs.Tables.{schema_with}
+use Rattle.table_rows.proofs.FailLemmas.{calm_table}
 use Rattle.table_rows.proofs.SelectLemmas.{one_table}
 use Rattle.table_rows.proofs.ReadingLemmas.{by_each}
 use Rattle.table_rows.proofs.QueryLemmas.{Asks}
-use Rattle.table_rows.proofs.TextLemmas.{IsQueryText}
+use Rattle.table_rows.proofs.QuestionLemmas.{on_begun, question, IsQuestion}
+use Rattle.register_tables.specs.Earlier.{tables_of}
 use Rattle.register_tables.specs.Opening.{all_meta, all_kept, all_migrated, all_amends, all_received}
-use Rattle.register_rows.specs.Schema.{common_tables, register_tables, HasCommon, IsDeclared}
-
--- each is a SELECT
-
-pub query_meta : IsQueryText all_meta
-unfolding everything
-query_meta = refl
-
-pub query_kept : IsQueryText all_kept
-unfolding everything
-query_kept = refl
-
-pub query_migrated : IsQueryText all_migrated
-unfolding everything
-query_migrated = refl
-
-pub query_amends : IsQueryText all_amends
-unfolding everything
-query_amends = refl
-
-pub query_received : IsQueryText all_received
-unfolding everything
-query_received = refl
+use Rattle.register_tables.specs.declared.opening.form.Earlier.TheVariants.{Third, Fourth}
+use Rattle.register_rows.specs.Schema.{common_tables, register_tables, HasCommon}
 
 -- the columns of the row from this place on
 abbrev pub columns : List ℕ → List Term
@@ -50,61 +31,76 @@ columns (at ∷ ats) = col 1 at ∷ columns ats
 abbrev pub equals : ℕ → List Term
 equals at = op2 (Compare Eq Binary) (col 1 at) (col 0 0) ∷ []
 
-module _ (tables : List Table) (indexes : List Index) (views : List View) where
-  abbrev schema : Schema
-  schema = schema_with common_tables tables indexes views
+-- all rows of a table by its key, with these columns
+abbrev pub by_key : ℕ → List ℕ → Query
+by_key tree places = one_table tree [] (columns places) (by_each (col 1 0 ∷ []))
 
-  meta_text : Asks schema all_meta (one_table 0 [] (columns (0 ∷ 2 ∷ 3 ∷ [])) (by_each (col 1 0 ∷ [])))
-  unfolding understood everything
-  meta_text =
-      record { names = codes "id" ∷ codes "kind" ∷ codes "form" ∷ []; is = refl; plain = (refl, refl); listing = refl }
+pub asks_meta : IsQuestion common_tables all_meta (by_key 0 (0 ∷ 2 ∷ 3 ∷ [])) []
+unfolding understood everything
+asks_meta =
+    question refl (λ tables indexes views. record {
+      names = codes "id" ∷ codes "kind" ∷ codes "form" ∷ [];
+      is = refl;
+      plain = (refl, refl);
+      listing = refl;
+      tail = le_refl _;
+      named = refl;
+      typed = refl;
+    }) (λ db. calm_table 0 [] (columns (0 ∷ 2 ∷ 3 ∷ [])) (by_each (col 1 0 ∷ [])) db [])
 
-  kept_text : Asks schema all_kept (one_table 1 [] (columns (0 ∷ 2 ∷ 3 ∷ 4 ∷ 5 ∷ [])) (by_each (col 1 0 ∷ [])))
-  unfolding understood everything
-  kept_text =
-      record {
-        names = codes "seq" ∷ codes "filer" ∷ codes "idem" ∷ codes "body" ∷ codes "number" ∷ [];
-        is =
-            refl;
-        plain = (refl, refl);
-        listing = refl;
-      }
+pub asks_kept : IsQuestion common_tables all_kept (by_key 1 (0 ∷ 2 ∷ 3 ∷ 4 ∷ 5 ∷ [])) []
+unfolding understood everything
+asks_kept =
+    question refl (λ tables indexes views. record {
+      names = codes "seq" ∷ codes "filer" ∷ codes "idem" ∷ codes "body" ∷ codes "number" ∷ [];
+      is = refl;
+      plain = (refl, refl);
+      listing = refl;
+      tail = le_refl _;
+      named = refl;
+      typed = refl;
+    }) (λ db. calm_table 1 [] (columns (0 ∷ 2 ∷ 3 ∷ 4 ∷ 5 ∷ [])) (by_each (col 1 0 ∷ [])) db [])
 
-module _ (tables : List Table) (indexes : List Index) (views : List View) where
-  abbrev whole_schema : Schema
-  whole_schema = schema_with register_tables tables indexes views
+pub asks_migrated : IsQuestion (tables_of Third) all_migrated (by_key 9 (0 ∷ 2 ∷ [])) []
+unfolding understood everything
+asks_migrated =
+    question refl (λ tables indexes views. record {
+      names = codes "id" ∷ codes "last" ∷ [];
+      is = refl;
+      plain = (refl, refl);
+      listing = refl;
+      tail = le_refl _;
+      named = refl;
+      typed = refl;
+    }) (λ db. calm_table 9 [] (columns (0 ∷ 2 ∷ [])) (by_each (col 1 0 ∷ [])) db [])
 
-  amends_text : Asks whole_schema all_amends (one_table 10 [] (columns (0 ∷ 2 ∷ [])) (by_each (col 1 0 ∷ [])))
-  unfolding understood everything
-  amends_text = record { names = codes "seq" ∷ codes "target" ∷ []; is = refl; plain = (refl, refl); listing = refl }
+pub asks_amends : IsQuestion (tables_of Fourth) all_amends (by_key 10 (0 ∷ 2 ∷ [])) []
+unfolding understood everything
+asks_amends =
+    question refl (λ tables indexes views. record {
+      names = codes "seq" ∷ codes "target" ∷ [];
+      is = refl;
+      plain = (refl, refl);
+      listing = refl;
+      tail = le_refl _;
+      named = refl;
+      typed = refl;
+    }) (λ db. calm_table 10 [] (columns (0 ∷ 2 ∷ [])) (by_each (col 1 0 ∷ [])) db [])
 
-  received_text : Asks whole_schema all_received (one_table 11 [] (columns (0 ∷ 2 ∷ [])) (by_each (col 1 0 ∷ [])))
-  unfolding understood everything
-  received_text = record { names = codes "seq" ∷ codes "moment" ∷ []; is = refl; plain = (refl, refl); listing = refl }
+pub asks_received : IsQuestion register_tables all_received (by_key 11 (0 ∷ 2 ∷ [])) []
+unfolding understood everything
+asks_received =
+    question refl (λ tables indexes views. record {
+      names = codes "seq" ∷ codes "moment" ∷ [];
+      is = refl;
+      plain = (refl, refl);
+      listing = refl;
+      tail = le_refl _;
+      named = refl;
+      typed = refl;
+    }) (λ db. calm_table 11 [] (columns (0 ∷ 2 ∷ [])) (by_each (col 1 0 ∷ [])) db [])
 
--- what these tables make of a text holds of any schema that begins with them
-pub on_begun : (ours : List Table) (text : List ℕ) (q : Query)
-    → ((tables : List Table) (indexes : List Index) (views : List View)
-    → Asks (schema_with ours tables indexes views) text q) → (s : Schema) → BeginsWith ours s → Asks s text q
-on_begun ours text q asks s d = subst (λ t. Asks t text q) (sym d.is) (asks d.tables d.indexes d.views)
-
-pub asks_amends : (s : Schema) → IsDeclared s
-    → Asks s all_amends (one_table 10 [] (columns (0 ∷ 2 ∷ [])) (by_each (col 1 0 ∷ [])))
-asks_amends = on_begun register_tables _ _ amends_text
-
-pub asks_received : (s : Schema) → IsDeclared s
-    → Asks s all_received (one_table 11 [] (columns (0 ∷ 2 ∷ [])) (by_each (col 1 0 ∷ [])))
-asks_received = on_begun register_tables _ _ received_text
-
--- the same of any schema that begins with the tables of every form
+-- what the tables of every form make of a text holds of any schema that begins with them
 pub on_ours : (text : List ℕ) (q : Query) → ((tables : List Table) (indexes : List Index) (views : List View)
     → Asks (schema_with common_tables tables indexes views) text q) → (s : Schema) → HasCommon s → Asks s text q
-on_ours = on_begun common_tables
-
-pub asks_meta : (s : Schema) → HasCommon s
-    → Asks s all_meta (one_table 0 [] (columns (0 ∷ 2 ∷ 3 ∷ [])) (by_each (col 1 0 ∷ [])))
-asks_meta = on_ours _ _ meta_text
-
-pub asks_kept : (s : Schema) → HasCommon s
-    → Asks s all_kept (one_table 1 [] (columns (0 ∷ 2 ∷ 3 ∷ 4 ∷ 5 ∷ [])) (by_each (col 1 0 ∷ [])))
-asks_kept = on_ours _ _ kept_text
+on_ours text q = on_begun common_tables (λ s. Asks s text q)

@@ -1,6 +1,6 @@
 -- What an opening reads, and why a database is not opened.
 use Rattle.std.specs.Prelude.{◌≡◌, ◌≢◌, ◌⊎◌, ◌≤◌, ◌^◌, ℕ, false, List, [], ◌∷◌, length, Option, Some, None, MatchOption}
-use Rattle.std.specs.Prelude.{Result, Ok, IfOk, IfErr, IfSome, IsSomeAnd, OnOk}
+use Rattle.std.specs.Prelude.{Result, IfOk, IfErr, IfSome, IsSomeAnd, OnOk}
 use Rattle.sqlite.specs.Order.{Row}
 use Rattle.sqlite.specs.Effect.{Database}
 use Rattle.sqlite.specs.Schema.{Schema}

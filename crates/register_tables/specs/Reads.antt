@@ -1,6 +1,6 @@
 -- What the SELECTs of an opening read.
 use Rattle.std.specs.Prelude.{◌≡◌, ◌≢◌, ◌⊎◌, ◌<◌, Bool, true, ℕ, pos, ◌&&◌, List, [], ◌∷◌, length, filter, None, IsTrue}
-use Rattle.std.specs.Prelude.{Result, Ok, IfOk, IfErr, OnOk}
+use Rattle.std.specs.Prelude.{◌^◌, ◌-◌, Option, Some, Result, Ok, IfOk, IfErr, IfSome, OnOk}
 use Rattle.sqlite.specs.declared.types.Value.TheVariants.{Int, Text}
 use Rattle.sqlite.specs.Collation.TheVariants.{Binary}
 use Rattle.sqlite.specs.Order.{Row, column}
@@ -11,7 +11,7 @@ use Rattle.sqlite.specs.Effect.{Database}
 use Rattle.sqlite.specs.Held.{Held, state}
 use Rattle.sqlite.specs.Listing.{understood}
 use Rattle.sqlite.specs.Schema.{Schema}
-use Rattle.sqlite.specs.State.{State, HasCleanDisk, Fails, FailsToQuery}
+use Rattle.sqlite.specs.State.{State, HasCleanDisk, Fails, FailsToQuery, Shown}
 use Rattle.sqlite.specs.Store.{Ghosts}
 use Rattle.sqlite.specs.Table.{Table}
 use Rattle.sqlite.specs.declared.error.Error.{Error}
@@ -77,6 +77,13 @@ pub record CanBeRead (schema : Schema) : Type 0 where
 -- if the disk is clean at the end, a refusal is the failure of this text, which has no parameter
 abbrev pub FailsOnErr : {X : Type 0} → List ℕ → State → State → Result X Error → Type 0
 FailsOnErr text old new result = HasCleanDisk new → IfErr result (FailsToQuery text [] old new)
+
+-- the text counts so many rows, or more than the greatest count if there is none
+pub record IsCounted (text : List ℕ) (old new : State) (found : Option ℕ) : Type 0 where
+  pub rows : List Row
+  pub shown : Shown text [] old new rows
+  pub value : IfSome found (λ count. (count < 2 ^ 63 - 1) × (rows ≡ (Int (pos count) ∷ []) ∷ []))
+  pub complete : (count : ℕ) → count < 2 ^ 63 - 1 → rows ≡ (Int (pos count) ∷ []) ∷ [] → found ≡ Some count
 
 -- the columns `filer` and `idem` of `kept` equal these texts, as SQL compares
 abbrev pub has_texts : List ℕ → List ℕ → Row → Bool

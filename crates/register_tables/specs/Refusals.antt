@@ -1,4 +1,4 @@
--- What a refusal says of the connection that it gives back, and what is left to say of one that it gives up.
+-- What a refusal says of the connection that it gives back.
 use Rattle.std.specs.Prelude.{◌≡◌, ◌≢◌, ◌⊎◌, ℕ, false, List, None}
 use Rattle.sqlite.specs.Store.{Ghosts}
 use Rattle.sqlite.specs.Held.{Held, state}
@@ -17,8 +17,6 @@ use Rattle.register_tables.specs.Making.{making}
 use Rattle.register_tables.specs.Migrating.{IsNotMigrated, MigratesTo}
 use Rattle.register_tables.specs.Opening.{IsRefused}
 use Rattle.register_tables.specs.Registers.{ForRows}
-
--- ---- the connection comes back
 
 -- No register was made, and the connection comes back as one that may be used again: what is written is what was
 -- committed. A fault other than Taken has its cause in a statement or in the commit.
@@ -62,16 +60,3 @@ pub record GivesBackMigrating {S : Type 0} (g : Ghosts S) (conn : Held S) (fault
   -- if the fault is one of the database.
   pub crash : Survives (state g conn) (state g back) (MigratesTo g conn)
   pub unwritten : IsFailure fault ⊎ CommitsNothing (state g conn) (state g back)
-
--- ---- the connection is given up
-
--- No clause can name the last state of a connection that is given up: this says that some such state is its last. The
--- calls that give the connection back say it of the one that comes back.
-abbrev pub GivesUpMaking : {S : Type 0} → Ghosts S → Held S → CreateFault → Type 0
-GivesUpMaking {S} g conn fault = (last : Held S) × GivesBackMaking g conn fault last
-
-abbrev pub GivesUpOpening : {S : Type 0} → Ghosts S → Held S → OpenFault → Type 0
-GivesUpOpening {S} g conn fault = (last : Held S) × GivesBackOpening g conn fault last
-
-abbrev pub GivesUpMigrating : {S : Type 0} → Ghosts S → Held S → OpenFault → Type 0
-GivesUpMigrating {S} g conn fault = (last : Held S) × GivesBackMigrating g conn fault last

@@ -16,6 +16,8 @@ pub mod CleanLemmas
 pub mod FileLemmas
 pub mod TextLemmas
 pub mod StopLemmas
+pub mod CountLemmas
+pub mod QuestionLemmas
 pub mod TakeLemmas
 pub mod BeforeLemmas
 pub mod LeavingLemmas

@@ -31,7 +31,7 @@ one_table tree test project order = record {
   offset = lit (Int (pos 0));
 }
 
-flat_if : {A B : Type 0} (p : A → Bool) (f : A → B) (xs : List A)
+pub flat_if : {A B : Type 0} (p : A → Bool) (f : A → B) (xs : List A)
     → flat_map (λ x. if p x then f x ∷ [] else []) xs ≡ map f (filter p xs)
 flat_if p f [] = refl
 flat_if p f (x ∷ xs) =
@@ -55,7 +55,7 @@ map-same f g same [] = refl
 map-same f g same (x ∷ xs) = rw (same x) (ap (λ l. g x ∷ l) (map-same f g same xs))
 
 -- a filter before a map is one after it
-filter-map : {A B : Type 0} (f : A → B) (p : A → Bool) (q : B → Bool) → ((x : A) → p x ≡ q (f x)) → (xs : List A)
+pub filter-map : {A B : Type 0} (f : A → B) (p : A → Bool) (q : B → Bool) → ((x : A) → p x ≡ q (f x)) → (xs : List A)
     → map f (filter p xs) ≡ filter q (map f xs)
 filter-map f p q same [] = refl
 filter-map f p q same (x ∷ xs) =

@@ -3,6 +3,7 @@ pub mod Tables
 pub mod Rows
 pub mod Reading
 pub mod Standing
+pub mod Giving
 pub mod Files
 pub mod Picking
 pub mod Queries

@@ -10,5 +10,5 @@ pub returns-in_ok-create-in-Ok-clause-empty : goal.returns-in_ok-create-in-Ok-cl
 unfolding firsts
 returns-in_ok-create-in-Ok-clause-empty c =
     let none : (state over_memory c.in-Ok.conn).now.schema ≡ no_schema = search (rules) in
-    c.new.ensures.holds [] refl (c.in_ok-create-in-Ok.ensures.made (memory_is_clean c.in_ok-create-in-Ok.field-0.conn)
-    none)
+    let made = c.in_ok-create-in-Ok.ensures.outcome.made in
+    c.new.ensures.holds [] refl (made (memory_is_clean c.in_ok-create-in-Ok.field-0.conn) none)

@@ -2,7 +2,6 @@ use Rattle.std.proofs.Common.{refl, sym, subst, not, ap, ◌∙◌, inl, inr, Er
 use Rattle.sqlite.specs.Held.{state}
 use Rattle.outbox_tables.specs.Entries.{empty}
 use Rattle.outbox_tables.specs.Rows.{IsOutboxOf}
-use Rattle.outbox_core.specs.Refusals.{GivesBackMaking}
 use Rattle.outbox_core.proofs.outbox.Outbox.create_or_back.Goals as goal
 
 pub returns-in-Ok : goal.returns-in-Ok
@@ -28,7 +27,6 @@ returns-in-Ok g c = record {
     taken = search rules;
     no_other = search rules;
     ran = c.in-Ok.ensures.ran;
-    refused = search rules;
     crash = search rules;
     durable =
         λ clean none. (
@@ -50,16 +48,6 @@ returns-in-Err g c =
     let kept = c.in-Err.ensures.undone in
     let settled =
     c.is_autocommit.ensures.settled (c.is_autocommit.ensures.value ∙ ap not c.make_outbox.ensures.autocommit) in
-    let back : GivesBackMaking g.S.Store c.args.filer.now c.args.conn c.in-Err.fault c.make_outbox.new.conn = record {
-      autocommit = c.make_outbox.ensures.autocommit;
-      unlimited = crash.limit ∙ c.requires.unlimited;
-      untouched =
-          λ which. c.in-Err.ensures.untouched (elim which
-          [ inl bad ↦ inl (ap Err bad) | inr taken ↦ inr (ap Err taken) ]);
-      same = λ clean. (kept clean, λ alive. settled alive ∙ (kept clean).committed alive);
-      why = c.in-Err.ensures.failed;
-      crash = crash;
-    } in
     record {
       outcome = record {
         made = search rules;
@@ -68,9 +56,17 @@ returns-in-Err g c =
         taken = search rules;
         no_other = search rules;
         ran = tt;
-        refused = (c.make_outbox.new.conn, back);
         crash = search rules;
         durable = search rules;
       };
-      back = back;
+      back = record {
+        autocommit = c.make_outbox.ensures.autocommit;
+        unlimited = crash.limit ∙ c.requires.unlimited;
+        untouched =
+            λ which. c.in-Err.ensures.untouched (elim which
+            [ inl bad ↦ inl (ap Err bad) | inr taken ↦ inr (ap Err taken) ]);
+        same = λ clean. (kept clean, λ alive. settled alive ∙ (kept clean).committed alive);
+        why = c.in-Err.ensures.failed;
+        crash = crash;
+      };
     }

@@ -1,8 +1,9 @@
-use Rattle.std.proofs.Common.{◌≡◌, subst, rules}
-use Rattle.outbox_core.specs.HandedOut.{HandsOutMigrated, without_conn}
+use Rattle.std.proofs.Common.{◌≡◌, rules}
+use Rattle.table_rows.specs.Giving.{without_conn}
+use Rattle.table_rows.proofs.ResultLemmas.{gives_up}
 use Rattle.outbox_core.proofs.outbox.Outbox.migrate.Goals as goal
 
 pub returns : goal.returns
 returns g c =
     let same : without_conn c.migrate_or_back.result ≡ c.map_err.result = search rules in
-    subst (HandsOutMigrated g.S.Store c.args.conn) same c.migrate_or_back.ensures.outcome
+    gives_up c.migrate_or_back.result c.map_err.result same c.migrate_or_back.ensures

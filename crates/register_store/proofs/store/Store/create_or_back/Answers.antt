@@ -1,7 +1,6 @@
 use Rattle.std.proofs.Common.{refl, sym, ◌∙◌, rules, arith}
 use Rattle.sqlite.specs.Held.{state}
 use Rattle.sqlite.proofs.StateLemmas.{survives_weaker}
-use Rattle.register_tables.specs.Refusals.{GivesBackMaking}
 use Rattle.register_tables.proofs.Making.{none_registered, leaves_empty}
 use Rattle.register_store.proofs.StoreLemmas.{none_listed}
 use Rattle.register_store.proofs.store.Store.create_or_back.Goals as goal
@@ -25,7 +24,6 @@ returns-in-Ok g c = record {
         };
     counts = search rules;
     taken = search rules;
-    refused = search rules;
     crash = survives_weaker (state g.S.Store c.args.conn) (state g.S.Store c.make_register.new.conn) _ _
         (λ _ trees made. leaves_empty g.S.Store c.args.conn trees made) c.make_register.ensures.makes.crash;
     durable = search rules;
@@ -36,21 +34,19 @@ returns-in-Ok g c = record {
 pub returns-in-Err : goal.returns-in-Err
 returns-in-Err g c =
     let crash = c.make_register.ensures.makes.crash in
-    let back : GivesBackMaking g.S.Store c.args.conn c.in-Err.fault c.make_register.new.conn = record {
-      autocommit = c.make_register.ensures.makes.autocommit;
-      unlimited = crash.limit ∙ c.requires.unlimited;
-      same = c.in-Err.ensures.makes.neither;
-      why = c.in-Err.ensures.failed;
-      crash = crash;
-    } in
     record {
       outcome = record {
         made = search rules;
         counts = search rules;
         taken = search rules;
-        refused = (c.make_register.new.conn, back);
         crash = search rules;
         durable = search rules;
       };
-      back = back;
+      back = record {
+        autocommit = c.make_register.ensures.makes.autocommit;
+        unlimited = crash.limit ∙ c.requires.unlimited;
+        same = c.in-Err.ensures.makes.neither;
+        why = c.in-Err.ensures.failed;
+        crash = crash;
+      };
     }

@@ -1,6 +1,6 @@
-use Rattle.std.proofs.Common.{◌+◌, ◌-◌, ap, sym, ◌∙◌, arith, rules}
-use Rattle.sqlite.specs.Held.{state}
-use Rattle.register_rows.specs.Catalogue.{view_lines}
+use Rattle.std.proofs.Common.{◌+◌, ◌-◌, ℕ, List, ap, sym, ◌∙◌, arith, rules}
+use Rattle.sqlite.specs.Held.{Held, state}
+use Rattle.register_rows.specs.Catalogue.{Entry, view_lines}
 use Rattle.register_store.specs.Store.{StoreParts}
 use Rattle.register_store.proofs.AddsSeveral.{crash_all, crash_with, dates_none, durable_all, durable_with, filings_all}
 use Rattle.register_store.proofs.AddsSeveral.{keeps_none, kept_all, moments_kept, moments_stand, placed_first}
@@ -9,19 +9,16 @@ use Rattle.register_store.proofs.SeveralLemmas.{past_least, past_most}
 use Rattle.register_store.proofs.StoreLemmas.{has_dated, has_kept, refused_so}
 use Rattle.register_store.proofs.store.Store.keep.Goals as goal
 
+abbrev parts : {S : Type 0} → Held S → ℕ → ℕ → ℕ → List Entry → StoreParts S
+parts conn kept filings old_style catalogue =
+    record { conn = conn; kept = kept; filings = filings; old_style = old_style; catalogue = catalogue }
+
 pub returns-clause-keeps : goal.returns-clause-keeps
 returns-clause-keeps g c =
     let rows = c.args.rows.now in
     let may = c.requires.rows in
-    let store : StoreParts _ =
-    record {
-      conn = c.self.inside.conn;
-      kept = c.self.inside.kept;
-      filings = c.self.inside.filings;
-      old_style =
-          c.self.inside.old_style;
-      catalogue = view_lines c.self.inside.catalogue;
-    } in
+    let it = c.self.inside in
+    let store = parts it.conn it.kept it.filings it.old_style (view_lines it.catalogue) in
     record {
       added = λ clean F.
           rw (← c.self.view_is) (λ was fresh.
@@ -52,15 +49,8 @@ returns-clause-keeps g c =
 pub returns-in_err-next-clause-keeps : goal.returns-in_err-next-clause-keeps
 returns-in_err-next-clause-keeps g c =
     let rows = c.args.rows.now in
-    let store : StoreParts _ =
-    record {
-      conn = c.self.inside.conn;
-      kept = c.self.inside.kept;
-      filings = c.self.inside.filings;
-      old_style =
-          c.self.inside.old_style;
-      catalogue = view_lines c.self.inside.catalogue;
-    } in
+    let it = c.self.inside in
+    let store = parts it.conn it.kept it.filings it.old_style (view_lines it.catalogue) in
     record {
       added = λ clean F has fresh. search rules;
       same = λ clean F. rw (← c.self.view_is) (λ had.
@@ -85,15 +75,8 @@ pub returns-clause-moments : goal.returns-clause-moments
 returns-clause-moments g c =
     let rows = c.args.rows.now in
     let may = c.requires.rows in
-    let store : StoreParts _ =
-    record {
-      conn = c.self.inside.conn;
-      kept = c.self.inside.kept;
-      filings = c.self.inside.filings;
-      old_style =
-          c.self.inside.old_style;
-      catalogue = view_lines c.self.inside.catalogue;
-    } in
+    let it = c.self.inside in
+    let store = parts it.conn it.kept it.filings it.old_style (view_lines it.catalogue) in
     record {
       added = λ clean F. rw (← c.self.view_is) (λ was moments had. record {
         stands = moments_stand g.S.Store store rows may F moments was had (state g.S.Store c.keep_all.new.conn)
@@ -111,15 +94,8 @@ returns-clause-moments g c =
 
 pub returns-in_err-next-clause-moments : goal.returns-in_err-next-clause-moments
 returns-in_err-next-clause-moments g c =
-    let store : StoreParts _ =
-    record {
-      conn = c.self.inside.conn;
-      kept = c.self.inside.kept;
-      filings = c.self.inside.filings;
-      old_style =
-          c.self.inside.old_style;
-      catalogue = view_lines c.self.inside.catalogue;
-    } in
+    let it = c.self.inside in
+    let store = parts it.conn it.kept it.filings it.old_style (view_lines it.catalogue) in
     record {
       added = λ clean F was moments had. search rules;
       same = λ clean F. rw (← c.self.view_is) (λ was moments had.

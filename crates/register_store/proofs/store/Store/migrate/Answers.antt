@@ -1,13 +1,9 @@
-use Rattle.std.proofs.Common.{rules}
+use Rattle.std.proofs.Common.{◌≡◌, rules}
+use Rattle.table_rows.specs.Giving.{without_conn}
+use Rattle.table_rows.proofs.ResultLemmas.{gives_up}
 use Rattle.register_store.proofs.store.Store.migrate.Goals as goal
 
 pub returns : goal.returns
-returns g c = record {
-  migrated = search rules;
-  only = search rules;
-  current = search rules;
-  refused = search rules;
-  crash = search rules;
-  durable = search rules;
-  undated = search rules;
-}
+returns g c =
+    let same : without_conn c.migrate_or_back.result ≡ c.map_err.result = search rules in
+    gives_up c.migrate_or_back.result c.map_err.result same c.migrate_or_back.ensures

@@ -4,7 +4,6 @@ use Rattle.sqlite.specs.Held.{state}
 use Rattle.sqlite.proofs.StateLemmas.{survives_weaker}
 use Rattle.table_rows.specs.Standing.{HasCommitted}
 use Rattle.register_rows.specs.Received.{Received}
-use Rattle.register_tables.specs.Refusals.{GivesBackMigrating}
 use Rattle.register_tables.specs.Registers.{IsRegisterOf}
 use Rattle.register_tables.proofs.Surveyed.{old_style_within, leaves_migrated}
 use Rattle.register_store.proofs.store.Store.migrate_or_back.Goals as goal
@@ -39,7 +38,6 @@ returns-in-Ok g c = record {
           },
         );
     current = c.in-Ok.ensures.current;
-    refused = search rules;
     crash = survives_weaker (state g.S.Store c.args.conn) (state g.S.Store c.migrate_register.new.conn) _ _
         (λ _ trees m form old_style F alone is. leaves_migrated g.S.Store c.args.conn trees m form old_style F alone is)
         c.migrate_register.ensures.crash;
@@ -60,24 +58,22 @@ returns-in-Ok g c = record {
 pub returns-in-Err : goal.returns-in-Err
 returns-in-Err g c =
     let crash = c.migrate_register.ensures.crash in
-    let back : GivesBackMigrating g.S.Store c.args.conn c.in-Err.refusal c.migrate_register.new.conn = record {
-      autocommit = c.migrate_register.ensures.autocommit;
-      unlimited = crash.limit ∙ c.requires.unlimited;
-      same = c.in-Err.ensures.neither;
-      why = c.in-Err.ensures.refused;
-      sound = c.in-Err.ensures.sound;
-      crash = crash;
-      unwritten = c.in-Err.ensures.unwritten;
-    } in
     record {
       outcome = record {
         migrated = search rules;
         only = search rules;
         current = search rules;
-        refused = (c.migrate_register.new.conn, back);
         crash = search rules;
         durable = search rules;
         undated = search rules;
       };
-      back = back;
+      back = record {
+        autocommit = c.migrate_register.ensures.autocommit;
+        unlimited = crash.limit ∙ c.requires.unlimited;
+        same = c.in-Err.ensures.neither;
+        why = c.in-Err.ensures.refused;
+        sound = c.in-Err.ensures.sound;
+        crash = crash;
+        unwritten = c.in-Err.ensures.unwritten;
+      };
     }

@@ -1,6 +1,5 @@
 use Rattle.std.proofs.Common.{◌≤◌, length, not, ap, sym, ◌∙◌, subst, rules}
 use Rattle.table_rows.specs.Standing.{HasCommitted}
-use Rattle.register_tables.specs.Refusals.{GivesBackOpening}
 use Rattle.register_tables.specs.Registers.{IsRegisterOf}
 use Rattle.sqlite.specs.Held.{state}
 use Rattle.register_store.proofs.StoreLemmas.{leaves}
@@ -38,7 +37,6 @@ returns-in-Ok g c = record {
         );
     says = c.in-Ok.ensures.says;
     same = search rules;
-    refused = search rules;
     crash = search rules;
     durable = λ clean old_style F is.
         let alive = (c.in-Ok.ensures.same clean).0.is_open in
@@ -56,28 +54,26 @@ returns-in-Err g c =
     let kept = c.in-Err.ensures.keeps in
     let settled =
     c.is_autocommit.ensures.settled (c.is_autocommit.ensures.value ∙ ap not c.read_register.ensures.mode) in
-    let back : GivesBackOpening g.S.Store c.args.conn c.in-Err.fault c.read_register.new.conn = record {
-      autocommit = c.read_register.ensures.mode;
-      unlimited = c.read_register.ensures.survives.limit ∙ c.requires.unlimited;
-      same = λ clean. record {
-        was_open = (kept clean).was_open;
-        now =
-            λ alive. settled alive ∙ (kept clean).committed alive;
-        committed = (kept clean).committed;
-      };
-      why = c.in-Err.ensures.refused;
-      sound = c.in-Err.ensures.sound;
-      crash = c.read_register.ensures.survives;
-    } in
     record {
       outcome = record {
         opened = search rules;
         only = search rules;
         says = tt;
         same = search rules;
-        refused = (c.read_register.new.conn, back);
         crash = search rules;
         durable = search rules;
       };
-      back = back;
+      back = record {
+        autocommit = c.read_register.ensures.mode;
+        unlimited = c.read_register.ensures.survives.limit ∙ c.requires.unlimited;
+        same = λ clean. record {
+          was_open = (kept clean).was_open;
+          now =
+              λ alive. settled alive ∙ (kept clean).committed alive;
+          committed = (kept clean).committed;
+        };
+        why = c.in-Err.ensures.refused;
+        sound = c.in-Err.ensures.sound;
+        crash = c.read_register.ensures.survives;
+      };
     }

@@ -4,7 +4,7 @@ use Rattle.sqlite.specs.Held.{state}
 use Rattle.sqlite.specs.State.{HasCleanDisk}
 use Rattle.table_rows.proofs.LeavingLemmas.{asked_then, clean_before}
 use Rattle.register_tables.specs.Reads.{IsKnown}
-use Rattle.register_tables.proofs.PickTexts.{facts_numbered_text, filings_of_text, findings_at_text}
+use Rattle.register_tables.specs.declared.select.picks.TheConstants.{FACTS_NUMBERED, FILINGS_OF, FINDINGS_AT}
 use Rattle.register_tables.proofs.opening.walk.try_tables.Goals as goal
 
 pub returns-clause-known : goal.returns-clause-known
@@ -20,10 +20,10 @@ returns-clause-known g c clean =
     let third = asked_then second c.in_ok-filings_of.ensures.asks.leaves in
     record {
       kept = c.in_ok-kept_at.ensures.known one;
-      finding = subst (λ (db : Database). IsKnown db.schema findings_at_text) (first.left one).0.now_is
+      finding = subst (λ (db : Database). IsKnown db.schema FINDINGS_AT.now) (first.left one).0.now_is
           (c.in_ok-findings_at.ensures.known two);
-      filing = subst (λ (db : Database). IsKnown db.schema filings_of_text) (second.left two).0.now_is
+      filing = subst (λ (db : Database). IsKnown db.schema FILINGS_OF.now) (second.left two).0.now_is
           (c.in_ok-filings_of.ensures.known three);
-      fact = subst (λ (db : Database). IsKnown db.schema facts_numbered_text) (third.left three).0.now_is
+      fact = subst (λ (db : Database). IsKnown db.schema FACTS_NUMBERED.now) (third.left three).0.now_is
           (c.in_ok-facts_numbered.ensures.known clean);
     }

@@ -1,9 +1,8 @@
-use Rattle.std.proofs.Common.{◌≡◌, ◌∙◌, ◌∷◌, [], length, Err, rules}
+use Rattle.std.proofs.Common.{◌≡◌, ◌∙◌, length, Err, rules}
 use Rattle.sqlite.specs.Held.{state}
-use Rattle.sqlite.specs.declared.types.Value.TheVariants.{Text}
-use Rattle.register_tables.proofs.PickTexts.{with_key_text, query_with_key, asks_with_key, calm_with_key}
-use Rattle.register_tables.proofs.PickTexts.{takes_with_key}
-use Rattle.register_tables.proofs.PickLemmas.{counts_with_key, not_selected}
+use Rattle.register_tables.proofs.PickTexts.{asks_with_key}
+use Rattle.register_tables.proofs.PickLemmas.{counts_with_key}
+use Rattle.register_tables.proofs.Questions.{not_asked}
 use Rattle.register_tables.proofs.select.picks.count_with_key.Goals as goal
 
 pub returns : goal.returns
@@ -19,11 +18,9 @@ returns g c = record {
 pub returns-in_err-rows : goal.returns-in_err-rows
 returns-in_err-rows g c =
     let told : c.from_residual.result ≡ Err c.in_err-rows.field-0.0 = search rules in
-    rw told (not_selected g.S.Store c.args.conn.now c.select.new.conn with_key_text
-    (Text c.args.filer.now ∷ Text c.args.key.now ∷ []) _ asks_with_key (takes_with_key c.args.filer.now c.args.key.now)
-    (calm_with_key (Text c.args.filer.now ∷ Text c.args.key.now ∷ [])) _ c.in_err-rows.field-0.0
-    c.in_err-rows.ensures.failed
+    rw told (not_asked g.S.Store c.args.conn.now c.select.new.conn
+    (asks_with_key c.args.filer.now c.args.key.now) (λ d. d) c.in_err-rows.field-0.0 c.in_err-rows.ensures.failed
     c.in_err-rows.ensures.leaves)
 
 pub select-requires : goal.select-requires
-select-requires g c = query_with_key
+select-requires g c = (asks_with_key c.args.filer.now c.args.key.now).reads

@@ -1,35 +1,23 @@
-use Rattle.std.proofs.Common.{pos, [], ◌∷◌, arith, w64}
-use Rattle.std.proofs.lemmas.Int.{to_z-of_z}
 use Rattle.sqlite.specs.Held.{state}
-use Rattle.sqlite.specs.declared.types.Value.TheVariants.{Int}
-use Rattle.register_tables.proofs.PickTexts.{query_facts_numbered, asks_facts_numbered, calm_facts_numbered}
-use Rattle.register_tables.proofs.PickTexts.{facts_numbered_text, takes_facts_numbered}
-use Rattle.register_tables.proofs.PickLemmas.{picks_facts_numbered, asks_ours, knows_on_ok}
+use Rattle.register_tables.specs.declared.select.picks.TheConstants.{FACTS_NUMBERED}
+use Rattle.register_tables.proofs.PickTexts.{asks_facts_numbered}
+use Rattle.register_tables.proofs.PickLemmas.{knows_on_ok, picks_facts_numbered}
+use Rattle.register_tables.proofs.Questions.{asks_ours}
 use Rattle.register_tables.proofs.select.picks.facts_numbered.Goals as goal
 
 pub returns-clause-asks : goal.returns-clause-asks
 returns-clause-asks g c =
-    asks_ours g.S.Store c.args.conn.now c.select.new.conn _ (Int (pos c.args.number) ∷ []) _ asks_facts_numbered
-    (takes_facts_numbered c.args.number) (calm_facts_numbered (Int (pos c.args.number) ∷ []))
-    (λ rows. rows.items) _ c.select.result
-    (λ d rows h. picks_facts_numbered (state g.S.Store c.args.conn.now) (state g.S.Store c.select.new.conn) d rows.items
+    let new = c.numbered.new.conn in
+    asks_ours g.S.Store c.args.conn.now new (asks_facts_numbered c.args.number) (λ d. d) c.numbered.result
+    (λ d rows h. picks_facts_numbered (state g.S.Store c.args.conn.now) (state g.S.Store new) d rows.items
     c.args.number h)
-    (λ clean. rw (
-      c.params-to_sql.ensures,
-      to_z-of_z w64 (pos c.args.number)
-          (record { sfits = omega (arith, c.requires) }),
-    ) at c.select.ensures.shown clean)
-    (λ clean. rw (
-      c.params-to_sql.ensures,
-      to_z-of_z w64 (pos c.args.number)
-          (record { sfits = omega (arith, c.requires) }),
-    ) at c.select.ensures.failed clean)
-    c.select.ensures.leaves
+    c.numbered.ensures.shown c.numbered.ensures.failed c.numbered.ensures.leaves
 
 pub returns-clause-known : goal.returns-clause-known
 returns-clause-known g c clean =
-    knows_on_ok facts_numbered_text _ (state g.S.Store c.args.conn.now) (state g.S.Store c.select.new.conn)
-    c.select.result (c.select.ensures.shown clean)
+    let new = c.numbered.new.conn in
+    knows_on_ok FACTS_NUMBERED.now _ (state g.S.Store c.args.conn.now) (state g.S.Store new) c.numbered.result
+    (c.numbered.ensures.shown clean)
 
-pub select-requires : goal.select-requires
-select-requires g c = query_facts_numbered
+pub numbered-requires-clause-text : goal.numbered-requires-clause-text
+numbered-requires-clause-text g c = (asks_facts_numbered c.args.number).reads

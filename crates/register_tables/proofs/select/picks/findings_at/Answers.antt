@@ -1,34 +1,22 @@
-use Rattle.std.proofs.Common.{pos, [], ◌∷◌, arith, w64}
-use Rattle.std.proofs.lemmas.Int.{to_z-of_z}
 use Rattle.sqlite.specs.Held.{state}
-use Rattle.sqlite.specs.declared.types.Value.TheVariants.{Int}
-use Rattle.register_tables.proofs.PickTexts.{query_findings_at, asks_findings_at, calm_findings_at, takes_findings_at}
-use Rattle.register_tables.proofs.PickTexts.{findings_at_text}
-use Rattle.register_tables.proofs.PickLemmas.{picks_findings_at, asks_ours, knows_on_ok}
+use Rattle.register_tables.specs.declared.select.picks.TheConstants.{FINDINGS_AT}
+use Rattle.register_tables.proofs.PickTexts.{asks_findings_at}
+use Rattle.register_tables.proofs.PickLemmas.{knows_on_ok, picks_findings_at}
+use Rattle.register_tables.proofs.Questions.{asks_ours}
 use Rattle.register_tables.proofs.select.picks.findings_at.Goals as goal
 
 pub returns-clause-asks : goal.returns-clause-asks
 returns-clause-asks g c =
-    asks_ours g.S.Store c.args.conn.now c.select.new.conn _ (Int (pos c.args.seq) ∷ []) _ asks_findings_at
-    (takes_findings_at c.args.seq) (calm_findings_at (Int (pos c.args.seq) ∷ [])) (λ rows. rows.items) _ c.select.result
-    (λ d rows h. picks_findings_at (state g.S.Store c.args.conn.now) (state g.S.Store c.select.new.conn) d rows.items
-    c.args.seq h)
-    (λ clean. rw (
-      c.params-to_sql.ensures,
-      to_z-of_z w64 (pos c.args.seq)
-          (record { sfits = omega (arith, c.requires) }),
-    ) at c.select.ensures.shown clean)
-    (λ clean. rw (
-      c.params-to_sql.ensures,
-      to_z-of_z w64 (pos c.args.seq)
-          (record { sfits = omega (arith, c.requires) }),
-    ) at c.select.ensures.failed clean)
-    c.select.ensures.leaves
+    let new = c.numbered.new.conn in
+    asks_ours g.S.Store c.args.conn.now new (asks_findings_at c.args.seq) (λ d. d) c.numbered.result
+    (λ d rows h. picks_findings_at (state g.S.Store c.args.conn.now) (state g.S.Store new) d rows.items c.args.seq h)
+    c.numbered.ensures.shown c.numbered.ensures.failed c.numbered.ensures.leaves
 
 pub returns-clause-known : goal.returns-clause-known
 returns-clause-known g c clean =
-    knows_on_ok findings_at_text _ (state g.S.Store c.args.conn.now) (state g.S.Store c.select.new.conn)
-    c.select.result (c.select.ensures.shown clean)
+    let new = c.numbered.new.conn in
+    knows_on_ok FINDINGS_AT.now _ (state g.S.Store c.args.conn.now) (state g.S.Store new) c.numbered.result
+    (c.numbered.ensures.shown clean)
 
-pub select-requires : goal.select-requires
-select-requires g c = query_findings_at
+pub numbered-requires-clause-text : goal.numbered-requires-clause-text
+numbered-requires-clause-text g c = (asks_findings_at c.args.seq).reads

@@ -1,6 +1,6 @@
 use Rattle.std.proofs.lemmas.Result.{IfOk-weaker}
 use Rattle.sqlite.specs.Held.{state}
-use Rattle.register_tables.proofs.ReadTexts.{query_kept}
+use Rattle.register_tables.proofs.ReadTexts.{asks_kept}
 use Rattle.register_tables.proofs.ReadLemmas.{reads_kept}
 use Rattle.register_tables.proofs.select.reads.kept_rows.Goals as goal
 
@@ -10,4 +10,4 @@ returns-clause-read g c clean knows =
     (state g.S.Store c.select.new.conn) knows rows.items h) (c.select.ensures.shown clean)
 
 pub select-requires : goal.select-requires
-select-requires g c = query_kept
+select-requires g c = asks_kept.reads

@@ -1,6 +1,6 @@
 use Rattle.std.proofs.lemmas.Result.{IfOk-weaker}
 use Rattle.sqlite.specs.Held.{state}
-use Rattle.register_tables.proofs.ReadTexts.{query_received}
+use Rattle.register_tables.proofs.ReadTexts.{asks_received}
 use Rattle.register_tables.proofs.ReadLemmas.{reads_received}
 use Rattle.register_tables.proofs.select.reads.received_rows.Goals as goal
 
@@ -10,4 +10,4 @@ returns-clause-read g c clean knows =
     (state g.S.Store c.select.new.conn) knows rows.items h) (c.select.ensures.shown clean)
 
 pub select-requires : goal.select-requires
-select-requires g c = query_received
+select-requires g c = asks_received.reads
