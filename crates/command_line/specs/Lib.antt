@@ -1,5 +1,4 @@
 pub mod Reading
-pub mod Reports
 pub mod Status
 pub mod Words
 pub mod Values

@@ -1,11 +1,11 @@
 -- What reading up to a length does, and why it fails. Own rules, over those of a reader. The first arguments are what
 -- contracts see of the reader: the bytes that it has left, and how many of its reads have failed.
-use Rattle.std.specs.Prelude.{◌≡◌, ℕ, zero, suc, ◌<◌, ◌≤◌, List, length, Option}
+use Rattle.std.specs.Prelude.{◌≡◌, ℕ, zero, suc, ◌+◌, ◌<◌, ◌≤◌, List, length, Option}
 use Rattle.std.specs.Io.KnownBytes.{Consumes, IsAtEnd}
 use Rattle.http_messages.specs.Reads.{max_reads}
 use Rattle.http_wire.specs.Device.{HasFailed}
 use Rattle.command_line.specs.declared.bytes.ReadFault.{ReadFault}
-use Rattle.command_line.specs.declared.bytes.ReadFault.TheVariants.{Read, ReadLimit, Memory}
+use Rattle.command_line.specs.declared.bytes.ReadFault.TheVariants.{Open, Read, ReadLimit, TooLarge, Memory}
 
 -- a read that did not fail gave one byte at least, and no more than is asked for at a time
 pub record GivesBytes {R : Type 0} (left : R → Option (List ℕ)) (failures : R → ℕ) (before after : R) : Type 0 where
@@ -33,14 +33,18 @@ pub record IsReadTooOften {R : Type 0} (left : R → Option (List ℕ)) (failure
 
 -- why less was read than is wanted: a read failed; or none failed, and all reads were made, or memory ran out
 abbrev pub IsReadFailure : {R : Type 0} → (R → Option (List ℕ)) → (R → ℕ) → ℕ → R → R → ReadFault → Type 0
+IsReadFailure left failures wanted before after (Open error) = ⊥
 IsReadFailure left failures wanted before after Read = HasFailed (failures before) (failures after)
 IsReadFailure left failures wanted before after ReadLimit = IsReadTooOften left failures wanted before after
+IsReadFailure left failures wanted before after TooLarge = ⊥
 IsReadFailure left failures wanted before after Memory = failures after ≡ failures before
 
 -- why one more read gave nothing; it is not made if as many were made as there may be
 abbrev pub IsNoRead : {R : Type 0} → (R → ℕ) → ℕ → R → R → ReadFault → Type 0
+IsNoRead failures made before after (Open error) = ⊥
 IsNoRead failures made before after Read = HasFailed (failures before) (failures after)
 IsNoRead failures made before after ReadLimit = (made ≡ max_reads) × (after ≡ before)
+IsNoRead failures made before after TooLarge = ⊥
 IsNoRead failures made before after Memory = failures after ≡ failures before
 
 -- these are all the bytes that were left, and at most this many
@@ -54,3 +58,10 @@ pub record IsLonger (before after : Option (List ℕ)) (most : ℕ) : Type 0 whe
   pub bytes : List ℕ
   pub given : Consumes before after bytes
   pub longer : most < length bytes
+
+-- why an input that may have this many bytes is not read whole: it has more, and no read failed; or reading failed
+-- before one byte more than that was read
+abbrev pub IsNotWhole : {R : Type 0} → (R → Option (List ℕ)) → (R → ℕ) → ℕ → R → R → ReadFault → Type 0
+IsNotWhole left failures most before after TooLarge =
+    IsLonger (left before) (left after) most × (failures after ≡ failures before)
+IsNotWhole left failures most before after why = IsReadFailure left failures (most + 1) before after why

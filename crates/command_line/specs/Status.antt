@@ -2,6 +2,8 @@
 use Rattle.std.specs.Prelude.{◌≡◌, ◌≢◌, ◌⊎◌, ℕ}
 use Rattle.clap.specs.declared.error.kind.ErrorKind.{ErrorKind}
 use Rattle.clap.specs.declared.error.kind.ErrorKind.TheVariants as kind
+use Rattle.command_line.specs.declared.bytes.ReadFault.{ReadFault}
+use Rattle.command_line.specs.declared.bytes.ReadFault.TheVariants as read
 use Rattle.command_line.specs.declared.fault.DatabaseFault.{DatabaseFault}
 use Rattle.command_line.specs.declared.fault.DatabaseFault.TheVariants as database
 use Rattle.command_line.specs.declared.fault.CommandFault.{CommandFault}
@@ -31,12 +33,21 @@ database_status database.Descriptors = 3
 database_status database.Full = 3
 database_status database.Disk = 3
 
+-- 2 for a report that is too large, and otherwise 3
+abbrev pub read_status : ReadFault → ℕ
+read_status (read.Open error) = 3
+read_status read.Read = 3
+read_status read.ReadLimit = 3
+read_status read.TooLarge = 2
+read_status read.Memory = 3
+
 -- 2 if the command line is at fault
 abbrev pub status_of : CommandFault → ℕ
 status_of command.NotText = 2
 status_of command.NoTask = 2
 status_of command.Filer = 2
 status_of (command.Database _ fault) = database_status fault
+status_of (command.Report _ fault) = read_status fault
 status_of command.Output = 3
 status_of command.Memory = 3
 

@@ -1,15 +1,16 @@
 //! Reading an input of bytes whole, up to a length.
 
-ghost use Rattle.std.specs.Prelude.{◌≡◌, ◌++◌, ◌+◌, ◌-◌, ◌^◌, ◌<◌, ◌≤◌, drop, slice_range, vec_len, None, IfSome, IfOk};
+ghost use Rattle.std.specs.Prelude.{◌≡◌, ◌++◌, ◌+◌, ◌-◌, ◌^◌, ◌<◌, ◌≤◌, drop, slice_range, vec_len, IfOk};
 ghost use Rattle.std.specs.Prelude.{IfErr, OnOk, Ok};
 ghost use Rattle.std.specs.Io.KnownBytes.{Consumes, IsAtEnd};
 ghost use Rattle.http_wire.specs.Device.{HasFailed};
 ghost use Rattle.http_messages.specs.Reads.{max_reads};
 ghost use Rattle.command_line.specs.declared.bytes.ReadFault.TheVariants.{Read, ReadLimit, Memory};
-ghost use Rattle.command_line.specs.Reading.{GivesBytes, IsReadFailure, IsNoRead, IsWhole, IsLonger};
+ghost use Rattle.command_line.specs.Reading.{GivesBytes, IsReadFailure, IsNoRead, IsWhole, IsNotWhole};
 
 use http_wire::{MAX_READS, Source};
 use std::alloc::{AllocError, Global};
+use std::io;
 use thiserror::Error;
 
 /// How many reads were made of an input.
@@ -37,14 +38,20 @@ impl Reads {
 const CHUNK: usize = 16_384;
 
 /// Why an input was not read up to its end or the length.
-#[derive(Clone, Copy, Debug, PartialEq, Eq, Error)]
+#[derive(Debug, Drop, Error)]
 pub enum ReadFault {
+    /// Its file was not opened.
+    #[error("{0}")]
+    Open(#[from] io::Error),
     /// The reader failed.
     #[error("it cannot be read")]
     Read,
     /// More than 4,194,304 reads were needed.
     #[error("it takes too many reads")]
     ReadLimit,
+    /// It has more bytes than it may have. The text is for a report.
+    #[error("the report has more than 1048576 bytes")]
+    TooLarge,
     /// No memory was left.
     #[error("out of memory")]
     Memory,
@@ -58,26 +65,36 @@ impl From<AllocError> for ReadFault {
     }
 }
 
-/// All bytes of a reader, if there are at most `most`; `None` if there are more, and then some of them
-/// are left.
+impl ReadFault {
+    ghost use Rattle.command_line.specs.Status.{read_status};
+
+    /// The status that a program ends with: 2 for a report that is too large, otherwise 3.
+    pub(crate) fn status(&self) -> u8
+        ensures { result ≡ read_status self.now }
+    {
+        match self {
+            ReadFault::TooLarge => 2,
+            ReadFault::Open(_) | ReadFault::Read | ReadFault::ReadLimit | ReadFault::Memory => 3,
+        }
+    }
+}
+
+/// All bytes of a reader, if there are at most `most`. If there are more, some of them are left.
 pub fn read_whole<R: Source>(
     alloc: Global,
     reader: &mut R,
     most: usize,
-) -> Result<Option<Vec<u8>>, ReadFault>
+) -> Result<Vec<u8>, ReadFault>
     requires { most < 2 ^ 64 - 1 }
-    ensures whole { IfOk result (λ found. IfSome found (λ bytes.
-        IsWhole (R.left reader.old) (R.left reader.new) most bytes.items)) }
-    ensures longer { result ≡ Ok None → IsLonger (R.left reader.old) (R.left reader.new) most }
+    ensures whole { IfOk result (λ bytes. IsWhole (R.left reader.old) (R.left reader.new) most bytes.items) }
     ensures fine { OnOk result (R.read_failures reader.new ≡ R.read_failures reader.old) }
-    ensures fault { IfErr result (IsReadFailure R.left R.read_failures (most + 1) reader.old reader.new) }
+    ensures fault { IfErr result (IsNotWhole R.left R.read_failures most reader.old reader.new) }
 {
     let bytes = read_up_to(alloc, reader, most + 1)?;
-    Ok(if bytes.len() > most {
-        None
-    } else {
-        Some(bytes)
-    })
+    if bytes.len() > most {
+        return Err(ReadFault::TooLarge);
+    }
+    Ok(bytes)
 }
 
 /// The bytes of a reader up to its end, or the first `most` of them. At most 4,194,304 reads are made, each of one byte

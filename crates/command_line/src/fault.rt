@@ -1,5 +1,6 @@
 //! Why a command is not done, in words and as a status.
 
+use crate::bytes::ReadFault;
 use crate::output::tell;
 use std::alloc::AllocError;
 use std::io::Write;
@@ -121,7 +122,7 @@ impl DatabaseFault {
 }
 
 /// Why a command is not done, whatever the program. Its text is one line.
-#[derive(Clone, Copy, Debug, Error)]
+#[derive(Debug, Drop, Error)]
 pub enum CommandFault<'a> {
     #[error("a word of the command line is not UTF-8")]
     NotText,
@@ -131,6 +132,8 @@ pub enum CommandFault<'a> {
     Filer,
     #[error("{file}: {fault}", file = OneLine(*.name))]
     Database { name: &'a str, fault: DatabaseFault },
+    #[error("{file}: {fault}", file = OneLine(*.name))]
+    Report { name: &'a str, fault: ReadFault },
     #[error("the output cannot be written")]
     Output,
     #[error("out of memory")]
@@ -153,12 +156,13 @@ impl CommandFault<'_> {
     ghost use Rattle.command_line.specs.Status.{status_of};
 
     /// The status that a program ends with: 1 for a database file that is not there or is no database, 2 for the
-    /// command line, 3 for a fault of memory, the disk or the output.
+    /// command line and a report that is too large, 3 for a fault of memory, the disk or the output.
     pub fn status(&self) -> u8
         ensures { result ≡ status_of self.now }
     {
         match self {
             CommandFault::Database { fault, .. } => fault.status(),
+            CommandFault::Report { fault, .. } => fault.status(),
             CommandFault::NotText | CommandFault::NoTask | CommandFault::Filer => 2,
             CommandFault::Output | CommandFault::Memory => 3,
         }

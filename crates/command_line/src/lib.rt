@@ -22,7 +22,7 @@ pub use options::{
 };
 pub use output::{DONE, refuse, show, tell};
 pub use patience::{Deadline, Patient, Waits};
-pub use report_file::{ReportFault, report};
+pub use report_file::report;
 pub use values::{
     is_set, number_of, number_of_16_bits, number_of_32_bits, read_number, value_of, values_of,
     wait_of,

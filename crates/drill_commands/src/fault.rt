@@ -16,7 +16,7 @@ use std::io::Write;
 use thiserror::Error;
 
 /// Why nothing is shown. Its text is one line.
-#[derive(Clone, Copy, Debug, Error)]
+#[derive(Debug, Drop, Error)]
 pub enum NotDone {
     #[error("{0}")]
     Command(#[from] CommandFault<'static>),

@@ -13,7 +13,7 @@ use crate::fault::NotDone;
 use crate::lines::shown;
 use crate::options;
 use crate::playing::played;
-use command_line::{DONE, read_whole, refuse, show, words};
+use command_line::{DONE, ReadFault, read_whole, refuse, show, words};
 use event_script::ScriptFault;
 use http_wire::{Device, Source};
 use schedule::{Durable, Honest, World};
@@ -31,8 +31,8 @@ fn read_bytes<R: Source>(alloc: Global, reader: &mut R) -> Result<Vec<u8>, NotDo
     ensures fault { IfErr result (IsNotRead R.left R.read_failures reader.old reader.new) }
 {
     match read_whole(alloc, reader, MAX_SCRIPT_LEN) {
-        Ok(Some(bytes)) => Ok(bytes),
-        Ok(None) => Err(NotDone::TooLong),
+        Ok(bytes) => Ok(bytes),
+        Err(ReadFault::TooLarge) => Err(NotDone::TooLong),
         Err(why) => Err(NotDone::Read(why)),
     }
 }
@@ -47,9 +47,9 @@ fn drill<D: Honest>(alloc: Global, bytes: &[u8]) -> Result<Vec<u8>, NotDone>
 }
 
 /// Says on a line of its own what is wrong with the line of a script that may not stand there.
-fn explain<E: Write>(fault: NotDone, script: &[u8], errors: &mut E) {
+fn explain<E: Write>(fault: &NotDone, script: &[u8], errors: &mut E) {
     if let NotDone::Script(ScriptFault::Unreadable { line }) = fault {
-        if let Some(complaint) = complaint(script, line) {
+        if let Some(complaint) = complaint(script, *line) {
             // Nothing is left to be done if this text can't be written either.
             let _ = writeln!(errors, "drill: {complaint}");
         }
@@ -63,7 +63,7 @@ fn tell<E: Write>(fault: NotDone, script: &[u8], errors: &mut E, explains: bool)
 {
     let status = fault.tell(errors);
     if explains {
-        explain(fault, script, errors);
+        explain(&fault, script, errors);
     }
     status
 }

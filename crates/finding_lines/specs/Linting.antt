@@ -5,9 +5,8 @@ use Rattle.std.specs.Io.KnownBytes.{Appends}
 use Rattle.std.specs.Result.{result_map_both}
 use Rattle.key_string.specs.Filer.{is_filer}
 use Rattle.command_line.specs.declared.fault.CommandFault.{CommandFault}
-use Rattle.command_line.specs.declared.fault.CommandFault.TheVariants.{Filer, Output}
-use Rattle.command_line.specs.declared.report_file.ReportFault.{ReportFault}
-use Rattle.command_line.specs.Reports.{report_status}
+use Rattle.command_line.specs.declared.fault.CommandFault.TheVariants.{Filer, Output, Report}
+use Rattle.command_line.specs.Status.{status_of}
 use Rattle.finding_lines.specs.Lines.{TellsOf}
 use Rattle.finding_lines.specs.declared.form.Form.{Form}
 use Rattle.xbrl_report.specs.Findings.{findings}
@@ -38,22 +37,27 @@ pub record FindsIn (form : Form) (filer file body : List ℕ) (out out' : Option
 
 -- A file that was looked at: its name, and the body that was read there, or why none was. No clause says which.
 abbrev pub Look : Type 0
-Look = List ℕ × Result (List ℕ) ReportFault
+Look = List ℕ × Result (List ℕ) CommandFault
 
 abbrev pub names_of : List Look → List (List ℕ)
 names_of looks = map (λ look. look.0) looks
 
+-- why the report in a file of this name was not read; the fault has the name
+abbrev pub IsUnread : List ℕ → CommandFault → Type 0
+IsUnread name (Report file why) = file.now ≡ name
+IsUnread name _ = ⊥
+
 -- the lines of the findings of a body that was read in a file are printed; if none was read, nothing is
-abbrev pub PrintsRead : Form → List ℕ → List ℕ → Result (List ℕ) ReportFault → Option (List ℕ) → Option (List ℕ)
+abbrev pub PrintsRead : Form → List ℕ → List ℕ → Result (List ℕ) CommandFault → Option (List ℕ) → Option (List ℕ)
     → Type 0
 PrintsRead form filer name (Ok body) out out' = PrintsFindings form name body (findings filer body) out out'
-PrintsRead form filer name (Err why) out out' = out' ≡ out
+PrintsRead form filer name (Err why) out out' = IsUnread name why × (out' ≡ out)
 
-abbrev pub is_found : List ℕ → Result (List ℕ) ReportFault → Bool
+abbrev pub is_found : List ℕ → Result (List ℕ) CommandFault → Bool
 is_found filer (Ok body) = has_any (findings filer body)
 is_found filer (Err why) = false
 
-abbrev pub fault_of : Result (List ℕ) ReportFault → List ReportFault
+abbrev pub fault_of : Result (List ℕ) CommandFault → List CommandFault
 fault_of (Ok body) = []
 fault_of (Err why) = why ∷ []
 
@@ -70,7 +74,7 @@ have_any filer [] = false
 have_any filer (look ∷ looks) = is_found filer look.1 || have_any filer looks
 
 -- why the others were not read, in order
-abbrev pub unread_of : List Look → List ReportFault
+abbrev pub unread_of : List Look → List CommandFault
 unread_of [] = []
 unread_of (look ∷ looks) = fault_of look.1 ++ unread_of looks
 
@@ -79,7 +83,7 @@ unread_of (look ∷ looks) = fault_of look.1 ++ unread_of looks
 abbrev pub LintsFile : Form → List ℕ → List ℕ → Option (List ℕ) → Option (List ℕ) → Linted → Linted
     → Result (Unit {0}) CommandFault → Type 0
 LintsFile form filer name out out' old new (Ok done) =
-    (read : Result (List ℕ) ReportFault) × PrintsRead form filer name read out out'
+    (read : Result (List ℕ) CommandFault) × PrintsRead form filer name read out out'
     × (new.is_found ≡ (old.is_found || is_found filer read))
     × (new.unread.items ≡ old.unread.items ++ fault_of read)
 LintsFile form filer name out out' old new (Err fault) = (fault ≡ Output) ⊎ (out' ≡ out)
@@ -104,8 +108,8 @@ greatest [] = 0
 greatest (status ∷ statuses) = max status (greatest statuses)
 
 -- 1 if there is a finding; but the status of a report that was not read, if that is greater
-abbrev pub lint_status : Bool → List ReportFault → ℕ
-lint_status found unread = max (if found then 1 else 0) (greatest (map report_status unread))
+abbrev pub lint_status : Bool → List CommandFault → ℕ
+lint_status found unread = max (if found then 1 else 0) (greatest (map status_of unread))
 
 -- ---- the whole task
 

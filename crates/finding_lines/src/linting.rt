@@ -5,7 +5,7 @@ ghost use Rattle.finding_lines.specs.Linting.{FindsIn, LintsFile, LintsFiles, Li
 
 use crate::form::Form;
 use crate::telling::lines;
-use command_line::{CommandFault, DONE, ReportFault, report, show};
+use command_line::{CommandFault, DONE, report, show};
 use key_string::is_filer;
 use std::alloc::Global;
 use std::io::Write;
@@ -20,7 +20,7 @@ struct Linted<'a> {
     /// Whether a report that was read has a finding.
     is_found: bool,
     /// Why the others were not read, in the order of their files.
-    unread: Vec<ReportFault<'a>>,
+    unread: Vec<CommandFault<'a>>,
 }
 
 impl Linted<'_> {

@@ -8,10 +8,10 @@ use Rattle.command_line.specs.Status as command_line
 use Rattle.register_tables.specs.declared.fault.CreateFault.TheVariants as create
 use Rattle.register_tables.specs.declared.fault.OpenFault.{OpenFault}
 use Rattle.register_tables.specs.declared.fault.OpenFault.TheVariants as opening
+use Rattle.register_extracts.specs.declared.fault.Why.{Why}
+use Rattle.register_extracts.specs.declared.fault.Why.TheVariants as why
 use Rattle.intake_commands.specs.declared.fault.NotDone.{NotDone}
 use Rattle.intake_commands.specs.declared.fault.NotDone.TheVariants as fault
-use Rattle.intake_commands.specs.declared.fault.VisitFault.{VisitFault}
-use Rattle.intake_commands.specs.declared.fault.VisitFault.TheVariants as visit
 
 -- ---- statuses
 
@@ -24,21 +24,17 @@ opening_status opening.Disk = 3
 
 -- the status is 1 also if the database cannot become a register, or is another one, and 4 if a filing or a request is
 -- missing
-abbrev pub visit_status : VisitFault → ℕ
-visit_status (visit.Taken holding) = 1
-visit_status (visit.Create create.Taken) = 1
-visit_status (visit.Create create.Memory) = 3
-visit_status (visit.Create create.Disk) = 3
-visit_status (visit.Open refusal) = opening_status refusal.fault
-visit_status (visit.Migrate refusal) = opening_status refusal.fault
-visit_status (visit.NotMigrated holding) = 1
-visit_status (visit.Store why) = 3
-visit_status (visit.NotClosed error) = 3
-visit_status (visit.List why) = 3
-visit_status (visit.NoFiling number) = 4
-visit_status visit.NoRequest = 4
-visit_status (visit.TooFew kept) = 4
-visit_status (visit.Another count) = 1
+abbrev pub why_status : Why → ℕ
+why_status (why.Files cause) = command_line.database_status cause
+why_status (why.Open cause) = opening_status cause
+why_status (why.Migrate cause) = opening_status cause
+why_status why.Taken = 1
+why_status (why.Create create.Taken) = 1
+why_status (why.Another count) = 1
+why_status (why.NoFiling number) = 4
+why_status why.NoRequest = 4
+why_status (why.TooFew kept) = 4
+why_status other = 3
 
 -- 2 if the command line is at fault, and 3 for memory, the disk, a folder and the network
 abbrev pub fault_status : NotDone → ℕ
@@ -49,7 +45,7 @@ fault_status fault.Against = 2
 fault_status fault.Key = 2
 fault_status fault.Socket = 2
 fault_status (fault.InMemory why) = 3
-fault_status (fault.Register name why) = visit_status why
+fault_status (fault.Register name why holding) = why_status why
 fault_status (fault.Connection why) = 3
 fault_status (fault.Network address error) = 3
 fault_status (fault.Page why) = 3
@@ -67,13 +63,13 @@ opening_verdict (opening.Damaged row) = Some (verdict.Damaged row)
 opening_verdict opening.Memory = None
 opening_verdict opening.Disk = None
 
-abbrev pub visit_verdict : VisitFault → Option DatabaseFlaw
-visit_verdict (visit.Open refusal) = opening_verdict refusal.fault
-visit_verdict (visit.Migrate refusal) = opening_verdict refusal.fault
-visit_verdict (visit.NotMigrated holding) = Some verdict.NotOurs
-visit_verdict other = None
+abbrev pub why_verdict : Why → Option DatabaseFlaw
+why_verdict (why.Files cause) = verdict_of cause
+why_verdict (why.Open cause) = opening_verdict cause
+why_verdict (why.Migrate cause) = opening_verdict cause
+why_verdict other = None
 
 abbrev pub fault_verdict : NotDone → Option DatabaseFlaw
-fault_verdict (fault.Register name why) = visit_verdict why
+fault_verdict (fault.Register name why holding) = why_verdict why
 fault_verdict (fault.Command (command.Database name why)) = verdict_of why
 fault_verdict other = None

@@ -1,7 +1,7 @@
 -- What `intake` does with a task. This says of each word of the command line what is printed, what is kept, and the
 -- status.
 use Rattle.std.specs.Prelude.{◌≡◌, ◌⊎◌, ◌≤◌, ◌<◌, ◌^◌, ◌-◌, ℕ, Bool, true, false, not, List, codes, Option, Some}
-use Rattle.std.specs.Prelude.{None, Ok}
+use Rattle.std.specs.Prelude.{None, Ok, if◌then◌else◌}
 use Rattle.std.specs.Prelude.{Result, Err, MatchBool, map}
 use Rattle.std.specs.Borrow.{Bor}
 use Rattle.std.specs.Option.{option_map_or}
@@ -19,18 +19,21 @@ use Rattle.finding_lines.specs.Linting.{LintsReports}
 use Rattle.database_places.specs.Verdicts.{verdict_text}
 use Rattle.database_places.specs.declared.flaw.DatabaseFlaw.{DatabaseFlaw}
 use Rattle.register_tables.specs.declared.fault.OpenFault.TheVariants as register
+use Rattle.database_places.specs.declared.holding.Holding.{Holding}
+use Rattle.register_extracts.specs.declared.fault.Why.{Why}
+use Rattle.register_extracts.specs.declared.fault.Why.TheVariants as why
 use Rattle.register_pages.specs.Pages.{File}
 use Rattle.intake_process.specs.Tasks.{ServesAlone}
 use Rattle.intake_process.specs.declared.tasks.errand.Errand.{Errand}
 use Rattle.intake_process.specs.declared.tasks.errand.Errand.TheVariants as asked
+use Rattle.intake_process.specs.Errands.{meaning}
 use Rattle.intake_commands.specs.declared.options.Serving.{Serving}
 use Rattle.intake_commands.specs.declared.options.Task.{Task}
 use Rattle.intake_commands.specs.declared.options.Task.TheVariants as task
 use Rattle.intake_process.specs.Process.{Parts}
 use Rattle.intake_process.specs.Turns.{ServesRegister}
 use Rattle.intake_process.specs.Visits.{Outputs, VisitsRegister, outputs}
-use Rattle.intake_process.specs.declared.errand.ErrandFault.{ErrandFault}
-use Rattle.intake_process.specs.declared.errand.ErrandFault.TheVariants as unmet
+use Rattle.intake_process.specs.declared.fault.Refusal.{Refusal}
 use Rattle.intake_process.specs.declared.serving.ServingFault.{ServingFault}
 use Rattle.intake_process.specs.declared.serving.ServingFault.TheVariants as refused
 use Rattle.intake_process.specs.declared.visiting.Visited.{Visited}
@@ -38,7 +41,7 @@ use Rattle.intake_commands.specs.declared.fault.NotDone.{NotDone}
 use Rattle.intake_commands.specs.declared.fault.NotDone.TheVariants as fault
 use Rattle.intake_commands.specs.Status.{status_of, fault_verdict}
 use Rattle.system_sockets.specs.declared.address.Address.{Address}
-use Rattle.intake_commands.specs.ReportedFault.{IsErrandTold, IsOpeningTold}
+use Rattle.intake_commands.specs.ReportedFault.{IsErrandTold, IsTold}
 
 -- What contracts see of what a task works with, as far as it is known: the connection on standard input and output,
 -- what else the output has, which pages the folder has, the port, if there is one, and the process of the register.
@@ -74,8 +77,8 @@ Runs limit from to (Err other) = ⊥
 -- the status is 0 if the port was served; otherwise a fault is reported, by why it was not
 abbrev pub IsServingTold : Serving → Result ℕ ServingFault → Result ℕ NotDone → Type 0
 IsServingTold task (Ok taken) result = result ≡ Ok 0
-IsServingTold task (Err (refused.Register why)) result =
-    (told : NotDone) × IsOpeningTold task.database why told × (result ≡ Err told)
+IsServingTold task (Err (refused.Register it)) result =
+    (told : NotDone) × IsTold task.database it.why it.holding told × (result ≡ Err told)
 IsServingTold task (Err (refused.Port error)) result = result ≡ Err (fault.Network task.address error)
 
 -- this fault says that connections cannot come in at this address
@@ -118,16 +121,11 @@ Serves {S = S} s task (Some port) port' old new result =
 
 -- whether the filer's code of an errand, if it has one, is the code of a filer
 abbrev pub is_wanted : Errand → Bool
-is_wanted (asked.List filer dated) = is_filer filer.now
-is_wanted (asked.RequestBody filer key) = is_filer filer.now
-is_wanted (asked.Export form wanted) = option_map_or (λ filer. is_filer filer.now) wanted.filer true
-is_wanted other = true
+is_wanted errand = option_map_or is_filer (meaning errand).filer true
 
--- the verdict that is printed, beside the text of a fault on standard error: that of a check or a migration
+-- the verdict that is printed, beside the text of a fault on standard error, if the errand judges the register
 abbrev pub shown_verdict : Errand → NotDone → Option DatabaseFlaw
-shown_verdict (asked.Check against) why = fault_verdict why
-shown_verdict asked.Migrate why = fault_verdict why
-shown_verdict other why = None
+shown_verdict errand why = if (meaning errand).judges then fault_verdict why else None
 
 -- the fault is the result, unless there is a verdict that cannot be printed
 abbrev pub EndsWith : Option DatabaseFlaw → NotDone → Option (List ℕ) → Option (List ℕ) → Result ℕ NotDone → Type 0
@@ -137,22 +135,26 @@ EndsWith (Some verdict) told out out' result =
     ⊎ ((result ≡ Err (fault.Command command.Output)) ⊎ ((result ≡ Err (fault.Command command.Memory)) × (out' ≡ out)))
 
 -- a fault is reported, by why the errand is not done
-abbrev pub IsFaultTold : Bor (List ℕ) → Errand → ErrandFault → Option (List ℕ) → Option (List ℕ) → Result ℕ NotDone
+abbrev pub IsFaultTold : Bor (List ℕ) → Errand → Refusal → Option (List ℕ) → Option (List ℕ) → Result ℕ NotDone
     → Type 0
-IsFaultTold name errand why out out' result =
-    (told : NotDone) × IsErrandTold name why told × EndsWith (shown_verdict errand told) told out out' result
+IsFaultTold name errand it out out' result =
+    (told : NotDone) × IsErrandTold name it.why it.holding told
+    × EndsWith (shown_verdict errand told) told out out' result
 
 -- ---- migrate: a register that has this version already
 
 -- the database was not migrated, since it is no register of an earlier version
-abbrev pub is_not_earlier : ErrandFault → Bool
-is_not_earlier (unmet.Migrate register.NotOurs holding) = true
+abbrev pub is_not_earlier : Why → Bool
+is_not_earlier (why.Migrate register.NotOurs) = true
 is_not_earlier other = false
 
 -- why it is no register of this version either, as its check found it
-abbrev pub refusal_of : ErrandFault → ErrandFault → ErrandFault
-refusal_of not_earlier (unmet.Open register.NotOurs holding) = not_earlier
-refusal_of not_earlier other = other
+abbrev pub is_not_current : Why → Bool
+is_not_current (why.Open register.NotOurs) = true
+is_not_current other = false
+
+abbrev pub refusal_of : Refusal → Refusal → Refusal
+refusal_of not_earlier checked = if is_not_current checked.why then not_earlier else checked
 
 abbrev pub current_line : List ℕ
 current_line = codes "has this version already\n"
@@ -163,36 +165,37 @@ IsCurrentShown out out' result =
     ((result ≡ Ok 0) × Appends out out' current_line) ⊎ (result ≡ Err (fault.Command command.Output))
 
 -- if the check found a sound register, that is printed; otherwise a fault is reported
-abbrev pub IsCurrentTold : Bor (List ℕ) → ErrandFault → Result (Unit {0}) ErrandFault → Option (List ℕ)
+abbrev pub IsCurrentTold : Bor (List ℕ) → Refusal → Result (Unit {0}) Why → Holding → Option (List ℕ)
     → Option (List ℕ) → Result ℕ NotDone → Type 0
-IsCurrentTold name not_earlier (Ok done) out out' result = IsCurrentShown out out' result
-IsCurrentTold name not_earlier (Err why) out out' result =
-    IsFaultTold name asked.Migrate (refusal_of not_earlier why) out out' result
+IsCurrentTold name not_earlier (Ok done) holding out out' result = IsCurrentShown out out' result
+IsCurrentTold name not_earlier (Err why) holding out out' result =
+    IsFaultTold name asked.Migrate (refusal_of not_earlier (record { why = why; holding = holding })) out out' result
 
 -- The register is checked, which writes nothing to it, and what the check prints is not shown.
-abbrev pub VisitsCurrent : {D : Type 0} {g : Ghosts D} → Bor (List ℕ) → ErrandFault → Outputs → Outputs → Parts g
+abbrev pub VisitsCurrent : {D : Type 0} {g : Ghosts D} → Bor (List ℕ) → Refusal → Outputs → Outputs → Parts g
     → Parts g → Result ℕ NotDone → Type 0
 VisitsCurrent name not_earlier out out' old new result =
     (unshown : Option (List ℕ)) × (unshown' : Option (List ℕ)) × (visited : Visited)
     × VisitsRegister (asked.Check None) (outputs unshown out.pages) (outputs unshown' out'.pages) old new visited
-    × IsCurrentTold name not_earlier visited.done out.text out'.text result
+    × IsCurrentTold name not_earlier visited.done visited.holding out.text out'.text result
 
 -- ---- what a visit says
 
 -- The status is 0 if the errand is done. A register that was to be migrated and is none of an earlier version is
 -- checked; otherwise a fault is reported, by why the errand is not done.
-abbrev pub IsVisitTold : {D : Type 0} {g : Ghosts D} → Bor (List ℕ) → Errand → Result (Unit {0}) ErrandFault → Outputs
+abbrev pub IsVisitTold : {D : Type 0} {g : Ghosts D} → Bor (List ℕ) → Errand → Result (Unit {0}) Why → Holding → Outputs
     → Outputs → Parts g → Parts g → Result ℕ NotDone → Type 0
-IsVisitTold name errand (Ok done) out out' old new result = (result ≡ Ok 0) × (out' ≡ out) × (new ≡ old)
-IsVisitTold name errand (Err why) out out' old new result =
-    MatchBool (is_not_earlier why) (VisitsCurrent name why out out' old new result)
-    (IsFaultTold name errand why out.text out'.text result × (out'.pages ≡ out.pages) × (new ≡ old))
+IsVisitTold name errand (Ok done) holding out out' old new result = (result ≡ Ok 0) × (out' ≡ out) × (new ≡ old)
+IsVisitTold name errand (Err why) holding out out' old new result =
+    let refusal : Refusal = record { why = why; holding = holding } in
+    MatchBool (is_not_earlier why) (VisitsCurrent name refusal out out' old new result)
+    (IsFaultTold name errand refusal out.text out'.text result × (out'.pages ≡ out.pages) × (new ≡ old))
 
 abbrev pub Visits : {D : Type 0} {g : Ghosts D} → Bor (List ℕ) → Errand → Outputs → Outputs → Parts g → Parts g
     → Result ℕ NotDone → Type 0
 Visits {D} {g} name errand out out' old new result =
     (between : Outputs) × (mid : Parts g) × (visited : Visited) × VisitsRegister errand out between old mid visited
-    × IsVisitTold name errand visited.done between out' mid new result
+    × IsVisitTold name errand visited.done visited.holding between out' mid new result
 
 -- ---- a task
 

@@ -17,9 +17,9 @@ use Rattle.register_extracts.specs.declared.records.Wanted.{Wanted}
 use Rattle.finding_lines.specs.declared.form.Form.{Form}
 use Rattle.finding_lines.specs.declared.form.Form.TheVariants.{Sentences, Objects}
 use Rattle.intake_process.specs.declared.tasks.errand.Errand.{Errand}
-use Rattle.intake_process.specs.declared.tasks.errand.Errand.TheVariants.{List as ListOf, Show, Check, Migrate, Export}
-use Rattle.intake_process.specs.declared.tasks.errand.Errand.TheVariants.{FilingBody, RequestBody}
-use Rattle.intake_process.specs.declared.tasks.errand.Errand.TheVariants.{Digest, Pages}
+use Rattle.intake_process.specs.declared.tasks.errand.Errand.TheVariants.{Ask, Check, Migrate, Export, Digest, Pages}
+use Rattle.intake_process.specs.declared.tasks.errand.Question.TheVariants.{List as ListOf, Show}
+use Rattle.intake_process.specs.declared.tasks.errand.Question.TheVariants.{FilingBody, RequestBody}
 use Rattle.intake_process.specs.declared.tasks.errand.Published.{Published}
 use Rattle.intake_commands.specs.declared.fault.NotDone.{NotDone}
 use Rattle.intake_commands.specs.declared.fault.NotDone.TheVariants as fault
@@ -139,16 +139,16 @@ pub record AreWanted (options : List Row) (wanted : Wanted) : Type 0 where
 
 -- the errand is what this word asks for
 abbrev pub IsErrand : Text → List Row → Errand → Type 0
-IsErrand word options (ListOf filer dated) =
+IsErrand word options (Ask (ListOf filer dated)) =
     (word ≡ codes "list") × (value (codes "filer") options ≡ Some filer.now)
     × (dated ≡ is_set (codes "moments") options)
-IsErrand word options (Show filing dated) =
+IsErrand word options (Ask (Show filing dated)) =
     (word ≡ codes "show") × (is_set (codes "body") options ≡ false)
     × (number 64 (codes "number") options ≡ Some filing) × (dated ≡ is_set (codes "moments") options)
-IsErrand word options (FilingBody filing) =
+IsErrand word options (Ask (FilingBody filing)) =
     (word ≡ codes "show") × (is_set (codes "body") options ≡ true)
     × (number 64 (codes "number") options ≡ Some filing)
-IsErrand word options (RequestBody filer key) =
+IsErrand word options (Ask (RequestBody filer key)) =
     (word ≡ codes "show") × (is_set (codes "body") options ≡ true) × (number 64 (codes "number") options ≡ None)
     × (value (codes "filer") options ≡ Some filer.now) × (value (codes "key") options ≡ Some key.now)
     × (is_key key.now ≡ true)

@@ -20,7 +20,7 @@ use command_line::{
     wait_of,
 };
 use finding_lines::Form;
-use intake_process::Errand;
+use intake_process::{Errand, Question};
 use key_string::is_key;
 use register_extracts::{FactForm, Wanted};
 use std::alloc::{AllocError, Global};
@@ -110,10 +110,10 @@ fn serving_of<'a>(values: &ArgMatches<'a>) -> Option<Serving<'a>>
 fn list_of<'a>(values: &ArgMatches<'a>) -> Option<Errand<'a>>
     ensures { IsErrandBy (codes "list") (options_of values.now) result }
 {
-    Some(Errand::List {
+    Some(Errand::Ask(Question::List {
         filer: value_of(values, "filer")?,
         moments: is_set(values, "moments"),
-    })
+    }))
 }
 
 fn show_of<'a>(values: &ArgMatches<'a>) -> Option<Errand<'a>>
@@ -122,10 +122,10 @@ fn show_of<'a>(values: &ArgMatches<'a>) -> Option<Errand<'a>>
     if is_set(values, "body") {
         body_of(values)
     } else {
-        Some(Errand::Show {
+        Some(Errand::Ask(Question::Show {
             number: number_of(values, "number")?,
             moments: is_set(values, "moments"),
-        })
+        }))
     }
 }
 
@@ -134,7 +134,7 @@ fn body_of<'a>(values: &ArgMatches<'a>) -> Option<Errand<'a>>
     ensures { IsErrandBy (codes "show") (options_of values.now) result }
 {
     match number_of(values, "number") {
-        Some(number) => Some(Errand::FilingBody { number }),
+        Some(number) => Some(Errand::Ask(Question::FilingBody { number })),
         None => request_body_of(values),
     }
 }
@@ -147,7 +147,7 @@ fn request_body_of<'a>(values: &ArgMatches<'a>) -> Option<Errand<'a>>
     let filer = value_of(values, "filer")?;
     let key = value_of(values, "key")?;
     if is_key(key.as_bytes()) {
-        Some(Errand::RequestBody { filer, key })
+        Some(Errand::Ask(Question::RequestBody { filer, key }))
     } else {
         None
     }

@@ -1,63 +1,20 @@
 //! Why a task is not done, in words and as a status.
 
 ghost use Rattle.std.specs.Prelude.{◌≡◌};
+ghost use Rattle.intake_commands.specs.Status.{opening_status, opening_verdict, why_status, why_verdict};
 
 use crate::folder::PageFault;
 use command_line::{CommandFault, tell};
 use database_places::{DatabaseFlaw, Holding};
 use http_wire::ConnFault;
-use intake_core::Unavailable;
+use register_extracts::Why;
 use register_store::{CreateFault, OpenFault, StoreFault};
 use sqlite::{Error as DatabaseError, ErrorCode};
-use std::alloc::AllocError;
 use std::io::Write;
 use std::{fmt, io};
 use system_sockets::Address;
 use terminal_text::OneLine;
 use thiserror::Error;
-
-/// Why a database gave no register, and what it holds.
-#[derive(Clone, Copy, Debug)]
-pub struct NoRegister {
-    pub(crate) fault: OpenFault,
-    pub(crate) holding: Holding,
-}
-
-impl NoRegister {
-    ghost use Rattle.intake_commands.specs.Status.{opening_status, opening_verdict};
-
-    /// The verdict of this refusal on the database, if it has one.
-    fn verdict(self) -> Option<DatabaseFlaw>
-        ensures { result ≡ opening_verdict self.fault }
-    {
-        match self.fault {
-            OpenFault::NotOurs => Some(DatabaseFlaw::NotOurs),
-            OpenFault::Damaged { row } => Some(DatabaseFlaw::Damaged(row)),
-            OpenFault::Memory | OpenFault::Disk => None,
-        }
-    }
-
-    /// The status that the program ends with: 1 if the database is no sound register, otherwise 3.
-    fn status(self) -> u8
-        ensures { result ≡ opening_status self.fault }
-    {
-        match self.fault {
-            OpenFault::NotOurs => 1,
-            OpenFault::Damaged { row: _ } => 1,
-            OpenFault::Memory | OpenFault::Disk => 3,
-        }
-    }
-}
-
-impl fmt::Display for NoRegister {
-    fn fmt<W: fmt::Write>(&self, f: &mut fmt::Formatter<W>) -> fmt::Result {
-        match self.fault {
-            OpenFault::NotOurs => f.write_str(not_a_register(self.holding)),
-            OpenFault::Disk => f.write_str(DISK),
-            OpenFault::Damaged { .. } | OpenFault::Memory => write!(f, "{}", self.fault),
-        }
-    }
-}
 
 /// The text if the database refused a call and gave no reason.
 const DISK: &str = "the disk failed, or is full";
@@ -118,90 +75,99 @@ fn error_text(error: DatabaseError) -> &'static str {
     }
 }
 
-/// What went wrong in a visit to the register of a file.
-#[derive(Clone, Copy, Debug, Error)]
-pub enum VisitFault {
-    /// No register is made in a database that holds this.
-    #[error("{text}", text = has_tables(*.0))]
-    Taken(Holding),
-    #[error("{text}", text = not_made(*.0))]
-    Create(CreateFault),
-    #[error("{0}")]
-    Open(NoRegister),
-    /// A register was to be migrated.
-    #[error("{0}")]
-    Migrate(NoRegister),
-    /// The database that should be migrated is no register of an earlier version.
-    #[error("{text}", text = not_migrated(*.0))]
-    NotMigrated(Holding),
-    #[error("{text}", text = not_read(*.0))]
-    Store(StoreFault),
-    #[error("{text} when it was closed; what was answered is kept, in the log beside it", text = error_text(*.0))]
-    NotClosed(DatabaseError),
-    #[error("{0}")]
-    List(Unavailable),
-    #[error("there is no filing {number}")]
-    NoFiling { number: u64 },
-    #[error("this filer has no request under this key")]
-    NoRequest,
-    /// The register keeps so many requests, and that is fewer than were asked for.
-    #[error("no more are kept than {kept}")]
-    TooFew { kept: u64 },
-    /// The digest of the first requests, so many, is not the one that was published.
-    #[error("another register before {count}")]
-    Another { count: u64 },
+/// The text for filings that were not listed.
+fn not_listed(fault: StoreFault) -> &'static str {
+    match fault {
+        StoreFault::Memory => "out of memory",
+        StoreFault::Store => "the database failed",
+    }
 }
 
-impl VisitFault {
-    ghost use Rattle.intake_commands.specs.Status.{visit_status, visit_verdict};
+/// What went wrong with a register, in a database that holds this.
+#[derive(Clone, Copy)]
+struct Reason {
+    why: Why,
+    holding: Holding,
+}
 
-    /// Why a task was not done with the register of the file with this name.
-    pub(crate) fn at(self, name: &str) -> NotDone<'_>
-        ensures { result ≡ NotDone.Register name.entry self }
-    {
-        NotDone::Register { name, fault: self }
-    }
-
-    /// The status that the program ends with: 1 for a database that is no sound register, cannot become one or is
-    /// another one, 3 for a fault of memory or the disk, 4 if a filing or a request is missing.
-    fn status(self) -> u8
-        ensures { result ≡ visit_status self }
-    {
-        match self {
-            VisitFault::Taken(_) => 1,
-            VisitFault::Create(CreateFault::Taken) => 1,
-            VisitFault::Create(CreateFault::Memory | CreateFault::Disk) => 3,
-            VisitFault::Open(refusal) => refusal.status(),
-            VisitFault::Migrate(refusal) => refusal.status(),
-            VisitFault::NotMigrated(_) => 1,
-            VisitFault::Store(_) => 3,
-            VisitFault::NotClosed(_) => 3,
-            VisitFault::List(_) => 3,
-            VisitFault::NoFiling { number: _ } => 4,
-            VisitFault::NoRequest => 4,
-            VisitFault::TooFew { kept: _ } => 4,
-            VisitFault::Another { count: _ } => 1,
+impl fmt::Display for Reason {
+    fn fmt<W: fmt::Write>(&self, f: &mut fmt::Formatter<W>) -> fmt::Result {
+        match self.why {
+            Why::Files(fault) => write!(f, "{fault}"),
+            Why::Taken => f.write_str(has_tables(self.holding)),
+            Why::Create(fault) => f.write_str(not_made(fault)),
+            Why::Open(OpenFault::NotOurs) => f.write_str(not_a_register(self.holding)),
+            Why::Migrate(OpenFault::NotOurs) => f.write_str(not_migrated(self.holding)),
+            Why::Open(OpenFault::Disk) | Why::Migrate(OpenFault::Disk) => f.write_str(DISK),
+            Why::Open(fault) | Why::Migrate(fault) => write!(f, "{fault}"),
+            Why::Store(fault) => f.write_str(not_read(fault)),
+            Why::List(fault) => f.write_str(not_listed(fault)),
+            Why::NoFiling { number } => write!(f, "there is no filing {number}"),
+            Why::NoRequest => f.write_str("this filer has no request under this key"),
+            Why::TooFew { kept } => write!(f, "no more are kept than {kept}"),
+            Why::Another { count } => write!(f, "another register before {count}"),
+            Why::Memory => f.write_str("out of memory"),
+            Why::Output => f.write_str("the output cannot be written"),
+            Why::Folder => f.write_str("the folder failed"),
+            Why::NotClosed(error) => write!(
+                f,
+                "{} when it was closed; what was answered is kept, in the log beside it",
+                error_text(error)
+            ),
         }
     }
+}
 
-    /// The verdict of this fault on the register, if it has one.
-    fn verdict(self) -> Option<DatabaseFlaw>
-        ensures { result ≡ visit_verdict self }
-    {
-        match self {
-            VisitFault::Open(refusal) => refusal.verdict(),
-            VisitFault::Migrate(refusal) => refusal.verdict(),
-            VisitFault::NotMigrated(_) => Some(DatabaseFlaw::NotOurs),
-            VisitFault::Taken(_) => None,
-            VisitFault::Create(_) => None,
-            VisitFault::Store(_) => None,
-            VisitFault::NotClosed(_) => None,
-            VisitFault::List(_) => None,
-            VisitFault::NoFiling { number: _ } => None,
-            VisitFault::NoRequest => None,
-            VisitFault::TooFew { kept: _ } => None,
-            VisitFault::Another { count: _ } => None,
-        }
+/// The status that the program ends with for a fault of a register: 1 for a database that is no sound register, cannot
+/// become one or is another one, 3 for a fault of memory or the disk, 4 if a filing or a request is missing.
+fn why_status(why: Why) -> u8
+    ensures { result ≡ why_status why }
+{
+    match why {
+        Why::Files(fault) => fault.status(),
+        Why::Open(fault) => opening_status(fault),
+        Why::Migrate(fault) => opening_status(fault),
+        Why::Taken => 1,
+        Why::Create(CreateFault::Taken) => 1,
+        Why::Another { count: _ } => 1,
+        Why::NoFiling { number: _ } => 4,
+        Why::NoRequest => 4,
+        Why::TooFew { kept: _ } => 4,
+        _ => 3,
+    }
+}
+
+/// The status if no register was opened or migrated: 1 if the database is no sound register, otherwise 3.
+fn opening_status(fault: OpenFault) -> u8
+    ensures { result ≡ opening_status fault }
+{
+    match fault {
+        OpenFault::NotOurs => 1,
+        OpenFault::Damaged { row: _ } => 1,
+        OpenFault::Memory | OpenFault::Disk => 3,
+    }
+}
+
+/// The verdict of a fault on the register, if it has one.
+fn why_verdict(why: Why) -> Option<DatabaseFlaw>
+    ensures { result ≡ why_verdict why }
+{
+    match why {
+        Why::Files(fault) => DatabaseFlaw::of(fault),
+        Why::Open(fault) => opening_verdict(fault),
+        Why::Migrate(fault) => opening_verdict(fault),
+        _ => None,
+    }
+}
+
+/// The verdict of a fault on a database that is not opened or migrated, if it has one.
+fn opening_verdict(fault: OpenFault) -> Option<DatabaseFlaw>
+    ensures { result ≡ opening_verdict fault }
+{
+    match fault {
+        OpenFault::NotOurs => Some(DatabaseFlaw::NotOurs),
+        OpenFault::Damaged { row } => Some(DatabaseFlaw::Damaged(row)),
+        OpenFault::Memory | OpenFault::Disk => None,
     }
 }
 
@@ -222,10 +188,12 @@ pub enum NotDone<'a> {
     Socket,
     #[error("{0}")]
     InMemory(CreateFault),
-    #[error("{file}: {fault}", file = OneLine(*.name))]
+    /// Something was not done with the register of the file with this name, in a database that holds this.
+    #[error("{file}: {reason}", file = OneLine(*.name), reason = Reason {why: *.why, holding: *.holding})]
     Register {
         name: &'a str,
-        fault: VisitFault,
+        why: Why,
+        holding: Holding,
     },
     #[error("{0}")]
     Connection(ConnFault),
@@ -248,6 +216,17 @@ impl<'a> From<CommandFault<'a>> for NotDone<'a> {
     }
 }
 
+impl<'a> NotDone<'a> {
+    /// What was committed to the register of the file with this name is in the log beside it still.
+    pub(crate) fn not_closed(name: &'a str, error: DatabaseError) -> NotDone<'a> {
+        NotDone::Register {
+            name,
+            why: Why::NotClosed(error),
+            holding: Holding::Nothing,
+        }
+    }
+}
+
 impl NotDone<'_> {
     ghost use Rattle.intake_commands.specs.Status.{fault_status, fault_verdict};
 
@@ -259,7 +238,11 @@ impl NotDone<'_> {
     {
         match self {
             NotDone::Command(fault) => fault.status(),
-            NotDone::Register { name: _, fault } => fault.status(),
+            NotDone::Register {
+                name: _,
+                why,
+                holding: _,
+            } => why_status(*why),
             NotDone::Limit | NotDone::Against | NotDone::Key | NotDone::Socket => 2,
             NotDone::NoInit => 2,
             NotDone::InMemory(_) => 3,
@@ -277,20 +260,13 @@ impl NotDone<'_> {
         ensures { result ≡ fault_verdict self.now }
     {
         match self {
-            NotDone::Register { name: _, fault } => fault.verdict(),
+            NotDone::Register {
+                name: _,
+                why,
+                holding: _,
+            } => why_verdict(*why),
             NotDone::Command(CommandFault::Database { name: _, fault }) => DatabaseFlaw::of(*fault),
-            NotDone::Command(CommandFault::NotText | CommandFault::NoTask | CommandFault::Filer) =>
-                None,
-            NotDone::Command(CommandFault::Output | CommandFault::Memory) => None,
-            NotDone::Limit | NotDone::Against | NotDone::Key | NotDone::Socket => None,
-            NotDone::NoInit => None,
-            NotDone::InMemory(_) => None,
-            NotDone::Connection(_) => None,
-            NotDone::Network {
-                address: _,
-                error: _,
-            } => None,
-            NotDone::Page(_) => None,
+            _ => None,
         }
     }
 
@@ -300,36 +276,5 @@ impl NotDone<'_> {
     {
         tell("intake", self, errors);
         self.status()
-    }
-}
-
-/// What goes wrong with one connection of a port. The next one is served all the same. Its text is one line.
-#[derive(Debug, Drop, Error)]
-pub(crate) enum ConnectionFault {
-    #[error("connection {connection}: {fault}")]
-    Served { connection: u32, fault: ConnFault },
-    #[error("connection {connection}: cut off after {seconds} seconds")]
-    Late { connection: u32, seconds: u32 },
-    /// None was accepted, and that will be tried again.
-    #[error("no connection could be accepted: {0}; it is tried for a minute")]
-    NotAccepted(io::Error),
-    /// No memory was left for its line.
-    #[error("{text}", text = CommandFault::Memory)]
-    Memory,
-    /// Its line was not printed.
-    #[error("{text}", text = CommandFault::Output)]
-    Output,
-}
-
-impl From<AllocError> for ConnectionFault {
-    fn from(_error: AllocError) -> Self {
-        ConnectionFault::Memory
-    }
-}
-
-impl ConnectionFault {
-    /// Writes the text as a line.
-    pub(crate) fn tell<E: Write>(&self, errors: &mut E) {
-        tell("intake", self, errors);
     }
 }

@@ -25,7 +25,7 @@ mod sockets;
 mod tasks;
 mod visiting;
 
-pub use fault::{NoRegister, NotDone, VisitFault};
+pub use fault::NotDone;
 pub use folder::PageFault;
 pub use options::{Serving, Task};
 pub use program::main;

@@ -1,7 +1,9 @@
 //! What standard error says while a register is served.
 
-use std::fmt;
+use command_line::CommandFault;
+use http_wire::ConnFault;
 use std::io::Write;
+use std::{fmt, io};
 use system_sockets::Address;
 
 /// The text for a register whose database refused a call.
@@ -13,8 +15,9 @@ const DOWN: &str = concat!(
 /// What becomes of requests until then.
 const PAUSED: &str = "and until then a request gets 503 at once";
 
-/// What is reported of a register that is served, each as a line.
-#[derive(Clone, Copy)]
+/// What is reported of a register that is served, each as a line. If a connection fails, the next one is served all the
+/// same.
+#[derive(Drop)]
 pub(crate) enum LogMessage<'a> {
     /// Connections are taken.
     Ready {
@@ -40,6 +43,20 @@ pub(crate) enum LogMessage<'a> {
     Served {
         connections: u32,
     },
+    /// A connection ended in a fault.
+    Failed {
+        connection: u32,
+        fault: ConnFault,
+    },
+    /// A connection was cut off.
+    Late {
+        connection: u32,
+        seconds: u32,
+    },
+    /// None was accepted, and that will be tried again.
+    NotAccepted(io::Error),
+    /// The line of a connection was not printed.
+    NotLogged(CommandFault<'a>),
 }
 
 impl fmt::Display for LogMessage<'_> {
@@ -69,6 +86,22 @@ impl fmt::Display for LogMessage<'_> {
                 f,
                 "ended after {connections} connections"
             ),
+            LogMessage::Failed { connection, fault } => write!(
+                f,
+                "connection {connection}: {fault}"
+            ),
+            LogMessage::Late {
+                connection,
+                seconds,
+            } => write!(
+                f,
+                "connection {connection}: cut off after {seconds} seconds"
+            ),
+            LogMessage::NotAccepted(error) => write!(
+                f,
+                "no connection could be accepted: {error}; it is tried for a minute"
+            ),
+            LogMessage::NotLogged(fault) => write!(f, "{fault}"),
         }
     }
 }

@@ -117,21 +117,9 @@ impl<'a> Task<'a> {
     {
         match self {
             Task::Visit { errand, .. } => match errand {
-                Errand::List {
-                    filer: _,
-                    moments: _,
-                } => Access::Reads,
-                Errand::Show {
-                    number: _,
-                    moments: _,
-                } => Access::Reads,
-                Errand::FilingBody { number: _ } => Access::Reads,
-                Errand::RequestBody { filer: _, key: _ } => Access::Reads,
                 Errand::Check { against: _ } => Access::CopiesLog,
                 Errand::Migrate => Access::Writes,
-                Errand::Export { form: _, wanted: _ } => Access::Reads,
-                Errand::Digest { until: _ } => Access::Reads,
-                Errand::Pages { folder: _ } => Access::Reads,
+                _ => Access::Reads,
             },
             Task::Run { .. } | Task::Serve(_) | Task::Lint { .. } => Access::Writes,
         }

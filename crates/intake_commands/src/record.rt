@@ -3,7 +3,7 @@
 ghost use Rattle.std.specs.Prelude.{◌≡◌, map, option_map, string_bytes};
 ghost use Rattle.intake_commands.specs.Reported.{AddsFiler};
 
-use crate::fault::ConnectionFault;
+use crate::log_message::LogMessage;
 use connection_hall::{Broken, Got, Stream, Why};
 use gateway_rounds::Note;
 use gateway_server::Ended;
@@ -113,16 +113,16 @@ impl Record {
         connection: u32,
         why: Why,
         patience: Option<u32>,
-    ) -> Option<ConnectionFault> {
+    ) -> Option<LogMessage<'static>> {
         let Ended::Fault(fault) = self.ended(why) else {
             return None;
         };
         match (why, patience) {
-            (Why::Late, Some(seconds)) => Some(ConnectionFault::Late {
+            (Why::Late, Some(seconds)) => Some(LogMessage::Late {
                 connection,
                 seconds,
             }),
-            _ => Some(ConnectionFault::Served { connection, fault }),
+            _ => Some(LogMessage::Failed { connection, fault }),
         }
     }
 }

@@ -2,7 +2,7 @@
 
 ghost use Rattle.std.specs.Prelude.{None};
 
-use crate::fault::VisitFault;
+use crate::fault::NotDone;
 use crate::log_message::LogMessage;
 use crate::options::Serving;
 use crate::pause::Pause;
@@ -123,9 +123,7 @@ impl<E: Write> Observer for Reporter<'_, '_, '_, E> {
     fn closed(&mut self, closed: Closed) {
         // A close that failed only warns: what was answered is kept, and is not to be filed again.
         if let Err(error) = closed.outcome {
-            VisitFault::NotClosed(error)
-                .at(self.serving.database)
-                .tell(self.errors);
+            NotDone::not_closed(self.serving.database, error).tell(self.errors);
         }
     }
 }

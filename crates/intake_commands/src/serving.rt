@@ -125,7 +125,7 @@ fn serving_fault<'a, D: Disk + Drop, P: Place<D>>(
     ensures { IsServingTold serving.entry (Err fault) (Err result) }
 {
     match fault {
-        ServingFault::Register(fault) => opening_fault(alloc, place, serving.database, fault),
+        ServingFault::Register(refusal) => opening_fault(alloc, place, serving.database, refusal),
         ServingFault::Port(error) => NotDone::Network {
             address: serving.address,
             error,

@@ -4,9 +4,9 @@ ghost use Rattle.std.specs.Prelude.{◌≡◌, [], Some};
 ghost use Rattle.intake_commands.specs.Reported.{traffic_of};
 
 use crate::connection_line::ConnectionLine;
-use crate::fault::ConnectionFault;
+use crate::log_message::LogMessage;
 use crate::record::{Record, Recorded};
-use command_line::show;
+use command_line::{CommandFault, show};
 use connection_hall::{Sockets, Why};
 use http_server::Log;
 use std::alloc::Global;
@@ -71,7 +71,7 @@ impl<K: Sockets, O: Write, E: Write> ReportedSockets<K, O, E> {
             Some(_) => Err(error),
             None => {
                 self.refusing = Some(now);
-                ConnectionFault::NotAccepted(error).tell(&mut self.errors);
+                LogMessage::NotAccepted(error).tell(&mut self.errors);
                 Ok(())
             }
         }
@@ -86,7 +86,7 @@ impl<K: Sockets, O: Write, E: Write> ReportedSockets<K, O, E> {
     {
         let fault = match self.show_line(number, record, why) {
             Ok(()) => record.fault(number, why, self.patience),
-            Err(fault) => Some(fault),
+            Err(fault) => Some(LogMessage::NotLogged(fault)),
         };
         if let Some(fault) = fault {
             fault.tell(&mut self.errors);
@@ -94,7 +94,12 @@ impl<K: Sockets, O: Write, E: Write> ReportedSockets<K, O, E> {
     }
 
     /// Prints the line of a connection, if there is a log.
-    fn show_line(&mut self, number: u32, record: &Record, why: Why) -> Result<(), ConnectionFault>
+    fn show_line(
+        &mut self,
+        number: u32,
+        record: &Record,
+        why: Why,
+    ) -> Result<(), CommandFault<'static>>
         ensures sockets { self.new.sockets ≡ self.old.sockets }
         ensures came { self.new.came ≡ self.old.came }
         ensures over { self.new.over ≡ self.old.over }
@@ -109,10 +114,7 @@ impl<K: Sockets, O: Write, E: Write> ReportedSockets<K, O, E> {
         };
         let text = format!(in self.alloc; "{line}")?;
         // This waits while nobody reads: the kit has no other write to standard output.
-        match show(log, text.as_bytes()) {
-            Ok(()) => Ok(()),
-            Err(_) => Err(ConnectionFault::Output),
-        }
+        show(log, text.as_bytes())
     }
 }
 

@@ -19,7 +19,7 @@ use database_places::Place;
 use finding_lines::lint_reports;
 use gateway_rounds::{Note, Port};
 use http_wire::{Sink, Source};
-use intake_process::{Errand, IntakeProcess};
+use intake_process::{Errand, IntakeProcess, Question};
 use key_string::is_filer;
 use sqlite_disk::Disk;
 use std::io::Write;
@@ -86,21 +86,14 @@ fn end<E: Write>(done: Result<u8, NotDone<'_>>, errors: &mut E) -> u8
 fn is_wanted(errand: Errand<'_>) -> bool
     ensures { result ≡ is_wanted errand.entry }
 {
-    match errand {
-        Errand::List { filer, moments: _ } => is_filer(filer),
-        Errand::Show {
-            number: _,
-            moments: _,
-        } => true,
-        Errand::FilingBody { number: _ } => true,
-        Errand::RequestBody { filer, key: _ } => is_filer(filer),
-        Errand::Check { against: _ } => true,
-        Errand::Migrate => true,
-        Errand::Export { form: _, wanted } => match wanted.filer {
-            Some(filer) => is_filer(filer),
-            None => true,
-        },
-        Errand::Digest { until: _ } => true,
-        Errand::Pages { folder: _ } => true,
+    let filer = match errand {
+        Errand::Ask(Question::List { filer, moments: _ }) => Some(filer),
+        Errand::Ask(Question::RequestBody { filer, key: _ }) => Some(filer),
+        Errand::Export { form: _, wanted } => wanted.filer,
+        _ => None,
+    };
+    match filer {
+        Some(filer) => is_filer(filer),
+        None => true,
     }
 }

@@ -6,13 +6,14 @@ ghost use Rattle.intake_process.specs.Visits.{outputs};
 ghost use Rattle.intake_commands.specs.Tasks.{EndsWith, IsFaultTold, Visits, VisitsCurrent, shown_verdict};
 ghost use Rattle.intake_commands.specs.Tasks.{IsCurrentShown, is_not_earlier, refusal_of};
 
-use crate::fault::{NotDone, VisitFault};
+use crate::fault::NotDone;
 use crate::folder::SiteFolder;
 use crate::progress::TerminalProgress;
 use crate::reported_fault::errand_fault;
 use command_line::{DONE, show};
 use database_places::{DatabaseFlaw, Place, show_verdict};
-use intake_process::{Errand, ErrandFault, IntakeProcess, Visited};
+use intake_process::{Errand, IntakeProcess, Refusal, Visited};
+use register_extracts::Why;
 use register_store::OpenFault;
 use sqlite::Error;
 use sqlite_disk::Disk;
@@ -38,27 +39,27 @@ pub(crate) fn visit<'a, D: Disk + Drop, P: Place<D> + Drop, F: SiteFolder, O: Wr
         (parts P.lying process.new) result }
 {
     let mut progress = TerminalProgress::new(rt);
-    let Visited { done, closed, .. } = process.visit(
-        rt.alloc(),
-        errand,
-        &mut progress,
-        folder,
-        output,
-    );
+    let Visited {
+        done,
+        holding,
+        closed,
+        ..
+    } = process.visit(rt.alloc(), errand, &mut progress, folder, output);
     tell_close(closed, name, errors);
     match done {
         Ok(()) => Ok(DONE),
-        Err(fault) => {
+        Err(why) => {
+            let refusal = Refusal { why, holding };
             // By its tables a file may look like one of this version and be none: so it is checked.
-            if is_not_earlier(fault) {
-                return visit_current(rt, name, fault, process, folder, output, errors);
+            if is_not_earlier(why) {
+                return visit_current(rt, name, refusal, process, folder, output, errors);
             }
             end_refused(
                 rt.alloc(),
                 process.place(),
                 name,
                 errand,
-                fault,
+                refusal,
                 folder,
                 output,
             )
@@ -71,7 +72,7 @@ pub(crate) fn visit<'a, D: Disk + Drop, P: Place<D> + Drop, F: SiteFolder, O: Wr
 fn visit_current<'a, D: Disk + Drop, P: Place<D> + Drop, F: SiteFolder, O: Write, E: Write>(
     rt: &HostRuntime,
     name: &'a str,
-    not_earlier: ErrandFault,
+    not_earlier: Refusal,
     process: &mut IntakeProcess<D, P>,
     folder: &mut F,
     output: &mut O,
@@ -84,7 +85,12 @@ fn visit_current<'a, D: Disk + Drop, P: Place<D> + Drop, F: SiteFolder, O: Write
 {
     let mut progress = TerminalProgress::new(rt);
     let mut unshown = sink();
-    let Visited { done, closed, .. } = process.visit(
+    let Visited {
+        done,
+        holding,
+        closed,
+        ..
+    } = process.visit(
         rt.alloc(),
         Errand::Check { against: None },
         &mut progress,
@@ -94,12 +100,12 @@ fn visit_current<'a, D: Disk + Drop, P: Place<D> + Drop, F: SiteFolder, O: Write
     tell_close(closed, name, errors);
     match done {
         Ok(()) => show_current(output),
-        Err(fault) => end_refused(
+        Err(why) => end_refused(
             rt.alloc(),
             process.place(),
             name,
             Errand::Migrate,
-            refusal_of(not_earlier, fault),
+            refusal_of(not_earlier, Refusal { why, holding }),
             folder,
             output,
         ),
@@ -115,46 +121,22 @@ fn show_current<'a, O: Write>(output: &mut O) -> Result<u8, NotDone<'a>>
 }
 
 /// Whether an errand was not done since the register that should be migrated is none of an earlier version.
-fn is_not_earlier(fault: ErrandFault) -> bool
-    ensures { result ≡ is_not_earlier fault }
+fn is_not_earlier(why: Why) -> bool
+    ensures { result ≡ is_not_earlier why }
 {
-    match fault {
-        ErrandFault::Migrate(OpenFault::NotOurs, _) => true,
-        ErrandFault::Migrate(OpenFault::Damaged { row: _ }, _) => false,
-        ErrandFault::Migrate(OpenFault::Memory, _) => false,
-        ErrandFault::Migrate(OpenFault::Disk, _) => false,
-        ErrandFault::Files(_) => false,
-        ErrandFault::Open(_, _) => false,
-        ErrandFault::List(_) => false,
-        ErrandFault::Store(_) => false,
-        ErrandFault::NoFiling { number: _ } => false,
-        ErrandFault::NoRequest => false,
-        ErrandFault::TooFew { kept: _ } => false,
-        ErrandFault::Another { count: _ } => false,
-        ErrandFault::Text(_) => false,
-        ErrandFault::Folder => false,
+    match why {
+        Why::Migrate(OpenFault::NotOurs) => true,
+        _ => false,
     }
 }
 
 /// Why a register that is none of an earlier version is not of this version either, as its check found it.
-fn refusal_of(not_earlier: ErrandFault, checked: ErrandFault) -> ErrandFault
+fn refusal_of(not_earlier: Refusal, checked: Refusal) -> Refusal
     ensures { result ≡ refusal_of not_earlier checked }
 {
-    match checked {
-        ErrandFault::Open(OpenFault::NotOurs, _) => not_earlier,
-        ErrandFault::Open(OpenFault::Damaged { row: _ }, _) => checked,
-        ErrandFault::Open(OpenFault::Memory, _) => checked,
-        ErrandFault::Open(OpenFault::Disk, _) => checked,
-        ErrandFault::Files(_) => checked,
-        ErrandFault::Migrate(_, _) => checked,
-        ErrandFault::List(_) => checked,
-        ErrandFault::Store(_) => checked,
-        ErrandFault::NoFiling { number: _ } => checked,
-        ErrandFault::NoRequest => checked,
-        ErrandFault::TooFew { kept: _ } => checked,
-        ErrandFault::Another { count: _ } => checked,
-        ErrandFault::Text(_) => checked,
-        ErrandFault::Folder => checked,
+    match checked.why {
+        Why::Open(OpenFault::NotOurs) => not_earlier,
+        _ => checked,
     }
 }
 
@@ -165,14 +147,15 @@ fn end_refused<'a, D: Disk + Drop, P: Place<D>, F: SiteFolder, O: Write>(
     place: &P,
     name: &'a str,
     errand: Errand<'_>,
-    fault: ErrandFault,
+    refusal: Refusal,
     folder: &mut F,
     output: &mut O,
 ) -> Result<u8, NotDone<'a>>
-    ensures told { IsFaultTold name.entry errand.entry fault (O.contents output.old) (O.contents output.new) result }
+    ensures told { IsFaultTold name.entry errand.entry refusal (O.contents output.old) (O.contents output.new)
+        result }
     ensures same { F.Folder.pages folder.new ≡ F.Folder.pages folder.old }
 {
-    let told = errand_fault(alloc, place, folder, name, fault);
+    let told = errand_fault(alloc, place, folder, name, refusal);
     let verdict = shown_verdict(errand, &told);
     end_with(alloc, verdict, told, output)
 }
@@ -180,7 +163,7 @@ fn end_refused<'a, D: Disk + Drop, P: Place<D>, F: SiteFolder, O: Write>(
 /// Says if the files of a register are not closed. What was answered is kept then, in the log beside the file.
 fn tell_close<E: Write>(closed: Result<(), Error>, name: &str, errors: &mut E) {
     if let Err(error) = closed {
-        VisitFault::NotClosed(error).at(name).tell(errors);
+        NotDone::not_closed(name, error).tell(errors);
     }
 }
 
@@ -189,21 +172,9 @@ fn shown_verdict(errand: Errand<'_>, fault: &NotDone<'_>) -> Option<DatabaseFlaw
     ensures { result ≡ shown_verdict errand.entry fault.now }
 {
     match errand {
-        Errand::List {
-            filer: _,
-            moments: _,
-        } => None,
-        Errand::Show {
-            number: _,
-            moments: _,
-        } => None,
-        Errand::FilingBody { number: _ } => None,
-        Errand::RequestBody { filer: _, key: _ } => None,
         Errand::Check { against: _ } => fault.verdict(),
         Errand::Migrate => fault.verdict(),
-        Errand::Export { form: _, wanted: _ } => None,
-        Errand::Digest { until: _ } => None,
-        Errand::Pages { folder: _ } => None,
+        _ => None,
     }
 }
 

@@ -2,7 +2,6 @@
 use Rattle.std.proofs.Common.{◌≡◌, ◌∙◌, ◌+◌, ◌<◌, ℕ, Bool, List, [], ◌∷◌, ◌++◌, map, take, length, get_or}
 use Rattle.std.proofs.Common.{Option, Some, None, Result, Ok, Err, refl, sym, ap, subst, inl, inr, arith}
 use Rattle.std.specs.Prelude.{option_map}
-use Rattle.std.specs.Io.KnownBytes.{Appends}
 use Rattle.std.specs.List.{flat_map}
 use Rattle.std.proofs.lemmas.Grind.{flat_map-append}
 use Rattle.std.proofs.lemmas.List.{append-nil, map-append, take_more}
@@ -27,11 +26,11 @@ use Rattle.register_store.specs.Store.{ForRequests, StoreParts, shows}
 use Rattle.register_store.proofs.CatalogueLemmas.{line_told}
 use Rattle.register_extracts.specs.Moments.{moment_of}
 use Rattle.register_extracts.proofs.Numbers.{its_moment}
-use Rattle.intake_process.specs.declared.tasks.showing.ShowFault.{ShowFault}
-use Rattle.intake_process.specs.declared.tasks.showing.ShowFault.TheVariants as showing
-use Rattle.intake_process.specs.declared.tasks.text.TextFault.TheVariants.{Output}
-use Rattle.intake_process.specs.Lines.{moment_line, moment_lines, shown_lines}
-use Rattle.intake_process.specs.Tasks.{IsReadingFault, PrintsNothing, ShowsFiling}
+use Rattle.intake_process.specs.declared.tasks.errand.Errand.TheVariants.{Ask}
+use Rattle.intake_process.specs.declared.tasks.errand.Question.TheVariants.{Show}
+use Rattle.intake_process.specs.Errands.{meaning}
+use Rattle.intake_process.specs.Listing.{moment_line, moment_lines}
+use Rattle.intake_process.specs.Showing.{shown_lines}
 
 -- ---- the moment of a filing
 
@@ -135,39 +134,22 @@ lines_more ks moments rows at d low text line received before its line_is =
 
 -- ---- a filing is shown
 
--- a fault of a filing that is there says of none that it is missing
-not_missing : {X : Type 0} (why : ShowFault) → IsReadingFault why → (r : Result X ShowFault) → r ≡ Err why
-    → r ≡ Err showing.Missing → ⊥
-not_missing why reading r is e =
-    let same : why ≡ showing.Missing = cc (sym is ∙ e) in
-    subst IsReadingFault same reading
-
-module _ {S X : Type 0} (g : Ghosts S) (number : ℕ) (dated : Bool) (out out' : Option (List ℕ))
-    (old mid new : StoreParts S) (facts : List FactRecord)
+-- the text of a filing whose facts were found, by what its lines are
+module _ {S : Type 0} (g : Ghosts S) (number : ℕ) (dated : Bool) (old mid new : StoreParts S) (facts : List FactRecord)
     (found : ForRequests g old mid (λ F. Some facts ≡ facts_numbered number (register F)))
     (keeps : KeepsStore g old mid) (later : KeepsStore g mid new) where
-  pub show_done : (x : X) (text : List ℕ)
+  pub shown_as : ForMoments g old new (λ requests moments.
+      (meaning (Ask (Show number dated))).text requests moments
+      ≡ Some (shown_lines dated number (moment_of (kept requests) moments number) facts))
+  shown_as clean F has moments dates =
+      ap (option_map (shown_lines dated number (moment_of (kept F) moments number)))
+      (sym (found (clean_mid g later clean) F has))
+
+  pub shown_text : (text : List ℕ)
       → ForMoments g mid new (λ requests moments.
       text ≡ shown_lines dated number (moment_of (kept requests) moments number) facts)
-      → Appends out out' text → ShowsFiling {S = S} {X = X} g number dated out out' old new (Ok x)
-  show_done x text lines printed = record {
-    shown = λ clean F has moments dates.
-        let was : HasCleanDisk (shows g mid) = clean_mid g later clean in
-        let is = lines clean F (keeps.same was F has) moments (keeps.moments was F has moments dates) in
-        (facts, sym (found was F has), subst (λ t. Appends out out' t) is printed);
-    missing = λ clean F has e. absurd (cc e);
-    found = λ clean F has. tt;
-    refused = tt;
-    keeps = keeps_then g keeps later;
-  }
-
-  pub show_failed : (why : ShowFault) → IsReadingFault why → PrintsNothing (showing.Text Output) out out' why
-      → ShowsFiling {S = S} {X = X} g number dated out out' old new (Err why)
-  show_failed why reading quiet = record {
-    shown = λ clean F has moments dates. tt;
-    missing = λ clean F has e. absurd (not_missing why reading (Err why) refl e);
-    found = λ clean F has none.
-        absurd (let some = found (clean_mid g later clean) F has ∙ none in cc some);
-    refused = quiet;
-    keeps = keeps_then g keeps later;
-  }
+      → ForMoments g old new (λ requests moments. (meaning (Ask (Show number dated))).text requests moments ≡ Some text)
+  shown_text text lines clean F has moments dates =
+      let was : HasCleanDisk (shows g mid) = clean_mid g later clean in
+      shown_as clean F has moments dates
+      ∙ ap Some (sym (lines clean F (keeps.same was F has) moments (keeps.moments was F has moments dates)))

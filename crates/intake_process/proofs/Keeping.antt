@@ -27,16 +27,19 @@ use Rattle.database_places.specs.Opening.{ComesFrom, StaysIn}
 use Rattle.database_places.specs.Places.{IsHonest}
 use Rattle.database_places.specs.Places as place
 use Rattle.intake_process.specs.declared.beginning.Totals.{Totals}
-use Rattle.intake_process.specs.declared.fault.OpeningFault.{OpeningFault}
-use Rattle.intake_process.specs.declared.fault.OpeningFault.TheVariants.{Files as Unopened, Taken, Create, Open}
+use Rattle.register_extracts.specs.declared.fault.Why.{Why}
+use Rattle.register_extracts.specs.declared.fault.Why.TheVariants as why
+use Rattle.intake_process.specs.declared.fault.Refusal.{Refusal}
+use Rattle.intake_process.specs.Fault.{leaves_doubt}
 use Rattle.intake_process.specs.declared.process.Closed.{Closed}
 use Rattle.intake_process.specs.declared.process.AnsweredBy.{AnsweredBy}
 use Rattle.intake_process.specs.declared.process.AnsweredBy.TheVariants as outcome
 use Rattle.intake_process.specs.Beginning.{HoldsAs, AreTotals, FindsIntake, MakesIntake, IsNotBegun}
 use Rattle.connection_hall.specs.declared.stream.Stream.{Ghosts as Streams}
 use Rattle.gateway_rounds.specs.Ports.{Port}
-use Rattle.intake_process.specs.Process.{Parts, IsAwake, IsUp, AnswersPortBy, KeepsBy, IsNotOpened, leaves_doubt}
-use Rattle.intake_process.specs.Process.{IsLeftBy, Leaves, OpensOver, OpensProcess, ClosesProcess}
+use Rattle.intake_process.specs.Process.{Parts, IsAwake, IsUp, AnswersPortBy, KeepsBy, IsNotOpened, without_files}
+use Rattle.intake_process.specs.Process.{HoldRegisterWithLog, IsLeftBy, Leaves, OpensOver, OpensProcess}
+use Rattle.intake_process.specs.Process.{ClosesProcess}
 use Rattle.intake_process.proofs.Left.{keeps_left, none_left, unopened_leaves}
 
 pub not_true : (b : Bool) → (b ≡ true → ⊥) → b ≡ false
@@ -57,21 +60,20 @@ ok_gives (Err e) is x = absurd (true≢false is)
 
 module _ {D : Type 0} (g : Ghosts D) where
   -- files that lay there lie there
-  back_of : (has : Bool) (old new : Option (Option (Files D))) (was_taken : Bool) (fault : OpeningFault)
-      → IsNotOpened g has old new was_taken fault → (there : Files D) → old ≡ Some (Some there)
+  back_of : (has : Bool) (old new : Option (Option (Files D))) (was_taken : Bool) (it : Why)
+      → IsNotOpened g has old new was_taken it → (there : Files D) → old ≡ Some (Some there)
       → (files : Files D) × (new ≡ Some (Some files))
-  back_of has old new was_taken (Unopened why) is there lies = stayed g old new why was_taken is.refused there lies
-  back_of has old new was_taken (Taken holding) is there lies = lie_left old new is.1 is.4 there lies
-  back_of has old new was_taken (Create why) is there lies = lie_left old new is.1 is.4 there lies
-  back_of has old new was_taken (Open why holding) is there lies = lie_left old new is.1 is.4 there lies
+  back_of has old new was_taken (why.Files fault) is there lies = stayed g old new fault was_taken is.refused there lies
+  back_of has old new was_taken other is there lies = lie_left old new is.1 is.4 there lies
 
   -- the files of a place that has none are missing
-  none_missing : (has : Bool) (old new : Option (Option (Files D))) (was_taken : Bool) (fault : OpeningFault)
-      → IsNotOpened g has old new was_taken fault → old ≡ Some None → fault ≡ Unopened Missing → was_taken ≡ false
+  none_missing : (has : Bool) (old new : Option (Option (Files D))) (was_taken : Bool) (it : Why)
+      → IsNotOpened g has old new was_taken it → old ≡ Some None → it ≡ why.Files Missing → was_taken ≡ false
       → new ≡ Some None
-  none_missing has old new was_taken fault why none is untaken =
-      let refusal : IsNotOpened g has old new false (Unopened Missing) =
-      subst (λ f. IsNotOpened g has old new false f) is (subst (λ b. IsNotOpened g has old new b fault) untaken why) in
+  none_missing has old new was_taken it unopened none is untaken =
+      let refusal : IsNotOpened g has old new false (why.Files Missing) =
+      subst (λ f. IsNotOpened g has old new false f) is
+      (subst (λ b. IsNotOpened g has old new b it) untaken unopened) in
       subst (λ l. StaysIn g l new Missing false) none refusal.refused
 
 module _ {D : Type 0} {g : Ghosts D} where
@@ -92,16 +94,19 @@ module _ {D : Type 0} {g : Ghosts D} where
       }
 
   -- a refusal leaves it closed, and what lay there, unless it leaves doubt
-  pub refuses : SeenMayStay g → (has : Bool) (limit : ℕ) (old new : Parts g) (was_taken : Bool) (fault : OpeningFault)
-      → new.is_certain ≡ (if leaves_doubt was_taken fault then false else old.is_certain)
+  pub refuses : SeenMayStay g → (has : Bool) (limit : ℕ) (old new : Parts g) (was_taken : Bool) (refusal : Refusal)
+      → new.is_certain ≡ (if leaves_doubt was_taken refusal.why then false else old.is_certain)
       → old.intake ≡ None → new.intake ≡ None → new.refused_calls ≡ old.refused_calls
-      → IsNotOpened g has old.lying new.lying was_taken fault
-      → (has ≡ true → old.lying ≡ Some None → (fault ≡ Unopened Missing) × (was_taken ≡ false))
-      → OpensProcess g has limit old new (Err fault)
-  refuses stays has limit old new was_taken fault certain none closed calls why absent =
-      let sure = sure_after (leaves_doubt was_taken fault) old.is_certain new.is_certain certain in
+      → IsNotOpened g has old.lying new.lying was_taken refusal.why
+      → (has ≡ true → old.lying ≡ Some None → (refusal ≡ without_files Missing) × (was_taken ≡ false))
+      → OpensProcess g has limit old new (Err refusal)
+  refuses stays has limit old new was_taken refusal certain none closed calls unopened absent =
+      let it = refusal.why in
+      let is_missing : has ≡ true → old.lying ≡ Some None → it ≡ why.Files Missing =
+      λ is lies. ap (λ (r : Refusal). r.why) (absent is lies).0 in
+      let sure = sure_after (leaves_doubt was_taken it) old.is_certain new.is_certain certain in
       let left = λ (honest : IsHonest g) (is : new.is_certain ≡ true).
-      unopened_leaves honest stays has old.lying new.lying was_taken fault why (sure is).0 in
+      unopened_leaves honest stays has old.lying new.lying was_taken it unopened (sure is).0 in
       let leaves : IsHonest g → Leaves limit old new =
       λ honest. record {
         kept = λ old_style F keeps is.
@@ -117,14 +122,15 @@ module _ {D : Type 0} {g : Ghosts D} where
         unmade = leaves;
         left = left;
         absent = λ _ is lies. (
-          unchanged old new (leaves_doubt was_taken fault) certain
-              (ap₂ leaves_doubt (absent is lies).1 (absent is lies).0) none closed calls lies
-              (none_missing g has old.lying new.lying was_taken fault why lies (absent is lies).0 (absent is lies).1),
-          ap (λ (f : OpeningFault). Err f) (absent is lies).0,
+          unchanged old new (leaves_doubt was_taken it) certain
+              (ap₂ leaves_doubt (absent is lies).1 (is_missing is lies)) none closed calls lies
+              (none_missing g has old.lying new.lying was_taken it unopened lies (is_missing is lies)
+              (absent is lies).1),
+          ap (λ (r : Refusal). Err r) (absent is lies).0,
         );
         nothing = λ honest _ lay is.
-            unchanged old new (leaves_doubt was_taken fault) certain (sure is).0 none closed calls lay
-            (none_left g honest has old.lying new.lying was_taken fault why lay (λ there. (absent there lay).0)
+            unchanged old new (leaves_doubt was_taken it) certain (sure is).0 none closed calls lay
+            (none_left g honest has old.lying new.lying was_taken it unopened lay (λ there. is_missing there lay)
             (sure is).0);
         read = λ honest _ files lies. tt;
         certain = tt;
@@ -133,9 +139,9 @@ module _ {D : Type 0} {g : Ghosts D} where
         up = λ _. tt;
         already = λ some. not_some old.intake none some;
         calls = calls;
-        why = (was_taken, why, certain);
+        why = (was_taken, unopened, certain);
         refused = closed;
-        back = back_of g has old.lying new.lying was_taken fault why;
+        back = back_of g has old.lying new.lying was_taken it unopened;
       }
 
   -- nothing happens to one that is open
@@ -163,14 +169,10 @@ module _ {D : Type 0} {g : Ghosts D} where
 
   -- no intake began over the database of the place, which was given up
   pub not_begun : (has : Bool) (old mid new : Option (Option (Files D))) (conn back : Held (FileStore D g))
-      (files : Files D) (fault : OpeningFault) → ComesFrom old mid conn → IsNotBegun over_files has conn fault back
-      → place.Leaves mid new files → IsGivenUp back files → IsNotOpened g has old new true fault
-  not_begun has old mid new conn back files (Unopened why) comes is leaves given = absurd is
-  not_begun has old mid new conn back files (Taken holding) comes is leaves given =
-      gives_back old mid new conn back files comes is leaves given
-  not_begun has old mid new conn back files (Create why) comes is leaves given =
-      gives_back old mid new conn back files comes is leaves given
-  not_begun has old mid new conn back files (Open why holding) comes is leaves given =
+      (files : Files D) (it : Why) → ComesFrom old mid conn → IsNotBegun over_files has conn it back
+      → place.Leaves mid new files → IsGivenUp back files → IsNotOpened g has old new true it
+  not_begun has old mid new conn back files (why.Files fault) comes is leaves given = absurd is
+  not_begun has old mid new conn back files other comes is leaves given =
       gives_back old mid new conn back files comes is leaves given
 
   found_there : (has : Bool) (limit : ℕ) (old new : Parts g) (conn : Held (FileStore D g))
@@ -247,20 +249,28 @@ module _ {D : Type 0} {g : Ghosts D} where
 
   -- ---- it is closed
 
-  copied : (intake : Intake (FileStore D g)) (files : Files D) (lying lying' : Option (Option (Files D))) → IsHonest g
-      → IsClosedIn g intake.store.conn files → place.Leaves lying lying' files
+  -- what was committed is in the files that it leaves
+  pub copied : (conn : Held (FileStore D g)) (files : Files D) → IsHonest g → IsClosedIn g conn files
+      → (old_style : ℕ) (requests : List Request) → HasCommitted (IsRegisterOf old_style requests) (file_state conn)
+      → HoldRegisterWithLog g files old_style requests
+  copied conn files honest closed old_style requests stands =
+      let left =
+      closed_leaves honest conn files closed stands (λ db (it : IsRegisterOf old_style requests db). it.sound) in
+      record { db = (file_state conn).now; register = left.0; held = left.1 }
+
+  kept_closed : (intake : Intake (FileStore D g)) (files : Files D) (lying lying' : Option (Option (Files D)))
+      → IsHonest g → IsClosedIn g intake.store.conn files → place.Leaves lying lying' files
       → (limit old_style : ℕ) (F : List Request) → KeepsBy (Some intake) lying limit old_style F
       → KeepsBy {g = g} None lying' limit old_style F
-  copied intake files lying lying' honest closed leaves limit old_style F keeps =
+  kept_closed intake files lying lying' honest closed leaves limit old_style F keeps =
       let conn = intake.store.conn in
       let stands =
-      subst (λ n. HasCommitted (IsRegisterOf n F) (file_state conn)) keeps.0.old_style_is keeps.0.holds.rows.stands in
-      let left = closed_leaves honest conn files closed stands (λ db (it : IsRegisterOf old_style F db). it.sound) in (
+      subst (λ n. HasCommitted (IsRegisterOf n F) (file_state conn)) keeps.0.old_style_is keeps.0.holds.rows.stands in (
         keeps.0.holds.firsts',
         (
           files,
           subst (λ l. place.Leaves l lying' files) keeps.1 leaves,
-          record { db = (file_state conn).now; register = left.0; held = left.1 },
+          copied conn files honest closed old_style F stands,
         ),
       )
 
@@ -309,7 +319,7 @@ module _ {D : Type 0} {g : Ghosts D} where
     leaves = λ honest limit. record {
       kept = λ old_style F keeps certain.
           subst (λ i. KeepsBy {g = g} i new.lying limit old_style F) (sym shut)
-          (copied intake files old.lying new.lying honest is leaves limit old_style F
+          (kept_closed intake files old.lying new.lying honest is leaves limit old_style F
           (subst (λ i. KeepsBy i old.lying limit old_style F) up (keeps (sym same ∙ certain))));
       certain = λ certain. sym same ∙ certain;
     };

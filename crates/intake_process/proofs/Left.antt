@@ -12,9 +12,10 @@ use Rattle.database_places.specs.Opening.{ComesFrom, StaysIn}
 use Rattle.database_places.specs.Places.{IsHonest}
 use Rattle.database_places.proofs.Lying.{given_leaves, not_taken}
 use Rattle.database_places.proofs.Nothing.{nothing_lying}
-use Rattle.intake_process.specs.declared.fault.OpeningFault.{OpeningFault}
-use Rattle.intake_process.specs.declared.fault.OpeningFault.TheVariants.{Files as Unopened, Taken, Create, Open}
-use Rattle.intake_process.specs.Process.{KeepsBy, IsNotOpened, LeavesDatabase, leaves_doubt}
+use Rattle.register_extracts.specs.declared.fault.Why.{Why}
+use Rattle.register_extracts.specs.declared.fault.Why.TheVariants as why
+use Rattle.intake_process.specs.Fault.{leaves_doubt}
+use Rattle.intake_process.specs.Process.{KeepsBy, IsNotOpened, LeavesDatabase}
 
 module _ {D : Type 0} {g : Ghosts D} where
   -- the requests of a register that lies there
@@ -30,27 +31,29 @@ module _ {D : Type 0} {g : Ghosts D} where
 
   -- an opening that was refused, and left no doubt
   pub unopened_leaves : IsHonest g → SeenMayStay g → (has : Bool) (old new : Option (Option (Files D)))
-      (was_taken : Bool) (fault : OpeningFault) → IsNotOpened g has old new was_taken fault
-      → leaves_doubt was_taken fault ≡ false → LeavesDatabase g old new
-  unopened_leaves honest stays has old new was_taken (Unopened why) is sure = λ db.
-      not_taken g old new why (subst (StaysIn g old new why) sure is.refused)
-  unopened_leaves honest stays has old new was_taken (Taken holding) is sure =
+      (was_taken : Bool) (it : Why) → IsNotOpened g has old new was_taken it
+      → leaves_doubt was_taken it ≡ false → LeavesDatabase g old new
+  unopened_leaves honest stays has old new was_taken (why.Files fault) is sure = λ db.
+      not_taken g old new fault (subst (StaysIn g old new fault) sure is.refused)
+  unopened_leaves honest stays has old new was_taken why.Taken is sure =
       given_leaves honest stays old (Some None) new is.0 is.1 is.2
       (subst (λ b. CommitsNothing (file_state is.0) (file_state b)) (sym is.3.2) (nothing_yet (file_state is.0))) is.4
-  unopened_leaves honest stays has old new was_taken (Create why) is sure = absurd (true≢false sure)
-  unopened_leaves honest stays has old new was_taken (Open why holding) is sure =
+  unopened_leaves honest stays has old new was_taken (why.Create fault) is sure = absurd (true≢false sure)
+  unopened_leaves honest stays has old new was_taken (why.Open fault) is sure =
       given_leaves honest stays old (Some None) new is.0 is.1 is.2 is.3.1.back.crash is.4
+  unopened_leaves honest stays has old new was_taken other is sure = absurd is.3
 
 -- where no files lay, none lie
 module _ {D : Type 0} (g : Ghosts D) where
   pub none_left : IsHonest g → (has : Bool) (old new : Option (Option (Files D))) (was_taken : Bool)
-      (fault : OpeningFault) → IsNotOpened g has old new was_taken fault → old ≡ Some None
-      → (has ≡ true → fault ≡ Unopened Missing) → leaves_doubt was_taken fault ≡ false → new ≡ Some None
-  none_left honest has old new was_taken (Unopened why) is none absent sure =
-      subst (λ l. StaysIn g l new why false) none (subst (StaysIn g old new why) sure is.refused)
-  none_left honest has old new was_taken (Taken holding) is none absent sure =
+      (it : Why) → IsNotOpened g has old new was_taken it → old ≡ Some None
+      → (has ≡ true → it ≡ why.Files Missing) → leaves_doubt was_taken it ≡ false → new ≡ Some None
+  none_left honest has old new was_taken (why.Files fault) is none absent sure =
+      subst (λ l. StaysIn g l new fault false) none (subst (StaysIn g old new fault) sure is.refused)
+  none_left honest has old new was_taken why.Taken is none absent sure =
       absurd (is.3.1
       (nothing_lying honest (Some None) is.0 (subst (λ l. ComesFrom l (Some None) is.0) none is.2)))
-  none_left honest has old new was_taken (Create why) is none absent sure = absurd (true≢false sure)
-  none_left honest has old new was_taken (Open why holding) is none absent sure =
-      absurd (let no : Open why holding ≡ Unopened Missing = absent is.3.0 in cc)
+  none_left honest has old new was_taken (why.Create fault) is none absent sure = absurd (true≢false sure)
+  none_left honest has old new was_taken (why.Open fault) is none absent sure =
+      absurd (let no : why.Open fault ≡ why.Files Missing = absent is.3.0 in cc)
+  none_left honest has old new was_taken other is none absent sure = absurd is.3

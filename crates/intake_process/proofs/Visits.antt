@@ -17,25 +17,23 @@ use Rattle.register_pages.specs.Pages.{WritesSite}
 use Rattle.register_tables.specs.Faults.{IsFailure}
 use Rattle.register_tables.specs.Registers.{IsRegisterOf}
 use Rattle.register_tables.specs.declared.fault.OpenFault.{OpenFault}
-use Rattle.command_line.specs.declared.fault.DatabaseFault.{DatabaseFault}
-use Rattle.database_places.specs.declared.holding.Holding.{Holding}
+use Rattle.register_extracts.specs.declared.fault.Why.{Why}
+use Rattle.register_extracts.specs.declared.fault.Why.TheVariants as why
 use Rattle.database_places.specs.declared.opening.Unopened.{Unopened}
 use Rattle.database_places.proofs.Finding.{found_lying}
-use Rattle.database_places.proofs.Leaving.{closed_leaves}
 use Rattle.database_places.proofs.Lying.{given_leaves, lies_given, not_taken}
 use Rattle.database_places.specs.Closing.{IsClosedIn, IsGivenUp, IsNotClosed}
 use Rattle.database_places.specs.Opening.{ComesFrom, OpensPlace, StaysIn}
 use Rattle.database_places.specs.Places.{IsHonest, Lie}
 use Rattle.database_places.specs.Places as place
 use Rattle.intake_process.specs.declared.tasks.errand.Errand.{Errand}
-use Rattle.intake_process.specs.declared.tasks.errand.Errand.TheVariants as asked
-use Rattle.intake_process.specs.declared.errand.ErrandFault.{ErrandFault}
-use Rattle.intake_process.specs.declared.errand.ErrandFault.TheVariants as fault
 use Rattle.intake_process.specs.declared.visiting.Visited.{Visited}
-use Rattle.intake_process.specs.Errands.{AreMomentsFor, IsRegisterFor, MayFail, Says, Tells, is_for_pages, is_refused}
+use Rattle.intake_process.specs.Errands.{AreMomentsFor, IsRegisterFor, Says, Tells, meaning}
+use Rattle.intake_process.specs.Fault.{is_refused, leaves_doubt}
 use Rattle.intake_process.specs.Process.{Parts, HoldRegisterWithLog, KeepsBy, LeavesDatabase}
 use Rattle.intake_process.proofs.Errands.{no_begin, no_print}
-use Rattle.intake_process.specs.Visits.{Outputs, LiesDatedFor, LiesFor, is_doubtful, leaves_doubt, IsLeftIn, GoesOn}
+use Rattle.intake_process.proofs.Keeping.{copied, left_by as left_closed}
+use Rattle.intake_process.specs.Visits.{Outputs, LiesDatedFor, LiesFor, is_doubtful, is_unsure, IsLeftIn, GoesOn}
 use Rattle.intake_process.specs.Visits.{VisitsPlace, VisitsRegister}
 
 or_first : (a b : Bool) → (a || b) ≡ false → a ≡ false
@@ -46,92 +44,29 @@ or_second : (a b : Bool) → (a || b) ≡ false → b ≡ false
 or_second true b not = absurd (true≢false not)
 or_second false b not = not
 
-may_files : (errand : Errand) (requests : List Request) (moments : List (Option ℕ)) (why : DatabaseFault)
-    → MayFail errand requests moments (fault.Files why)
-may_files (asked.List filer false) requests moments why = tt
-may_files (asked.List filer true) requests moments why = tt
-may_files (asked.Show number dated) requests moments why = tt
-may_files (asked.FilingBody number) requests moments why = tt
-may_files (asked.RequestBody filer key) requests moments why = tt
-may_files (asked.Check against) requests moments why = tt
-may_files asked.Migrate requests moments why = tt
-may_files (asked.Export form wanted) requests moments why = tt
-may_files (asked.Digest until) requests moments why = tt
-may_files (asked.Pages folder) requests moments why = tt
-
 -- ---- what a refused errand commits
 
 module _ {S : Type 0} (g : database.Ghosts S) (old new : Held S) where
-  unopened_says : (errand : Errand) (why : OpenFault) (holding : Holding)
-      → Says g errand old new (fault.Open why holding) → CommitsNothing (state g old) (state g new)
-  unopened_says (asked.List filer false) why holding says = says.1
-  unopened_says (asked.List filer true) why holding says = says.1
-  unopened_says (asked.Show number dated) why holding says = says.1
-  unopened_says (asked.FilingBody number) why holding says = says.1
-  unopened_says (asked.RequestBody filer key) why holding says = says.1
-  unopened_says (asked.Check against) why holding says = says.1
-  unopened_says asked.Migrate why holding says = absurd says
-  unopened_says (asked.Export form wanted) why holding says = says.1
-  unopened_says (asked.Digest until) why holding says = says.1
-  unopened_says (asked.Pages folder) why holding says = says.1
-
-  files_say : (errand : Errand) (why : DatabaseFault) → Says g errand old new (fault.Files why) → ⊥
-  files_say (asked.List filer false) why says = says
-  files_say (asked.List filer true) why says = says
-  files_say (asked.Show number dated) why says = says
-  files_say (asked.FilingBody number) why says = says
-  files_say (asked.RequestBody filer key) why says = says
-  files_say (asked.Check against) why says = says
-  files_say asked.Migrate why says = says
-  files_say (asked.Export form wanted) why says = says
-  files_say (asked.Digest until) why says = says
-  files_say (asked.Pages folder) why says = says
-
-  migrate_says : (errand : Errand) (why : OpenFault) (holding : Holding)
-      → Says g errand old new (fault.Migrate why holding)
-      → IsFailure why ⊎ CommitsNothing (state g old) (state g new)
-  migrate_says (asked.List filer false) why holding says = absurd says
-  migrate_says (asked.List filer true) why holding says = absurd says
-  migrate_says (asked.Show number dated) why holding says = absurd says
-  migrate_says (asked.FilingBody number) why holding says = absurd says
-  migrate_says (asked.RequestBody filer key) why holding says = absurd says
-  migrate_says (asked.Check against) why holding says = absurd says
-  migrate_says asked.Migrate why holding says = says.2
-  migrate_says (asked.Export form wanted) why holding says = absurd says
-  migrate_says (asked.Digest until) why holding says = absurd says
-  migrate_says (asked.Pages folder) why holding says = absurd says
-
-  migrate_commits : (X : Type 0) (was_taken : Bool) (why : OpenFault) (holding : Holding)
-      → IsFailure why ⊎ CommitsNothing (state g old) (state g new)
-      → leaves_doubt {X = X} was_taken (Err (fault.Migrate why holding)) ≡ false
-      → CommitsNothing (state g old) (state g new)
-  migrate_commits X was_taken why holding (inr nothing) sure = nothing
-  migrate_commits X was_taken why holding (inl (inl memory)) sure =
-      absurd (true≢false
-      (subst (λ f. leaves_doubt {X = X} was_taken (Err (fault.Migrate f holding)) ≡ false) memory sure))
-  migrate_commits X was_taken why holding (inl (inr disk)) sure =
-      absurd (true≢false
-      (subst (λ f. leaves_doubt {X = X} was_taken (Err (fault.Migrate f holding)) ≡ false) disk sure))
+  migrate_commits : (was_taken : Bool) (fault : OpenFault)
+      → IsFailure fault ⊎ CommitsNothing (state g old) (state g new)
+      → leaves_doubt was_taken (why.Migrate fault) ≡ false → CommitsNothing (state g old) (state g new)
+  migrate_commits was_taken fault (inr nothing) sure = nothing
+  migrate_commits was_taken fault (inl (inl memory)) sure =
+      absurd (true≢false (subst (λ f. leaves_doubt was_taken (why.Migrate f) ≡ false) memory sure))
+  migrate_commits was_taken fault (inl (inr disk)) sure =
+      absurd (true≢false (subst (λ f. leaves_doubt was_taken (why.Migrate f) ≡ false) disk sure))
 
   -- nothing, unless memory or the disk refused a migration
-  refused_commits : {X : Type 0} (errand : Errand) (was_taken : Bool) (done : Result X ErrandFault)
-      → IfErr done (Says g errand old new) → is_refused done ≡ true → leaves_doubt was_taken done ≡ false
+  refused_commits : {X : Type 0} (errand : Errand) (was_taken : Bool) (done : Result X Why)
+      → ((meaning errand).is_for_earlier ≡ false → CommitsNothing (state g old) (state g new))
+      → IfErr done (Says g errand old new) → is_refused done ≡ true → is_unsure was_taken done ≡ false
       → CommitsNothing (state g old) (state g new)
-  refused_commits errand was_taken (Ok done) says refused sure = absurd (true≢false (sym refused))
-  refused_commits errand was_taken (Err (fault.Files why)) says refused sure = absurd (files_say errand why says)
-  refused_commits errand was_taken (Err (fault.Open why holding)) says refused sure =
-      unopened_says errand why holding says
-  refused_commits {X} errand was_taken (Err (fault.Migrate why holding)) says refused sure =
-      migrate_commits X was_taken why holding (migrate_says errand why holding says) sure
-  refused_commits errand was_taken (Err (fault.List why)) says refused sure = absurd (true≢false (sym refused))
-  refused_commits errand was_taken (Err (fault.Store why)) says refused sure = absurd (true≢false (sym refused))
-  refused_commits errand was_taken (Err (fault.NoFiling number)) says refused sure =
-      absurd (true≢false (sym refused))
-  refused_commits errand was_taken (Err fault.NoRequest) says refused sure = absurd (true≢false (sym refused))
-  refused_commits errand was_taken (Err (fault.TooFew kept)) says refused sure = absurd (true≢false (sym refused))
-  refused_commits errand was_taken (Err (fault.Another count)) says refused sure = absurd (true≢false (sym refused))
-  refused_commits errand was_taken (Err (fault.Text why)) says refused sure = absurd (true≢false (sym refused))
-  refused_commits errand was_taken (Err fault.Folder) says refused sure = absurd (true≢false (sym refused))
+  refused_commits errand was_taken (Ok done) reads says refused sure = absurd (true≢false (sym refused))
+  refused_commits errand was_taken (Err (why.Files fault)) reads says refused sure = absurd says
+  refused_commits errand was_taken (Err (why.Open fault)) reads says refused sure = reads says.0
+  refused_commits errand was_taken (Err (why.Migrate fault)) reads says refused sure =
+      migrate_commits was_taken fault says.3 sure
+  refused_commits errand was_taken (Err other) reads says refused sure = absurd (true≢false (sym refused))
 
 module _ {D : Type 0} {g : Ghosts D} where
   -- ---- the files are left
@@ -142,8 +77,7 @@ module _ {D : Type 0} {g : Ghosts D} where
       → IfErr r (λ error. (files : Files D) × place.Leaves lying lying' files × IsNotClosed conn files error)
       → (files : Files D) × place.Leaves lying lying' files × IsLeftIn refused conn files r
   closed_in lying lying' conn true r not closed failed = absurd (true≢false not)
-  closed_in lying lying' conn false (Ok done) not closed failed = closed
-  closed_in lying lying' conn false (Err error) not closed failed = failed
+  closed_in lying lying' conn false r not closed failed = left_closed conn lying lying' r closed failed
 
   pub given_in : (lying lying' : Option (Option (Files D))) (conn : Held (FileStore D g)) (refused : Bool)
       (files : Files D) → refused ≡ true → place.Leaves lying lying' files → IsGivenUp conn files
@@ -175,14 +109,6 @@ module _ {D : Type 0} {g : Ghosts D} where
         subst (AreMomentsFor errand requests moments) (sym shown.1) hold.received,
       )
 
-  copied : (conn : Held (FileStore D g)) (files : Files D) → IsHonest g → IsClosedIn g conn files
-      → (old_style : ℕ) (requests : List Request) → HasCommitted (IsRegisterOf old_style requests) (file_state conn)
-      → HoldRegisterWithLog g files old_style requests
-  copied conn files honest closed old_style requests stands =
-      let left =
-      closed_leaves honest conn files closed stands (λ db (it : IsRegisterOf old_style requests db). it.sound) in
-      record { db = (file_state conn).now; register = left.0; held = left.1 }
-
   closed_ok : (conn : Held (FileStore D g)) (files : Files D) (r : Result (Unit {0}) Error) → is_err r ≡ false
       → IsLeftIn false conn files r → IsClosedIn g conn files
   closed_ok conn files (Ok done) not left = left
@@ -196,9 +122,9 @@ module _ {D : Type 0} {g : Ghosts D} where
         → Tells errand requests moments out.text out'.text visited.done
     told_by (Err it) between opens goes honest old_style requests moments lies =
         subst (λ done. Tells errand requests moments out.text out'.text done) (sym goes.0) (
-          may_files errand requests moments it.fault,
-          no_print errand out.text out'.text (fault.Files it.fault) (ap (λ o. o.text) goes.4),
-          no_begin errand requests moments out.text out'.text (fault.Files it.fault) refl,
+          tt,
+          no_print errand out.text out'.text (why.Files it.fault) (ap (λ o. o.text) goes.4),
+          no_begin errand requests moments out.text out'.text (why.Files it.fault) refl,
         )
     told_by (Ok conn) between opens goes honest old_style requests moments lies =
         let is = found_dated errand old between conn honest opens.comes old_style requests moments lies in
@@ -207,7 +133,7 @@ module _ {D : Type 0} {g : Ghosts D} where
     filled_by : (opened : Result (Held (FileStore D g)) Unopened) (between : Option (Option (Files D)))
         → OpensPlace g true old between opened → GoesOn errand out out' between new opened visited
         → IsHonest g → (old_style : ℕ) (requests : List Request) → LiesFor g errand old old_style requests
-        → is_for_pages errand ≡ true → OnOk visited.done (WritesSite requests out.pages out'.pages)
+        → (meaning errand).fills ≡ true → OnOk visited.done (WritesSite requests out.pages out'.pages)
     filled_by (Err it) between opens goes honest old_style requests lies is =
         subst (λ done. OnOk done (WritesSite requests out.pages out'.pages)) (sym goes.0) tt
     filled_by (Ok conn) between opens goes honest old_style requests lies is =
@@ -215,7 +141,7 @@ module _ {D : Type 0} {g : Ghosts D} where
         (found errand old between conn honest opens.comes old_style requests lies).0 is
 
     unfilled_by : (opened : Result (Held (FileStore D g)) Unopened) (between : Option (Option (Files D)))
-        → GoesOn errand out out' between new opened visited → is_for_pages errand ≡ false → out'.pages ≡ out.pages
+        → GoesOn errand out out' between new opened visited → (meaning errand).fills ≡ false → out'.pages ≡ out.pages
     unfilled_by (Err it) between goes is = ap (λ o. o.pages) goes.4
     unfilled_by (Ok conn) between goes is = goes.2.others is
 
@@ -231,7 +157,7 @@ module _ {D : Type 0} {g : Ghosts D} where
         let files = goes.3.0 in
         let closed =
         closed_ok goes.0 files visited.closed
-        (or_second (leaves_doubt visited.was_taken visited.done) (is_err visited.closed) sure)
+        (or_second (is_unsure visited.was_taken visited.done) (is_err visited.closed) sure)
         (subst (λ refused. IsLeftIn refused goes.0 files visited.closed) done goes.3.2) in
         let stands = goes.1.kept (always_clean honest goes.0) done old_style requests lies.0 is_there.0 in (
           lies.0,
@@ -247,15 +173,15 @@ module _ {D : Type 0} {g : Ghosts D} where
         → IsHonest g → is_doubtful visited ≡ false → is_refused visited.done ≡ true → LeavesDatabase g old new
     left_by stays (Err it) between opens goes honest sure refused =
         let untaken : it.was_taken ≡ false =
-        sym goes.1 ∙ sym (ap (leaves_doubt visited.was_taken) goes.0)
-        ∙ or_first (leaves_doubt visited.was_taken visited.done) (is_err visited.closed) sure in
+        sym goes.1 ∙ sym (ap (is_unsure visited.was_taken) goes.0)
+        ∙ or_first (is_unsure visited.was_taken visited.done) (is_err visited.closed) sure in
         subst (λ l. LeavesDatabase g old l) (sym goes.3)
         (λ db. not_taken g old between it.fault (subst (StaysIn g old between it.fault) untaken opens.refused))
     left_by stays (Ok conn) between opens goes honest sure refused =
         let files = goes.3.0 in
         let nothing =
-        refused_commits over_files conn goes.0 errand visited.was_taken visited.done goes.1.refused refused
-        (or_first (leaves_doubt visited.was_taken visited.done) (is_err visited.closed) sure) in
+        refused_commits over_files conn goes.0 errand visited.was_taken visited.done goes.1.reads goes.1.refused refused
+        (or_first (is_unsure visited.was_taken visited.done) (is_err visited.closed) sure) in
         let given = subst (λ refused. IsLeftIn refused goes.0 files visited.closed) refused goes.3.2 in
         given_leaves honest stays old between new conn goes.0 opens.comes nothing
         (lies_given old between new conn goes.0 files opens.comes goes.3.1 given.0)
@@ -263,7 +189,7 @@ module _ {D : Type 0} {g : Ghosts D} where
     -- a register of this version is not migrated
     current_by : (opened : Result (Held (FileStore D g)) Unopened) (between : Option (Option (Files D)))
         → OpensPlace g true old between opened → GoesOn errand out out' between new opened visited
-        → IsHonest g → errand ≡ asked.Migrate → (old_style : ℕ) (requests : List Request)
+        → IsHonest g → (meaning errand).is_for_earlier ≡ true → (old_style : ℕ) (requests : List Request)
         → Lie old (λ files. HoldRegisterWithLog g files old_style requests) → is_refused visited.done ≡ true
     current_by (Err it) between opens goes honest migrates old_style requests lies = ap is_refused goes.0
     current_by (Ok conn) between opens goes honest migrates old_style requests lies =

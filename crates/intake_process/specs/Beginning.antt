@@ -7,12 +7,12 @@ use Rattle.filing_model.specs.Register.{register}
 use Rattle.register_tables.specs.Registers.{IsRegisterOf}
 use Rattle.register_tables.specs.Opening.{IsReadAsRegister}
 use Rattle.register_store.specs.Calls.{CreatesOrGivesBack, OpensOrGivesBack}
+use Rattle.register_extracts.specs.declared.fault.Why.{Why}
+use Rattle.register_extracts.specs.declared.fault.Why.TheVariants as why
 use Rattle.intake_core.specs.declared.intake.Intake.{Intake}
 use Rattle.intake_core.specs.Held.{HoldsRequests, IsClean, limit_of, old_style_of}
 use Rattle.table_rows.specs.Tables.{no_schema}
 use Rattle.intake_process.specs.declared.beginning.Totals.{Totals}
-use Rattle.intake_process.specs.declared.fault.OpeningFault.{OpeningFault}
-use Rattle.intake_process.specs.declared.fault.OpeningFault.TheVariants.{Files, Taken, Create, Open}
 
 -- The intake holds these requests and keeps at most `limit` keys, and this many of the requests are old-style.
 pub record HoldsAs {S : Type 0} (g : Ghosts S) (limit old_style : ℕ) (requests : List Request)
@@ -42,11 +42,11 @@ MakesIntake g conn limit intake totals =
 
 -- No intake began over the register that had to be in this database, or had to be made there, and this connection came
 -- back. A register is made only in a database in which nothing is declared.
-abbrev pub IsNotBegun : {S : Type 0} → Ghosts S → Bool → Held S → OpeningFault → Held S → Type 0
-IsNotBegun g has_to_be_there conn (Files fault) back = ⊥
-IsNotBegun g has_to_be_there conn (Taken holding) back =
+abbrev pub IsNotBegun : {S : Type 0} → Ghosts S → Bool → Held S → Why → Held S → Type 0
+IsNotBegun g has_to_be_there conn why.Taken back =
     (has_to_be_there ≡ false) × ((state g conn).now.schema ≢ no_schema) × (back ≡ conn)
-IsNotBegun g has_to_be_there conn (Create fault) back =
+IsNotBegun g has_to_be_there conn (why.Create fault) back =
     (has_to_be_there ≡ false) × ((state g conn).now.schema ≡ no_schema) × CreatesOrGivesBack g conn (Err (fault, back))
-IsNotBegun g has_to_be_there conn (Open fault holding) back =
+IsNotBegun g has_to_be_there conn (why.Open fault) back =
     (has_to_be_there ≡ true) × OpensOrGivesBack g conn (Err (fault, back))
+IsNotBegun g has_to_be_there conn other back = ⊥

@@ -8,7 +8,7 @@ use Rattle.connection_hall.specs.Answers.{Answer}
 use Rattle.connection_hall.specs.Running.{arrival_at}
 use Rattle.gateway_rounds.specs.Ports.{Port, Runs}
 use Rattle.intake_process.specs.declared.beginning.Totals.{Totals}
-use Rattle.intake_process.specs.declared.fault.OpeningFault.{OpeningFault}
+use Rattle.intake_process.specs.declared.fault.Refusal.{Refusal}
 use Rattle.intake_process.specs.declared.process.Closed.{Closed}
 use Rattle.intake_process.specs.declared.process.AnsweredBy.{AnsweredBy}
 use Rattle.intake_process.specs.declared.process.AnsweredBy.TheVariants as outcome
@@ -37,7 +37,7 @@ abbrev pub IsReady : {D : Type 0} {g : Ghosts D} → ℕ → Option Bool → Par
 IsReady limit None old new = IsSome old.intake × (new ≡ old)
 IsReady limit (Some false) old new = (old.intake ≡ None) × (new ≡ old)
 IsReady {D} {g} limit (Some true) old new =
-    (old.intake ≡ None) × ((result : Result (Option Totals) OpeningFault) × OpensProcess g true limit old new result)
+    (old.intake ≡ None) × ((result : Result (Option Totals) Refusal) × OpensProcess g true limit old new result)
 
 -- it is closed if its database refused a call, and otherwise left as it is
 abbrev pub IsOver : {D : Type 0} {g : Ghosts D} → AnsweredBy → Parts g → Parts g → Type 0

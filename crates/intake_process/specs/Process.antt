@@ -11,12 +11,15 @@ use Rattle.sqlite.specs.Held.{Held}
 use Rattle.sqlite.specs.Files.{file_state, over_files}
 use Rattle.sqlite.specs.declared.error.Error.{Error}
 use Rattle.sqlite.specs.Effect.{Database}
+use Rattle.command_line.specs.declared.fault.DatabaseFault.{DatabaseFault}
 use Rattle.command_line.specs.declared.fault.DatabaseFault.TheVariants.{Missing}
 use Rattle.table_rows.specs.Tables.{no_schema}
 use Rattle.http_wire.specs.Wire.{Wire}
 use Rattle.filing_model.specs.Request.{Request, firsts}
 use Rattle.register_tables.specs.Registers.{IsRegisterOf}
 use Rattle.register_tables.specs.Opening.{IsReadAsRegister}
+use Rattle.register_extracts.specs.declared.fault.Why.{Why}
+use Rattle.register_extracts.specs.declared.fault.Why.TheVariants as why
 use Rattle.intake_core.specs.declared.intake.Intake.{Intake}
 use Rattle.intake_core.specs.Held.{store_of, limit_of, has_stopped}
 use Rattle.gateway_server.specs.Progress.{ServesToEnd}
@@ -26,18 +29,19 @@ use Rattle.gateway_rounds.specs.Ports.{Port}
 use Rattle.gateway_rounds.specs.Rounds.{AnswersRound}
 use Rattle.database_places.specs.Closing.{IsClosedIn, IsNotClosed, LieGivenUp}
 use Rattle.database_places.specs.Left.{HoldWithLog, IsReadIn}
+use Rattle.database_places.specs.declared.holding.Holding.TheVariants.{Nothing}
 use Rattle.database_places.specs.Opening.{ComesFrom, OpensPlace}
 use Rattle.database_places.specs.Places.{Lie, IsHonest}
 use Rattle.database_places.specs.Places as place
 use Rattle.intake_process.specs.declared.beginning.Totals.{Totals}
-use Rattle.intake_process.specs.declared.fault.OpeningFault.{OpeningFault}
-use Rattle.intake_process.specs.declared.fault.OpeningFault.TheVariants as fault
+use Rattle.intake_process.specs.declared.fault.Refusal.{Refusal}
 use Rattle.intake_process.specs.declared.process.Answered.{Answered}
 use Rattle.intake_process.specs.declared.process.Closed.{Closed}
 use Rattle.intake_process.specs.declared.process.IntakeProcess.{IntakeProcess}
 use Rattle.intake_process.specs.declared.process.AnsweredBy.{AnsweredBy}
 use Rattle.intake_process.specs.declared.process.AnsweredBy.TheVariants as outcome
 use Rattle.intake_process.specs.Beginning.{HoldsAs, AreTotals, IsNotBegun}
+use Rattle.intake_process.specs.Fault.{leaves_doubt}
 use Rattle.intake_process.specs.Turning.{TurnsAway}
 
 -- What contracts see of it: the intake, if it is open; if that is known, the files that lie in its place, if there are
@@ -118,25 +122,21 @@ pub record StaysUp {D : Type 0} {g : Ghosts D} (old new : Parts g) : Type 0 wher
 -- Why the process was not opened: the place gave no database, and its files were taken or not; or no intake began over
 -- this connection to the database that lay there or was made, and the connection was given up.
 abbrev pub IsNotOpened : {D : Type 0} → Ghosts D → Bool → Option (Option (Files D)) → Option (Option (Files D)) → Bool
-    → OpeningFault → Type 0
-IsNotOpened g has_to_be_there old new was_taken (fault.Files why) =
-    OpensPlace g has_to_be_there old new (Err (record { fault = why; was_taken = was_taken }))
-IsNotOpened {D} g has_to_be_there old new was_taken why =
+    → Why → Type 0
+IsNotOpened g has_to_be_there old new was_taken (why.Files fault) =
+    OpensPlace g has_to_be_there old new (Err (record { fault = fault; was_taken = was_taken }))
+IsNotOpened {D} g has_to_be_there old new was_taken other =
     (conn : Held (FileStore D g)) × (back : Held (FileStore D g)) × ComesFrom old (Some None) conn
-    × IsNotBegun over_files has_to_be_there conn why back × LieGivenUp old new back
+    × IsNotBegun over_files has_to_be_there conn other back × LieGivenUp old new back
+
+-- the files gave no database, for this cause
+abbrev pub without_files : DatabaseFault → Refusal
+without_files fault = record { why = why.Files fault; holding = Nothing }
 
 -- if the files that lie there before hold a sound database, those that lie there after hold it
 abbrev pub LeavesDatabase : {D : Type 0} → Ghosts D → Option (Option (Files D)) → Option (Option (Files D)) → Type 0
 LeavesDatabase g old new =
     (db : Database) → Lie old (λ files. HoldWithLog g files db) → Lie new (λ files. HoldWithLog g files db)
-
--- Whether such a refusal leaves doubt of what lies there: a register was being made, or the place gave no database once
--- the files were taken. Otherwise nothing was taken, or nothing was committed.
-abbrev pub leaves_doubt : Bool → OpeningFault → Bool
-leaves_doubt was_taken (fault.Files why) = was_taken
-leaves_doubt was_taken (fault.Taken holding) = false
-leaves_doubt was_taken (fault.Create why) = true
-leaves_doubt was_taken (fault.Open why holding) = false
 
 -- What an opening finds over this connection: a database that is read as a register, and the requests that its rows
 -- stand for are kept. A register is made only in a database in which nothing is declared.
@@ -149,7 +149,7 @@ OpensOver false limit conn new = (file_state conn).now.schema ≡ no_schema
 
 -- What opening the process does, whether its register has to be there or is made.
 pub record OpensProcess {D : Type 0} (g : Ghosts D) (has_to_be_there : Bool) (limit : ℕ) (old new : Parts g)
-    (result : Result (Option Totals) OpeningFault) : Type 0 where
+    (result : Result (Option Totals) Refusal) : Type 0 where
   -- the requests that lay there are kept, and counted
   pub leaves : IsHonest g → has_to_be_there ≡ true → Leaves limit old new
   pub counted : IsHonest g → has_to_be_there ≡ true → old.is_certain ≡ true → (old_style : ℕ) (requests : List Request)
@@ -164,7 +164,7 @@ pub record OpensProcess {D : Type 0} (g : Ghosts D) (has_to_be_there : Bool) (li
   pub left : IsHonest g → new.is_certain ≡ true → OnErr result (LeavesDatabase g old.lying new.lying)
   -- if the register has to be there, and no files lie there, the fault is Missing, and nothing changes
   pub absent : old.intake ≡ None → has_to_be_there ≡ true → old.lying ≡ Some None
-      → (new ≡ old) × (result ≡ Err (fault.Files Missing))
+      → (new ≡ old) × (result ≡ Err (without_files Missing))
   -- where no files lay, a refusal that leaves no doubt leaves all as it was
   pub nothing : IsHonest g → old.intake ≡ None → old.lying ≡ Some None → new.is_certain ≡ true
       → OnErr result (new ≡ old)
@@ -181,9 +181,9 @@ pub record OpensProcess {D : Type 0} (g : Ghosts D) (has_to_be_there : Bool) (li
   pub calls : new.refused_calls ≡ old.refused_calls
   -- A refusal says why. After it the process is closed, and the files that lay in the place still lie there. If it
   -- leaves no doubt they hold what they held; otherwise they may be what a crash leaves.
-  pub why : IfErr result (λ fault. (was_taken : Bool)
-      × IsNotOpened g has_to_be_there old.lying new.lying was_taken fault
-      × (new.is_certain ≡ (if leaves_doubt was_taken fault then false else old.is_certain)))
+  pub why : IfErr result (λ refusal. (was_taken : Bool)
+      × IsNotOpened g has_to_be_there old.lying new.lying was_taken refusal.why
+      × (new.is_certain ≡ (if leaves_doubt was_taken refusal.why then false else old.is_certain)))
   pub refused : IfErr result (λ _. new.intake ≡ None)
   pub back : IfErr result (λ _. (there : Files D) → old.lying ≡ Some (Some there)
       → (files : Files D) × (new.lying ≡ Some (Some files)))

@@ -10,21 +10,20 @@ use Rattle.sqlite.specs.Files.{over_files}
 use Rattle.sqlite.specs.Held.{Held}
 use Rattle.filing_model.specs.Request.{Request, firsts}
 use Rattle.register_pages.specs.Pages.{File, WritesSite}
-use Rattle.database_places.specs.Closing.{IsClosedIn, IsGivenUp, IsNotClosed}
+use Rattle.database_places.specs.Closing.{IsGivenUp}
 use Rattle.database_places.specs.Left.{HoldWithLog}
 use Rattle.database_places.specs.Opening.{OpensPlace}
 use Rattle.database_places.specs.declared.opening.Unopened.{Unopened}
 use Rattle.database_places.specs.Places.{Lie, IsHonest}
 use Rattle.database_places.specs.Places as place
-use Rattle.register_tables.specs.declared.fault.OpenFault.TheVariants.{Memory, Disk}
+use Rattle.database_places.specs.declared.holding.Holding.TheVariants.{Nothing}
+use Rattle.register_extracts.specs.declared.fault.Why.{Why}
+use Rattle.register_extracts.specs.declared.fault.Why.TheVariants as why
 use Rattle.intake_process.specs.declared.tasks.errand.Errand.{Errand}
-use Rattle.intake_process.specs.declared.tasks.errand.Errand.TheVariants as asked
-use Rattle.intake_process.specs.declared.errand.ErrandFault.{ErrandFault}
-use Rattle.intake_process.specs.declared.errand.ErrandFault.TheVariants as fault
 use Rattle.intake_process.specs.declared.visiting.Visited.{Visited}
-use Rattle.intake_process.specs.Errands.{AreMomentsFor, FillsFolder, IsRegisterFor, RunsErrand, Tells, is_for_pages}
-use Rattle.intake_process.specs.Errands.{is_refused}
-use Rattle.intake_process.specs.Process.{Parts, HoldRegisterWithLog, KeepsBy, LeavesDatabase}
+use Rattle.intake_process.specs.Errands.{AreMomentsFor, FillsFolder, IsRegisterFor, RunsErrand, Tells, meaning}
+use Rattle.intake_process.specs.Fault.{is_refused, leaves_doubt}
+use Rattle.intake_process.specs.Process.{Parts, HoldRegisterWithLog, IsLeftBy, KeepsBy, LeavesDatabase}
 
 -- what an output has, and which pages were written into a folder, if that is known
 pub record Outputs : Type 0 where
@@ -60,17 +59,14 @@ abbrev pub LiesFor : {D : Type 0} → Ghosts D → Errand → Option (Option (Fi
 LiesFor g errand lying old_style requests =
     (firsts requests ≡ requests) × Lie lying (λ files. HoldFor g errand files old_style requests)
 
--- whether an errand that came out like this leaves doubt: the files gave no database once they were taken, or memory or
--- the disk refused a migration, which may be committed all the same
-abbrev pub leaves_doubt : {X : Type 0} → Bool → Result X ErrandFault → Bool
-leaves_doubt was_taken (Err (fault.Files why)) = was_taken
-leaves_doubt was_taken (Err (fault.Migrate Memory holding)) = true
-leaves_doubt was_taken (Err (fault.Migrate Disk holding)) = true
-leaves_doubt was_taken other = false
+-- whether an errand came out so that it leaves doubt
+abbrev pub is_unsure : {X : Type 0} → Bool → Result X Why → Bool
+is_unsure was_taken (Ok done) = false
+is_unsure was_taken (Err why) = leaves_doubt was_taken why
 
 -- so it came out, or the register was not closed: what lies in the place may be what a crash leaves
 abbrev pub is_doubtful : Visited → Bool
-is_doubtful visited = leaves_doubt visited.was_taken visited.done || is_err visited.closed
+is_doubtful visited = is_unsure visited.was_taken visited.done || is_err visited.closed
 
 -- ---- whatever lies there
 
@@ -79,16 +75,15 @@ module _ {D : Type 0} {g : Ghosts D} where
   -- why its last commit is not all in the database file
   abbrev pub IsLeftIn : Bool → Held (FileStore D g) → Files D → Result (Unit {0}) Error → Type 0
   IsLeftIn true conn files closed = IsGivenUp conn files × (closed ≡ Ok tt)
-  IsLeftIn false conn files (Ok done) = IsClosedIn g conn files
-  IsLeftIn false conn files (Err error) = IsNotClosed conn files error
+  IsLeftIn false conn files closed = IsLeftBy g conn files closed
 
   -- The database was not opened, and nothing was done; or the errand was done with the connection to it, and its files
   -- lie there again.
   abbrev pub GoesOn : Errand → Outputs → Outputs → Option (Option (Files D)) → Option (Option (Files D))
       → Result (Held (FileStore D g)) Unopened → Visited → Type 0
   GoesOn errand out out' between lying (Err it) visited =
-      (visited.done ≡ Err (fault.Files it.fault)) × (visited.was_taken ≡ it.was_taken) × (visited.closed ≡ Ok tt)
-      × (lying ≡ between) × (out' ≡ out)
+      (visited.done ≡ Err (why.Files it.fault)) × (visited.was_taken ≡ it.was_taken) × (visited.closed ≡ Ok tt)
+      × (lying ≡ between) × (out' ≡ out) × (visited.holding ≡ Nothing)
   GoesOn errand out out' between lying (Ok conn) visited =
       (left : Held (FileStore D g)) × RunsErrand over_files errand out.text out'.text conn left visited.done
       × FillsFolder over_files errand out.pages out'.pages conn left visited.done
@@ -113,9 +108,9 @@ pub record VisitsRegister {D : Type 0} {g : Ghosts D} (errand : Errand) (out out
       → LiesDatedFor g errand old.lying old_style requests moments
       → Tells errand requests moments out.text out'.text visited.done
   pub filled : IsHonest g → (old_style : ℕ) (requests : List Request) → LiesFor g errand old.lying old_style requests
-      → is_for_pages errand ≡ true
+      → (meaning errand).fills ≡ true
       → OnOk visited.done (WritesSite requests out.pages out'.pages)
-  pub unfilled : is_for_pages errand ≡ false → out'.pages ≡ out.pages
+  pub unfilled : (meaning errand).fills ≡ false → out'.pages ≡ out.pages
   -- As long as the process is certain, the requests are kept as a register of this version, if the errand was not
   -- refused. If it was, they lie there as they lay, and so does any other database.
   pub kept : IsHonest g → new.is_certain ≡ true → is_refused visited.done ≡ false
@@ -124,7 +119,7 @@ pub record VisitsRegister {D : Type 0} {g : Ghosts D} (errand : Errand) (out out
   pub left : IsHonest g → new.is_certain ≡ true → is_refused visited.done ≡ true
       → LeavesDatabase g old.lying new.lying
   -- A register of this version is not migrated.
-  pub current : IsHonest g → errand ≡ asked.Migrate → (old_style : ℕ) (requests : List Request)
+  pub current : IsHonest g → (meaning errand).is_for_earlier ≡ true → (old_style : ℕ) (requests : List Request)
       → Lie old.lying (λ files. HoldRegisterWithLog g files old_style requests) → is_refused visited.done ≡ true
   pub visits : VisitsPlace g errand out out' old.lying new.lying visited
   pub certain : new.is_certain ≡ true → old.is_certain ≡ true

@@ -8,9 +8,9 @@ ghost use Rattle.database_places.specs.Opening.{is_found};
 ghost use Rattle.intake_core.specs.Held.{store_of, limit_of, has_stopped};
 ghost use Rattle.intake_process.specs.Beginning.{FindsIntake, MakesIntake, IsNotBegun};
 
-use crate::fault::OpeningFault;
-use database_places::{Opening, held_in};
+use database_places::Opening;
 use intake_core::Intake;
+use register_extracts::Why;
 use register_store::Store;
 use sqlite::{Alter, Connection};
 use sqlite_schema::schema::Schema;
@@ -47,7 +47,7 @@ fn find_intake<S: Alter + Drop>(
     alloc: Global,
     conn: Connection<S>,
     limit: u64,
-) -> Result<(Intake<S>, Totals), (OpeningFault, Connection<S>)>
+) -> Result<(Intake<S>, Totals), (Why, Connection<S>)>
     requires limit { limit ≤ 2 ^ 62 }
     requires rest { IsAtRest conn }
     ensures found { IfOk result (λ begun. FindsIntake S.Store conn limit begun.0 begun.1) }
@@ -60,10 +60,7 @@ fn find_intake<S: Alter + Drop>(
             let totals = totals_of(&register);
             Ok((Intake::new(alloc, register, limit), totals))
         }
-        Err((fault, back)) => {
-            let holding = held_in(&back);
-            Err((OpeningFault::Open(fault, holding), back))
-        }
+        Err((fault, back)) => Err((Why::Open(fault), back)),
     }
 }
 
@@ -72,7 +69,7 @@ fn make_intake<S: Alter + Drop>(
     alloc: Global,
     conn: Connection<S>,
     limit: u64,
-) -> Result<(Intake<S>, Totals), (OpeningFault, Connection<S>)>
+) -> Result<(Intake<S>, Totals), (Why, Connection<S>)>
     requires limit { limit ≤ 2 ^ 62 }
     requires rest { IsAtRest conn }
     ensures made { IfOk result (λ begun. MakesIntake S.Store conn limit begun.0 begun.1) }
@@ -81,15 +78,14 @@ fn make_intake<S: Alter + Drop>(
     ensures refused { IfErr result (λ refusal. IsNotBegun S.Store false conn refusal.0 refusal.1) }
 {
     if !is_empty(conn.schema()) {
-        let holding = held_in(&conn);
-        return Err((OpeningFault::Taken(holding), conn));
+        return Err((Why::Taken, conn));
     }
     match Store::create_or_back(alloc, conn) {
         Ok(register) => {
             let totals = totals_of(&register);
             Ok((Intake::new(alloc, register, limit), totals))
         }
-        Err((fault, back)) => Err((OpeningFault::Create(fault), back)),
+        Err((fault, back)) => Err((Why::Create(fault), back)),
     }
 }
 
@@ -100,7 +96,7 @@ pub(crate) fn begin<S: Alter + Drop>(
     conn: Connection<S>,
     opening: Opening,
     limit: u64,
-) -> Result<(Intake<S>, Totals), (OpeningFault, Connection<S>)>
+) -> Result<(Intake<S>, Totals), (Why, Connection<S>)>
     requires limit { limit ≤ 2 ^ 62 }
     requires rest { IsAtRest conn }
     ensures found { is_found opening ≡ true

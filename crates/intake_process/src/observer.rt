@@ -4,7 +4,7 @@ ghost use Rattle.std.specs.Prelude.{◌≡◌, ◌∷◌, [], Bool, List, Option
 ghost use Rattle.intake_process.specs.Observing.{Notes};
 
 use crate::beginning::Totals;
-use crate::fault::OpeningFault;
+use crate::fault::Refusal;
 use crate::process::Closed;
 
 /// What came of a round, in which one request or several were answered.
@@ -17,7 +17,7 @@ pub enum Went {
     /// They were turned away, since the register is closed.
     TurnedAway,
     /// They were turned away, since opening the register for them failed.
-    NotOpened(OpeningFault),
+    NotOpened(Refusal),
 }
 
 /// An observer sees what happens while a port is served, and says when a register that is closed may be opened again.

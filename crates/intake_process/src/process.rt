@@ -11,14 +11,15 @@ ghost use Rattle.intake_core.specs.Held.{store_of, has_stopped};
 ghost use Rattle.intake_process.specs.Process.{ServesBy, CountsRefusal};
 
 use crate::beginning::{Totals, begin, parted};
-use crate::fault::OpeningFault;
+use crate::fault::{Refusal, is_of_others, leaves_doubt};
 use crate::turning::turn_away;
 use connection_hall::{Sockets, Stream};
-use database_places::{Opening, Place, close, give_up, open, remove_new_log};
+use database_places::{Holding, Opening, Place, close, give_up, held_in, open, remove_new_log};
 use gateway_rounds::{Note, Port, answer_ready, turn_away as turn_all_away};
 use gateway_server::{Served, serve};
 use http_wire::{Sink, Source};
 use intake_core::{Intake, Moment};
+use register_extracts::Why;
 use sqlite::{Alter, Error, FileStore};
 use sqlite_disk::Disk;
 use std::alloc::Global;
@@ -171,7 +172,7 @@ impl<D: Disk + Drop, P: Place<D> + Drop> IntakeProcess<D, P> {
         alloc: Global,
         opening: Opening,
         limit: u64,
-    ) -> Result<Option<Totals>, OpeningFault>
+    ) -> Result<Option<Totals>, Refusal>
         requires { limit ≤ 2 ^ 62 }
         ensures { OpensProcess D.Disk (is_found opening) limit (parts P.lying self.old) (parts P.lying self.new)
             result }
@@ -183,9 +184,12 @@ impl<D: Disk + Drop, P: Place<D> + Drop> IntakeProcess<D, P> {
         let conn = match open(alloc, &mut self.place, opening) {
             Ok(conn) => conn,
             Err(unopened) => {
-                let fault = OpeningFault::Files(unopened.fault);
-                self.is_certain &= !fault.leaves_doubt(unopened.was_taken);
-                return Err(fault);
+                let why = Why::Files(unopened.fault);
+                self.is_certain &= !leaves_doubt(unopened.was_taken, why);
+                return Err(Refusal {
+                    why,
+                    holding: Holding::Nothing,
+                });
             }
         };
         match begin(alloc, conn, opening, limit) {
@@ -193,13 +197,14 @@ impl<D: Disk + Drop, P: Place<D> + Drop> IntakeProcess<D, P> {
                 self.intake = Some(intake);
                 Ok(Some(totals))
             }
-            Err((fault, back)) => {
-                self.is_certain &= !fault.leaves_doubt(true);
+            Err((why, back)) => {
+                self.is_certain &= !leaves_doubt(true, why);
+                let holding = held_in(&back);
                 give_up(&mut self.place, back);
-                if fault.is_of_others() {
+                if is_of_others(why) {
                     remove_new_log(&mut self.place, had_log);
                 }
-                Err(fault)
+                Err(Refusal { why, holding })
             }
         }
     }

@@ -12,7 +12,7 @@ ghost use Rattle.intake_process.specs.Turns.{AnswersSome, EndsBy, ServesRegister
 ghost use Rattle.database_places.specs.Opening.{is_found};
 
 use crate::beginning::Totals;
-use crate::fault::OpeningFault;
+use crate::fault::Refusal;
 use crate::observer::{Observer, Went};
 use crate::process::{AnsweredBy, IntakeProcess};
 use connection_hall::{Sockets, Stream};
@@ -27,7 +27,7 @@ use std::io;
 #[derive(Debug, Drop)]
 pub enum ServingFault {
     /// The register was not opened.
-    Register(OpeningFault),
+    Register(Refusal),
     /// The port gives no more connections.
     Port(io::Error),
 }
@@ -220,7 +220,7 @@ fn open_again<D: Disk + Drop, P: Place<D> + Drop, O: Observer>(
     process: &mut IntakeProcess<D, P>,
     observer: &mut O,
     limit: u64,
-) -> Option<OpeningFault>
+) -> Option<Refusal>
     requires { limit ≤ 2 ^ 62 }
     ensures leaves { IsHonest D.Disk → Leaves limit (parts P.lying process.old) (parts P.lying process.new) }
     ensures stays { StaysUp (parts P.lying process.old) (parts P.lying process.new) }
@@ -248,7 +248,7 @@ fn open_again<D: Disk + Drop, P: Place<D> + Drop, O: Observer>(
 fn went<D: Disk + Drop, P: Place<D> + Drop>(
     process: &mut IntakeProcess<D, P>,
     by: AnsweredBy,
-    refusal: Option<OpeningFault>,
+    refusal: Option<Refusal>,
 ) -> Went
     ensures leaves { IsHonest D.Disk → (limit : ℕ)
         → Leaves limit (parts P.lying process.old) (parts P.lying process.new) }

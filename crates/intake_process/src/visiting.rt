@@ -3,18 +3,20 @@
 ghost use Rattle.std.specs.Prelude.{◌≡◌, None};
 ghost use Rattle.sqlite_disk.specs.declared.Files.{Files as Pair};
 ghost use Rattle.database_places.specs.Places.{Leaves};
-ghost use Rattle.intake_process.specs.Errands.{is_refused};
+ghost use Rattle.intake_process.specs.Fault.{is_refused};
 ghost use Rattle.intake_process.specs.Process.{parts};
-ghost use Rattle.intake_process.specs.Visits.{IsLeftIn, VisitsPlace, VisitsRegister, is_doubtful, leaves_doubt};
-ghost use Rattle.intake_process.specs.Visits.{outputs};
+ghost use Rattle.intake_process.specs.Visits.{IsLeftIn, VisitsPlace, VisitsRegister, is_doubtful, is_unsure, outputs};
 
-use crate::errand::{ErrandFault, run_errand};
+use crate::errand::run_errand;
+use crate::fault::{is_of_others, is_refusal, leaves_doubt};
 use crate::process::IntakeProcess;
 use crate::tasks::checking::CheckProgress;
 use crate::tasks::errand::Errand;
-use database_places::{Opening, PageCache, Place, close, give_up, open, remove_new_log};
+use database_places::{
+    Holding, Opening, PageCache, Place, close, give_up, held_in, open, remove_new_log,
+};
+use register_extracts::Why;
 use register_pages::Folder;
-use register_store::OpenFault;
 use sqlite::{Connection, Error, FileStore};
 use sqlite_disk::Disk;
 use std::alloc::Global;
@@ -24,7 +26,9 @@ use std::io::Write;
 #[derive(Drop)]
 pub struct Visited {
     /// What came of the errand.
-    pub done: Result<(), ErrandFault>,
+    pub done: Result<(), Why>,
+    /// What the database holds; `Nothing` if the files gave none.
+    pub holding: Holding,
     /// Why what was committed is not all in the database file, but in the log still, if it isn't.
     pub closed: Result<(), Error>,
     /// Whether the files were taken out of their place. They lie there again.
@@ -36,41 +40,36 @@ impl Visited {
     fn is_doubtful(&self) -> bool
         ensures { result ≡ is_doubtful self.now }
     {
-        leaves_doubt(self.was_taken, &self.done) || self.closed.is_err()
+        is_unsure(self.was_taken, &self.done) || self.closed.is_err()
     }
 }
 
 /// Whether an errand that came out like this leaves doubt of what lies in the place, from which the files were taken or
 /// not.
-fn leaves_doubt(was_taken: bool, done: &Result<(), ErrandFault>) -> bool
-    ensures { result ≡ leaves_doubt was_taken done.now }
+fn is_unsure(was_taken: bool, done: &Result<(), Why>) -> bool
+    ensures { result ≡ is_unsure was_taken done.now }
 {
     match done {
         Ok(()) => false,
-        Err(fault) => match *fault {
-            ErrandFault::Files(_) => was_taken,
-            // Such a migration may be committed all the same.
-            ErrandFault::Migrate(OpenFault::Memory | OpenFault::Disk, _) => true,
-            _ => false,
-        },
-    }
-}
-
-/// Whether an errand came out like this because no register was opened.
-fn is_refused(done: &Result<(), ErrandFault>) -> bool
-    ensures { result ≡ is_refused done.now }
-{
-    match done {
-        Ok(()) => false,
-        Err(fault) => fault.is_refusal(),
+        Err(why) => leaves_doubt(was_taken, *why),
     }
 }
 
 /// Whether an errand came out like this because the database is not a register.
-fn is_of_others(done: &Result<(), ErrandFault>) -> bool {
+fn came_to_others(done: &Result<(), Why>) -> bool {
     match done {
         Ok(()) => false,
-        Err(fault) => fault.is_of_others(),
+        Err(why) => is_of_others(*why),
+    }
+}
+
+/// Whether an errand came out like this because no register was opened.
+fn is_refused(done: &Result<(), Why>) -> bool
+    ensures { result ≡ is_refused done.now }
+{
+    match done {
+        Ok(()) => false,
+        Err(why) => is_refusal(*why),
     }
 }
 
@@ -79,7 +78,7 @@ fn is_of_others(done: &Result<(), ErrandFault>) -> bool {
 fn leave<D: Disk + Drop, P: Place<D>>(
     place: &mut P,
     conn: Connection<FileStore<D>>,
-    done: &Result<(), ErrandFault>,
+    done: &Result<(), Why>,
     had_log: bool,
 ) -> Result<(), Error>
     ensures { (files : Pair D) × Leaves (P.lying place.old) (P.lying place.new) files
@@ -89,7 +88,7 @@ fn leave<D: Disk + Drop, P: Place<D>>(
         return close(place, conn);
     }
     give_up(place, conn);
-    if is_of_others(done) {
+    if came_to_others(done) {
         remove_new_log(place, had_log);
     }
     Ok(())
@@ -112,15 +111,18 @@ fn visit_place<D: Disk + Drop, P: Place<D>, G: CheckProgress, F: Folder, O: Writ
         Ok(conn) => {
             // It prints before the files are closed, since what it did is durable by then.
             let (left, done) = run_errand(alloc, conn, errand, progress, folder, output);
+            let holding = held_in(&left);
             let closed = leave(place, left, &done, had_log);
             Visited {
                 done,
+                holding,
                 closed,
                 was_taken: true,
             }
         }
         Err(unopened) => Visited {
-            done: Err(ErrandFault::Files(unopened.fault)),
+            done: Err(Why::Files(unopened.fault)),
+            holding: Holding::Nothing,
             closed: Ok(()),
             was_taken: unopened.was_taken,
         },

@@ -1,5 +1,5 @@
 -- A refusal has the status that it is told with.
-use Rattle.std.proofs.Common.{◌≡◌, Bool, true, false, true≢false, refl, sym, ◌∙◌, ap}
+use Rattle.std.proofs.Common.{◌≡◌, Bool, true, false, true≢false, inl, inr, refl, sym, ◌∙◌, ap}
 use Rattle.command_line.specs.declared.fault.DatabaseFault.{DatabaseFault}
 use Rattle.command_line.specs.declared.fault.DatabaseFault.TheVariants.{Missing, Empty, NotADatabase, Foreign}
 use Rattle.command_line.specs.declared.fault.DatabaseFault.TheVariants.{AutoVacuum, Damaged, Unsummed, Busy, Memory}
@@ -8,9 +8,8 @@ use Rattle.command_line.specs.declared.fault.DatabaseFault.TheVariants.{Journal,
 use Rattle.command_line.specs.declared.fault.DatabaseFault.TheVariants.{Descriptors, Full, Disk}
 use Rattle.command_line.specs.Status.{database_status}
 use Rattle.database_places.specs.Verdicts.{goes_by_pages, IsRefusalOf}
-use Rattle.outbox_process.specs.declared.fault.OpeningFault.{OpeningFault}
-use Rattle.outbox_process.specs.declared.fault.OpeningFault.TheVariants.{Files, Taken, Create, Open, IsCurrent, Migrate}
-use Rattle.outbox_commands.specs.Status.{opening_status}
+use Rattle.outbox_process.specs.declared.fault.Why.{Why}
+use Rattle.outbox_commands.specs.Status.{why_status}
 use Rattle.outbox_commands.specs.Visits.{IsToldAs}
 
 paged_status : (fault : DatabaseFault) → goes_by_pages fault ≡ true → database_status fault ≡ 1
@@ -43,15 +42,7 @@ database_told fault told is = go (goes_by_pages fault) refl
     go true paged = paged_status told (is.pages ∙ paged) ∙ sym (paged_status fault paged)
     go false other = ap database_status (is.others other)
 
-pub told_status : (why told : OpeningFault) → IsToldAs why told → opening_status told ≡ opening_status why
-told_status (Files why) (Files told) is = database_told why told is
-told_status (Files why) (Taken holding) is = absurd is
-told_status (Files why) (Create other) is = absurd is
-told_status (Files why) (Open other holding) is = absurd is
-told_status (Files why) IsCurrent is = absurd is
-told_status (Files why) (Migrate other holding) is = absurd is
-told_status (Taken holding) told is = ap opening_status is
-told_status (Create why) told is = ap opening_status is
-told_status (Open why holding) told is = ap opening_status is
-told_status IsCurrent told is = ap opening_status is
-told_status (Migrate why holding) told is = ap opening_status is
+pub told_status : (why told : Why) → IsToldAs why told → why_status told ≡ why_status why
+told_status why told (inl files) =
+    ap why_status files.3 ∙ database_told files.0 files.1 files.4 ∙ sym (ap why_status files.2)
+told_status why told (inr other) = ap why_status other.1

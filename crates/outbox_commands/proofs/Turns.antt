@@ -5,7 +5,7 @@ use Rattle.std.proofs.Math.Seq.{drop-cons}
 use Rattle.std.proofs.lemmas.List.{map-append, take-append-drop, map-id}
 use Rattle.sqlite_disk.specs.declared.Disk.{Ghosts}
 use Rattle.outbox_process.specs.Dials.{Traffic}
-use Rattle.outbox_process.specs.declared.tasks.fault.TaskFault.{TaskFault}
+use Rattle.outbox_process.specs.declared.fault.Why.{Why}
 use Rattle.database_places.specs.Places.{IsHonest}
 use Rattle.outbox_process.specs.declared.errand.Done.{Done}
 use Rattle.outbox_process.specs.declared.errand.Errand.{Errand}
@@ -25,7 +25,7 @@ module _ {D : Type 0} {g : Ghosts D} where
 
   -- nothing goes over the network
   pub puts_one : (key : List ℕ) (target : Target) (body : _) (net net' : Traffic) (out out' : Option (List ℕ))
-      (old done new : Parts g) (came : Result Done TaskFault) (ended : Result (Unit {0}) TaskFault)
+      (old done new : Parts g) (came : Result Done Why) (ended : Result (Unit {0}) Why)
       → PerformsErrand (Put key target body) net net' out out' old done came → (IsHonest g → Leaves done new)
       → ended ≡ ended_as came → PutsOne (Put key target body) net out out' old new ended
   puts_one key target body net net' out out' old done new came ended performs looks ends = record {
@@ -54,7 +54,7 @@ module _ {D : Type 0} {g : Ghosts D} (net : Traffic) where
       absurd (let unlike : Ok tt ≡ Err failed.0 = failed.2 in cc)
 
   pub one_failed : (puts : List Errand) (put : Errand) (rest : List Errand) (out mid out' : Option (List ℕ))
-      (old between new : Parts g) (why : TaskFault) → PutsInTurn puts net out mid old between (Ok tt)
+      (old between new : Parts g) (why : Why) → PutsInTurn puts net out mid old between (Ok tt)
       → PutsOne put net mid out' between new (Err why)
       → PutsInTurn (puts ++ put ∷ rest) net out out' old new (Err why)
   one_failed [] put rest out mid out' old between new why before one =
@@ -86,7 +86,7 @@ module _ {D : Type 0} {g : Ghosts D} (net : Traffic) where
 
     -- the item behind these is not
     pub next_failed : (done : List X) (x : X) (out mid out' : Option (List ℕ)) (old between new : Parts g)
-        (why : TaskFault) → length done < length items → x ≡ get_or items (length done) x
+        (why : Why) → length done < length items → x ≡ get_or items (length done) x
         → map (λ (y : X). y) done ≡ take (length done) items
         → PutsInTurn (map put_of done) net out mid old between (Ok tt)
         → PutsOne (put_of x) net mid out' between new (Err why)

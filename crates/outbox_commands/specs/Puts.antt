@@ -8,10 +8,11 @@ use Rattle.sqlite_disk.specs.declared.Disk.{Ghosts}
 use Rattle.sqlite.specs.declared.error.Error.{Error}
 use Rattle.key_string.specs.Key.{IsTextFault}
 use Rattle.xbrl_report.specs.Findings.{tree}
+use Rattle.command_line.specs.declared.bytes.ReadFault.{ReadFault}
 use Rattle.command_line.specs.declared.fault.CommandFault.TheVariants as command
 use Rattle.database_places.specs.Places.{IsHonest}
 use Rattle.outbox_process.specs.Dials.{Traffic}
-use Rattle.outbox_process.specs.declared.tasks.fault.TaskFault.{TaskFault}
+use Rattle.outbox_process.specs.declared.fault.Why.{Why}
 use Rattle.outbox_process.specs.declared.beginning.Beginning.TheVariants.{Found}
 use Rattle.outbox_process.specs.declared.errand.Done.{Done}
 use Rattle.outbox_process.specs.declared.errand.Errand.{Errand}
@@ -21,7 +22,7 @@ use Rattle.outbox_process.specs.Process.{Parts, Leaves, OpensProcess, PerformsEr
 use Rattle.outbox_commands.specs.declared.fault.NotDone.{NotDone}
 use Rattle.outbox_commands.specs.declared.fault.NotDone.TheVariants as fault
 use Rattle.outbox_commands.specs.declared.putting.ReportFile.{ReportFile}
-use Rattle.outbox_commands.specs.Status.{status_by, task_status}
+use Rattle.outbox_commands.specs.Status.{status_by, why_status}
 use Rattle.outbox_commands.specs.Visits.{IsRefused}
 
 -- ---- the reports are read
@@ -40,8 +41,8 @@ IsNoKeyFor _ _ = ⊥
 
 -- there is no such key, the report could not be read, or memory failed
 abbrev pub IsNotRead : Option (Bor (List ℕ)) → NotDone → Type 0
-IsNotRead text (fault.Report why) = Unit {0}
-IsNotRead text (fault.Command why) = why ≡ command.Memory
+IsNotRead text (fault.Command why) =
+    (why ≡ command.Memory) ⊎ ((file : Bor (List ℕ)) × (unread : ReadFault) × (why ≡ command.Report file unread))
 IsNotRead text why = IsNoKeyFor text why
 
 -- it was read in the file of this name, and has such a key
@@ -81,15 +82,15 @@ abbrev pub put_of : Target → ReportFile → Errand
 put_of target report = errand.Put report.key target report.body
 
 -- whether it was put in, and its id printed
-abbrev pub ended_as : Result Done TaskFault → Result (Unit {0}) TaskFault
+abbrev pub ended_as : Result Done Why → Result (Unit {0}) Why
 ended_as (Ok done) = Ok tt
 ended_as (Err why) = Err why
 
 -- A report was put in, or that failed; and entries may have been read again.
 pub record PutsOne {D : Type 0} {g : Ghosts D} (put : Errand) (net : Traffic) (out out' : Option (List ℕ))
-    (old new : Parts g) (ended : Result (Unit {0}) TaskFault) : Type 0 where
+    (old new : Parts g) (ended : Result (Unit {0}) Why) : Type 0 where
   pub done : Parts g
-  pub came : Result Done TaskFault
+  pub came : Result Done Why
   pub performs : PerformsErrand put net net out out' old done came
   pub looks : IsHonest g → Leaves done new
   pub ends : ended ≡ ended_as came
@@ -97,22 +98,22 @@ pub record PutsOne {D : Type 0} {g : Ghosts D} (put : Errand) (net : Traffic) (o
 -- Each was put in, one after another; or the first ones were, the next one failed, and nothing was done with those
 -- after it.
 abbrev pub PutsInTurn : {D : Type 0} {g : Ghosts D} → List Errand → Traffic → Option (List ℕ) → Option (List ℕ)
-    → Parts g → Parts g → Result (Unit {0}) TaskFault → Type 0
+    → Parts g → Parts g → Result (Unit {0}) Why → Type 0
 PutsInTurn [] net out out' old new ended = (out' ≡ out) × (new ≡ old) × (ended ≡ Ok tt)
 PutsInTurn {D} {g} (put ∷ puts) net out out' old new ended =
     ((mid : Option (List ℕ)) × (between : Parts g) × PutsOne put net out mid old between (Ok tt)
     × PutsInTurn puts net mid out' between new ended)
-    ⊎ ((why : TaskFault) × PutsOne put net out out' old new (Err why) × (ended ≡ Err why))
+    ⊎ ((why : Why) × PutsOne put net out out' old new (Err why) × (ended ≡ Err why))
 
 -- 0 if each was put in, and otherwise by why the one was not
-abbrev pub turns_status : Result (Unit {0}) TaskFault → ℕ
+abbrev pub turns_status : Result (Unit {0}) Why → ℕ
 turns_status (Ok done) = 0
-turns_status (Err why) = task_status why
+turns_status (Err why) = why_status why
 
 abbrev pub EndsTurns : {D : Type 0} {g : Ghosts D} → List Errand → Traffic → Option (List ℕ) → Option (List ℕ)
     → Parts g → Parts g → ℕ → Type 0
 EndsTurns puts net out out' old new status =
-    (ended : Result (Unit {0}) TaskFault) × PutsInTurn puts net out out' old new ended
+    (ended : Result (Unit {0}) Why) × PutsInTurn puts net out out' old new ended
     × (status ≡ turns_status ended)
 
 -- The outbox that lay there was opened, these were put in, one after another, and it was closed.

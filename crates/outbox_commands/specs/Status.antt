@@ -12,18 +12,11 @@ use Rattle.filer_client.specs.declared.fault.ExchangeFault.TheVariants as exchan
 use Rattle.command_line.specs.declared.fault.CommandFault.{CommandFault}
 use Rattle.command_line.specs.Status.{database_status}
 use Rattle.command_line.specs.Status as command
-use Rattle.command_line.specs.Reports.{report_status}
-use Rattle.outbox_process.specs.declared.tasks.fault.SendFault.{SendFault}
-use Rattle.outbox_process.specs.declared.tasks.fault.SendFault.TheVariants as send
-use Rattle.outbox_process.specs.declared.tasks.fault.TaskFault.{TaskFault}
-use Rattle.outbox_process.specs.declared.tasks.fault.TaskFault.TheVariants as task
 use Rattle.outbox_process.specs.declared.tasks.rounds.Round.{Round}
 use Rattle.outbox_process.specs.declared.errand.Done.{Done}
 use Rattle.outbox_process.specs.declared.errand.Done.TheVariants as done
-use Rattle.outbox_process.specs.declared.fault.OpeningFault.{OpeningFault}
-use Rattle.outbox_process.specs.declared.fault.OpeningFault.TheVariants as opening
-use Rattle.outbox_commands.specs.declared.fault.VisitFault.{VisitFault}
-use Rattle.outbox_commands.specs.declared.fault.VisitFault.TheVariants as visit
+use Rattle.outbox_process.specs.declared.fault.Why.{Why}
+use Rattle.outbox_process.specs.declared.fault.Why.TheVariants as why
 use Rattle.outbox_commands.specs.declared.fault.NotDone.{NotDone}
 use Rattle.outbox_commands.specs.declared.fault.NotDone.TheVariants as fault
 
@@ -39,14 +32,6 @@ outbox_status (made.Damaged row) = 1
 outbox_status made.Memory = 3
 outbox_status made.Disk = 3
 
-abbrev pub opening_status : OpeningFault → ℕ
-opening_status (opening.Files why) = database_status why
-opening_status (opening.Taken holding) = 1
-opening_status (opening.Create why) = outbox_status why
-opening_status (opening.Open why holding) = outbox_status why
-opening_status opening.IsCurrent = 1
-opening_status (opening.Migrate why holding) = outbox_status why
-
 -- 2 if the body is too large or the key is used
 abbrev pub put_status : PutFault → ℕ
 put_status put.TooLarge = 2
@@ -57,26 +42,33 @@ put_status put.Store = 3
 -- 4 if no entry has the id
 abbrev pub exchange_status : ExchangeFault → ℕ
 exchange_status (exchange.Write sent) = 3
-exchange_status (exchange.Reply why) = 3
+exchange_status (exchange.Reply fault) = 3
 exchange_status (exchange.Take take.NoEntry) = 4
 exchange_status (exchange.Take take.Memory) = 3
 exchange_status (exchange.Take take.Store) = 3
 
-abbrev pub send_status : SendFault → ℕ
-send_status (send.Connect error) = 3
-send_status (send.Exchange why) = exchange_status why
+-- ---- of what was asked of an outbox
 
-abbrev pub task_status : TaskFault → ℕ
-task_status (task.Read why) = 3
-task_status (task.NoEntry id) = 4
-task_status (task.IsOpen id) = 2
-task_status (task.Put why) = put_status why
-task_status (task.NotTold id why) = 3
-task_status (task.Send id why) = send_status why
-task_status (task.NotListed id number) = 3
-task_status (task.NoList id number status) = 3
-task_status (task.Contradicts id state told) = 3
-task_status (task.Line why) = 3
+abbrev pub why_status : Why → ℕ
+why_status (why.Files fault) = database_status fault
+why_status why.Taken = 1
+why_status (why.Create fault) = outbox_status fault
+why_status (why.Open fault) = outbox_status fault
+why_status why.IsCurrent = 1
+why_status (why.Migrate fault) = outbox_status fault
+why_status (why.Store fault) = 3
+why_status (why.NoEntry id) = 4
+why_status (why.IsOpen id) = 2
+why_status (why.Put fault) = put_status fault
+why_status (why.NotTold id wants) = 3
+why_status (why.Connect error) = 3
+why_status (why.Exchange id fault) = exchange_status fault
+why_status (why.NotListed id number) = 3
+why_status (why.NoList id number status) = 3
+why_status (why.Contradicts id state told) = 3
+why_status why.Memory = 3
+why_status why.Output = 3
+why_status why.NotClosed = 3
 
 -- 3 if an exchange of a round failed
 abbrev pub failed_status : ℕ → ℕ
@@ -98,30 +90,13 @@ sent_status true round = strict_status round.refused round.left_open round.faile
 sent_status false round = failed_status round.failed
 
 -- 0 exactly if all was done; a strict errand has to file each entry that it sends
-abbrev pub done_status : Bool → Result Done TaskFault → ℕ
+abbrev pub done_status : Bool → Result Done Why → ℕ
 done_status strict (Ok (done.Put id)) = 0
 done_status strict (Ok (done.Sent round)) = sent_status strict round
-done_status strict (Ok done.Asked) = 0
 done_status strict (Ok done.Shown) = 0
-done_status strict (Err why) = task_status why
+done_status strict (Err cause) = why_status cause
 
 -- ---- of what is reported
-
-abbrev pub visit_status : VisitFault → ℕ
-visit_status (visit.Taken holding) = 1
-visit_status (visit.NotOurs holding) = 1
-visit_status visit.IsCurrent = 1
-visit_status visit.NotEarlier = 1
-visit_status (visit.Damaged row) = 1
-visit_status visit.BadFiler = 2
-visit_status visit.TooLarge = 2
-visit_status (visit.KeyUsed id) = 2
-visit_status (visit.NoEntry id) = 4
-visit_status (visit.IsOpen id) = 2
-visit_status (visit.NotTold id) = 3
-visit_status visit.NotClosed = 3
-visit_status visit.Memory = 3
-visit_status visit.Database = 3
 
 -- 3 if memory is short, and 2 if the text is no key
 abbrev pub key_status : KeyFault → ℕ
@@ -129,22 +104,15 @@ key_status key.Memory = 3
 key_status _ = 2
 
 abbrev pub status_of : NotDone → ℕ
-status_of (fault.Command why) = command.status_of why
-status_of (fault.Key why) = key_status why
+status_of (fault.Command cause) = command.status_of cause
+status_of (fault.Key cause) = key_status cause
 status_of fault.ForOne = 2
-status_of (fault.Report why) = report_status why
 status_of (fault.NotJson name) = 2
-status_of (fault.Outbox name why) = visit_status why
-status_of (fault.NotPut name why) = visit_status why
-status_of (fault.LastPut name id why) = command.status_of why
-status_of (fault.Connect port error) = 3
-status_of (fault.Exchange port why) = 3
-status_of (fault.Patience port seconds) = 3
+status_of (fault.Outbox name cause holding) = why_status cause
+status_of (fault.Stopped name cause) = why_status cause
+status_of (fault.Peer port cause late) = why_status cause
 status_of (fault.Round port sent failed) = 3
 status_of (fault.Unfiled refused left) = unfiled_status refused
-status_of (fault.NotListed port id number) = 3
-status_of (fault.NoList port id number status) = 3
-status_of (fault.Contradicts port id state told) = 3
 status_of (fault.Folder name error) = 3
 status_of (fault.Receipts lost) = 3
 status_of (fault.Random error) = 3
@@ -152,9 +120,9 @@ status_of (fault.Random error) = 3
 -- 0 if the task is done
 abbrev pub status_by : {X : Type 0} → Result X NotDone → ℕ
 status_by (Ok done) = 0
-status_by (Err why) = status_of why
+status_by (Err cause) = status_of cause
 
 -- the status of what was done, or of why it was not
 abbrev pub ended_status : Result ℕ CommandFault → ℕ
 ended_status (Ok status) = status
-ended_status (Err why) = command.status_of why
+ended_status (Err cause) = command.status_of cause

@@ -14,15 +14,16 @@ use Rattle.database_places.specs.Verdicts.{verdict_text}
 use Rattle.outbox_process.specs.Dials.{Traffic}
 use Rattle.outbox_process.specs.declared.beginning.Beginning.TheVariants as beginning
 use Rattle.outbox_process.specs.declared.errand.Errand.TheVariants as errand
-use Rattle.outbox_process.specs.declared.fault.OpeningFault.{OpeningFault}
-use Rattle.outbox_process.specs.declared.fault.OpeningFault.TheVariants as opening
+use Rattle.outbox_process.specs.declared.fault.NotOpened.{NotOpened}
+use Rattle.outbox_process.specs.declared.fault.Why.{Why}
+use Rattle.outbox_process.specs.declared.fault.Why.TheVariants as why
 use Rattle.outbox_process.specs.Process.{Parts, Keeps, IsOfCurrent, OpensProcess, ClosesProcess}
 use Rattle.outbox_commands.specs.declared.fault.NotDone.{NotDone}
 use Rattle.outbox_commands.specs.declared.options.Task.{Task}
 use Rattle.outbox_commands.specs.declared.options.Task.TheVariants.{Init, Put, Migrate, Send, Ask, Status, Show, Body}
 use Rattle.outbox_commands.specs.Puts.{PutsReports}
-use Rattle.outbox_commands.specs.Status.{opening_status, status_by}
-use Rattle.outbox_commands.specs.Visits.{IsToldAs, IsRefused, VisitsOutbox, opening_verdict}
+use Rattle.outbox_commands.specs.Status.{why_status, status_by}
+use Rattle.outbox_commands.specs.Visits.{IsToldAs, IsRefused, VisitsOutbox, why_verdict}
 
 -- ---- init
 
@@ -43,8 +44,8 @@ abbrev pub current_line : List ℕ
 current_line = codes "has this version already\n"
 
 -- the outbox was refused since it has this version already
-abbrev pub is_current : OpeningFault → Bool
-is_current opening.IsCurrent = true
+abbrev pub is_current : Why → Bool
+is_current why.IsCurrent = true
 is_current other = false
 
 -- a text was printed, and the status is `done`; or the output or memory failed
@@ -56,8 +57,8 @@ abbrev pub IsJudged : Option DatabaseFlaw → Option (List ℕ) → Option (List
 IsJudged (Some verdict) out out' done status = IsPrinted out out' (verdict_text verdict (codes "an outbox")) done status
 IsJudged None out out' done status = (status ≡ done) × (out' ≡ out)
 
--- The fault is that of an outbox of this version, if one is kept there. Nothing is committed to it then.
-abbrev pub IfCurrent : {D : Type 0} {g : Ghosts D} → Parts g → OpeningFault → Type 0
+-- The cause is that of an outbox of this version, if one is kept there. Nothing is committed to it then.
+abbrev pub IfCurrent : {D : Type 0} {g : Ghosts D} → Parts g → Why → Type 0
 IfCurrent {D} {g} old told =
     IsHonest g → old.is_certain ≡ true → (it : Contents) → Keeps old it → IsOfCurrent told
 
@@ -69,10 +70,10 @@ MigratesOutbox g out out' old new status =
     ((migrated : Parts g) × (closed : Result (Unit {0}) Error) × OpensProcess g beginning.Migrated old migrated (Ok tt)
     × ClosesProcess g migrated new closed
     × IsPrinted out out' migrated_line 0 status)
-    ⊎ ((why : OpeningFault) × (told : OpeningFault) × OpensProcess g beginning.Migrated old new (Err why)
-    × IsToldAs why told × IfCurrent old told
+    ⊎ ((refusal : NotOpened) × (told : Why) × OpensProcess g beginning.Migrated old new (Err refusal)
+    × IsToldAs refusal.why told × IfCurrent old told
     × MatchBool (is_current told) (IsPrinted out out' current_line 0 status)
-    (IsJudged (opening_verdict told) out out' (opening_status told) status))
+    (IsJudged (why_verdict told) out out' (why_status told) status))
 
 -- ---- all tasks
 

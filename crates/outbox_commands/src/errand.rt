@@ -4,14 +4,16 @@ ghost use Rattle.std.specs.Prelude.{◌≡◌, None, IsSome};
 ghost use Rattle.database_places.specs.Places.{IsHonest};
 ghost use Rattle.outbox_process.specs.Process.{parts, Leaves, ClosesProcess};
 ghost use Rattle.outbox_commands.specs.Looking.{KeepsEntries};
-ghost use Rattle.outbox_commands.specs.Status.{status_by, failed_status, strict_status, done_status};
-ghost use Rattle.outbox_commands.specs.Visits.{OpensTold, VisitsOutbox};
+ghost use Rattle.outbox_commands.specs.Status.{status_of, status_by, why_status, failed_status, strict_status};
+ghost use Rattle.outbox_commands.specs.Status.{done_status};
+ghost use Rattle.outbox_commands.specs.Visits.{IsToldAs, OpensTold, VisitsOutbox};
 
-use crate::fault::{NotDone, VisitFault};
+use crate::fault::NotDone;
 use crate::network::Network;
 use database_places::{Place, refusal};
+use filer_client::ExchangeFault;
 use outbox_core::{Entry, Outbox};
-use outbox_process::{Beginning, Done, Errand, OpeningFault, OutboxProcess, Round, TaskFault};
+use outbox_process::{Beginning, Done, Errand, NotOpened, OutboxProcess, Round, Why};
 use sqlite::Alter;
 use sqlite_disk::Disk;
 use std::alloc::Global;
@@ -21,19 +23,30 @@ use terminal_text::OneLine;
 /// How many entries before a new one are compared with it.
 const MOST_COMPARED: u64 = 16;
 
-/// Opens an outbox that begins like this. If a refusal depends on the pages of the file, the first page says more.
+/// A refusal as it is reported: if it depends on the pages of the file, the first page says more.
+fn told<D: Disk + Drop, P: Place<D> + Drop>(alloc: Global, place: &P, why: Why) -> Why
+    ensures { IsToldAs why result }
+{
+    match why {
+        Why::Files(fault) => Why::Files(refusal(alloc, place, fault)),
+        why => why,
+    }
+}
+
+/// Opens an outbox that begins like this, or answers the refusal as it is reported.
 pub(crate) fn open<D: Disk + Drop, P: Place<D> + Drop>(
     alloc: Global,
     process: &mut OutboxProcess<D, P>,
     beginning: Beginning<'_>,
-) -> Result<(), OpeningFault>
+) -> Result<(), NotOpened>
     ensures { OpensTold D.Disk beginning.entry (parts P.lying process.old) (parts P.lying process.new) result }
 {
     match process.open(alloc, beginning) {
-        Err(OpeningFault::Files(fault)) => {
-            Err(OpeningFault::Files(refusal(alloc, process.place(), fault)))
-        }
-        opened => opened,
+        Ok(()) => Ok(()),
+        Err(NotOpened { why, holding }) => Err(NotOpened {
+            why: told(alloc, process.place(), why),
+            holding,
+        }),
     }
 }
 
@@ -49,7 +62,7 @@ pub(crate) fn close<D: Disk + Drop, P: Place<D> + Drop, E: Write>(
     let closed = process.close();
     // A close that failed only warns: after a fault somebody might put a report in twice.
     if closed.is_err() {
-        VisitFault::NotClosed.at(name).tell(errors);
+        NotDone::of_errand(Why::NotClosed, name).tell(errors);
     }
 }
 
@@ -70,8 +83,8 @@ pub(crate) fn run_errand<'a, D: Disk + Drop, P: Place<D> + Drop, N: Network, O: 
         (O.contents output.old) (O.contents output.new) (parts P.lying process.old) (parts P.lying process.new)
         (status_by result) }
 {
-    if let Err(fault) = open(alloc, process, Beginning::Found) {
-        return Err(NotDone::of_opening(fault, name));
+    if let Err(refusal) = open(alloc, process, Beginning::Found) {
+        return Err(NotDone::of_refusal(refusal, name));
     }
     let came = process.perform(alloc, network, errand, output);
     let done = answer(network, came, is_strict, name);
@@ -83,7 +96,7 @@ pub(crate) fn run_errand<'a, D: Disk + Drop, P: Place<D> + Drop, N: Network, O: 
 /// the errand ended by a fault.
 fn answer<'a, N: Network>(
     network: &mut N,
-    came: Result<Done, TaskFault>,
+    came: Result<Done, Why>,
     is_strict: bool,
     name: &'a str,
 ) -> Result<(), NotDone<'a>>
@@ -92,20 +105,40 @@ fn answer<'a, N: Network>(
 {
     match came {
         Ok(done) => {
-            tell_outcome(network, done);
+            network.tell();
             fault_of_done(network.port(), is_strict, done)
         }
-        Err(fault) => Err(NotDone::of_task(fault, name, network.port(), network.lost_patience())),
+        Err(why) => Err(not_done(why, name, network)),
     }
 }
 
-/// Lets the network report why an entry is not confirmed. The reply to a question is printed, and says that itself.
-fn tell_outcome<N: Network>(network: &mut N, done: Done)
-    ensures { N.traffic network.new ≡ N.traffic network.old }
+/// Whether a peer is the cause.
+fn is_of_peer(why: &Why) -> bool {
+    matches!(
+        why,
+        Why::Connect(_)
+            | Why::Exchange {
+                fault: ExchangeFault::Write { .. } | ExchangeFault::Reply(_),
+                ..
+            }
+            | Why::NotListed { .. }
+            | Why::NoList { .. }
+            | Why::Contradicts { .. }
+    )
+}
+
+/// Why an errand was not done on the outbox of the file with this name, over this network.
+fn not_done<'a, N: Network>(why: Why, name: &'a str, network: &N) -> NotDone<'a>
+    ensures { status_of result ≡ why_status why }
 {
-    match done {
-        Done::Asked => {}
-        _ => network.tell(),
+    if is_of_peer(&why) {
+        NotDone::Peer {
+            port: network.port(),
+            why,
+            late: network.lost_patience(),
+        }
+    } else {
+        NotDone::of_errand(why, name)
     }
 }
 
@@ -117,7 +150,7 @@ fn fault_of_done<'a>(port: u16, is_strict: bool, done: Done) -> Result<(), NotDo
         Done::Sent(round) if is_strict => fault_of_unfiled(round),
         // If it is not strict, a refused report is a result and no failure.
         Done::Sent(round) => fault_of_failed(port, round),
-        Done::Put { .. } | Done::Asked | Done::Shown => Ok(()),
+        Done::Put { .. } | Done::Shown => Ok(()),
     }
 }
 
@@ -191,7 +224,7 @@ fn same_as<S: Alter>(outbox: &mut Outbox<S>, id: u64) -> Option<u64>
 /// its file, if there is one.
 pub(crate) fn tell_same<D: Disk + Drop, P: Place<D> + Drop, E: Write>(
     process: &mut OutboxProcess<D, P>,
-    came: &Result<Done, TaskFault>,
+    came: &Result<Done, Why>,
     named: Option<&str>,
     errors: &mut E,
 )

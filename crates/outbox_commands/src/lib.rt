@@ -14,7 +14,7 @@ mod putting;
 mod tasks;
 mod written;
 
-pub use fault::{ExchangeInWords, NotDone, VisitFault};
+pub use fault::NotDone;
 pub use options::{Peer, Task};
 pub use putting::ReportFile;
 pub use tasks::{main, perform};

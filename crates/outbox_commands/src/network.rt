@@ -5,7 +5,7 @@ ghost use Rattle.std.specs.Prelude.{◌≡◌, IfOk, IfErr, option_map};
 ghost use Rattle.outbox_commands.specs.Networks.{traffic_of, IsNetworkTo, IsNoFolder};
 
 use crate::answer::{MOST_NOTED, Noted, tell_open, tell_refused};
-use crate::fault::{ExchangeInWords, NoReceipt, NotDone};
+use crate::fault::{ExchangeInWords, NotDone};
 use crate::options::Peer;
 use crate::written::Written;
 use command_line::{Deadline, Patient};
@@ -95,11 +95,11 @@ fn keep_receipt(
     folder: &ReceiptFolder<'_, HostRuntime>,
     exchange: &Exchange<'_>,
     port: u16,
-) -> Result<(), NoReceipt> {
-    let moment = Timestamp::now(rt)?;
-    let receipt = receipt_of(rt.alloc(), exchange, moment, port)?;
-    folder.keep(&receipt)?;
-    Ok(())
+) -> Result<(), ReceiptFault> {
+    let Ok(moment) = Timestamp::now(rt) else {
+        return Err(ReceiptFault::Clock);
+    };
+    folder.keep(&receipt_of(rt.alloc(), exchange, moment, port)?)
 }
 
 impl<'r> PeerDial<'r> {
@@ -158,7 +158,7 @@ impl<'r> PeerDial<'r> {
             came: reply,
         };
         match keep_receipt(self.rt, folder, &exchange, self.port) {
-            Ok(()) | Err(NoReceipt::Unmade(ReceiptFault::Contradicts)) => {}
+            Ok(()) | Err(ReceiptFault::Contradicts) => {}
             Err(error) => {
                 self.lost_receipts = self.lost_receipts.saturating_add(1);
                 // Nothing is left to be done if this text can't be written either.
@@ -231,6 +231,7 @@ impl<'r> Dial for PeerDial<'r> {
         writer: Self::Writer,
         id: u64,
         came: Result<State, ExchangeFault>,
+        is_question: bool,
     ) {
         self.is_late = self.has_lost_patience(came);
         let exchange = (id, came);
@@ -239,20 +240,9 @@ impl<'r> Dial for PeerDial<'r> {
         let noted = reader.into_bytes();
         let sent = writer.into_bytes();
         self.keep_receipt(id, came, sent.as_slice(), noted.as_slice());
-        self.untold = Some(Exchanged { id, came, noted });
-    }
-
-    fn end_look(
-        &mut self,
-        _reader: Self::Reader,
-        writer: Self::Writer,
-        id: u64,
-        came: Result<State, ExchangeFault>,
-    ) {
-        self.is_late = self.has_lost_patience(came);
-        let exchange = (id, came);
-        let over = self.over.and(&exchange, &writer.written);
-        self.over = over;
+        if !is_question {
+            self.untold = Some(Exchanged { id, came, noted });
+        }
     }
 
     fn gives_up(&self) -> bool {

@@ -5,7 +5,7 @@ ghost use Rattle.outbox_process.specs.Process.{parts};
 ghost use Rattle.outbox_commands.specs.Puts.{IsKeyFor, IsNoKeyFor, IsNotRead, IsReadFor, AreReadFor, put_of};
 ghost use Rattle.outbox_commands.specs.Puts.{is_json, IsFit, IsUnfit, AreFit, IsNotTaken};
 ghost use Rattle.outbox_commands.specs.Puts.{PutsOne, EndsTurns, PutsReports, is_for_one};
-ghost use Rattle.outbox_commands.specs.Status.{status_of, status_by, task_status};
+ghost use Rattle.outbox_commands.specs.Status.{status_of, status_by, why_status};
 
 use crate::errand::{close, open, tell_same};
 use crate::fault::NotDone;
@@ -14,7 +14,7 @@ use command_line::{CommandFault, report};
 use database_places::Place;
 use key_string::KeyText;
 use outbox_core::key_of;
-use outbox_process::{Beginning, Errand, OutboxProcess, Target, TaskFault};
+use outbox_process::{Beginning, Errand, OutboxProcess, Target, Why};
 use rand::make_rng;
 use rand::rngs::StdRng;
 use serde_json::Value;
@@ -120,7 +120,7 @@ fn read_report<'a, E: Write>(
             look_at(rt.alloc(), file, body.as_slice(), is_strict, errors)?;
             Ok(ReportFile { file, key, body })
         }
-        Err(fault) => Err(NotDone::Report(fault)),
+        Err(fault) => Err(NotDone::Command(fault)),
     }
 }
 
@@ -159,7 +159,7 @@ fn put_one<'a, D: Disk + Drop, P: Place<D> + Drop, N: Network, O: Write, E: Writ
     named: Option<&str>,
     output: &mut O,
     errors: &mut E,
-) -> Result<(), TaskFault>
+) -> Result<(), Why>
     requires { IsSome process.old.outbox }
     ensures puts { PutsOne (put_of target report.entry) (N.traffic network.old) (O.contents output.old)
         (O.contents output.new) (parts P.lying process.old) (parts P.lying process.new) result }
@@ -173,18 +173,18 @@ fn put_one<'a, D: Disk + Drop, P: Place<D> + Drop, N: Network, O: Write, E: Writ
     }
     match came {
         Ok(_) => Ok(()),
-        Err(fault) => Err(fault),
+        Err(why) => Err(why),
     }
 }
 
 /// Why the report of a file was the last that was put into the outbox of the file with this name, or was not put in. If
 /// it is one of several, its file is named too.
-fn fault_of_put<'a>(fault: TaskFault, name: &'a str, named: Option<&'a str>) -> NotDone<'a>
-    ensures { status_of result ≡ task_status fault }
+fn fault_of_put<'a>(why: Why, name: &'a str, named: Option<&'a str>) -> NotDone<'a>
+    ensures { status_of result ≡ why_status why }
 {
     match named {
-        Some(file) => NotDone::of_stop(fault, name, file),
-        None => NotDone::of_task(fault, name, 0, None),
+        Some(name) => NotDone::Stopped { name, why },
+        None => NotDone::of_errand(why, name),
     }
 }
 
@@ -211,10 +211,10 @@ fn put_each<'a, D: Disk + Drop, P: Place<D> + Drop, N: Network, O: Write, E: Wri
     // One transaction for all would lose reports whose ids were printed already.
     for report in reports {
         let named = if are_several { Some(report.file) } else { None };
-        if let Err(fault) = put_one(
+        if let Err(why) = put_one(
             alloc, process, network, report, target, is_random, named, output, errors,
         ) {
-            return Err(fault_of_put(fault, name, named));
+            return Err(fault_of_put(why, name, named));
         }
     }
     Ok(())
@@ -252,8 +252,8 @@ pub(crate) fn put<'a, D: Disk + Drop, P: Place<D> + Drop, N: Network, O: Write, 
     // If one file cannot be read, no report is put in.
     let reports = read_each(rt, files, key_text, is_strict, errors)?;
     let alloc = rt.alloc();
-    if let Err(fault) = open(alloc, process, Beginning::Found) {
-        return Err(NotDone::of_opening(fault, name));
+    if let Err(refusal) = open(alloc, process, Beginning::Found) {
+        return Err(NotDone::of_refusal(refusal, name));
     }
     let done = put_each(
         alloc,

@@ -3,9 +3,9 @@
 ghost use Rattle.std.specs.Prelude.{◌≡◌, map, string_bytes, Some, None, Ok};
 ghost use Rattle.outbox_process.specs.Process.{parts};
 ghost use Rattle.outbox_commands.specs.Performing.{PerformsOver, Performs, ended_without};
-ghost use Rattle.outbox_commands.specs.Status.{opening_status, status_of, status_by};
+ghost use Rattle.outbox_commands.specs.Status.{why_status, status_of, status_by};
 ghost use Rattle.outbox_commands.specs.Tasks.{MakesOutbox, IsJudged, IsPrinted, MigratesOutbox, Does, is_current};
-ghost use Rattle.outbox_commands.specs.Visits.{opening_verdict};
+ghost use Rattle.outbox_commands.specs.Visits.{why_verdict};
 ghost use Rattle.outbox_commands.specs.Words.{database_of};
 
 use crate::asked::read;
@@ -19,7 +19,7 @@ use database_places::{Place, ReadingPlace, SystemFile, SystemPlace, WaitingPlace
 use finding_lines::lint_reports;
 use found_files::Found;
 use key_string::is_filer;
-use outbox_process::{Beginning, Errand, OpeningFault, OutboxProcess};
+use outbox_process::{Beginning, Errand, NotOpened, OutboxProcess, Why};
 use sqlite_disk::Disk;
 use std::alloc::Global;
 use std::io::Write;
@@ -39,8 +39,8 @@ fn init<'a, D: Disk + Drop, P: Place<D> + Drop, E: Write>(
     if !is_filer(filer) {
         return Err(NotDone::Command(CommandFault::Filer));
     }
-    if let Err(fault) = open(alloc, process, Beginning::Made { filer }) {
-        return Err(NotDone::of_opening(fault, name));
+    if let Err(refusal) = open(alloc, process, Beginning::Made { filer }) {
+        return Err(NotDone::of_refusal(refusal, name));
     }
     close(process, name, errors);
     Ok(())
@@ -49,34 +49,27 @@ fn init<'a, D: Disk + Drop, P: Place<D> + Drop, E: Write>(
 /// Prints what a refusal says of the outbox, if it says something, and answers why the task was not done.
 fn show_refused<'a, O: Write>(
     alloc: Global,
-    fault: OpeningFault,
+    refusal: NotOpened,
     name: &'a str,
     output: &mut O,
 ) -> NotDone<'a>
-    ensures { IsJudged (opening_verdict fault) (O.contents output.old) (O.contents output.new) (opening_status fault)
-        (status_of result) }
+    ensures { IsJudged (why_verdict refusal.why) (O.contents output.old) (O.contents output.new)
+        (why_status refusal.why) (status_of result) }
 {
-    let Some(verdict) = verdict_on(fault) else {
-        return NotDone::of_opening(fault, name);
+    let Some(verdict) = verdict_on(&refusal.why) else {
+        return NotDone::of_refusal(refusal, name);
     };
     match show_verdict(alloc, verdict, "an outbox", output) {
-        Ok(()) => NotDone::of_opening(fault, name),
+        Ok(()) => NotDone::of_refusal(refusal, name),
         Err(unshown) => NotDone::Command(unshown),
     }
 }
 
 /// Whether an outbox that should be migrated was refused since it has this version already.
-fn is_current(fault: OpeningFault) -> bool
-    ensures { result ≡ is_current fault }
+fn is_current(why: &Why) -> bool
+    ensures { result ≡ is_current why.now }
 {
-    match fault {
-        OpeningFault::IsCurrent => true,
-        OpeningFault::Files(_) => false,
-        OpeningFault::Taken(_) => false,
-        OpeningFault::Create(_) => false,
-        OpeningFault::Open(_, _) => false,
-        OpeningFault::Migrate(_, _) => false,
-    }
+    matches!(why, Why::IsCurrent)
 }
 
 /// Upgrades an outbox of an earlier version, and prints that; or prints that it has this version already, or the
@@ -92,11 +85,11 @@ fn migrate<'a, D: Disk + Drop, P: Place<D> + Drop, O: Write, E: Write>(
     ensures { MigratesOutbox D.Disk (O.contents output.old) (O.contents output.new) (parts P.lying process.old)
         (parts P.lying process.new) (status_by result) }
 {
-    if let Err(fault) = open(alloc, process, Beginning::Migrated) {
-        if is_current(fault) {
+    if let Err(refusal) = open(alloc, process, Beginning::Migrated) {
+        if is_current(&refusal.why) {
             return show_line(output, b"has this version already\n");
         }
-        return Err(show_refused(alloc, fault, name, output));
+        return Err(show_refused(alloc, refusal, name, output));
     }
     // It is printed before the close, since the migration is durable by now.
     let shown = show_line(output, b"migrated\n");

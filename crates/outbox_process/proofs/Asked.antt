@@ -23,8 +23,7 @@ use Rattle.filer_client.specs.Calls.{AnswersOf}
 use Rattle.filer_client.specs.Exchange.{request_at, HearsFrom, IsFaultOf}
 use Rattle.filer_client.specs.declared.fault.ExchangeFault.{ExchangeFault}
 use Rattle.filer_client.specs.declared.fault.ExchangeFault.TheVariants.{Write, Reply as Unread, Take}
-use Rattle.outbox_process.specs.declared.tasks.fault.SendFault.TheVariants.{Exchange}
-use Rattle.outbox_process.specs.declared.tasks.fault.TaskFault.TheVariants.{IsOpen, Send}
+use Rattle.outbox_process.specs.declared.fault.Why.TheVariants.{IsOpen, Exchange}
 use Rattle.outbox_process.specs.Asking.{OnlyReads, FindsQuestion, WritesQuestion, IsReplied}
 use Rattle.outbox_process.specs.Dials.{Traffic, Takes, IsUnwritten, Adds}
 use Rattle.outbox_process.specs.Sending.{IsOpenAt}
@@ -95,7 +94,7 @@ module _ {S : Type 0} (g : Ghosts S) (box mid box' : OutboxParts S) (id : ℕ) (
   -- or it was not
   pub no_question : (fault : TakeFault) → is_open_state (view_state entry.state) ≡ false
       → Builds g mid box' id (Err fault)
-      → FindsQuestion g box box' id (Err (Send id (Exchange (Take fault))))
+      → FindsQuestion g box box' id (Err (Exchange id (Take fault)))
   no_question fault settled answers = record {
     found = λ clean entries had. tt;
     settled = tt;
@@ -153,14 +152,19 @@ module _ {R W : Type 0} (r : Reads R) (w : Writes W) (old mid new : Traffic) (id
       Reply} request (w.written writer) (w.written writer') (Err fault)
       → IsFaultOf r reader reader' (w.write_failures writer) (w.write_failures writer') fault
       → Adds mid.over new.over id (Err fault) (w.written writer')
-      → IsReplied id state request old new (Err (Exchange fault))
+      → IsReplied id state request old new (Err (Exchange id fault))
   not_replied fault wrote is adds =
-      let before = written_before Reply request (w.written writer) (w.written writer') fault wrote in (
-        before.0,
-        wire r w reader writer,
-        wire r w reader' writer',
-        before.1,
-        connection old mid new (r.left reader) (w.written writer) (w.written writer') id (Err fault) before.0 fresh
-            coming before.2 adds,
-        is,
+      let before = written_before Reply request (w.written writer) (w.written writer') fault wrote in
+      inr (
+        fault,
+        refl,
+        (
+          before.0,
+          wire r w reader writer,
+          wire r w reader' writer',
+          before.1,
+          connection old mid new (r.left reader) (w.written writer) (w.written writer') id (Err fault) before.0 fresh
+              coming before.2 adds,
+          is,
+        ),
       )

@@ -1,6 +1,6 @@
 -- What is kept while an outbox is opened and closed.
 use Rattle.std.proofs.Common.{◌≡◌, true, false, true≢false, Option, Some, None, Result, Ok, Err, IsSome, IfErr, OnOk}
-use Rattle.std.proofs.Common.{refl, sym, ◌∙◌, ap, subst}
+use Rattle.std.proofs.Common.{inl, inr, refl, sym, ◌∙◌, ap, subst}
 use Rattle.std.specs.Prelude.{Bool, if◌then◌else◌, is_err}
 use Rattle.sqlite_disk.specs.declared.Disk.{Ghosts}
 use Rattle.sqlite_disk.specs.declared.Files.{Files}
@@ -16,7 +16,6 @@ use Rattle.outbox_tables.specs.Earlier.{IsAlone, IsEarlierOf}
 use Rattle.outbox_tables.specs.Entries.{Contents, contents_of}
 use Rattle.outbox_tables.specs.Rows.{IsOutboxOf}
 use Rattle.outbox_core.specs.OutboxParts.{OutboxParts}
-use Rattle.command_line.specs.declared.fault.DatabaseFault.{DatabaseFault}
 use Rattle.command_line.specs.declared.fault.DatabaseFault.TheVariants.{Missing}
 use Rattle.database_places.specs.Closing.{IsClosedIn, IsGivenUp, IsNotClosed}
 use Rattle.database_places.specs.Opening.{ComesFrom}
@@ -29,71 +28,68 @@ use Rattle.database_places.proofs.Lying.{came_empty, gives_back, lie_left, staye
 use Rattle.database_places.proofs.Options.{not_some}
 use Rattle.outbox_process.specs.declared.beginning.Beginning.{Beginning}
 use Rattle.outbox_process.specs.declared.beginning.Beginning.TheVariants.{Found, Made, Migrated}
-use Rattle.outbox_process.specs.declared.fault.OpeningFault.{OpeningFault}
-use Rattle.outbox_process.specs.declared.fault.OpeningFault.TheVariants.{Files as Unopened, Taken, Create, Open}
-use Rattle.outbox_process.specs.declared.fault.OpeningFault.TheVariants.{IsCurrent, Migrate}
+use Rattle.outbox_process.specs.declared.fault.NotOpened.{NotOpened}
+use Rattle.outbox_process.specs.declared.fault.Why.{Why}
 use Rattle.outbox_process.specs.Beginning.{HasContents, BeginsOutbox}
 use Rattle.outbox_process.specs.Process.{Parts, KeepsBy, Keeps, Leaves, BeginsWith, IsNotOpened, IsUp}
-use Rattle.outbox_process.specs.Process.{has_to_be_there, leaves_doubt, OpensOver, OpensProcess, IsLeftOpen}
+use Rattle.outbox_process.specs.Faults.{leaves_doubt}
+use Rattle.outbox_process.specs.Process.{has_to_be_there, without_files, OpensOver, OpensProcess}
 use Rattle.outbox_process.specs.Process.{ClosesProcess}
 use Rattle.outbox_process.specs.Refusals.{RefusesOutbox}
 use Rattle.outbox_process.proofs.Refusing.{lies_still, of_current, still_vacant}
 
 -- files that lay there lie there
 back_of : {D : Type 0} (g : Ghosts D) (beginning : Beginning) (old new : Option (Option (Files D)))
-    (was_taken : Bool) (fault : OpeningFault) → IsNotOpened g beginning old new was_taken fault → (there : Files D)
+    (was_taken : Bool) (why : Why) → IsNotOpened g beginning old new was_taken why → (there : Files D)
     → old ≡ Some (Some there) → (files : Files D) × (new ≡ Some (Some files))
-back_of g beginning old new taken (Unopened why) is there lies = stayed g old new why taken is.refused there lies
-back_of g beginning old new taken (Taken holding) is there lies = lie_left old new is.1 is.4 there lies
-back_of g beginning old new taken (Create why) is there lies = lie_left old new is.1 is.4 there lies
-back_of g beginning old new taken (Open why holding) is there lies = lie_left old new is.1 is.4 there lies
-back_of g beginning old new taken IsCurrent is there lies = lie_left old new is.1 is.4 there lies
-back_of g beginning old new taken (Migrate why holding) is there lies = lie_left old new is.1 is.4 there lies
+back_of g beginning old new taken why (inl is) there lies = stayed g old new is.0 taken is.2.refused there lies
+back_of g beginning old new taken why (inr is) there lies = lie_left old new is.1 is.4 there lies
 
 module _ {D : Type 0} {g : Ghosts D} where
   -- ---- it is opened
 
   -- what was kept is kept after a refusal that leaves no doubt
   still_keeps : IsHonest g → SeenMayStay g → (beginning : Beginning) (old new : Parts g) (was_taken : Bool)
-      (fault : OpeningFault) → old.outbox ≡ None → new.outbox ≡ None
-      → new.is_certain ≡ (if leaves_doubt was_taken fault then false else old.is_certain)
-      → IsNotOpened g beginning old.lying new.lying was_taken fault → Leaves old new
-  still_keeps honest stays beginning old new was_taken fault none closed by why = record {
+      (why : Why) → old.outbox ≡ None → new.outbox ≡ None
+      → new.is_certain ≡ (if leaves_doubt was_taken why then false else old.is_certain)
+      → IsNotOpened g beginning old.lying new.lying was_taken why → Leaves old new
+  still_keeps honest stays beginning old new was_taken why none closed by is = record {
     kept = λ it keeps certain.
-        let both = sure_after (leaves_doubt was_taken fault) old.is_certain new.is_certain by certain in
+        let both = sure_after (leaves_doubt was_taken why) old.is_certain new.is_certain by certain in
         let lie = subst (λ o. KeepsBy {g = g} o old.lying it) none (keeps both.1) in
         subst (λ o. KeepsBy {g = g} o new.lying it) (sym closed)
-        (lies_still honest stays beginning old.lying new.lying it lie was_taken fault both.0 why);
-    certain = λ certain. (sure_after (leaves_doubt was_taken fault) old.is_certain new.is_certain by certain).1;
+        (lies_still honest stays beginning old.lying new.lying it lie was_taken why both.0 is);
+    certain = λ certain. (sure_after (leaves_doubt was_taken why) old.is_certain new.is_certain by certain).1;
   }
 
   -- a refusal leaves it closed
-  pub refuses : SeenMayStay g → (beginning : Beginning) (old new : Parts g) (was_taken : Bool) (fault : OpeningFault)
-      → new.is_certain ≡ (if leaves_doubt was_taken fault then false else old.is_certain)
-      → old.outbox ≡ None → new.outbox ≡ None → IsNotOpened g beginning old.lying new.lying was_taken fault
-      → (has_to_be_there beginning ≡ true → old.lying ≡ Some None → fault ≡ Unopened Missing)
-      → OpensProcess g beginning old new (Err fault)
-  refuses stays beginning old new was_taken fault by none closed why absent = record {
+  pub refuses : SeenMayStay g → (beginning : Beginning) (old new : Parts g) (was_taken : Bool) (refusal : NotOpened)
+      → new.is_certain ≡ (if leaves_doubt was_taken refusal.why then false else old.is_certain)
+      → old.outbox ≡ None → new.outbox ≡ None → IsNotOpened g beginning old.lying new.lying was_taken refusal.why
+      → (has_to_be_there beginning ≡ true → old.lying ≡ Some None → refusal ≡ without_files Missing)
+      → OpensProcess g beginning old new (Err refusal)
+  refuses stays beginning old new was_taken refusal by none closed is absent = record {
     keeps = λ honest it begins. tt;
-    absent = λ _ has lies. ap (λ (f : OpeningFault). Err f) (absent has lies);
+    absent = λ _ has lies. ap (λ (f : NotOpened). Err f) (absent has lies);
     read = λ honest _ files lies. tt;
-    current = λ honest is none certain it keeps. (
+    current = λ honest migrated none certain it keeps. (
       tt,
-      of_current honest old.lying new.lying was_taken fault it
-          (subst (λ b. IsNotOpened g b old.lying new.lying was_taken fault) is why)
+      of_current honest old.lying new.lying was_taken refusal.why it
+          (subst (λ b. IsNotOpened g b old.lying new.lying was_taken refusal.why) migrated is)
           (subst (λ o. KeepsBy {g = g} o old.lying it) none (keeps certain)),
     );
     certain = tt;
     is_open = tt;
     up = λ _. tt;
     already = λ some. not_some old.outbox none some;
-    refused = (was_taken, why, closed, by);
-    unharmed = λ honest. still_keeps honest stays beginning old new was_taken fault none closed by why;
-    back = back_of g beginning old.lying new.lying was_taken fault why;
+    refused = (was_taken, is, closed, by);
+    unharmed = λ honest. still_keeps honest stays beginning old new was_taken refusal.why none closed by is;
+    back = back_of g beginning old.lying new.lying was_taken refusal.why is;
     vacant = λ honest _ lies certain.
-        still_vacant g honest beginning new.lying was_taken fault
-        (sure_after (leaves_doubt was_taken fault) old.is_certain new.is_certain by certain).0
-        (subst (λ l. IsNotOpened g beginning l new.lying was_taken fault) lies why) (λ has. absent has lies);
+        still_vacant g honest beginning new.lying was_taken refusal.why
+        (sure_after (leaves_doubt was_taken refusal.why) old.is_certain new.is_certain by certain).0
+        (subst (λ l. IsNotOpened g beginning l new.lying was_taken refusal.why) lies is)
+        (λ has. ap (λ (f : NotOpened). f.why) (absent has lies));
   }
 
   keeps_open : (beginning : Beginning) (process : Parts g) (it : Contents) → IsSome process.outbox
@@ -120,29 +116,13 @@ module _ {D : Type 0} {g : Ghosts D} where
     vacant = λ honest none lies. tt;
   }
 
-  no_such : (beginning : Beginning) (conn back : Held (FileStore D g)) (why : DatabaseFault)
-      → RefusesOutbox over_files beginning conn back (Unopened why) → ⊥
-  no_such Found conn back why is = is
-  no_such (Made filer) conn back why is = is
-  no_such Migrated conn back why is = is
-
   -- no outbox began over the database of the place, which was given up
   pub not_begun : (beginning : Beginning) (old mid new : Option (Option (Files D)))
-      (conn back : Held (FileStore D g)) (files : Files D) (fault : OpeningFault) → ComesFrom old mid conn
-      → RefusesOutbox over_files beginning conn back fault → place.Leaves mid new files → IsGivenUp back files
-      → IsNotOpened g beginning old new true fault
-  not_begun beginning old mid new conn back files (Unopened why) comes is leaves given =
-      absurd (no_such beginning conn back why is)
-  not_begun beginning old mid new conn back files (Taken holding) comes is leaves given =
-      gives_back old mid new conn back files comes is leaves given
-  not_begun beginning old mid new conn back files (Create why) comes is leaves given =
-      gives_back old mid new conn back files comes is leaves given
-  not_begun beginning old mid new conn back files (Open why holding) comes is leaves given =
-      gives_back old mid new conn back files comes is leaves given
-  not_begun beginning old mid new conn back files IsCurrent comes is leaves given =
-      gives_back old mid new conn back files comes is leaves given
-  not_begun beginning old mid new conn back files (Migrate why holding) comes is leaves given =
-      gives_back old mid new conn back files comes is leaves given
+      (conn back : Held (FileStore D g)) (files : Files D) (why : Why) → ComesFrom old mid conn
+      → RefusesOutbox over_files beginning conn back why → place.Leaves mid new files → IsGivenUp back files
+      → IsNotOpened g beginning old new true why
+  not_begun beginning old mid new conn back files why comes is leaves given =
+      inr (gives_back old mid new conn back files comes is leaves given)
 
   keeps_begun : (beginning : Beginning) (old new : Parts g) (conn : Held (FileStore D g))
       (outbox : OutboxParts (FileStore D g)) → old.outbox ≡ None → new.is_certain ≡ old.is_certain
@@ -250,8 +230,10 @@ module _ {D : Type 0} {g : Ghosts D} where
       certain = λ certain. sym same ∙ certain;
     };
     certain = same;
+    unsure = tt;
+    files = rw up (files, leaves, is);
     is_closed = shut;
-    refused = tt;
+    already = λ none. not_some old.outbox none (rw up refl);
   }
 
   pub not_closes : (outbox : OutboxParts (FileStore D g)) (files : Files D) (old new : Parts g) (error : Error)
@@ -264,8 +246,10 @@ module _ {D : Type 0} {g : Ghosts D} where
           λ certain. absurd (true≢false (sym certain ∙ unsure));
     };
     certain = tt;
+    unsure = unsure;
+    files = rw up (files, leaves, is);
     is_closed = shut;
-    refused = (subst (λ o. IsLeftOpen o old.lying new.lying error) (sym up) (files, leaves, is), unsure);
+    already = λ none. not_some old.outbox none (rw up refl);
   }
 
   -- by what came of the close

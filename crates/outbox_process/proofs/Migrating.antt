@@ -17,13 +17,14 @@ use Rattle.table_rows.proofs.TextLemmas.{no_returning, query_same}
 use Rattle.outbox_tables.specs.Audit.{meta_text, IsNoOutbox}
 use Rattle.outbox_tables.specs.Earlier.{IsAlone, IsEarlierOf}
 use Rattle.outbox_tables.specs.Faults.{IsFailure}
+use Rattle.outbox_tables.specs.declared.fault.OutboxFault.{OutboxFault}
 use Rattle.outbox_tables.specs.declared.fault.OutboxFault.TheVariants.{NotOurs}
 use Rattle.outbox_core.specs.OutboxParts.{OutboxParts}
 use Rattle.outbox_core.specs.Refusals.{GivesBackOpening, GivesBackMigrating}
 use Rattle.outbox_process.specs.Beginning.{MigratesEarlier, MigratesOutbox}
-use Rattle.outbox_process.specs.Refusals.{IsNotEarlier, RefusesMigrating}
-use Rattle.outbox_process.specs.declared.fault.OpeningFault.{OpeningFault}
-use Rattle.outbox_process.specs.declared.fault.OpeningFault.TheVariants.{Files, Taken, Create, Open, IsCurrent, Migrate}
+use Rattle.outbox_process.specs.Refusals.{RefusesMigrating}
+use Rattle.outbox_process.specs.declared.fault.Why.{Why}
+use Rattle.outbox_process.specs.declared.fault.Why.TheVariants.{Migrate}
 use Rattle.outbox_tables.proofs.Texts.{meta_reads}
 
 -- if it failed for another cause than memory and the disk, nothing was written
@@ -85,17 +86,9 @@ module _ {S : Type 0} (g : Ghosts S) (conn back : Held S) (given : GivesBackOpen
   all_migrated (Ok outbox) earlier = migrated outbox earlier
   all_migrated (Err fault) earlier = tt
 
-  refused : (fault : OpeningFault) (last : Held S) → IsNotEarlier fault (λ why. GivesBackMigrating g back why last)
-      → RefusesMigrating g conn last fault
-  refused (Migrate why holding) last is = inr (back, given, is)
-  refused (Files why) last is = absurd is
-  refused (Taken holding) last is = absurd is
-  refused (Create why) last is = absurd is
-  refused (Open why holding) last is = absurd is
-  refused IsCurrent last is = absurd is
-
-  pub all_refused : {A : Type 0} (r : Result A (OpeningFault × Held S))
-      → IfErr r (λ refusal. IsNotEarlier refusal.0 (λ why. GivesBackMigrating g back why refusal.1))
+  pub all_refused : {A : Type 0} (r : Result A (Why × Held S))
+      → IfErr r (λ refusal. (fault : OutboxFault) × (refusal.0 ≡ Migrate fault)
+      × GivesBackMigrating g back fault refusal.1)
       → IfErr r (λ refusal. RefusesMigrating g conn refusal.1 refusal.0)
   all_refused (Ok outbox) is = tt
-  all_refused (Err refusal) is = refused refusal.0 refusal.1 is
+  all_refused (Err refusal) is = inr (is.0, is.1, inr (back, given, is.2))

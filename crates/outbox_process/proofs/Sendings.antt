@@ -14,7 +14,7 @@ use Rattle.outbox_core.specs.Reading.{view_entry}
 use Rattle.outbox_core.specs.declared.entry.Entry.{Entry as Read}
 use Rattle.filer_client.specs.Exchange.{IsSettled}
 use Rattle.filer_client.proofs.Settled.{set_settled}
-use Rattle.outbox_process.specs.declared.tasks.fault.TaskFault.{TaskFault}
+use Rattle.outbox_process.specs.declared.fault.Why.{Why}
 use Rattle.outbox_process.specs.Dials.{Traffic}
 use Rattle.outbox_process.specs.Faults.{IsNotPrinted}
 use Rattle.outbox_process.specs.Lines.{nothing_open}
@@ -39,7 +39,7 @@ not_open State.Clashed settled = λ same. cc
 module _ {S : Type 0} (g : Ghosts S) where
   -- an entry that is open, by a look at the entries
   sent : (id : ℕ) (old new : Traffic) (box mid box' : OutboxParts S) (out out' : Option (List ℕ))
-      (result : Result State TaskFault)
+      (result : Result State Why)
       → ForEntries g box mid (λ entries. IsOpenAt entries id × HasEntries g mid entries) → mid.filer ≡ box.filer
       → (HasCleanDisk (shows g mid) → HasCleanDisk (shows g box))
       → Sends g (λ entries. IsOpenAt entries id) id old new mid box' out out' result
@@ -63,7 +63,7 @@ module _ {S : Type 0} (g : Ghosts S) where
       (kept : ForEntries g box mid (HasEntries g mid)) (named : mid.filer ≡ box.filer)
       (clean_before : HasCleanDisk (shows g mid) → HasCleanDisk (shows g box)) where
     pub sent_open : (old new : Traffic) (box' : OutboxParts S) (out out' : Option (List ℕ))
-        (result : Result State TaskFault) → entry.state ≡ State.Open
+        (result : Result State Why) → entry.state ≡ State.Open
         → Sends g (λ entries. IsOpenAt entries id) id old new mid box' out out' result
         → Sends g AreAny id old new box box' out out' result
     sent_open old new box' out out' result opened sends =
@@ -71,7 +71,7 @@ module _ {S : Type 0} (g : Ghosts S) where
         (open_found entries id entry (found clean entries had) opened, kept clean entries had)) named clean_before
         sends
 
-    pub told_settled : (traffic : Traffic) (out out' : Option (List ℕ)) (result : Result State TaskFault)
+    pub told_settled : (traffic : Traffic) (out out' : Option (List ℕ)) (result : Result State Why)
         → entry.state ≢ State.Open → IsTold id (Ok entry.state) out out' result
         → Sends g AreAny id traffic traffic box mid out out' result
     told_settled traffic out out' result settled told = record {
@@ -97,7 +97,7 @@ module _ {S : Type 0} (g : Ghosts S) where
 
   -- the first that is open
   pub sent_first : (old new : Traffic) (box mid box' : OutboxParts S) (out out' : Option (List ℕ)) (entry : Read)
-      (result : Result State TaskFault) → LooksUp g box mid first_open (Ok (Some entry))
+      (result : Result State Why) → LooksUp g box mid first_open (Ok (Some entry))
       → Sends g (λ entries. IsOpenAt entries entry.id) entry.id old new mid box' out out' result
       → SendsFirst g old new box box' out out' (answer_of_some result)
   sent_first old new box mid box' out out' entry result looks sends = record {
@@ -118,9 +118,9 @@ module _ {S : Type 0} (g : Ghosts S) where
 
   -- none is open
   pub sent_none : (traffic : Traffic) (box mid : OutboxParts S) (out out' : Option (List ℕ))
-      (result : Result (Option State) TaskFault) → LooksUp g box mid first_open (Ok None)
+      (result : Result (Option State) Why) → LooksUp g box mid first_open (Ok None)
       → ((result ≡ Ok None) × Appends out out' nothing_open)
-      ⊎ ((fault : TaskFault) × (result ≡ Err fault) × IsNotPrinted fault)
+      ⊎ ((why : Why) × (result ≡ Err why) × IsNotPrinted why)
       → SendsNone g traffic traffic box mid out out' result
   sent_none traffic box mid out out' result looks told = record {
     none = λ clean entries had. (sym (looks.found clean entries had), looks.kept clean entries had);

@@ -1,6 +1,6 @@
 -- Entries that are shown, one behind another.
 use Rattle.std.proofs.Common.{◌≡◌, ◌∙◌, ℕ, suc, ◌+◌, ◌<◌, ◌≤◌, List, [], ◌∷◌, ◌++◌, take, length, slice_index_or}
-use Rattle.std.proofs.Common.{Option, Some, None, Result, Ok, Err, refl, sym, ap, subst, inl, inr, arith}
+use Rattle.std.proofs.Common.{◌⊎◌, IfErr, Option, Some, None, Result, Ok, Err, refl, sym, ap, subst, inl, inr, arith}
 use Rattle.std.specs.Prelude.{flat_map}
 use Rattle.std.specs.Io.KnownBytes.{Appends}
 use Rattle.std.proofs.KnownBytes.{Appends-nil, Appends-trans}
@@ -12,11 +12,18 @@ use Rattle.filing_model.specs.Outbox.{Entry}
 use Rattle.filing_model.specs.declared.state.State.{State as Stored}
 use Rattle.outbox_tables.specs.Entries.{numbered}
 use Rattle.outbox_core.specs.OutboxParts.{OutboxParts, shows, HasEntries, ForEntries}
-use Rattle.outbox_process.specs.declared.tasks.fault.TaskFault.{TaskFault}
+use Rattle.outbox_process.specs.declared.fault.Why.{Why}
+use Rattle.outbox_process.specs.Faults.{IsNotPrinted}
 use Rattle.outbox_process.specs.Lines.{long_line}
 use Rattle.outbox_process.specs.Looking.{AreAny}
 use Rattle.outbox_process.specs.Showing.{AreTold, ShowsEntry, ShowsEach}
 use Rattle.outbox_process.proofs.Looks.{nth, all_told}
+
+-- of a text that was not printed
+pub not_printed : {X : Type 0} (P : Why → Type 0) (result : Result X Why) → IfErr result IsNotPrinted
+    → IfErr result (λ why. P why ⊎ IsNotPrinted why)
+not_printed P (Ok done) is = tt
+not_printed P (Err why) is = inr is
 
 module _ {S : Type 0} (g : Ghosts S) where
   -- the first of those that are told were shown
@@ -87,7 +94,7 @@ module _ {S : Type 0} (g : Ghosts S) where
 
   -- the next was not shown
   pub broken : {X : Type 0} (told : List (ℕ × Stored)) (at : ℕ) (or : ℕ
-      × Stored) (box mid box' : OutboxParts S) (out so_far out' : Option (List ℕ)) (fault : TaskFault)
+      × Stored) (box mid box' : OutboxParts S) (out so_far out' : Option (List ℕ)) (fault : Why)
       → at < length told → ShowsFirst told at box mid out so_far
       → ShowsEntry {X = X} g long_line (slice_index_or told at or).0 mid box' so_far out' (Err fault)
       → ShowsEach {X = X} g (AreTold told) box box' out out' (Err fault)
@@ -121,7 +128,7 @@ module _ {S : Type 0} (g : Ghosts S) where
 
   -- by a look at the entries
   pub each : {X : Type 0} (told : List (ℕ × Stored)) (box mid box' : OutboxParts S) (out out' : Option (List ℕ))
-      (result : Result X TaskFault) → ForEntries g box mid (AreTold told) → ForEntries g box mid (HasEntries g mid)
+      (result : Result X Why) → ForEntries g box mid (AreTold told) → ForEntries g box mid (HasEntries g mid)
       → mid.filer ≡ box.filer → (HasCleanDisk (shows g mid) → HasCleanDisk (shows g box))
       → ShowsEach g (AreTold told) mid box' out out' result → ShowsEach g AreAny box box' out out' result
   each told box mid box' out out' result are kept named clean_before a = record {

@@ -15,8 +15,8 @@ use Rattle.filer_client.specs.declared.fault.ExchangeFault.{ExchangeFault}
 use Rattle.filer_client.specs.declared.fault.ExchangeFault.TheVariants.{Write, Reply, Take}
 use Rattle.filer_client.specs.Exchange.{IsSettled, WritesBefore}
 use Rattle.filer_client.specs.Calls.{Exchanges}
-use Rattle.outbox_process.specs.declared.tasks.fault.SendFault.{SendFault}
-use Rattle.outbox_process.specs.declared.tasks.fault.SendFault.TheVariants.{Exchange}
+use Rattle.outbox_process.specs.declared.fault.Why.{Why}
+use Rattle.outbox_process.specs.declared.fault.Why.TheVariants.{Exchange}
 use Rattle.outbox_process.specs.Dials.{Output, Traffic, Takes, IsUnwritten, Grows, Adds}
 use Rattle.outbox_process.specs.Sending.{IsOneConnection, IsOpenAt, Tries}
 
@@ -67,9 +67,9 @@ written_before filer entries id written written' (Take Store) (inr whole) =
     (whole.0, inr (whole.0, whole.1, refl), whole.2)
 
 -- how it is answered
-abbrev pub as_sent : Result State ExchangeFault → Result State SendFault
-as_sent (Ok to) = Ok to
-as_sent (Err fault) = Err (Exchange fault)
+abbrev pub as_sent : ℕ → Result State ExchangeFault → Result State Why
+as_sent id (Ok to) = Ok to
+as_sent id (Err fault) = Err (Exchange id fault)
 
 module _ {S : Type 0} (g : Ghosts S) where
   -- an exchange on a connection that was made
@@ -78,7 +78,7 @@ module _ {S : Type 0} (g : Ghosts S) where
       → (mid.over ≡ old.over) × Takes old.coming mid.coming (r.left reader) × IsUnwritten old.over (w.written writer)
       → Exchanges g r w box box' id reader reader' writer writer' came
       → new.coming ≡ mid.coming → Adds mid.over new.over id came (w.written writer')
-      → Tries g (λ entries. IsOpenAt entries id) id old new box box' (as_sent came)
+      → Tries g (λ entries. IsOpenAt entries id) id old new box box' (as_sent id came)
   exchanged r w old mid new box box' id reader reader' writer writer' (Ok to) fresh made coming adds = record {
     tried = λ clean entries had opened.
         let moved = made.moved clean entries had in (
@@ -107,14 +107,18 @@ module _ {S : Type 0} (g : Ghosts S) where
         (made.written clean entries had) in (
           (
             opened,
-            (
-              wrote.0,
-              wire r w reader writer,
-              wire r w reader' writer',
-              wrote.1,
-              connection old mid new (r.left reader) (w.written writer) (w.written writer') id (Err fault) wrote.0 fresh
-                  coming wrote.2 adds,
-              made.fault,
+            inr (
+              fault,
+              refl,
+              (
+                wrote.0,
+                wire r w reader writer,
+                wire r w reader' writer',
+                wrote.1,
+                connection old mid new (r.left reader) (w.written writer) (w.written writer') id (Err fault) wrote.0
+                    fresh coming wrote.2 adds,
+                made.fault,
+              ),
             ),
           ),
           made.kept clean entries had,

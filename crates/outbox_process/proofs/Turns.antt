@@ -17,22 +17,20 @@ use Rattle.filing_model.specs.Views.{view_state}
 use Rattle.filing_model.specs.declared.state.State.{State}
 use Rattle.outbox_core.specs.OutboxParts.{OutboxParts, shows, HasEntries, ForEntries}
 use Rattle.filer_client.specs.declared.fault.ExchangeFault.{ExchangeFault}
-use Rattle.outbox_process.specs.declared.tasks.fault.SendFault.{SendFault}
-use Rattle.outbox_process.specs.declared.tasks.fault.SendFault.TheVariants.{Connect, Exchange}
-use Rattle.outbox_process.specs.declared.tasks.fault.TaskFault.{TaskFault}
-use Rattle.outbox_process.specs.declared.tasks.fault.TaskFault.TheVariants.{Send, Line}
+use Rattle.outbox_process.specs.declared.fault.Why.{Why}
+use Rattle.outbox_process.specs.declared.fault.Why.TheVariants as why
 use Rattle.outbox_process.specs.declared.tasks.rounds.Ending.{Ending}
 use Rattle.outbox_process.specs.declared.tasks.rounds.Ending.TheVariants as ending
 use Rattle.outbox_process.specs.declared.tasks.rounds.Round.{Round}
 use Rattle.outbox_process.specs.Dials.{Traffic}
 use Rattle.outbox_process.specs.Endings.{ending_of, ending_by, has_failed, was_left_open, was_refused, counts, with_one}
-use Rattle.outbox_process.specs.Faults.{belongs_to_entry, IsNotPrinted}
+use Rattle.outbox_process.specs.Faults.{is_of_exchange, is_of_entry, IsNotPrinted}
 use Rattle.outbox_process.specs.Lines.{line_of, nothing_open}
 use Rattle.outbox_process.specs.Looking.{AreAny}
 use Rattle.outbox_process.specs.Rounds.{open_ids, EndsIn, FindsNone, SendsSome, SendsWhole, Turn, IsTurn, SentInTurn}
 use Rattle.outbox_process.specs.Rounds.{ids_of, lines_of, endings, HaveTurns, EndsRound, StopsAt, AreToSend, TakesTurn}
 use Rattle.outbox_process.specs.Rounds.{SendsEach, SendsAll}
-use Rattle.outbox_process.specs.Sending.{IsOpenAt, IsTried, entries_after, IsTold, Tries, Sends}
+use Rattle.outbox_process.specs.Sending.{IsBroken, IsOpenAt, IsTried, entries_after, Tries, Sends}
 use Rattle.outbox_process.proofs.Opens.{other_stays, to_send}
 
 -- ---- some turns, and then more
@@ -216,7 +214,7 @@ module _ {S : Type 0} (g : Ghosts S) where
 
   -- the next ends the round
   pub stopped : (all done : List ℕ) (next : ℕ) (rest : List ℕ) (old mid new : Traffic)
-      (box between box' : OutboxParts S) (out so_far out' : Option (List ℕ)) (fault : TaskFault)
+      (box between box' : OutboxParts S) (out so_far out' : Option (List ℕ)) (fault : Why)
       → all ≡ done ++ next ∷ rest
       → Made all done old mid box between out so_far
       → Sends g (λ entries. IsOpenAt entries next) next mid new between box' so_far out' (Err fault)
@@ -286,7 +284,7 @@ module _ {S : Type 0} (g : Ghosts S) where
       )
 
   pub stop : (ids : List ℕ) (at or : ℕ) (old mid new : Traffic) (box between box' : OutboxParts S)
-      (out so_far out' : Option (List ℕ)) (fault : TaskFault) → at < length ids
+      (out so_far out' : Option (List ℕ)) (fault : Why) → at < length ids
       → Made ids (take at ids) old mid box between out so_far
       → TakesTurn g (slice_index_or ids at or) mid new between box' so_far out' (Err fault)
       → StopsAt g (AreToSend ids) ids old new box box' out out' fault
@@ -364,7 +362,7 @@ module _ {S : Type 0} (g : Ghosts S) where
         }
 
     -- none is open, and that could not be printed
-    pub found_none : (old : Traffic) (fault : TaskFault) → length ids ≡ 0 → IsNotPrinted fault
+    pub found_none : (old : Traffic) (fault : Why) → length ids ≡ 0 → IsNotPrinted fault
         → FindsNone g old old box mid fault
     found_none old fault empty told = record {
       none = λ clean entries had. let found = looked clean entries had in (sym found.0 ∙ empty_list ids empty, found.1);
@@ -373,7 +371,7 @@ module _ {S : Type 0} (g : Ghosts S) where
       told = told;
     }
 
-    pub some_turns : (old new : Traffic) (box' : OutboxParts S) (out out' : Option (List ℕ)) (fault : TaskFault)
+    pub some_turns : (old new : Traffic) (box' : OutboxParts S) (out out' : Option (List ℕ)) (fault : Why)
         → StopsAt g (AreToSend ids) ids old new mid box' out out' fault → SendsSome g old new box box' out out' fault
     some_turns old new box' out out' fault stops = record {
       ids = ids;
@@ -404,7 +402,7 @@ module _ {S : Type 0} (g : Ghosts S) where
 
     -- some were sent
     pub sent_each : (old new : Traffic) (box' : OutboxParts S) (out out' : Option (List ℕ))
-        (result : Result Round TaskFault) → (length ids ≡ 0 → ⊥) → SendsEach g ids old new mid box' out out' result
+        (result : Result Round Why) → (length ids ≡ 0 → ⊥) → SendsEach g ids old new mid box' out out' result
         → SendsAll g old new box box' out out' result
     sent_each old new box' out out' (Ok round) some sends = whole old new box' out out' round sends some
     sent_each old new box' out out' (Err fault) some sends = inl (some_turns old new box' out out' fault sends)
@@ -412,12 +410,12 @@ module _ {S : Type 0} (g : Ghosts S) where
   -- ---- what came of one
 
   abbrev Sent : ℕ → Traffic → Traffic → OutboxParts S → OutboxParts S → Option (List ℕ) → Option (List ℕ)
-      → Result State TaskFault → Type 0
+      → Result State Why → Type 0
   Sent id old new box box' out out' result =
       Sends g (λ entries. IsOpenAt entries id) id old new box box' out out' result
 
   turn : (id : ℕ) (old new : Traffic) (box box' : OutboxParts S) (out out' : Option (List ℕ))
-      (came : Result State ExchangeFault) (sent : Result State SendFault)
+      (came : Result State ExchangeFault) (sent : Result State Why)
       → Tries g (λ entries. IsOpenAt entries id) id old new box box' sent
       → ((entries : List Entry) → IsTried box.filer entries id old new sent → IsTurn box.filer entries id old new came)
       → ((entries : List Entry) → entries_after entries id came ≡ entries_after entries id sent)
@@ -441,39 +439,71 @@ module _ {S : Type 0} (g : Ghosts S) where
   pub turn_sent : (id : ℕ) (old new : Traffic) (box box' : OutboxParts S) (out out' : Option (List ℕ)) (state : State)
       → Sent id old new box box' out out' (Ok state) → TakesTurn g id old new box box' out out' (Ok (ending_of state))
   unfolding turn
-  turn_sent id old new box box' out out' state sends = go sends.came sends.tries sends.told
-    where
-      go : (came : Result State SendFault) → Tries g (λ entries. IsOpenAt entries id) id old new box box' came
-          → IsTold id came out out' (Ok state) → TakesTurn g id old new box box' out out' (Ok (ending_of state))
-      go (Ok to) tries (inl told) = let same : to ≡ state = cc in (
-        turn id old new box box' out out' (Ok to) (Ok to) tries (λ entries t. t) (λ entries. refl) refl told.1,
-        ap (λ (s : State). ending_of s ∷ []) same,
-      )
-      go (Ok to) tries (inr fault) = absurd cc
-      go (Err fault) tries (inl told) = absurd cc
-      go (Err fault) tries (inr why) = absurd cc
+  turn_sent id old new box box' out out' state sends = elim sends.told [
+    | inl told ↦
+        let tries = subst (Tries g (λ entries. IsOpenAt entries id) id old new box box') (sym told.0) sends.tries in
+        let line = subst (λ came. Appends out out' (line_of id came)) (sym told.0) told.1 in
+        let one = turn id old new box box' out out' (Ok state) (Ok state) tries (λ entries t. t) (λ entries. refl) in
+        (one refl line, refl)
+    | inr why ↦ let no = why.1 in absurd cc
+  ]
 
   -- its exchange failed by a fault of its own
+  broken_off : (id : ℕ) (old new : Traffic) (box box' : OutboxParts S) (out out' : Option (List ℕ)) (other : ℕ)
+      (fault : ExchangeFault)
+      → Tries g (λ entries. IsOpenAt entries id) id old new box box' (Err (why.Exchange other fault))
+      → Appends out out' (line_of {E = Why} id (Err (why.Exchange other fault))) → is_of_exchange fault ≡ true
+      → new.gives_up ≡ false → TakesTurn g id old new box box' out out' (Ok ending.Failed)
+  unfolding turn
+  broken_off id old new box box' out out' other fault tries told own goes_on = (
+    turn id old new box box' out out' (Err fault) (Err (why.Exchange other fault)) tries
+        (λ entries t. elim t.1 [
+          | inl unconnected ↦ absurd unconnected.0
+          | inr broken ↦
+              let same : broken.0 ≡ fault = (let is = broken.1 in cc) in
+              (t.0, subst (IsBroken box.filer entries id old new) same broken.2, own, goes_on)
+        ]) (λ entries. refl) refl told,
+    refl,
+  )
+
+  of_entry : (fault : Why) → is_of_entry fault ≡ true
+      → (id : ℕ) × (own : ExchangeFault) × (fault ≡ why.Exchange id own) × (is_of_exchange own ≡ true)
+  of_entry (why.Exchange id own) is = (id, own, refl, is)
+  of_entry (why.Files fault) is = absurd cc
+  of_entry why.Taken is = absurd cc
+  of_entry (why.Create fault) is = absurd cc
+  of_entry (why.Open fault) is = absurd cc
+  of_entry why.IsCurrent is = absurd cc
+  of_entry (why.Migrate fault) is = absurd cc
+  of_entry (why.Store fault) is = absurd cc
+  of_entry (why.NoEntry id) is = absurd cc
+  of_entry (why.IsOpen id) is = absurd cc
+  of_entry (why.Put fault) is = absurd cc
+  of_entry (why.NotTold id wants) is = absurd cc
+  of_entry (why.Connect error) is = absurd cc
+  of_entry (why.NotListed id number) is = absurd cc
+  of_entry (why.NoList id number status) is = absurd cc
+  of_entry (why.Contradicts id state told) is = absurd cc
+  of_entry why.Memory is = absurd cc
+  of_entry why.Output is = absurd cc
+  of_entry why.NotClosed is = absurd cc
+
   pub turn_failed : (id : ℕ) (old new : Traffic) (box box' : OutboxParts S) (out out' : Option (List ℕ))
-      (fault : TaskFault) → Sent id old new box box' out out' (Err fault) → belongs_to_entry fault ≡ true
+      (fault : Why) → Sent id old new box box' out out' (Err fault) → is_of_entry fault ≡ true
       → new.gives_up ≡ false
       → TakesTurn g id old new box box' out out' (Ok ending.Failed)
-  unfolding turn
-  turn_failed id old new box box' out out' fault sends own goes_on = go sends.came sends.tries sends.told
-    where
-      go : (came : Result State SendFault) → Tries g (λ entries. IsOpenAt entries id) id old new box box' came
-          → IsTold id came out out' (Err fault) → TakesTurn g id old new box box' out out' (Ok ending.Failed)
-      go (Ok to) tries (inl told) = absurd cc
-      go (Ok to) tries (inr why) = let is : fault ≡ Line why.2.0 = cc in let no : belongs_to_entry fault ≡ false =
-          ap belongs_to_entry is in absurd (true≢false (sym own ∙ no))
-      go (Err (Connect error)) tries (inl told) = let is : fault ≡ Send id (Connect error) = cc in
-          let no : belongs_to_entry fault ≡ false = ap belongs_to_entry is in absurd (true≢false (sym own ∙ no))
-      go (Err (Exchange why)) tries (inl told) =
-          let is : fault ≡ Send id (Exchange why) = cc in
-          let its_own = sym (ap belongs_to_entry is) ∙ own in (
-            turn id old new box box' out out' (Err why) (Err (Exchange why)) tries (λ entries t. (t, its_own, goes_on))
-                (λ entries. refl) refl told.1,
-            refl,
-          )
-      go (Err sent) tries (inr why) = let is : fault ≡ Line why.2.0 = cc in let no : belongs_to_entry fault ≡ false =
-          ap belongs_to_entry is in absurd (true≢false (sym own ∙ no))
+  turn_failed id old new box box' out out' fault sends own goes_on = elim sends.told [
+    | inl told ↦
+        let it = of_entry fault own in
+        let came : sends.came ≡ Err (why.Exchange it.0 it.1) = sym told.0 ∙ ap (λ (w : Why). Err w) it.2 in
+        broken_off id old new box box' out out' it.0 it.1
+        (subst (Tries g (λ entries. IsOpenAt entries id) id old new box box') came sends.tries)
+        (subst (λ c. Appends out out' (line_of id c)) came told.1) it.3 goes_on
+    | inr unprinted ↦
+        let is : fault ≡ unprinted.0 = (let same = unprinted.1 in cc) in
+        let no : is_of_entry fault ≡ false = (elim unprinted.2 [
+          | inl memory ↦ ap is_of_entry (is ∙ memory)
+          | inr output ↦ ap is_of_entry (is ∙ output)
+        ]) in
+        absurd (true≢false (sym own ∙ no))
+  ]

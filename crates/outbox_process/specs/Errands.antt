@@ -4,7 +4,7 @@ use Rattle.std.specs.Result.{result_map_both}
 use Rattle.sqlite.specs.Store.{Ghosts}
 use Rattle.filing_model.specs.declared.state.State.{State}
 use Rattle.outbox_core.specs.OutboxParts.{OutboxParts}
-use Rattle.outbox_process.specs.declared.tasks.fault.TaskFault.{TaskFault}
+use Rattle.outbox_process.specs.declared.fault.Why.{Why}
 use Rattle.outbox_process.specs.declared.tasks.rounds.Round.{Round}
 use Rattle.outbox_process.specs.Asking.{AsksEntry}
 use Rattle.outbox_process.specs.Dials.{Traffic}
@@ -24,12 +24,12 @@ use Rattle.outbox_process.specs.declared.errand.Which.{Which}
 use Rattle.outbox_process.specs.declared.errand.Which.TheVariants.{Next, Entry, All}
 
 -- the answer of an errand, by the result of its call
-abbrev pub answer : {A : Type 0} → (A → Done) → Result A TaskFault → Result Done TaskFault
-answer done came = result_map_both done (λ fault. fault) came
+abbrev pub answer : {A : Type 0} → (A → Done) → Result A Why → Result Done Why
+answer done came = result_map_both done (λ why. why) came
 
 -- the errand answers the result of a call, of which this holds
-abbrev pub Answers : {A : Type 0} → (A → Done) → Result Done TaskFault → (Result A TaskFault → Type 0) → Type 0
-Answers {A} done result Came = (came : Result A TaskFault) × Came came × (result ≡ answer done came)
+abbrev pub Answers : {A : Type 0} → (A → Done) → Result Done Why → (Result A Why → Type 0) → Type 0
+Answers {A} done result Came = (came : Result A Why) × Came came × (result ≡ answer done came)
 
 -- how many entries were sent, and how they ended: one, or none if none is open
 abbrev pub next_sent : Option State → Round
@@ -38,7 +38,7 @@ next_sent (Some state) = one_sent state
 
 -- the open entry with the least id was sent, or that of this id, or each open entry
 abbrev pub Sends : {S : Type 0} → Ghosts S → Which → Traffic → Traffic → OutboxParts S → OutboxParts S → Option (List ℕ)
-    → Option (List ℕ) → Result Done TaskFault → Type 0
+    → Option (List ℕ) → Result Done Why → Type 0
 Sends g Next net net' box box' out out' result =
     Answers (λ state. done.Sent (next_sent state)) result (SendsNext g net net' box box' out out')
 Sends g (Entry id) net net' box box' out out' result =
@@ -47,12 +47,12 @@ Sends g All net net' box box' out out' result = Answers done.Sent result (SendsA
 
 -- What an errand does. Only to send and to ask are connections made.
 abbrev pub DoesErrand : {S : Type 0} → Ghosts S → Errand → Traffic → Traffic → OutboxParts S → OutboxParts S
-    → Option (List ℕ) → Option (List ℕ) → Result Done TaskFault → Type 0
+    → Option (List ℕ) → Option (List ℕ) → Result Done Why → Type 0
 DoesErrand g (Put key target body) net net' box box' out out' result =
     Answers done.Put result (PutsAndTells g box box' key target.number body.items out out') × (net' ≡ net)
 DoesErrand g (Send which) net net' box box' out out' result = Sends g which net net' box box' out out' result
 DoesErrand g (Ask id form) net net' box box' out out' result =
-    Answers {A = Unit {0}} (λ _. done.Asked) result (AsksEntry g form id net net' box box' out out')
+    Answers {A = Unit {0}} (λ _. done.Shown) result (AsksEntry g form id net net' box box' out out')
 DoesErrand g ShowStates net net' box box' out out' result =
     Answers {A = Unit {0}} (λ _. done.Shown) result (ShowsStates g box box' out out') × (net' ≡ net)
 DoesErrand g (ShowEntry id) net net' box box' out out' result =

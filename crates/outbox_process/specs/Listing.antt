@@ -10,12 +10,11 @@ use Rattle.xbrl_report.specs.Pair.{Pair}
 use Rattle.xbrl_report.specs.ReportParts.{fact_count}
 use Rattle.http_messages.specs.Reply.{ReplyParts}
 use Rattle.filing_model.specs.Outbox.{Entry}
-use Rattle.outbox_process.specs.declared.tasks.fault.TaskFault.{TaskFault}
-use Rattle.outbox_process.specs.declared.tasks.fault.TaskFault.TheVariants.{NotListed, NoList}
+use Rattle.outbox_process.specs.declared.fault.Why.{Why}
+use Rattle.outbox_process.specs.declared.fault.Why.TheVariants.{NotListed, NoList, Memory}
 use Rattle.outbox_process.specs.declared.tasks.listing.Listed.{Listed}
 use Rattle.outbox_process.specs.declared.tasks.listing.Listed.TheVariants.{Yes, No, Unsaid}
 use Rattle.outbox_process.specs.declared.tasks.listing.Sought.{Sought}
-use Rattle.outbox_process.specs.Faults.{IsNotPrinted}
 
 -- ---- the request
 
@@ -85,15 +84,14 @@ said_of it reply = if reply.status == 200 then listed_by it (tree reply.content)
 
 -- ---- what is made of it
 
--- the filing as which the entry of this id is confirmed is listed; or it is not, or that is not said, and this is the
--- fault
-abbrev pub answer_listed : ℕ → ℕ → ℕ → Listed → Result (Unit {0}) TaskFault
+-- the filing as which the entry of this id is confirmed is listed; or it is not, or that is not said, and this is why
+abbrev pub answer_listed : ℕ → ℕ → ℕ → Listed → Result (Unit {0}) Why
 answer_listed id number status Yes = Ok tt
 answer_listed id number status No = Err (NotListed id number)
 answer_listed id number status Unsaid = Err (NoList id number status)
 
 -- what is answered is what the reply says of the entry of this id and filer; or memory ran out
-abbrev pub IsFound : List ℕ → ℕ → ℕ → Entry → ReplyParts → Result (Unit {0}) TaskFault → Type 0
+abbrev pub IsFound : List ℕ → ℕ → ℕ → Entry → ReplyParts → Result (Unit {0}) Why → Type 0
 IsFound filer id number entry reply result =
     (result ≡ answer_listed id number reply.status (said_of (filing_of filer number entry) reply))
-    ⊎ ((fault : TaskFault) × (result ≡ Err fault) × IsNotPrinted fault)
+    ⊎ (result ≡ Err Memory)

@@ -4,8 +4,8 @@ use Rattle.sqlite.specs.Store.{Ghosts}
 use Rattle.filing_model.specs.Outbox.{Entry}
 use Rattle.outbox_tables.specs.Entries.{entry_at}
 use Rattle.outbox_core.specs.OutboxParts.{OutboxParts, HasEntries, ForEntries}
-use Rattle.outbox_process.specs.declared.tasks.fault.TaskFault.{TaskFault}
-use Rattle.outbox_process.specs.declared.tasks.fault.TaskFault.TheVariants.{NoEntry}
+use Rattle.outbox_process.specs.declared.fault.Why.{Why}
+use Rattle.outbox_process.specs.declared.fault.Why.TheVariants.{NoEntry}
 use Rattle.outbox_process.specs.Dials.{Traffic}
 use Rattle.outbox_process.specs.Faults.{IsUnread}
 
@@ -14,9 +14,9 @@ abbrev pub AreAny : List Entry → Type 0
 AreAny entries = Unit {0}
 
 -- no entry was read, or no entry has the id
-abbrev pub IsNotFound : {S : Type 0} → Ghosts S → OutboxParts S → OutboxParts S → ℕ → TaskFault → Type 0
-IsNotFound g box box' id fault =
-    IsUnread fault ⊎ ((fault ≡ NoEntry id) × ForEntries g box box' (λ entries. entry_at entries id ≡ None))
+abbrev pub IsNotFound : {S : Type 0} → Ghosts S → OutboxParts S → OutboxParts S → ℕ → Why → Type 0
+IsNotFound g box box' id why =
+    IsUnread why ⊎ ((why ≡ NoEntry id) × ForEntries g box box' (λ entries. entry_at entries id ≡ None))
 
 -- the entries and their filer are unchanged, no connection was made, and nothing was printed
 pub record DoesNothing {S : Type 0} (g : Ghosts S) (old new : Traffic) (box box' : OutboxParts S)

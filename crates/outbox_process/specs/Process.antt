@@ -1,38 +1,42 @@
 -- What the process keeps that an outbox runs in, and what its calls do.
-use Rattle.std.specs.Prelude.{◌≡◌, ℕ, Bool, true, false, List, Option, Some, None, Result, Ok, Err, IsSome, IfErr, OnOk}
-use Rattle.std.specs.Prelude.{OnErr, if◌then◌else◌}
+use Rattle.std.specs.Prelude.{◌≡◌, ◌⊎◌, ℕ, Bool, true, false, List, Option, Some, None, Result, Ok, Err, IsSome, IfSome}
+use Rattle.std.specs.Prelude.{IfErr, OnOk, OnErr, if◌then◌else◌}
 use Rattle.sqlite_disk.specs.declared.Disk.{Ghosts}
 use Rattle.sqlite_disk.specs.declared.Files.{Files}
 use Rattle.sqlite_store.specs.declared.store.FileStore.{FileStore}
 use Rattle.sqlite.specs.Files.{file_state, over_files}
 use Rattle.sqlite.specs.Held.{Held}
 use Rattle.sqlite.specs.declared.error.Error.{Error}
+use Rattle.command_line.specs.declared.fault.DatabaseFault.{DatabaseFault}
 use Rattle.command_line.specs.declared.fault.DatabaseFault.TheVariants.{Missing}
 use Rattle.table_rows.specs.Tables.{no_schema}
 use Rattle.sqlite.specs.Effect.{Database}
 use Rattle.outbox_tables.specs.Earlier.{IsAlone, IsEarlierOf}
 use Rattle.outbox_tables.specs.Entries.{Contents, empty}
 use Rattle.outbox_tables.specs.Faults.{IsFailure}
+use Rattle.outbox_tables.specs.declared.fault.OutboxFault.{OutboxFault}
 use Rattle.outbox_tables.specs.Rows.{IsOutboxOf}
 use Rattle.outbox_tables.specs.Schema.{IsDeclared}
 use Rattle.outbox_tables.specs.Audit.{SaysOutbox}
 use Rattle.outbox_core.specs.OutboxParts.{OutboxParts}
-use Rattle.database_places.specs.Closing.{IsNotClosed, LieGivenUp}
+use Rattle.database_places.specs.Closing.{IsClosedIn, IsNotClosed, LieGivenUp}
 use Rattle.database_places.specs.Left.{HoldWithLog, IsReadIn}
+use Rattle.database_places.specs.declared.holding.Holding.TheVariants.{Nothing}
 use Rattle.database_places.specs.Opening.{ComesFrom, OpensPlace}
 use Rattle.database_places.specs.Places.{Lie, IsHonest}
 use Rattle.database_places.specs.Places as place
 use Rattle.outbox_process.specs.Dials.{Traffic}
-use Rattle.outbox_process.specs.declared.tasks.fault.TaskFault.{TaskFault}
 use Rattle.outbox_process.specs.declared.beginning.Beginning.{Beginning}
 use Rattle.outbox_process.specs.declared.beginning.Beginning.TheVariants.{Found, Made, Migrated}
 use Rattle.outbox_process.specs.declared.errand.Done.{Done}
 use Rattle.outbox_process.specs.declared.errand.Errand.{Errand}
-use Rattle.outbox_process.specs.declared.fault.OpeningFault.{OpeningFault}
-use Rattle.outbox_process.specs.declared.fault.OpeningFault.TheVariants as fault
+use Rattle.outbox_process.specs.declared.fault.NotOpened.{NotOpened}
+use Rattle.outbox_process.specs.declared.fault.Why.{Why}
+use Rattle.outbox_process.specs.declared.fault.Why.TheVariants.{Files as Unopened, IsCurrent, Migrate}
 use Rattle.outbox_process.specs.declared.process.OutboxProcess.{OutboxProcess}
 use Rattle.outbox_process.specs.Beginning.{HasContents}
 use Rattle.outbox_process.specs.Errands.{DoesErrand}
+use Rattle.outbox_process.specs.Faults.{leaves_doubt}
 use Rattle.outbox_process.specs.Refusals.{RefusesOutbox}
 
 -- What contracts see of it: the outbox, if it is open; if that is known, the files that lie in its place, if there are
@@ -98,27 +102,23 @@ BeginsWith {D} {g} Migrated old it = (old.outbox ≡ None) × Lie old.lying (λ 
 -- Why the process was not opened: the files, which were taken or not, gave no database; or this connection to them gave
 -- no outbox, and was given up.
 abbrev pub IsNotOpened : {D : Type 0} → Ghosts D → Beginning → Option (Option (Files D)) → Option (Option (Files D))
-    → Bool → OpeningFault → Type 0
-IsNotOpened g beginning old new was_taken (fault.Files why) =
-    OpensPlace g (has_to_be_there beginning) old new (Err (record { fault = why; was_taken = was_taken }))
+    → Bool → Why → Type 0
 IsNotOpened {D} g beginning old new was_taken why =
-    (conn : Held (FileStore D g)) × (back : Held (FileStore D g)) × ComesFrom old (Some None) conn
-    × RefusesOutbox over_files beginning conn back why × LieGivenUp old new back
+    ((fault : DatabaseFault) × (why ≡ Unopened fault)
+    × OpensPlace g (has_to_be_there beginning) old new (Err (record { fault = fault; was_taken = was_taken })))
+    ⊎ ((conn : Held (FileStore D g)) × (back : Held (FileStore D g)) × ComesFrom old (Some None) conn
+    × RefusesOutbox over_files beginning conn back why × LieGivenUp old new back)
 
--- Whether an opening that was refused like this may have changed what lies in the place: it had taken the files and got
--- no database, or was making an outbox. A migration commits nothing to an outbox of this version.
-abbrev pub leaves_doubt : Bool → OpeningFault → Bool
-leaves_doubt was_taken (fault.Files why) = was_taken
-leaves_doubt was_taken (fault.Create why) = true
-leaves_doubt was_taken _ = false
+-- the files gave no database, for this cause
+abbrev pub without_files : DatabaseFault → NotOpened
+without_files fault = record { why = Unopened fault; holding = Nothing }
 
 -- why an outbox of this version is not migrated: it has this version, or the files gave no database, or memory or the
 -- disk failed
-abbrev pub IsOfCurrent : OpeningFault → Type 0
-IsOfCurrent (fault.Files why) = Unit {0}
-IsOfCurrent fault.IsCurrent = Unit {0}
-IsOfCurrent (fault.Migrate why holding) = IsFailure why
-IsOfCurrent _ = ⊥
+abbrev pub IsOfCurrent : Why → Type 0
+IsOfCurrent why =
+    ((fault : DatabaseFault) × (why ≡ Unopened fault))
+    ⊎ ((why ≡ IsCurrent) ⊎ ((fault : OutboxFault) × (why ≡ Migrate fault) × IsFailure fault))
 
 -- it is open, and its database refused no call
 abbrev pub IsUp : {S : Type 0} → Option (OutboxParts S) → Type 0
@@ -138,18 +138,18 @@ OpensOver Migrated conn new = IsAlone (file_state conn).now.schema
 
 -- What opening the process does.
 pub record OpensProcess {D : Type 0} (g : Ghosts D) (beginning : Beginning) (old new : Parts g)
-    (result : Result (Unit {0}) OpeningFault) : Type 0 where
+    (result : Result (Unit {0}) NotOpened) : Type 0 where
   pub keeps : IsHonest g → (it : Contents) → BeginsWith beginning old it → OnOk result (Keeps new it)
   -- if it has to be there, and no files lie there, the fault is Missing
   pub absent : old.outbox ≡ None → has_to_be_there beginning ≡ true → old.lying ≡ Some None
-      → result ≡ Err (fault.Files Missing)
+      → result ≡ Err (without_files Missing)
   -- whatever files lie there, it is opened over a connection to them, and the database that is read in them
   pub read : IsHonest g → old.outbox ≡ None → (files : Files D) → old.lying ≡ Some (Some files)
       → OnOk result ((conn : Held (FileStore D g)) × ComesFrom old.lying (Some None) conn
       × IsReadIn g files (file_state conn).now × OpensOver beginning conn new)
   -- an outbox of this version is not migrated, and the fault says so, or that the opening failed
   pub current : IsHonest g → beginning ≡ Migrated → old.outbox ≡ None → old.is_certain ≡ true → (it : Contents)
-      → Keeps old it → OnOk result ⊥ × IfErr result IsOfCurrent
+      → Keeps old it → OnOk result ⊥ × IfErr result (λ refusal. IsOfCurrent refusal.why)
   pub certain : OnOk result (new.is_certain ≡ old.is_certain)
   pub is_open : OnOk result (IsSome new.outbox)
   pub up : old.outbox ≡ None → OnOk result (IsUp new.outbox)
@@ -157,8 +157,9 @@ pub record OpensProcess {D : Type 0} (g : Ghosts D) (beginning : Beginning) (old
   pub already : IsSome old.outbox → (new ≡ old) × (result ≡ Ok tt)
   -- after a refusal the process is closed, the fault says why, and the process is as certain as before, unless the
   -- opening may have changed what lies there
-  pub refused : IfErr result (λ why. (was_taken : Bool) × IsNotOpened g beginning old.lying new.lying was_taken why
-      × (new.outbox ≡ None) × (new.is_certain ≡ (if leaves_doubt was_taken why then false else old.is_certain)))
+  pub refused : IfErr result (λ refusal. (was_taken : Bool)
+      × IsNotOpened g beginning old.lying new.lying was_taken refusal.why × (new.outbox ≡ None)
+      × (new.is_certain ≡ (if leaves_doubt was_taken refusal.why then false else old.is_certain)))
   -- then it keeps what it kept
   pub unharmed : IsHonest g → OnErr result (Leaves old new)
   -- the files that lay in the place still lie there, as the opening left them; where none lay, none lie
@@ -171,7 +172,7 @@ pub record OpensProcess {D : Type 0} (g : Ghosts D) (beginning : Beginning) (old
 
 -- The outbox, which is open, did the errand, and nothing else changed.
 pub record PerformsErrand {D : Type 0} {g : Ghosts D} (errand : Errand) (net net' : Traffic)
-    (out out' : Option (List ℕ)) (old new : Parts g) (result : Result Done TaskFault) : Type 0 where
+    (out out' : Option (List ℕ)) (old new : Parts g) (result : Result Done Why) : Type 0 where
   pub before : OutboxParts (FileStore D g)
   pub after : OutboxParts (FileStore D g)
   pub was : old.outbox ≡ Some before
@@ -182,17 +183,18 @@ pub record PerformsErrand {D : Type 0} {g : Ghosts D} (errand : Errand) (net net
 
 -- ---- it is closed
 
--- the last commit of the outbox was not copied into the database file, for this fault; what the close left lies there
-abbrev pub IsLeftOpen : {D : Type 0} {g : Ghosts D} → Option (OutboxParts (FileStore D g)) → Option (Option (Files D))
-    → Option (Option (Files D)) → Error → Type 0
-IsLeftOpen {D} (Some outbox) old new error =
-    (files : Files D) × place.Leaves old new files × IsNotClosed outbox.conn files error
-IsLeftOpen None old new error = ⊥
+-- closing the connection left these files, with all that was committed in the database file, unless this error came
+abbrev pub IsLeftBy : {D : Type 0} (g : Ghosts D) → Held (FileStore D g) → Files D → Result (Unit {0}) Error → Type 0
+IsLeftBy g conn files (Ok done) = IsClosedIn g conn files
+IsLeftBy g conn files (Err error) = IsNotClosed conn files error
 
 -- What closing the process does.
 pub record ClosesProcess {D : Type 0} (g : Ghosts D) (old new : Parts g) (result : Result (Unit {0}) Error)
     : Type 0 where
   pub leaves : IsHonest g → Leaves old new
   pub certain : OnOk result (new.is_certain ≡ old.is_certain)
+  pub unsure : OnErr result (new.is_certain ≡ false)
+  pub files : IfSome old.outbox (λ outbox. (files : Files D) × place.Leaves old.lying new.lying files
+      × IsLeftBy g outbox.conn files result)
   pub is_closed : new.outbox ≡ None
-  pub refused : IfErr result (λ error. IsLeftOpen old.outbox old.lying new.lying error × (new.is_certain ≡ false))
+  pub already : old.outbox ≡ None → (new ≡ old) × (result ≡ Ok tt)

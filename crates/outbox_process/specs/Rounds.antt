@@ -12,17 +12,15 @@ use Rattle.outbox_tables.specs.Entries.{numbered}
 use Rattle.outbox_core.specs.Entries.{is_open, is_open_state}
 use Rattle.outbox_core.specs.OutboxParts.{OutboxParts, shows, HasEntries, ForEntries}
 use Rattle.filer_client.specs.declared.fault.ExchangeFault.{ExchangeFault}
-use Rattle.outbox_process.specs.declared.tasks.fault.SendFault.{SendFault}
-use Rattle.outbox_process.specs.declared.tasks.fault.SendFault.TheVariants.{Exchange}
-use Rattle.outbox_process.specs.declared.tasks.fault.TaskFault.{TaskFault}
+use Rattle.outbox_process.specs.declared.fault.Why.{Why}
 use Rattle.outbox_process.specs.declared.tasks.rounds.Ending.{Ending}
 use Rattle.outbox_process.specs.declared.tasks.rounds.Round.{Round}
 use Rattle.outbox_process.specs.Dials.{Traffic}
 use Rattle.outbox_process.specs.Endings.{ending_by, counts}
-use Rattle.outbox_process.specs.Faults.{is_of_entry, belongs_to_entry, IsUnread, IsNotPrinted}
+use Rattle.outbox_process.specs.Faults.{is_of_exchange, is_of_entry, IsUnread, IsNotPrinted}
 use Rattle.outbox_process.specs.Lines.{line_of, nothing_open}
 use Rattle.outbox_process.specs.Looking.{AreAny, DoesNothing}
-use Rattle.outbox_process.specs.Sending.{IsOpenAt, IsSentOnce, IsBrokenOff, IsTried, entries_after, IsTold, Sends}
+use Rattle.outbox_process.specs.Sending.{IsOpenAt, IsSentOnce, IsBroken, IsTried, entries_after, IsTold, Sends}
 
 -- the ids of the open entries
 abbrev pub open_ids : List Entry → List ℕ
@@ -43,7 +41,8 @@ pub record Turn : Type 0 where
 abbrev pub IsTurn : List ℕ → List Entry → ℕ → Traffic → Traffic → Result State ExchangeFault → Type 0
 IsTurn filer entries id old new (Ok to) = IsSentOnce filer entries id old new to
 IsTurn filer entries id old new (Err fault) =
-    IsBrokenOff filer entries id old new (Exchange fault) × (is_of_entry fault ≡ true) × (new.gives_up ≡ false)
+    IsOpenAt entries id × IsBroken filer entries id old new fault × (is_of_exchange fault ≡ true)
+    × (new.gives_up ≡ false)
 
 -- each turn was among the entries that the one before it left, and `after` are those that the last one left
 abbrev pub SentInTurn : List ℕ → List Entry → Traffic → List Turn → List Entry → Traffic → Type 0
@@ -76,19 +75,19 @@ pub record HaveTurns {S : Type 0} (g : Ghosts S) (Are : List Entry
   pub clean : HasCleanDisk (shows g box') → HasCleanDisk (shows g box)
 
 -- the fault is not one of a single exchange, or the network gives up
-abbrev pub EndsRound : Traffic → TaskFault → Type 0
-EndsRound new fault = (belongs_to_entry fault ≡ false) ⊎ (new.gives_up ≡ true)
+abbrev pub EndsRound : Traffic → Why → Type 0
+EndsRound new why = (is_of_entry why ≡ false) ⊎ (new.gives_up ≡ true)
 
 -- The first of the entries of these ids had their turns, and the next one ended the round: it was tried, and failed by
 -- this fault.
 pub record StopsAt {S : Type 0} (g : Ghosts S) (Are : List Entry
     → Type 0) (ids : List ℕ) (old new : Traffic) (box box' : OutboxParts S) (out out' : Option (List ℕ))
-    (fault : TaskFault) : Type 0 where
+    (fault : Why) : Type 0 where
   pub turns : List Turn
   pub next : ℕ
   pub rest : List ℕ
   pub splits : ids ≡ ids_of turns ++ next ∷ rest
-  pub came : Result State SendFault
+  pub came : Result State Why
   pub tried :
       ForEntries g box box' (λ entries. Are entries
       → (after : List Entry) × (between : Traffic) × SentInTurn box.filer entries old turns after between
@@ -108,7 +107,7 @@ AreToSend (id ∷ ids) entries = IsOpenAt entries id × AllByRecursion (λ other
 
 -- the entry of this id had its turn, and the answer says how it ended; or it ended the round
 abbrev pub TakesTurn : {S : Type 0} → Ghosts S → ℕ → Traffic → Traffic → OutboxParts S → OutboxParts S → Option (List ℕ)
-    → Option (List ℕ) → Result Ending TaskFault → Type 0
+    → Option (List ℕ) → Result Ending Why → Type 0
 TakesTurn g id old new box box' out out' (Ok ending) =
     (made : HaveTurns g (λ entries. IsOpenAt entries id) (id ∷ []) old new box box' out out')
     × (endings made.turns ≡ ending ∷ [])
@@ -117,7 +116,7 @@ TakesTurn g id old new box box' out out' (Err fault) =
 
 -- the entries of these ids had their turns, and the answer says how they ended; or one of them ended the round
 abbrev pub SendsEach : {S : Type 0} → Ghosts S → List ℕ → Traffic → Traffic → OutboxParts S → OutboxParts S
-    → Option (List ℕ) → Option (List ℕ) → Result Round TaskFault → Type 0
+    → Option (List ℕ) → Option (List ℕ) → Result Round Why → Type 0
 SendsEach g ids old new box box' out out' (Ok round) =
     (made : HaveTurns g (AreToSend ids) ids old new box box' out out') × (round ≡ counts (endings made.turns))
 SendsEach g ids old new box box' out out' (Err fault) = StopsAt g (AreToSend ids) ids old new box box' out out' fault
@@ -140,21 +139,21 @@ pub record SendsWhole {S : Type 0} (g : Ghosts S) (old new : Traffic) (box box' 
 
 -- An open entry ended the round.
 pub record SendsSome {S : Type 0} (g : Ghosts S) (old new : Traffic) (box box' : OutboxParts S)
-    (out out' : Option (List ℕ)) (fault : TaskFault) : Type 0 where
+    (out out' : Option (List ℕ)) (fault : Why) : Type 0 where
   pub ids : List ℕ
   pub are : ForEntries g box box' (λ entries. ids ≡ open_ids entries)
   pub stops : StopsAt g AreAny ids old new box box' out out' fault
 
 -- No entry was open, and that could not be printed.
 pub record FindsNone {S : Type 0} (g : Ghosts S) (old new : Traffic) (box box' : OutboxParts S)
-    (fault : TaskFault) : Type 0 where
+    (fault : Why) : Type 0 where
   pub none : ForEntries g box box' (λ entries. (open_ids entries ≡ []) × HasEntries g box' entries)
   pub filer : box'.filer ≡ box.filer
   pub traffic : new ≡ old
   pub told : IsNotPrinted fault
 
 abbrev pub SendsAll : {S : Type 0} → Ghosts S → Traffic → Traffic → OutboxParts S → OutboxParts S → Option (List ℕ)
-    → Option (List ℕ) → Result Round TaskFault → Type 0
+    → Option (List ℕ) → Result Round Why → Type 0
 SendsAll g old new box box' out out' (Ok round) = SendsWhole g old new box box' out out' round
 SendsAll g old new box box' out out' (Err fault) =
     SendsSome g old new box box' out out' fault ⊎ (FindsNone g old new box box' fault

@@ -10,13 +10,12 @@ use Rattle.filing_model.specs.declared.state.State.{State}
 use Rattle.outbox_tables.specs.Entries.{entry_at}
 use Rattle.outbox_core.specs.Entries.{first_open, set_state}
 use Rattle.outbox_core.specs.OutboxParts.{OutboxParts, shows, HasEntries, ForEntries}
+use Rattle.filer_client.specs.declared.fault.ExchangeFault.{ExchangeFault}
 use Rattle.filer_client.specs.Exchange.{Hears, IsFault, IsOpenRequest, IsSettled, WritesBefore}
-use Rattle.outbox_process.specs.declared.tasks.fault.SendFault.{SendFault}
-use Rattle.outbox_process.specs.declared.tasks.fault.SendFault.TheVariants.{Connect, Exchange}
-use Rattle.outbox_process.specs.declared.tasks.fault.TaskFault.{TaskFault}
-use Rattle.outbox_process.specs.declared.tasks.fault.TaskFault.TheVariants.{Send}
+use Rattle.outbox_process.specs.declared.fault.Why.{Why}
+use Rattle.outbox_process.specs.declared.fault.Why.TheVariants.{Exchange}
 use Rattle.outbox_process.specs.Dials.{Output, Traffic, Takes, Grows}
-use Rattle.outbox_process.specs.Faults.{IsUnread, IsNotPrinted}
+use Rattle.outbox_process.specs.Faults.{IsUnconnected, IsUnread, IsNotPrinted}
 use Rattle.outbox_process.specs.Lines.{line_of, nothing_open}
 use Rattle.outbox_process.specs.Looking.{AreAny, IsNotFound, DoesNothing}
 
@@ -39,20 +38,25 @@ IsSentOnce filer entries id old new to =
     × IsOneConnection old new left (record { id = id; came = Ok to; bytes = text })
     × Hears left left' (λ reply. view_state to ≡ moved Open reply))
 
--- The entry is open, and no connection was made; or one was made, a first part of the request was written on it, and it
--- failed for the cause that the fault says, by the failures of the reader and the writer.
-abbrev pub IsBrokenOff : List ℕ → List Entry → ℕ → Traffic → Traffic → SendFault → Type 0
-IsBrokenOff filer entries id old new (Connect error) = IsOpenAt entries id × (new ≡ old)
-IsBrokenOff filer entries id old new (Exchange fault) =
-    IsOpenAt entries id
-    × ((bytes : List ℕ) × (from to : Wire) × WritesBefore filer entries id (Some []) (Some bytes) fault
+-- A connection was made, a first part of the request was written on it, and it failed for the cause that the fault
+-- says, by the failures of the reader and the writer.
+abbrev pub IsBroken : List ℕ → List Entry → ℕ → Traffic → Traffic → ExchangeFault → Type 0
+IsBroken filer entries id old new fault =
+    (bytes : List ℕ) × (from to : Wire) × WritesBefore filer entries id (Some []) (Some bytes) fault
     × IsOneConnection old new from.left (record { id = id; came = Err fault; bytes = bytes })
-    × IsFault from.left to.left from.read_failures to.read_failures from.write_failures to.write_failures fault)
+    × IsFault from.left to.left from.read_failures to.read_failures from.write_failures to.write_failures fault
+
+-- The entry is open, and no connection was made; or one was made, and the exchange on it was broken off.
+abbrev pub IsBrokenOff : List ℕ → List Entry → ℕ → Traffic → Traffic → Why → Type 0
+IsBrokenOff filer entries id old new why =
+    IsOpenAt entries id
+    × ((IsUnconnected why × (new ≡ old))
+    ⊎ ((fault : ExchangeFault) × (why ≡ Exchange id fault) × IsBroken filer entries id old new fault))
 
 -- the entry was sent, or its exchange was broken off
-abbrev pub IsTried : List ℕ → List Entry → ℕ → Traffic → Traffic → Result State SendFault → Type 0
+abbrev pub IsTried : List ℕ → List Entry → ℕ → Traffic → Traffic → Result State Why → Type 0
 IsTried filer entries id old new (Ok to) = IsSentOnce filer entries id old new to
-IsTried filer entries id old new (Err fault) = IsBrokenOff filer entries id old new fault
+IsTried filer entries id old new (Err why) = IsBrokenOff filer entries id old new why
 
 -- the entries after one of them was tried
 abbrev pub entries_after : {E : Type 0} → List Entry → ℕ → Result State E → List Entry
@@ -61,7 +65,7 @@ entries_after entries id (Err fault) = entries
 
 -- If `Are` holds of the entries before, the entry of an id was tried, and this came of it.
 pub record Tries {S : Type 0} (g : Ghosts S) (Are : List Entry
-    → Type 0) (id : ℕ) (old new : Traffic) (box box' : OutboxParts S) (came : Result State SendFault) : Type 0 where
+    → Type 0) (id : ℕ) (old new : Traffic) (box box' : OutboxParts S) (came : Result State Why) : Type 0 where
   pub tried : ForEntries g box box' (λ entries. Are entries
       → IsTried box.filer entries id old new came × HasEntries g box' (entries_after entries id came))
   pub filer : box'.filer ≡ box.filer
@@ -69,59 +73,55 @@ pub record Tries {S : Type 0} (g : Ghosts S) (Are : List Entry
 
 -- ---- what is printed and answered
 
-abbrev pub answer_of : ℕ → Result State SendFault → Result State TaskFault
-answer_of id (Ok to) = Ok to
-answer_of id (Err fault) = Err (Send id fault)
-
 -- what came of an entry was printed and is answered; or it could not be printed
-abbrev pub IsTold : ℕ → Result State SendFault → Option (List ℕ) → Option (List ℕ) → Result State TaskFault → Type 0
+abbrev pub IsTold : ℕ → Result State Why → Option (List ℕ) → Option (List ℕ) → Result State Why → Type 0
 IsTold id came out out' result =
-    ((result ≡ answer_of id came) × Appends out out' (line_of id came))
-    ⊎ ((fault : TaskFault) × (result ≡ Err fault) × IsNotPrinted fault)
+    ((result ≡ came) × Appends out out' (line_of id came))
+    ⊎ ((why : Why) × (result ≡ Err why) × IsNotPrinted why)
 
 -- The entry of an id was tried, and what came of it was printed.
 pub record Sends {S : Type 0} (g : Ghosts S) (Are : List Entry
     → Type 0) (id : ℕ) (old new : Traffic) (box box' : OutboxParts S) (out out' : Option (List ℕ))
-    (result : Result State TaskFault) : Type 0 where
-  pub came : Result State SendFault
+    (result : Result State Why) : Type 0 where
+  pub came : Result State Why
   pub tries : Tries g Are id old new box box' came
   pub told : IsTold id came out out' result
 
 -- the entry of an id was sent, if it is open; or it was not found, and nothing was done
 abbrev pub SendsEntry : {S : Type 0} → Ghosts S → ℕ → Traffic → Traffic → OutboxParts S → OutboxParts S
-    → Option (List ℕ) → Option (List ℕ) → Result State TaskFault → Type 0
+    → Option (List ℕ) → Option (List ℕ) → Result State Why → Type 0
 SendsEntry g id old new box box' out out' result =
     Sends g AreAny id old new box box' out out' result
-    ⊎ ((fault : TaskFault) × (result ≡ Err fault) × IsNotFound g box box' id fault
+    ⊎ ((why : Why) × (result ≡ Err why) × IsNotFound g box box' id why
     × DoesNothing g old new box box' out out')
 
 -- the answer of an entry that was found
-abbrev pub answer_of_some : Result State TaskFault → Result (Option State) TaskFault
+abbrev pub answer_of_some : Result State Why → Result (Option State) Why
 answer_of_some (Ok state) = Ok (Some state)
-answer_of_some (Err fault) = Err fault
+answer_of_some (Err why) = Err why
 
 -- the open entry with the least id was sent
 pub record SendsFirst {S : Type 0} (g : Ghosts S) (old new : Traffic) (box box' : OutboxParts S)
-    (out out' : Option (List ℕ)) (result : Result (Option State) TaskFault) : Type 0 where
+    (out out' : Option (List ℕ)) (result : Result (Option State) Why) : Type 0 where
   pub id : ℕ
   pub first : ForEntries g box box' (λ entries. option_map (λ e. e.0) (first_open entries) ≡ Some id)
-  pub sent : Result State TaskFault
+  pub sent : Result State Why
   pub sends : Sends g AreAny id old new box box' out out' sent
   pub answered : result ≡ answer_of_some sent
 
 -- no entry is open, and that was printed, or it could not be
 pub record SendsNone {S : Type 0} (g : Ghosts S) (old new : Traffic) (box box' : OutboxParts S)
-    (out out' : Option (List ℕ)) (result : Result (Option State) TaskFault) : Type 0 where
+    (out out' : Option (List ℕ)) (result : Result (Option State) Why) : Type 0 where
   pub none : ForEntries g box box' (λ entries. (first_open entries ≡ None) × HasEntries g box' entries)
   pub filer : box'.filer ≡ box.filer
   pub traffic : new ≡ old
   pub told : ((result ≡ Ok None) × Appends out out' nothing_open)
-      ⊎ ((fault : TaskFault) × (result ≡ Err fault) × IsNotPrinted fault)
+      ⊎ ((why : Why) × (result ≡ Err why) × IsNotPrinted why)
 
 -- an open entry was sent, or no entry is open; or no entry was read, and nothing was done
 abbrev pub SendsNext : {S : Type 0} → Ghosts S → Traffic → Traffic → OutboxParts S → OutboxParts S → Option (List ℕ)
-    → Option (List ℕ) → Result (Option State) TaskFault → Type 0
+    → Option (List ℕ) → Result (Option State) Why → Type 0
 SendsNext g old new box box' out out' result =
     SendsFirst g old new box box' out out' result
     ⊎ (SendsNone g old new box box' out out' result
-    ⊎ ((fault : TaskFault) × (result ≡ Err fault) × IsUnread fault × DoesNothing g old new box box' out out'))
+    ⊎ ((why : Why) × (result ≡ Err why) × IsUnread why × DoesNothing g old new box box' out out'))

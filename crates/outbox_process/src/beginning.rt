@@ -7,10 +7,11 @@ ghost use Rattle.table_rows.specs.Tables.{no_schema};
 ghost use Rattle.outbox_core.specs.Refusals.{GivesBackMigrating};
 ghost use Rattle.outbox_process.specs.Beginning.{FindsOutbox, MakesOutbox, MigratesEarlier, MigratesOutbox};
 ghost use Rattle.outbox_process.specs.Beginning.{BeginsOutbox};
-ghost use Rattle.outbox_process.specs.Refusals.{RefusesFinding, RefusesMaking, IsNotEarlier, RefusesMigrating};
+ghost use Rattle.outbox_process.specs.Refusals.{RefusesFinding, RefusesMaking, RefusesMigrating};
 ghost use Rattle.outbox_process.specs.Refusals.{RefusesOutbox};
+ghost use Rattle.outbox_process.specs.declared.fault.Why.TheVariants.{Migrate};
 
-use crate::fault::OpeningFault;
+use crate::fault::{NotOpened, Why};
 use database_places::held_in;
 use outbox_core::{Outbox, OutboxFault};
 use sqlite::{Alter, Connection};
@@ -40,7 +41,7 @@ fn is_empty(schema: &Schema) -> bool
 fn find_outbox<S: Alter + Drop>(
     alloc: Global,
     conn: Connection<S>,
-) -> Result<Outbox<S>, (OpeningFault, Connection<S>)>
+) -> Result<Outbox<S>, (Why, Connection<S>)>
     requires { IsAtRest conn }
     ensures found { IfOk result (FindsOutbox S.Store conn) }
     ensures up { IfOk result (λ outbox. outbox.has_failed ≡ false) }
@@ -48,10 +49,7 @@ fn find_outbox<S: Alter + Drop>(
 {
     match Outbox::open_or_back(alloc, conn) {
         Ok(outbox) => Ok(outbox),
-        Err((fault, back)) => {
-            let holding = held_in(&back);
-            Err((OpeningFault::Open(fault, holding), back))
-        }
+        Err((fault, back)) => Err((Why::Open(fault), back)),
     }
 }
 
@@ -60,19 +58,18 @@ fn make_outbox<S: Alter + Drop>(
     alloc: Global,
     conn: Connection<S>,
     filer: &str,
-) -> Result<Outbox<S>, (OpeningFault, Connection<S>)>
+) -> Result<Outbox<S>, (Why, Connection<S>)>
     requires { IsAtRest conn }
     ensures made { IfOk result (MakesOutbox S.Store filer.now conn) }
     ensures up { IfOk result (λ outbox. outbox.has_failed ≡ false) }
     ensures refused { IfErr result (λ refusal. RefusesMaking S.Store filer.now conn refusal.1 refusal.0) }
 {
     if !is_empty(conn.schema()) {
-        let holding = held_in(&conn);
-        return Err((OpeningFault::Taken(holding), conn));
+        return Err((Why::Taken, conn));
     }
     match Outbox::create_or_back(alloc, conn, filer) {
         Ok(outbox) => Ok(outbox),
-        Err((fault, back)) => Err((OpeningFault::Create(fault), back)),
+        Err((fault, back)) => Err((Why::Create(fault), back)),
     }
 }
 
@@ -80,19 +77,16 @@ fn make_outbox<S: Alter + Drop>(
 fn migrate_earlier<S: Alter + Drop>(
     alloc: Global,
     conn: Connection<S>,
-) -> Result<Outbox<S>, (OpeningFault, Connection<S>)>
+) -> Result<Outbox<S>, (Why, Connection<S>)>
     requires { IsAtRest conn }
     ensures migrated { IfOk result (MigratesEarlier S.Store conn) }
     ensures up { IfOk result (λ outbox. outbox.has_failed ≡ false) }
-    ensures refused { IfErr result (λ refusal.
-        IsNotEarlier refusal.0 (λ fault. GivesBackMigrating S.Store conn fault refusal.1)) }
+    ensures refused { IfErr result (λ refusal. (fault : OutboxFault) × (refusal.0 ≡ Migrate fault)
+        × GivesBackMigrating S.Store conn fault refusal.1) }
 {
     match Outbox::migrate_or_back(alloc, conn) {
         Ok(outbox) => Ok(outbox),
-        Err((fault, back)) => {
-            let holding = held_in(&back);
-            Err((OpeningFault::Migrate(fault, holding), back))
-        }
+        Err((fault, back)) => Err((Why::Migrate(fault), back)),
     }
 }
 
@@ -100,7 +94,7 @@ fn migrate_earlier<S: Alter + Drop>(
 fn migrate_outbox<S: Alter + Drop>(
     alloc: Global,
     conn: Connection<S>,
-) -> Result<Outbox<S>, (OpeningFault, Connection<S>)>
+) -> Result<Outbox<S>, (Why, Connection<S>)>
     requires { IsAtRest conn }
     ensures migrated { IfOk result (MigratesOutbox S.Store conn) }
     ensures up { IfOk result (λ outbox. outbox.has_failed ≡ false) }
@@ -108,30 +102,34 @@ fn migrate_outbox<S: Alter + Drop>(
 {
     // Opening reads it whole: by its tables alone it may look like an outbox of this version.
     match Outbox::open_or_back(alloc, conn) {
-        Ok(outbox) => Err((OpeningFault::IsCurrent, outbox.into_conn())),
+        Ok(outbox) => Err((Why::IsCurrent, outbox.into_conn())),
         Err((OutboxFault::NotOurs, back)) => migrate_earlier(alloc, back),
-        Err((fault, back)) => {
-            let holding = held_in(&back);
-            Err((OpeningFault::Migrate(fault, holding), back))
-        }
+        Err((fault, back)) => Err((Why::Migrate(fault), back)),
     }
 }
 
-/// The outbox that begins like this over this database. A refusal gives the connection back, so that a clause can say
-/// of it what was committed.
+/// The outbox that begins like this over this database. A refusal says what the database holds, and gives the
+/// connection back, so that a clause can say of it what was committed.
 pub(crate) fn begin<S: Alter + Drop>(
     alloc: Global,
     conn: Connection<S>,
     beginning: Beginning<'_>,
-) -> Result<Outbox<S>, (OpeningFault, Connection<S>)>
+) -> Result<Outbox<S>, (NotOpened, Connection<S>)>
     requires { IsAtRest conn }
     ensures begins { IfOk result (BeginsOutbox S.Store beginning.entry conn) }
     ensures up { IfOk result (λ outbox. outbox.has_failed ≡ false) }
-    ensures refused { IfErr result (λ refusal. RefusesOutbox S.Store beginning.entry conn refusal.1 refusal.0) }
+    ensures refused { IfErr result (λ refusal. RefusesOutbox S.Store beginning.entry conn refusal.1 refusal.0.why) }
 {
-    match beginning {
+    let begun = match beginning {
         Beginning::Found => find_outbox(alloc, conn),
         Beginning::Made { filer } => make_outbox(alloc, conn, filer),
         Beginning::Migrated => migrate_outbox(alloc, conn),
+    };
+    match begun {
+        Ok(outbox) => Ok(outbox),
+        Err((why, back)) => {
+            let holding = held_in(&back);
+            Err((NotOpened { why, holding }, back))
+        }
     }
 }

@@ -2,10 +2,10 @@
 
 ghost use Rattle.outbox_process.specs.Errands.{DoesErrand};
 
+use crate::fault::Why;
 use crate::target::Target;
 use crate::tasks::asking::ask;
 use crate::tasks::dial::Dial;
-use crate::tasks::fault::TaskFault;
 use crate::tasks::putting::put;
 use crate::tasks::rounds::{Round, send_all};
 use crate::tasks::sending::{send_entry, send_next};
@@ -61,9 +61,7 @@ pub enum Done {
     Put { id: u64 },
     /// So many entries were sent, and ended so.
     Sent(Round),
-    /// The reply to the question is printed.
-    Asked,
-    /// The entries are shown.
+    /// The entries, or the reply to the question, are printed.
     Shown,
 }
 
@@ -74,7 +72,7 @@ pub(crate) fn do_errand<S: Alter, N: Dial, O: Write>(
     outbox: &mut Outbox<S>,
     errand: Errand,
     output: &mut O,
-) -> Result<Done, TaskFault>
+) -> Result<Done, Why>
     ensures { DoesErrand S.Store errand (N.traffic network.old) (N.traffic network.new) outbox.old outbox.new
         (O.contents output.old) (O.contents output.new) result }
 {
@@ -97,7 +95,7 @@ pub(crate) fn do_errand<S: Alter, N: Dial, O: Write>(
         }
         Errand::Ask { id, form } => {
             ask(alloc, network, outbox, form, id, output)?;
-            Ok(Done::Asked)
+            Ok(Done::Shown)
         }
         Errand::ShowStates => {
             show_states(alloc, outbox, output)?;

@@ -12,13 +12,12 @@ mod tasks;
 
 pub use beginning::Beginning;
 pub use errand::{Done, Errand, Which};
-pub use fault::OpeningFault;
+pub use fault::{NotOpened, Why};
 pub use finding_lines::Form;
 pub use process::OutboxProcess;
 pub use target::Target;
 pub use tasks::asking::ask;
 pub use tasks::dial::Dial;
-pub use tasks::fault::{LineFault, SendFault, TaskFault};
 pub use tasks::memory::{Finished, Replies};
 pub use tasks::putting::put;
 pub use tasks::rounds::{Round, send_all};

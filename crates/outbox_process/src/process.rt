@@ -8,10 +8,9 @@ ghost use Rattle.outbox_process.specs.Process.{has_to_be_there};
 
 use crate::beginning::{Beginning, begin};
 use crate::errand::{Done, Errand, do_errand};
-use crate::fault::OpeningFault;
+use crate::fault::{NotOpened, Why};
 use crate::tasks::dial::Dial;
-use crate::tasks::fault::TaskFault;
-use database_places::{Opening, PageCache, Place, close, give_up, open, remove_new_log};
+use database_places::{Holding, Opening, PageCache, Place, close, give_up, open, remove_new_log};
 use outbox_core::Outbox;
 use sqlite::{Error, FileStore};
 use sqlite_disk::Disk;
@@ -84,7 +83,7 @@ impl<D: Disk + Drop, P: Place<D> + Drop> OutboxProcess<D, P> {
 
     /// Opens it, if it is closed. A refusal leaves the files in the place, and leaves a database that is damaged or no
     /// outbox as it was.
-    pub fn open(&mut self, alloc: Global, beginning: Beginning<'_>) -> Result<(), OpeningFault>
+    pub fn open(&mut self, alloc: Global, beginning: Beginning<'_>) -> Result<(), NotOpened>
         ensures { OpensProcess D.Disk beginning.entry (parts P.lying self.old) (parts P.lying self.new) result }
     {
         if self.outbox.is_some() {
@@ -94,9 +93,11 @@ impl<D: Disk + Drop, P: Place<D> + Drop> OutboxProcess<D, P> {
         let conn = match open(alloc, &mut self.place, opening_of(beginning)) {
             Ok(conn) => conn,
             Err(unopened) => {
-                let fault = OpeningFault::Files(unopened.fault);
-                self.is_certain &= !fault.leaves_doubt(unopened.was_taken);
-                return Err(fault);
+                self.is_certain &= !unopened.was_taken;
+                return Err(NotOpened {
+                    why: Why::Files(unopened.fault),
+                    holding: Holding::Nothing,
+                });
             }
         };
         match begin(alloc, conn, beginning) {
@@ -104,13 +105,13 @@ impl<D: Disk + Drop, P: Place<D> + Drop> OutboxProcess<D, P> {
                 self.outbox = Some(outbox);
                 Ok(())
             }
-            Err((fault, back)) => {
-                self.is_certain &= !fault.leaves_doubt(true);
+            Err((refusal, back)) => {
+                self.is_certain &= !refusal.why.leaves_doubt(true);
                 give_up(&mut self.place, back);
-                if fault.is_of_others() {
+                if refusal.why.is_of_others() {
                     remove_new_log(&mut self.place, had_log);
                 }
-                Err(fault)
+                Err(refusal)
             }
         }
     }
@@ -122,7 +123,7 @@ impl<D: Disk + Drop, P: Place<D> + Drop> OutboxProcess<D, P> {
         network: &mut N,
         errand: Errand,
         output: &mut O,
-    ) -> Result<Done, TaskFault>
+    ) -> Result<Done, Why>
         requires { IsSome self.old.outbox }
         ensures { PerformsErrand errand (N.traffic network.old) (N.traffic network.new) (O.contents output.old)
             (O.contents output.new) (parts P.lying self.old) (parts P.lying self.new) result }

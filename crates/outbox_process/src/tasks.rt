@@ -4,7 +4,6 @@
 pub(crate) mod answering;
 pub(crate) mod asking;
 pub(crate) mod dial;
-pub(crate) mod fault;
 pub(crate) mod lines;
 pub(crate) mod listing;
 pub(crate) mod looking;

@@ -10,14 +10,14 @@ use Rattle.filing_model.specs.Outbox.{Entry}
 use Rattle.outbox_tables.specs.Entries.{Contents, contents_of}
 use Rattle.outbox_core.specs.OutboxParts.{OutboxParts, HasEntries}
 use Rattle.outbox_process.specs.Dials.{Traffic}
-use Rattle.outbox_process.specs.declared.tasks.fault.TaskFault.{TaskFault}
 use Rattle.database_places.specs.Places.{IsHonest, Lie}
 use Rattle.outbox_process.specs.declared.beginning.Beginning.TheVariants.{Found}
 use Rattle.outbox_process.specs.declared.errand.Done.{Done}
 use Rattle.outbox_process.specs.declared.errand.Errand.{Errand}
 use Rattle.outbox_process.specs.Beginning.{HasContents}
 use Rattle.outbox_process.specs.declared.beginning.Beginning.{Beginning}
-use Rattle.outbox_process.specs.declared.fault.OpeningFault.{OpeningFault}
+use Rattle.outbox_process.specs.declared.fault.NotOpened.{NotOpened}
+use Rattle.outbox_process.specs.declared.fault.Why.{Why}
 use Rattle.outbox_process.specs.Process.{Parts, HoldOutboxWithLog, Keeps, KeepsBy, OpensProcess, PerformsErrand}
 use Rattle.outbox_process.specs.Process.{ClosesProcess}
 use Rattle.program_runs.specs.Deeds.{Deed, AreDone}
@@ -56,10 +56,10 @@ module _ {D : Type 0} {g : Ghosts D} where
       }
 
   -- what lay there lies there after an opening that was refused
-  pub refused : (beginning : Beginning) (why : OpeningFault) (it : Contents) (old new : Parts g)
-      (Are : List Deed → Type 0) → Are [] → IsHonest g → LiesClosed old it → OpensProcess g beginning old new (Err why)
-      → new.is_certain ≡ true → IsRunBy it old new Are
-  refused beginning why it old new Are none honest lies opens certain = elim lies.there [
+  pub refused : (beginning : Beginning) (refusal : NotOpened) (it : Contents) (old new : Parts g)
+      (Are : List Deed → Type 0) → Are [] → IsHonest g → LiesClosed old it
+      → OpensProcess g beginning old new (Err refusal) → new.is_certain ≡ true → IsRunBy it old new Are
+  refused beginning refusal it old new Are none honest lies opens certain = elim lies.there [
     | inl there ↦
         run_by it it old new Are [] none refl opens.refused.2 certain
         ((opens.unharmed honest).kept it (keeps_of old it lies.closed there))
@@ -98,7 +98,7 @@ module _ {D : Type 0} {g : Ghosts D} where
 
   -- an errand, if it brings each outbox to another one by such deeds
   pub performed : (what : Errand) (net net' : Traffic) (out out' : Option (List ℕ)) (old new : Parts g)
-      (came : Result Done TaskFault) (it : Contents) (Are : List Deed → Type 0)
+      (came : Result Done Why) (it : Contents) (Are : List Deed → Type 0)
       → (performs : PerformsErrand what net net' out out' old new came) → Keeps old it → new.is_certain ≡ true
       → (HasEntries over_files performs.before it.entries → performs.before.filer ≡ it.filer
       → Brings performs.before performs.after it Are) → Goes old new it Are

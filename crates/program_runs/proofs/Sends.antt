@@ -23,9 +23,7 @@ use Rattle.filer_client.specs.Exchange.{IsOpenRequest, IsSettled, WritesBefore, 
 use Rattle.filer_client.specs.declared.fault.ExchangeFault.{ExchangeFault}
 use Rattle.filer_client.specs.declared.fault.ExchangeFault.TheVariants.{Write, Reply, Take}
 use Rattle.database_places.specs.Places.{IsHonest}
-use Rattle.outbox_process.specs.declared.tasks.fault.SendFault.{SendFault}
-use Rattle.outbox_process.specs.declared.tasks.fault.SendFault.TheVariants.{Connect, Exchange}
-use Rattle.outbox_process.specs.declared.tasks.fault.TaskFault.{TaskFault}
+use Rattle.outbox_process.specs.declared.fault.Why.{Why}
 use Rattle.outbox_process.specs.Dials.{Traffic, Grows}
 use Rattle.outbox_process.specs.Looking.{AreAny, DoesNothing}
 use Rattle.outbox_process.specs.declared.tasks.rounds.Round.{Round}
@@ -141,18 +139,20 @@ broken it id old new written (Take NoEntry) opens is one =
 broken it id old new written (Take Memory) opens is one = some_or_none it id old new written Memory opens is one
 broken it id old new written (Take Store) opens is one = some_or_none it id old new written Store opens is one
 
-pub tried : (it : Contents) (id : ℕ) (old new : Traffic) (came : Result State SendFault)
+pub tried : (it : Contents) (id : ℕ) (old new : Traffic) (came : Result State Why)
     → IsTried it.filer it.entries id old new came
     → IsOne old new it id (contents_of it.filer (entries_after it.entries id came))
 tried it id old new (Ok to) is = sent it id old new to is
-tried it id old new (Err (Connect error)) is = nothing old new it id is.1
-tried it id old new (Err (Exchange fault)) is = broken it id old new is.1.0 fault is.0 is.1.3 is.1.4.1
+tried it id old new (Err why) is = elim is.1 [
+  | inl unconnected ↦ nothing old new it id unconnected.1
+  | inr cut ↦ broken it id old new cut.2.0 cut.0 is.0 cut.2.3 cut.2.4.1
+]
 
 -- ---- an outbox
 
 module _ {D : Type 0} {g : Ghosts D} where
   entry_brings : (id : ℕ) (net net' : Traffic) (before after : OutboxParts (FileStore D g)) (it : Contents)
-      (came : Result State SendFault) → IsHonest g → HasEntries over_files before it.entries
+      (came : Result State Why) → IsHonest g → HasEntries over_files before it.entries
       → before.filer ≡ it.filer → Tries over_files AreAny id net net' before after came
       → Brings before after it (λ deeds. AreOfOne id deeds × AreOfNetwork net net' deeds)
   entry_brings id net net' before after it came honest has filer tries =
@@ -181,7 +181,7 @@ module _ {D : Type 0} {g : Ghosts D} where
   }
 
   pub send_entry_brings : (id : ℕ) (net net' : Traffic) (before after : OutboxParts (FileStore D g)) (it : Contents)
-      (out out' : Option (List ℕ)) (came : Result State TaskFault) → IsHonest g
+      (out out' : Option (List ℕ)) (came : Result State Why) → IsHonest g
       → HasEntries over_files before it.entries → before.filer ≡ it.filer
       → SendsEntry over_files id net net' before after out out' came
       → Brings before after it (λ deeds. AreOfOne id deeds × AreOfNetwork net net' deeds)
@@ -202,7 +202,7 @@ turn : (it : Contents) (id : ℕ) (old new : Traffic) (came : Result State Excha
     → IsTurn it.filer it.entries id old new came
     → IsOne old new it id (contents_of it.filer (entries_after it.entries id came))
 turn it id old new (Ok to) is = sent it id old new to is
-turn it id old new (Err fault) is = tried it id old new (Err (Exchange fault)) is.0
+turn it id old new (Err fault) is = broken it id old new is.1.0 fault is.0 is.1.3 is.1.4.1
 
 round : (filer : List ℕ) (entries : List Entry) (old : Traffic) (turns : List Turn) (after : List Entry)
     (new : Traffic) → SentInTurn filer entries old turns after new
@@ -247,7 +247,7 @@ module _ {D : Type 0} {g : Ghosts D} where
   }
 
   pub send_next_brings : (net net' : Traffic) (before after : OutboxParts (FileStore D g)) (it : Contents)
-      (out out' : Option (List ℕ)) (came : Result (Option State) TaskFault) → IsHonest g
+      (out out' : Option (List ℕ)) (came : Result (Option State) Why) → IsHonest g
       → HasEntries over_files before it.entries → before.filer ≡ it.filer
       → SendsNext over_files net net' before after out out' came
       → Brings before after it (λ deeds. AreOfSend which.Next deeds × AreOfNetwork net net' deeds)
@@ -268,7 +268,7 @@ module _ {D : Type 0} {g : Ghosts D} where
   ]
 
   pub send_all_brings : (net net' : Traffic) (before after : OutboxParts (FileStore D g)) (it : Contents)
-      (out out' : Option (List ℕ)) (came : Result Round TaskFault) → IsHonest g
+      (out out' : Option (List ℕ)) (came : Result Round Why) → IsHonest g
       → HasEntries over_files before it.entries → before.filer ≡ it.filer
       → SendsAll over_files net net' before after out out' came
       → Brings before after it (λ deeds. AreOfSend which.All deeds × AreOfNetwork net net' deeds)

@@ -16,10 +16,11 @@ use Rattle.gateway_rounds.specs.Ports.{Port, Runs}
 use Rattle.database_places.specs.declared.opening.Unopened.{Unopened}
 use Rattle.database_places.specs.Opening.{StaysIn, untouched}
 use Rattle.intake_process.specs.Process.{Parts, HoldRegisterWithLog, Keeps, KeepsBy, LeavesDatabase, OpensProcess}
-use Rattle.intake_process.specs.declared.fault.OpeningFault.{OpeningFault}
+use Rattle.intake_process.specs.declared.fault.Refusal.{Refusal}
 use Rattle.intake_process.specs.Turns.{Turn, Served, TurnedAway, served_in, AreTurnedAway, IsServed}
 use Rattle.intake_process.specs.Turns.{IsServedOrRefused}
-use Rattle.intake_process.specs.declared.errand.ErrandFault.{ErrandFault}
+use Rattle.register_extracts.specs.declared.fault.Why.{Why}
+use Rattle.database_places.specs.declared.holding.Holding.{Holding}
 use Rattle.intake_process.specs.declared.serving.ServingFault.{ServingFault}
 use Rattle.intake_process.specs.declared.serving.ServingFault.TheVariants.{Register, Port as Failed}
 use Rattle.intake_process.specs.declared.visiting.Visited.{Visited}
@@ -32,7 +33,8 @@ use Rattle.std.specs.Borrow.{Bor}
 use Rattle.intake_process.specs.declared.tasks.errand.Errand.{Errand}
 use Rattle.intake_process.specs.declared.tasks.errand.Errand.TheVariants as asked
 use Rattle.intake_process.specs.Visits.{Outputs, outputs, GoesOn, LiesFor, VisitsRegister}
-use Rattle.intake_process.specs.Errands.{IsRegisterFor, is_refused}
+use Rattle.intake_process.specs.Errands.{IsRegisterBy, meaning}
+use Rattle.intake_process.specs.Fault.{is_refused}
 use Rattle.intake_commands.specs.Tasks.{Means, Does, Performs, Visits, IsNoFiler, is_wanted}
 use Rattle.intake_commands.specs.Tasks.{IsVisitTold, IsFaultTold, VisitsCurrent, is_not_earlier}
 use Rattle.intake_commands.specs.declared.options.Task.{Task}
@@ -92,19 +94,13 @@ in_turn_join limit a b c (Away k ∷ first) second one two = (one.0, in_turn_joi
 in_turn_join limit a b c (Killed read crash marks written ∷ first) second one two =
     (one.0, one.1, one.2, one.3, in_turn_join limit one.1 b c first second one.4 two)
 
--- an errand is to migrate a register, or is for those of this version
-for_errand : (errand : Errand)
-    → (errand ≡ asked.Migrate)
-    ⊎ ((requests : List Request) (db : Database) → IsRegisterOf 0 requests db → IsRegisterFor errand 0 requests db)
-for_errand (asked.List filer dated) = inr (λ requests db is. is)
-for_errand (asked.Show number dated) = inr (λ requests db is. is)
-for_errand (asked.FilingBody number) = inr (λ requests db is. is)
-for_errand (asked.RequestBody filer key) = inr (λ requests db is. is)
-for_errand (asked.Check against) = inr (λ requests db is. is)
-for_errand asked.Migrate = inl refl
-for_errand (asked.Export form wanted) = inr (λ requests db is. is)
-for_errand (asked.Digest until) = inr (λ requests db is. is)
-for_errand (asked.Pages folder) = inr (λ requests db is. is)
+-- an errand is for a register of an earlier version, or for one of this version
+by_version : (is_for_earlier : Bool)
+    → (is_for_earlier ≡ true)
+    ⊎ ((requests : List Request) (db : Database) → IsRegisterOf 0 requests db
+    → IsRegisterBy is_for_earlier 0 requests db)
+by_version true = inl refl
+by_version false = inr (λ requests db is. is)
 
 by_wanted : {A B X : Type 0} (wanted : Bool) → MatchBool wanted A B → (A → X) → (B → X) → X
 by_wanted true is first second = first is
@@ -150,10 +146,10 @@ module _ {D : Type 0} {g : Ghosts D} where
       }
 
   -- an opening that was refused leaves what lay there
-  refused : (limit keys : ℕ) (has : Bool) (why : OpeningFault) (old new : Parts g) (requests : List Request)
+  refused : (limit keys : ℕ) (has : Bool) (refusal : Refusal) (old new : Parts g) (requests : List Request)
       (Are : List Service → Type 0) → Are [] → IsHonest g → LiesRegister old requests
-      → OpensProcess g has keys old new (Err why) → new.is_certain ≡ true → IsServiceBy limit requests old new Are
-  refused limit keys has why old new requests Are none honest lies opens certain =
+      → OpensProcess g has keys old new (Err refusal) → new.is_certain ≡ true → IsServiceBy limit requests old new Are
+  refused limit keys has refusal old new requests Are none honest lies opens certain =
       record {
         services = [];
         are = none;
@@ -248,8 +244,8 @@ module _ {D : Type 0} {g : Ghosts D} where
     by_steps task has port port' old new (Err (Failed why)) requests honest few runs lies is certain =
         (answered task.limit most_asked has port port' None None old new None requests honest few runs is
         (opened task.limit most_asked has port port' None None old new None requests honest lies is) certain).0
-    by_steps task has port port' old new (Err (Register why)) requests honest few runs lies is certain =
-        refused limit task.limit has why old new requests (AreOfTurns s limit requests told port')
+    by_steps task has port port' old new (Err (Register refusal)) requests honest few runs lies is certain =
+        refused limit task.limit has refusal old new requests (AreOfTurns s limit requests told port')
         (same_port s limit requests told (Some port) (Some port') runs (ap (λ p. Some p) is.1)) honest lies is.0 certain
 
     serve_task : (task : Serving) (port port' : Option (Port S)) (old new : Parts g) (result : Result ℕ NotDone)
@@ -283,7 +279,7 @@ module _ {D : Type 0} {g : Ghosts D} where
     by_made task port port' old new status (Ok taken) honest few runs closed there is as_told certain =
         answered task.limit most_asked false port port' None None old new (Some taken) [] honest few runs is
         (is.opens.made honest refl closed there) certain
-    by_made task port port' old new status (Err (Register why)) honest few runs closed there is as_told certain =
+    by_made task port port' old new status (Err (Register refusal)) honest few runs closed there is as_told certain =
         absurd (not_err status as_told.0 as_told.2)
     by_made task port port' old new status (Err (Failed error)) honest few runs closed there is as_told certain =
         absurd (not_err status _ as_told)
@@ -337,24 +333,25 @@ module _ {D : Type 0} {g : Ghosts D} where
       → Lie new.lying (λ files. HoldRegisterWithLog g files 0 requests)
   by_visit errand out out' old new came requests true told honest are visits certain is =
       left_there old.lying new.lying requests (visits.left honest certain told) is
-  by_visit errand out out' old new came requests false told honest are visits certain is = elim (for_errand errand) [
-    | inl migrates ↦ absurd (true≢false (sym (visits.current honest migrates 0 requests is) ∙ told))
-    | inr fits ↦
-        let hold = is.2 in
-        let there : LiesFor g errand old.lying 0 requests = (
-          are,
-          (
-            is.0,
-            is.1,
-            record {
-              db = hold.db;
-              register = fits requests hold.db hold.register;
-              held = hold.held;
-            },
-          ),
-        ) in
-        (visits.kept honest certain told 0 requests there).1
-  ]
+  by_visit errand out out' old new came requests false told honest are visits certain is =
+      elim (by_version (meaning errand).is_for_earlier) [
+        | inl earlier ↦ absurd (true≢false (sym (visits.current honest earlier 0 requests is) ∙ told))
+        | inr fits ↦
+            let hold = is.2 in
+            let there : LiesFor g errand old.lying 0 requests = (
+              are,
+              (
+                is.0,
+                is.1,
+                record {
+                  db = hold.db;
+                  register = fits requests hold.db hold.register;
+                  held = hold.held;
+                },
+              ),
+            ) in
+            (visits.kept honest certain told 0 requests there).1
+      ]
 
   visited : (errand : Errand) (out out' : Outputs) (old new : Parts g) (came : Visited)
       (requests : List Request) → IsHonest g → LiesRegister old requests
@@ -387,23 +384,24 @@ module _ {D : Type 0} {g : Ghosts D} where
       subst (λ p. LiesRegister p requests × AreNotGone old.lying p.lying) (sym same)
       (lies (sym (ap (λ (p : Parts g). p.is_certain) same) ∙ certain))
 
-  by_told : (name : Bor (List ℕ)) (errand : Errand) (done : Result (Unit {0}) ErrandFault)
+  by_told : (name : Bor (List ℕ)) (errand : Errand) (done : Result (Unit {0}) Why) (holding : Holding)
       (out out' : Outputs) (old mid new : Parts g) (result : Result ℕ NotDone) (requests : List Request) → IsHonest g
       → (mid.is_certain ≡ true → LiesRegister mid requests × AreNotGone old.lying mid.lying)
-      → IsVisitTold name errand done out out' mid new result → new.is_certain ≡ true
+      → IsVisitTold name errand done holding out out' mid new result → new.is_certain ≡ true
       → LiesRegister new requests × AreNotGone old.lying new.lying
-  by_told name errand (Ok done) out out' old mid new result requests honest lies told certain =
+  by_told name errand (Ok done) holding out out' old mid new result requests honest lies told certain =
       same_lies old mid new requests told.2 lies certain
-  by_told name errand (Err why) out out' old mid new result requests honest lies told certain =
+  by_told name errand (Err why) holding out out' old mid new result requests honest lies told certain =
+      let refusal : Refusal = record { why = why; holding = holding } in
       by_wanted (is_not_earlier why) told
-      (λ (current : VisitsCurrent name why out out' mid new result).
+      (λ (current : VisitsCurrent name refusal out out' mid new result).
       let visits = current.3 in
       let before = lies (visits.certain certain) in
       let is =
       visited (asked.Check None) (outputs current.0 out.pages) (outputs current.1 out'.pages) mid new current.2
       requests honest before.0 visits certain in
       (is.0, λ gone. before.1 (is.1 gone)))
-      (λ (fault : IsFaultTold name errand why out.text out'.text result × (out'.pages ≡ out.pages) × (new ≡ mid)).
+      (λ (fault : IsFaultTold name errand refusal out.text out'.text result × (out'.pages ≡ out.pages) × (new ≡ mid)).
       same_lies old mid new requests fault.2 lies certain)
 
   visit : {name : Bor (List ℕ)} (limit : ℕ) (errand : Errand) (out out' : Outputs) (old new : Parts g)
@@ -413,7 +411,7 @@ module _ {D : Type 0} {g : Ghosts D} where
   visit {name} limit errand out out' old new result requests Are none honest lies is certain =
       let visits = is.3 in
       let left =
-      by_told name errand is.2.done is.0 out' old is.1 new result requests honest
+      by_told name errand is.2.done is.2.holding is.0 out' old is.1 new result requests honest
       (visited errand out is.0 old is.1 is.2 requests honest lies visits) is.4 certain in
       record { services = []; are = none; after = requests; in_turn = refl; lies = left.0; stays = left.1 }
 

@@ -19,8 +19,8 @@ use Rattle.outbox_core.specs.OutboxParts.{OutboxParts, HasEntries}
 use Rattle.database_places.specs.Places.{IsHonest}
 use Rattle.outbox_process.specs.Dials.{Traffic}
 use Rattle.outbox_process.specs.Putting.{IsPutTold}
-use Rattle.outbox_process.specs.declared.tasks.fault.TaskFault.{TaskFault}
-use Rattle.outbox_process.specs.declared.tasks.fault.TaskFault.TheVariants as failed
+use Rattle.outbox_process.specs.declared.fault.Why.{Why}
+use Rattle.outbox_process.specs.declared.fault.Why.TheVariants as failed
 use Rattle.outbox_process.specs.declared.beginning.Beginning.TheVariants.{Found, Made, Migrated}
 use Rattle.outbox_process.specs.declared.errand.Done.{Done}
 use Rattle.outbox_process.specs.declared.errand.Done.TheVariants as outcome
@@ -50,7 +50,7 @@ use Rattle.program_runs.proofs.Looks.{looks, ask_brings}
 use Rattle.program_runs.proofs.Puts.{AreBy, put_brings}
 use Rattle.program_runs.proofs.Results.{not_err}
 use Rattle.program_runs.proofs.Sends.{send_entry_brings, send_next_brings, send_all_brings}
-use Rattle.program_runs.proofs.Statuses.{failed_by, opening_failed, all_put}
+use Rattle.program_runs.proofs.Statuses.{failed_by, why_failed, all_put}
 
 abbrev deed_of : Target → ReportFile → Deed
 deed_of target report = Added report.key target.number report.body.items
@@ -58,11 +58,11 @@ deed_of target report = Added report.key target.number report.body.items
 -- ---- the first of the deeds of some reports
 
 -- these are the first of all, or all if it ended so
-abbrev AreAsEnded : List Deed → Result (Unit {0}) TaskFault → List Deed → Type 0
+abbrev AreAsEnded : List Deed → Result (Unit {0}) Why → List Deed → Type 0
 AreAsEnded all ended deeds = IsPrefixOf deeds all × (ended ≡ Ok tt → deeds ≡ all)
 
 -- one more report was put in, and then the first of others
-goes_on : (deed : Deed) (others first rest : List Deed) (ended : Result (Unit {0}) TaskFault) → first ≡ deed ∷ []
+goes_on : (deed : Deed) (others first rest : List Deed) (ended : Result (Unit {0}) Why) → first ≡ deed ∷ []
     → AreAsEnded others ended rest → AreAsEnded (deed ∷ others) ended (first ++ rest)
 goes_on deed others first rest ended is are =
     subst (λ (front : List Deed). AreAsEnded (deed ∷ others) ended (front ++ rest)) (sym is) (
@@ -80,12 +80,12 @@ begins deed others (Err fault) deeds is =
 
 -- a put that is answered put the entry in
 answered : (deed : Deed) (deeds : List Deed) (puts : Result ℕ PutFault) (out out' : Option (List ℕ))
-    (told : Result ℕ TaskFault) (came : Result Done TaskFault) → IsPutTold puts out out' told
+    (told : Result ℕ Why) (came : Result Done Why) → IsPutTold puts out out' told
     → came ≡ answer outcome.Put told → Ok tt ≡ ended_as came → AreBy puts deed deeds → deeds ≡ deed ∷ []
 answered deed deeds (Ok id) out out' told came is by ends are = are
 answered deed deeds (Err why) out out' told came is by ends are =
     absurd (not_err tt (failed.Put why)
-    (ends ∙ ap ended_as by ∙ ap (λ (t : Result ℕ TaskFault). ended_as (answer outcome.Put t)) is.0))
+    (ends ∙ ap ended_as by ∙ ap (λ (t : Result ℕ Why). ended_as (answer outcome.Put t)) is.0))
 
 -- nothing was sent
 none_sent : (w : Which) → AreOfSend w []
@@ -138,7 +138,7 @@ module _ {D : Type 0} {g : Ghosts D} where
   visits : (what : Errand) (strict : Bool) (net net' : Traffic) (out out' : Option (List ℕ)) (old new : Parts g)
       (status : ℕ) (it : Contents) (Are : List Deed → Type 0) → IsHonest g → LiesClosed old it
       → VisitsOutbox g strict what net net' out out' old new status → new.is_certain ≡ true
-      → ((before after : OutboxParts (FileStore D g)) (came : Result Done TaskFault)
+      → ((before after : OutboxParts (FileStore D g)) (came : Result Done Why)
       → HasEntries over_files before it.entries → before.filer ≡ it.filer
       → DoesErrand over_files what net net' before after out out' came → Brings before after it Are)
       → (net' ≡ net → Are []) → IsRunBy it old new Are
@@ -148,12 +148,12 @@ module _ {D : Type 0} {g : Ghosts D} where
         (λ has filer.
         brings does.performs.before does.performs.after does.came has filer does.performs.does))
     | inr refusal ↦
-        refused Found refusal.0.why it old new Are (none refusal.1) honest lies refusal.0.opens certain
+        refused Found refusal.0.refusal it old new Are (none refusal.1) honest lies refusal.0.opens certain
   ]
 
   -- by what is sent
   sends : (w : Which) (net net' : Traffic) (out out' : Option (List ℕ)) (it : Contents) → IsHonest g
-      → (before after : OutboxParts (FileStore D g)) (came : Result Done TaskFault)
+      → (before after : OutboxParts (FileStore D g)) (came : Result Done Why)
       → HasEntries over_files before it.entries → before.filer ≡ it.filer
       → Sends over_files w net net' before after out out' came
       → Brings before after it (λ deeds. AreOfSend w deeds × AreOfNetwork net net' deeds)
@@ -168,7 +168,7 @@ module _ {D : Type 0} {g : Ghosts D} where
 
   -- a report was put in, or that failed
   put_one : (target : Target) (report : ReportFile) (net : Traffic) (out out' : Option (List ℕ)) (old new : Parts g)
-      (ended : Result (Unit {0}) TaskFault) (it : Contents) → IsHonest g
+      (ended : Result (Unit {0}) Why) (it : Contents) → IsHonest g
       → (puts : PutsOne (put_of target report) net out out' old new ended) → Keeps old it → new.is_certain ≡ true
       → Goes old new it (AreBy puts.performs.does.0.1.came (deed_of target report))
   put_one target report net out out' old new ended it honest puts keeps sure =
@@ -188,13 +188,13 @@ module _ {D : Type 0} {g : Ghosts D} where
       }
 
   one_certain : (put : Errand) (net : Traffic) (out out' : Option (List ℕ)) (old new : Parts g)
-      (ended : Result (Unit {0}) TaskFault) → IsHonest g → PutsOne put net out out' old new ended
+      (ended : Result (Unit {0}) Why) → IsHonest g → PutsOne put net out out' old new ended
       → new.is_certain ≡ true → old.is_certain ≡ true
   one_certain put net out out' old new ended honest puts sure =
       sym puts.performs.certain ∙ (puts.looks honest).certain sure
 
   turns_certain : (puts : List Errand) (net : Traffic) (out out' : Option (List ℕ)) (old new : Parts g)
-      (ended : Result (Unit {0}) TaskFault) → IsHonest g → PutsInTurn puts net out out' old new ended
+      (ended : Result (Unit {0}) Why) → IsHonest g → PutsInTurn puts net out out' old new ended
       → new.is_certain ≡ true → old.is_certain ≡ true
   turns_certain [] net out out' old new ended honest is sure = sym (ap (λ (p : Parts g). p.is_certain) is.1) ∙ sure
   turns_certain (put ∷ puts) net out out' old new ended honest is sure = elim is [
@@ -205,7 +205,7 @@ module _ {D : Type 0} {g : Ghosts D} where
 
   -- reports were put in, one after another
   turns : (target : Target) (reports : List ReportFile) (net : Traffic) (out out' : Option (List ℕ)) (old new : Parts g)
-      (ended : Result (Unit {0}) TaskFault) (it : Contents) → IsHonest g
+      (ended : Result (Unit {0}) Why) (it : Contents) → IsHonest g
       → PutsInTurn (map (put_of target) reports) net out out' old new ended → Keeps old it → new.is_certain ≡ true
       → Goes old new it (AreAsEnded (putting target reports) ended)
   turns target [] net out out' old new ended it honest is keeps sure = record {
@@ -271,8 +271,8 @@ module _ {D : Type 0} {g : Ghosts D} where
               stays = is.stays;
             }
         | inr refusal ↦
-            let failed : status_by result ≢ 0 = λ done. opening_failed refusal.0.why (sym refusal.0.says ∙ done) in
-            refused Found refusal.0.why it old new (AreOfPutting files text target (status_by result))
+            let failed : status_by result ≢ 0 = λ done. why_failed refusal.0.refusal.why (sym refusal.0.says ∙ done) in
+            refused Found refusal.0.refusal it old new (AreOfPutting files text target (status_by result))
             (inl (failed, refl)) honest lies refusal.0.opens certain
       ]
       | inr none ↦ stayed old new it (AreOfPutting files text target (status_by result))
@@ -302,7 +302,7 @@ module _ {D : Type 0} {g : Ghosts D} where
             record { closed = done.3.is_closed; certain = certain; there = inl lie },
             λ none. some_lie new.lying (λ files. HoldOutboxWithLog g files it) lie none,
           )
-      | inr refusal ↦ absurd (opening_failed refusal.why (sym refusal.says))
+      | inr refusal ↦ absurd (why_failed refusal.refusal.why (sym refusal.says))
     ]
   ]
 
@@ -328,7 +328,7 @@ module _ {D : Type 0} {g : Ghosts D} where
             (subst (Keeps new) same keeps)
       ]
       | inr refusal ↦
-          refused (Made filer) refusal.why it old new (λ deeds. deeds ≡ []) refl honest lies refusal.opens certain
+          refused (Made filer) refusal.refusal it old new (λ deeds. deeds ≡ []) refl honest lies refusal.opens certain
     ]
   ]
 
@@ -372,7 +372,7 @@ module _ {D : Type 0} {g : Ghosts D} where
   shows : (what : Errand) (net net' : Traffic) (out out' : Option (List ℕ)) (old new : Parts g) (status : ℕ)
       (it : Contents) → IsHonest g → LiesClosed old it
       → VisitsOutbox g false what net net' out out' old new status → new.is_certain ≡ true
-      → ((before after : OutboxParts (FileStore D g)) (came : Result Done TaskFault)
+      → ((before after : OutboxParts (FileStore D g)) (came : Result Done Why)
       → HasEntries over_files before it.entries → before.filer ≡ it.filer
       → DoesErrand over_files what net net' before after out out' came
       → Brings before after it (λ deeds. (deeds ≡ []) × AreOfNetwork net net' deeds))

@@ -13,7 +13,8 @@ use Rattle.filing_model.specs.declared.state.State.{State}
 use Rattle.outbox_core.specs.Saying.{Says}
 use Rattle.outbox_core.specs.declared.state.Said.TheVariants.{Nothing, Same, Otherwise}
 use Rattle.receipts.specs.declared.fault.ReceiptFault.{ReceiptFault}
-use Rattle.receipts.specs.declared.fault.ReceiptFault.TheVariants.{NoRequest, NoReply, Unsettled, Contradicts, Memory}
+use Rattle.receipts.specs.declared.fault.ReceiptFault.TheVariants.{Clock, NoRequest, NoReply, Unsettled, Contradicts}
+use Rattle.receipts.specs.declared.fault.ReceiptFault.TheVariants.{Taken, File, Memory}
 use Rattle.receipts.specs.declared.receipt.Receipt.{Receipt}
 use Rattle.receipts.specs.Moment.{IsMomentText}
 use Rattle.receipts.specs.Text.{receipt_text}
@@ -47,12 +48,15 @@ pub record IsReceipt (id : ℕ) (state : State) (sent came : List ℕ) (moment :
 
 -- why there is no receipt
 abbrev pub HasNoReceipt : State → List ℕ → List ℕ → ReceiptFault → Type 0
+HasNoReceipt state sent came Clock = ⊥
 HasNoReceipt state sent came NoRequest = (request : Request) → IsSendable request → sent ≢ bytes_of request
 HasNoReceipt state sent came (NoReply why) = HasNoReply came (NoReply why)
 HasNoReceipt state sent came Unsettled =
     (reply : ReplyParts) × IsReplyIn came reply × Says (view_state state) reply Nothing
 HasNoReceipt state sent came Contradicts =
     (reply : ReplyParts) × IsReplyIn came reply × ((told : State) × Says (view_state state) reply (Otherwise told))
+HasNoReceipt state sent came (Taken name) = ⊥
+HasNoReceipt state sent came (File error) = ⊥
 HasNoReceipt state sent came Memory = Unit {0}
 
 abbrev pub ReceiptOf : ℕ → State → List ℕ → List ℕ → Timestamp → ℕ → Result Receipt ReceiptFault → Type 0

@@ -1,13 +1,16 @@
-//! Why there is no receipt, and why one is not kept.
+//! Why no receipt of an exchange is kept.
 
 use http_wire::ReplyFault;
 use std::alloc::AllocError;
 use std::io;
 use thiserror::Error;
 
-/// Why there is no receipt of an exchange.
-#[derive(Clone, Copy, Debug, PartialEq, Eq, Error)]
+/// Why no receipt of an exchange is kept.
+#[derive(Debug, Drop, Error)]
 pub enum ReceiptFault {
+    /// The clock gives no moment.
+    #[error("the clock failed")]
+    Clock,
     /// The bytes that were noted as sent are no request that files a report.
     #[error("the request was not noted whole")]
     NoRequest,
@@ -20,6 +23,12 @@ pub enum ReceiptFault {
     /// The reply would settle an open entry, but not as this one is settled.
     #[error("the reply contradicts it")]
     Contradicts,
+    /// What has the name of the receipt is no receipt of its entry.
+    #[error("{name} is there, and is no receipt of this entry")]
+    Taken { name: String },
+    /// The file was not read or written.
+    #[error("{0}")]
+    File(#[from] io::Error),
     #[error("out of memory")]
     Memory,
 }
@@ -32,22 +41,5 @@ impl From<AllocError> for ReceiptFault {
 
     fn from(_error: AllocError) -> ReceiptFault {
         ReceiptFault::Memory
-    }
-}
-
-/// Why a receipt is not kept.
-#[derive(Debug, Drop, Error)]
-pub enum KeepFault {
-    /// What has its name is no receipt of its entry.
-    #[error("{name} is there, and is no receipt of this entry")]
-    Taken { name: String },
-    /// The file was not read or written.
-    #[error("{0}")]
-    File(#[from] io::Error),
-}
-
-impl From<AllocError> for KeepFault {
-    fn from(error: AllocError) -> KeepFault {
-        KeepFault::File(io::Error::from(error))
     }
 }

@@ -2,7 +2,7 @@
 
 ghost use Rattle.std.specs.Prelude.{◌≡◌, IfOk};
 
-use crate::fault::KeepFault;
+use crate::fault::ReceiptFault;
 use crate::name::{is_receipt_of, name_of};
 use crate::receipt::Receipt;
 use hex::encode;
@@ -34,11 +34,11 @@ impl<'a, F: Files + RandomSource> ReceiptFolder<'a, F> {
 
     /// Keeps a receipt under the name of its entry, in the place of an earlier one of that entry and of nothing else.
     /// It is written under a name of its own first, so that the file is never there in part.
-    pub fn keep(&self, receipt: &Receipt) -> Result<(), KeepFault> {
+    pub fn keep(&self, receipt: &Receipt) -> Result<(), ReceiptFault> {
         let name = name_of(self.alloc, receipt)?;
         let whole = format!(in self.alloc; "{path}/{name}", path = self.path)?;
         if !self.is_free_for(whole.as_str(), receipt)? {
-            return Err(KeepFault::Taken { name });
+            return Err(ReceiptFault::Taken { name });
         }
         let part = self.new_path("part")?;
         let written = self.write_by_part(part.as_str(), whole.as_str(), receipt.text.as_str());

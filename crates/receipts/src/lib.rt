@@ -11,6 +11,6 @@ mod receipt;
 mod sent;
 mod text;
 
-pub use fault::{KeepFault, ReceiptFault};
+pub use fault::ReceiptFault;
 pub use folder::ReceiptFolder;
 pub use receipt::{Exchange, Receipt, receipt_of};

@@ -20,7 +20,7 @@ use Rattle.register_tables.specs.Opening.{ReadsRegister, IsReadAsRegister}
 use Rattle.register_extracts.specs.Dated.{ForDated}
 use Rattle.register_extracts.proofs.Dating.{still}
 use Rattle.register_extracts.specs.declared.digest.Digest.{Digest}
-use Rattle.register_extracts.specs.declared.digest_fault.DigestFault.TheVariants as fault
+use Rattle.register_extracts.specs.declared.fault.Why.TheVariants as fault
 use Rattle.register_extracts.specs.Digest.{digest_until}
 use Rattle.register_extracts.specs.Registers.{DigestsRegister, digested}
 use Rattle.register_extracts.specs.Views.{bytes_of, count_of, view_digest}
@@ -48,6 +48,7 @@ module _ {S : Type 0} (g : Ghosts S) (until : Option ℕ) (old mid : Held S) whe
   refused why read = record {
     computed = λ _. tt;
     few = λ _. tt;
+    fails = tt;
     found = λ _. tt;
     kept = λ _. tt;
     refused = read.refused;
@@ -75,6 +76,7 @@ module _ {S : Type 0} (g : Ghosts S) (until : Option ℕ) (old mid : Held S) whe
       few = λ clean old_style F rows moments one_each received.
           let it = read.only clean old_style F rows in
           (it.2, not_there until F moments (rw it.2 at more));
+      fails = tt;
       found = found_then;
       kept = λ clean old_style F rows. (read.only clean old_style F rows).1;
       refused = λ _. tt;
@@ -103,6 +105,7 @@ module _ {S : Type 0} (g : Ghosts S) (until : Option ℕ) (old mid : Held S) whe
                 there until F moments d (ap (unwrap_or until) (sym it.2) ∙ sym asked ∙ sym is.0)
                 (omega (arith, low, it.2, is.0)) (is.1 ∙ ap (λ n. digest_until n F moments) (sym is.0));
             few = λ _. tt;
+            fails = tt;
             found = λ clean. found_then (clean_before leaves clean);
             kept = λ clean old_style F rows.
                 stands leaves clean (read.only (clean_before leaves clean) old_style F rows).1;
@@ -119,6 +122,7 @@ module _ {S : Type 0} (g : Ghosts S) (until : Option ℕ) (old mid : Held S) whe
       broken_off leaves why = record {
         computed = λ _. tt;
         few = λ _. tt;
+        fails = tt;
         found = λ clean. found_then (clean_before leaves clean);
         kept = λ clean old_style F rows.
             stands leaves clean (read.only (clean_before leaves clean) old_style F rows).1;

@@ -15,12 +15,13 @@ use Rattle.register_tables.specs.declared.opening.Counts.{Counts}
 use Rattle.register_tables.specs.Opening.{ReadsRegister}
 use Rattle.register_extracts.specs.Dated.{ForDated, ForDatedRows}
 use Rattle.register_extracts.proofs.Dating.{still}
+use Rattle.register_extracts.proofs.Faults.{if_broken_off, not_open, open_or, unless_refused}
 use Rattle.register_extracts.proofs.Walks.{found_then, kept_then, nothing_then, opened}
-use Rattle.register_extracts.specs.declared.fault.ExportFault.TheVariants as fault
-use Rattle.register_extracts.specs.declared.fault.RecordsFault.{RecordsFault}
-use Rattle.register_extracts.specs.declared.fault.RecordsFault.TheVariants as records
+use Rattle.register_extracts.specs.declared.fault.Why.{Why}
+use Rattle.register_extracts.specs.declared.fault.Why.TheVariants as why
 use Rattle.register_extracts.specs.declared.records.Wanted.{Wanted}
 use Rattle.register_extracts.specs.Exports.{ExportsFacts, UnlessOutput}
+use Rattle.register_extracts.specs.Faults.{IsPrintingWhy}
 use Rattle.register_extracts.specs.Records.{export_begun, export_text}
 
 -- the records of the first filings are written, so many
@@ -28,26 +29,17 @@ abbrev pub Begun : FactForm → Wanted → Option (List ℕ) → Option (List �
     → Type 0
 Begun form wanted out out' F moments = (many : ℕ) × Appends out out' (export_begun many form wanted (kept F) moments)
 
-pub unless : {P : Type 0} (why : RecordsFault) → P → UnlessOutput P why
-unless (records.Store fault) p = p
-unless records.Memory p = p
-unless records.Output p = tt
-
 module _ {S : Type 0} (g : Ghosts S) (form : FactForm) (wanted : Wanted) (out out' : Option (List ℕ))
     (old mid new : Held S) (counts : Counts) (read : ReadsRegister g old mid (Ok counts)) where
-  begun_by : Leaves Ended (state g mid) (state g new) → HasCleanDisk (state g new) → (why : RecordsFault)
+  begun_by : Leaves Ended (state g mid) (state g new) → HasCleanDisk (state g new) → (w : Why)
       → ForDated g mid new (λ F moments. view_lines counts.catalogue ≡ catalogue_of F
-      → counts.filings ≡ length (register F) → UnlessOutput (Begun form wanted out out' F moments) why)
-      → UnlessOutput (ForDatedRows g old (λ F moments. Begun form wanted out out' F moments)) why
-  begun_by leaves clean (records.Store fault) begun = λ old_style F rows moments one_each received.
+      → counts.filings ≡ length (register F) → UnlessOutput (Begun form wanted out out' F moments) w)
+      → UnlessOutput (ForDatedRows g old (λ F moments. Begun form wanted out out' F moments)) w
+  begun_by leaves clean why.Output begun = tt
+  begun_by leaves clean other begun = λ old_style F rows moments one_each received.
       let before : HasCleanDisk (state g mid) = clean_before leaves clean in
       let it = read.only before old_style F rows in
       begun clean old_style F it.1 moments one_each (still g old mid counts read before it.1 received) it.4 it.3
-  begun_by leaves clean records.Memory begun = λ old_style F rows moments one_each received.
-      let before : HasCleanDisk (state g mid) = clean_before leaves clean in
-      let it = read.only before old_style F rows in
-      begun clean old_style F it.1 moments one_each (still g old mid counts read before it.1 received) it.4 it.3
-  begun_by leaves clean records.Output begun = tt
 
 module _ {S X : Type 0} (g : Ghosts S) (form : FactForm) (wanted : Wanted) (out out' : Option (List ℕ))
     (old mid new : Held S) (counts : Counts) (read : ReadsRegister g old mid (Ok counts)) where
@@ -64,6 +56,7 @@ module _ {S X : Type 0} (g : Ghosts S) (form : FactForm) (wanted : Wanted) (out 
             exported clean old_style F it.1 moments one_each (still g old mid counts read before it.1 received) it.4
             it.3;
         begun = λ _. tt;
+        fails = tt;
         found = found_then g old mid counts read new leaves;
         kept = kept_then g old mid counts read new leaves;
         refused = λ _. tt;
@@ -75,18 +68,20 @@ module _ {S X : Type 0} (g : Ghosts S) (form : FactForm) (wanted : Wanted) (out 
       }
 
   -- the database, memory or the output failed before that
-  pub broken_off : Leaves Ended (state g mid) (state g new) → (why : RecordsFault)
+  pub broken_off : Leaves Ended (state g mid) (state g new) → (w : Why) → IsPrintingWhy w
       → ForDated g mid new (λ F moments. view_lines counts.catalogue ≡ catalogue_of F
-      → counts.filings ≡ length (register F) → UnlessOutput (Begun form wanted out out' F moments) why)
-      → ExportsFacts {S = S} {X = X} g form wanted out out' old new (Err (fault.Records why))
-  broken_off leaves why begun = record {
+      → counts.filings ≡ length (register F) → UnlessOutput (Begun form wanted out out' F moments) w)
+      → ExportsFacts {S = S} {X = X} g form wanted out out' old new (Err w)
+  broken_off leaves w may begun = record {
     exported = λ _. tt;
-    begun = λ clean. begun_by g form wanted out out' old mid new counts read leaves clean why begun;
-    found = found_then g old mid counts read new leaves;
-    kept = kept_then g old mid counts read new leaves;
-    refused = λ _. tt;
-    failed = λ _. tt;
-    quiet = tt;
+    begun = λ clean.
+        if_broken_off w _ (begun_by g form wanted out out' old mid new counts read leaves clean w begun);
+    fails = open_or IsPrintingWhy w may;
+    found = λ clean. unless_refused X w _ (found_then g old mid counts read new leaves clean);
+    kept = λ clean. unless_refused X w _ (kept_then g old mid counts read new leaves clean);
+    refused = λ _. not_open IsPrintingWhy (λ _ is. is) _ w may;
+    failed = λ _. not_open IsPrintingWhy (λ _ is. is) _ w may;
+    quiet = not_open IsPrintingWhy (λ _ is. is) _ w may;
     same = λ _. tt;
     mode = leaves.mode read.mode;
     survives = nothing_then g old mid counts read new leaves;

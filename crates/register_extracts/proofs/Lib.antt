@@ -8,6 +8,7 @@ pub mod Places
 pub mod Texts
 mod Columns
 pub mod Done
+pub mod Faults
 mod SentTexts
 pub mod Steps
 pub mod Walks

@@ -1,5 +1,5 @@
 -- What an export of a register does. `out` and `out'` are what the output has before and after it, if that is known.
-use Rattle.std.specs.Prelude.{◌≡◌, ℕ, false, List, Option, Result, Ok, Err, IfErr, OnOk}
+use Rattle.std.specs.Prelude.{◌≡◌, ℕ, false, List, Option, Result, IfErr, OnOk}
 use Rattle.std.specs.Io.KnownBytes.{Appends}
 use Rattle.sqlite.specs.Store.{Ghosts}
 use Rattle.sqlite.specs.Held.{Held, state}
@@ -7,43 +7,30 @@ use Rattle.sqlite.specs.State.{HasCleanDisk}
 use Rattle.table_rows.specs.Standing.{HasCommitted, CommitsNothing, StaysOnOk}
 use Rattle.register_extracts.specs.declared.facts.record.FactForm.{FactForm}
 use Rattle.filing_model.specs.Register.{kept}
-use Rattle.register_tables.specs.declared.fault.OpenFault.{OpenFault}
 use Rattle.register_tables.specs.Faults.{IsFailure}
 use Rattle.register_tables.specs.Opening.{IsRefused, IsReadAsRegister}
 use Rattle.register_tables.specs.Registers.{ForRows, IsRegisterOf}
 use Rattle.register_extracts.specs.Dated.{ForDatedRows}
-use Rattle.register_extracts.specs.declared.fault.ExportFault.{ExportFault}
-use Rattle.register_extracts.specs.declared.fault.ExportFault.TheVariants as fault
-use Rattle.register_extracts.specs.declared.fault.RecordsFault.{RecordsFault}
-use Rattle.register_extracts.specs.declared.fault.RecordsFault.TheVariants as records
+use Rattle.register_extracts.specs.declared.fault.Why.{Why}
+use Rattle.register_extracts.specs.declared.fault.Why.TheVariants as why
 use Rattle.register_extracts.specs.declared.records.Wanted.{Wanted}
+use Rattle.register_extracts.specs.Faults.{IfOpen, IsPrintingWhy, OpenOr, UnlessRefused}
 use Rattle.register_extracts.specs.Records.{export_begun, export_text}
 
--- this holds of the fault by which an opening was refused; nothing is said of the faults of a sound register
-abbrev pub IfOpen : (OpenFault → Type 0) → ExportFault → Type 0
-IfOpen Holds (fault.Open why) = Holds why
-IfOpen Holds (fault.Records why) = Unit {0}
-
 -- this holds unless the output failed
-abbrev pub UnlessOutput : Type 0 → RecordsFault → Type 0
-UnlessOutput Holds records.Output = Unit {0}
-UnlessOutput Holds _ = Holds
+abbrev pub UnlessOutput : Type 0 → Why → Type 0
+UnlessOutput Holds why.Output = Unit {0}
+UnlessOutput Holds other = Holds
 
 -- this holds if the writing was broken off, and not by the output
-abbrev pub IfBrokenOff : Type 0 → ExportFault → Type 0
-IfBrokenOff Holds (fault.Open why) = Unit {0}
-IfBrokenOff Holds (fault.Records why) = UnlessOutput Holds why
-
--- this holds unless the register is refused: also if it is sound, and not all its records are written
-abbrev pub UnlessRefused : {X : Type 0} → Result X ExportFault → Type 0 → Type 0
-UnlessRefused (Ok done) Holds = Holds
-UnlessRefused (Err (fault.Records why)) Holds = Holds
-UnlessRefused (Err (fault.Open why)) Holds = Unit {0}
+abbrev pub IfBrokenOff : Type 0 → Why → Type 0
+IfBrokenOff Holds (why.Open fault) = Unit {0}
+IfBrokenOff Holds other = UnlessOutput Holds other
 
 -- What `export` writes out of the register that a database is: the facts of the filings that are
 -- wanted, byte for byte.
 pub record ExportsFacts {S X : Type 0} (g : Ghosts S) (form : FactForm) (wanted : Wanted)
-    (out out' : Option (List ℕ)) (old new : Held S) (result : Result X ExportFault) : Type 0 where
+    (out out' : Option (List ℕ)) (old new : Held S) (result : Result X Why) : Type 0 where
   -- The rows stand for requests with moments, and there is one such list of each at most.
   pub exported : HasCleanDisk (state g new)
       → OnOk result (ForDatedRows g old (λ requests moments.
@@ -52,6 +39,8 @@ pub record ExportsFacts {S X : Type 0} (g : Ghosts S) (form : FactForm) (wanted 
   pub begun : HasCleanDisk (state g new)
       → IfErr result (IfBrokenOff (ForDatedRows g old (λ requests moments.
       (many : ℕ) × Appends out out' (export_begun many form wanted (kept requests) moments))))
+  -- It is refused, or not read, or memory or the output failed.
+  pub fails : IfErr result (OpenOr IsPrintingWhy)
   -- Unless it is refused, it is read as a register, and what its rows stand for is still committed.
   pub found : HasCleanDisk (state g new) → UnlessRefused result (IsReadAsRegister g old)
   pub kept : HasCleanDisk (state g new)

@@ -4,6 +4,7 @@ pub mod Reading
 pub mod Text
 pub mod Dimensions
 pub mod Exports
+pub mod Faults
 pub mod Fields
 pub mod Filings
 pub mod Records

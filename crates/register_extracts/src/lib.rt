@@ -7,7 +7,6 @@
 
 mod at;
 mod digest;
-mod digest_fault;
 mod digest_reads;
 pub mod facts;
 mod fault;
@@ -23,9 +22,8 @@ mod writing;
 
 pub use at::moment_at;
 pub use digest::Digest;
-pub use digest_fault::DigestFault;
 pub use facts::record::{FactForm, FilingHead, first_line, record_text};
-pub use fault::{ExportFault, RecordsFault};
+pub use fault::Why;
 pub use laws::{
     a_beginning_keeps_its_digest, a_digest_tells_the_requests, a_digest_tells_the_rows,
     a_row_adds_one_step, joined_texts_tell_the_rows, texts_tell_the_rows,

@@ -3,11 +3,12 @@
 ghost use Rattle.std.specs.Prelude.{◌≡◌, ◌⊎◌, IfOk, IfErr, OnOk};
 ghost use Rattle.std.specs.List.{flat_map};
 ghost use Rattle.std.specs.Io.KnownBytes.{Appends};
+ghost use Rattle.register_extracts.specs.Faults.{IsPrintingWhy};
 ghost use Rattle.register_extracts.specs.Fields.{record_text, view_head};
 ghost use Rattle.register_extracts.specs.Records.{head_of, is_of, is_wanted, records, wanted_records};
 
 use crate::facts::record::{FactForm, FilingHead, record_text};
-use crate::fault::RecordsFault;
+use crate::fault::Why;
 use crate::walk::filing::WholeFiling;
 use command_line::show;
 use std::alloc::{AllocError, Global};
@@ -26,13 +27,13 @@ pub struct Wanted<'a> {
 }
 
 /// Writes a text whole.
-pub(crate) fn print<O: Write>(output: &mut O, text: &[u8]) -> Result<(), RecordsFault>
+pub(crate) fn print<O: Write>(output: &mut O, text: &[u8]) -> Result<(), Why>
     ensures written { OnOk result (Appends (O.contents output.old) (O.contents output.new) text.now) }
-    ensures failed { IfErr result (λ fault. fault ≡ RecordsFault.Output) }
+    ensures failed { IfErr result (λ fault. fault ≡ Why.Output) }
 {
     match show(output, text) {
         Ok(()) => Ok(()),
-        Err(_) => Err(RecordsFault::Output),
+        Err(_) => Err(Why::Output),
     }
 }
 
@@ -100,9 +101,10 @@ pub(crate) fn write_filing<O: Write>(
     wanted: Wanted<'_>,
     filing: &WholeFiling,
     output: &mut O,
-) -> Result<(), RecordsFault>
+) -> Result<(), Why>
     ensures quiet { IfErr result (λ fault.
-        (fault ≡ RecordsFault.Output) ⊎ (O.contents output.new ≡ O.contents output.old)) }
+        (fault ≡ Why.Output) ⊎ (O.contents output.new ≡ O.contents output.old)) }
+    ensures fails { IfErr result IsPrintingWhy }
     ensures written { OnOk result (Appends (O.contents output.old) (O.contents output.new)
         (wanted_records form wanted.entry filing.now)) }
 {

@@ -10,7 +10,7 @@ ghost use Rattle.register_extracts.specs.Registers.{DigestsRegister};
 ghost use Rattle.register_extracts.specs.Views.{bytes_of, count_of};
 
 use crate::digest::Digest;
-use crate::digest_fault::DigestFault;
+use crate::fault::Why;
 use crate::kept::kept_at;
 use register_store::{Unwatched, read_register};
 use sqlite::{Alter, Connection};
@@ -40,14 +40,14 @@ pub fn digest_register<S: Alter>(
     alloc: Global,
     conn: &mut Connection<S>,
     until: Option<u64>,
-) -> Result<Digest, DigestFault>
+) -> Result<Digest, Why>
     requires { IsAtRest conn.old }
     ensures { DigestsRegister S.Store until conn.old conn.new result }
 {
     let counts = read_register(alloc, conn, &mut Unwatched)?;
     let count = until.unwrap_or(counts.kept);
     if count > counts.kept {
-        return Err(DigestFault::TooFew { kept: counts.kept });
+        return Err(Why::TooFew { kept: counts.kept });
     }
     let digest = first_digest(conn, count)?;
     Ok(digest)

@@ -10,9 +10,10 @@ ghost use Rattle.register_store.specs.Numbered.{filing_numbered};
 ghost use Rattle.register_extracts.specs.Dated.{ForDated};
 ghost use Rattle.register_extracts.specs.Records.{export_begun, export_text, filing_records};
 ghost use Rattle.register_extracts.specs.Exports.{ExportsFacts, UnlessOutput};
+ghost use Rattle.register_extracts.specs.Faults.{IsPrintingWhy};
 
 use crate::facts::record::{FactForm, first_line};
-use crate::fault::{ExportFault, RecordsFault};
+use crate::fault::Why;
 use crate::records::{Wanted, print, write_filing};
 use crate::walk::filing::filing_at;
 use register_rows::Catalogue;
@@ -30,7 +31,7 @@ pub fn export<S: Alter, O: Write>(
     form: FactForm,
     wanted: Wanted<'_>,
     output: &mut O,
-) -> Result<(), ExportFault>
+) -> Result<(), Why>
     requires { IsAtRest conn.old }
     ensures { ExportsFacts S.Store form wanted.entry (O.contents output.old)
         (O.contents output.new) conn.old conn.new result }
@@ -48,7 +49,7 @@ fn write_records<S: Alter, O: Write>(
     form: FactForm,
     wanted: Wanted<'_>,
     output: &mut O,
-) -> Result<(), RecordsFault>
+) -> Result<(), Why>
     ensures exported { ForDated S.Store conn.old conn.new (λ F moments.
         view_lines counts.now.catalogue ≡ catalogue_of F → counts.now.filings ≡ length (register F)
         → OnOk result (Appends (O.contents output.old) (O.contents output.new)
@@ -57,6 +58,7 @@ fn write_records<S: Alter, O: Write>(
         view_lines counts.now.catalogue ≡ catalogue_of F → counts.now.filings ≡ length (register F)
         → IfErr result (UnlessOutput ((many : ℕ) × Appends (O.contents output.old) (O.contents output.new)
         (export_begun many form wanted.entry (kept F) moments)))) }
+    ensures fails { IfErr result IsPrintingWhy }
     ensures leaves { MayRead S.Store conn.old conn.new result }
 {
     print(output, first_line(form).as_bytes())?;
@@ -75,14 +77,15 @@ fn write_numbered<S: Alter, O: Write>(
     form: FactForm,
     wanted: Wanted<'_>,
     output: &mut O,
-) -> Result<(), RecordsFault>
+) -> Result<(), Why>
     ensures written { ForDated S.Store conn.old conn.new (λ F moments.
         (f : Filing) → view_lines catalogue.now ≡ catalogue_of F
         → filing_numbered number (register F) ≡ Some f
         → OnOk result (Appends (O.contents output.old) (O.contents output.new)
         (filing_records form wanted.entry (kept F) moments f))) }
     ensures quiet { IfErr result (λ fault.
-        (fault ≡ RecordsFault.Output) ⊎ (O.contents output.new ≡ O.contents output.old)) }
+        (fault ≡ Why.Output) ⊎ (O.contents output.new ≡ O.contents output.old)) }
+    ensures fails { IfErr result IsPrintingWhy }
     ensures leaves { MayRead S.Store conn.old conn.new result }
 {
     // Its report is not read if the number says enough.

@@ -9,7 +9,7 @@ use Rattle.std.specs.Cmp.Lexicographic.{slice_cmp}
 use Rattle.std.specs.List.Sorted.{IsStrictlySortedBy}
 use Rattle.filing_model.specs.Request.{Request}
 use Rattle.filing_model.specs.Register.{Kept, kept, register}
-use Rattle.register_pages.specs.declared.fault.WritingFault.{WritingFault}
+use Rattle.register_pages.specs.declared.fault.Missed.{Missed}
 use Rattle.register_pages.specs.declared.own.Own.{Own}
 use Rattle.register_pages.specs.Own.{AreOwn, places_of}
 use Rattle.register_pages.specs.Pages.{Adds, File, Page, Writes, WritesSite, files_of_filer, filer_page, filing_files}
@@ -27,7 +27,7 @@ adds_then (Some a) None new first then p q = absurd p
 adds_then (Some a) (Some b) None first then p q = absurd q
 adds_then (Some a) (Some b) (Some c) first then p q = q ∙ ap (λ l. l ++ then) p ∙ append_assoc a first then
 
-module _ (m m' m'' : Option WritingFault) (old mid new : Option (List File)) where
+module _ (m m' m'' : Option Missed) (old mid new : Option (List File)) where
   pub writes_then : (first then : List File) → Writes m m' old mid first → Writes m' m'' mid new then
       → Writes m m'' old new (first ++ then)
   writes_then first then p q e =
@@ -75,7 +75,7 @@ module _ (m m' m'' : Option WritingFault) (old mid new : Option (List File)) whe
       subst (λ n. Writes m m'' old new (refused_pages filer n ++ reports)) many
       (writes_then (refused_pages filer (length places)) reports p q)
 
-pub writes_none : (m : Option WritingFault) (old : Option (List File)) → Writes m m old old []
+pub writes_none : (m : Option Missed) (old : Option (List File)) → Writes m m old old []
 writes_none m old e = (e, adds_none old)
 
 -- the pages of the filings and of the filers are written, and then the others

@@ -11,8 +11,9 @@ use Rattle.register_tables.specs.declared.opening.Counts.{Counts}
 use Rattle.register_tables.specs.Opening.{ReadsRegister}
 use Rattle.register_store.specs.Store.{ForRegister}
 use Rattle.register_extracts.proofs.Walks.{found_then, kept_then, nothing_then, opened}
-use Rattle.register_pages.specs.declared.fault.PagesFault.TheVariants as fault
-use Rattle.register_pages.specs.declared.fault.WritingFault.{WritingFault}
+use Rattle.register_extracts.specs.declared.fault.Why.{Why}
+use Rattle.register_extracts.proofs.Faults.{not_open, open_or, unless_refused}
+use Rattle.register_pages.specs.Faults.{IsWritingWhy}
 use Rattle.register_pages.specs.Gathering.{AreCountsOf}
 use Rattle.register_pages.specs.Pages.{File, WritesSite}
 use Rattle.register_pages.specs.Site.{WritesPages}
@@ -32,6 +33,7 @@ module _ {S X : Type 0} (g : Ghosts S) (pages pages' : Option (List File)) (old 
               filings_is = it.3;
               catalogue_is = it.4;
             });
+        fails = tt;
         found = found_then g old mid counts read new leaves;
         kept = kept_then g old mid counts read new leaves;
         refused = λ _. tt;
@@ -43,15 +45,16 @@ module _ {S X : Type 0} (g : Ghosts S) (pages pages' : Option (List File)) (old 
       }
 
   -- the database, memory or the folder failed before that
-  pub broken_off : Leaves Ended (state g mid) (state g new) → (why : WritingFault)
-      → WritesPages {S = S} {X = X} g pages pages' old new (Err (fault.Pages why))
-  broken_off leaves why = record {
+  pub broken_off : Leaves Ended (state g mid) (state g new) → (w : Why) → IsWritingWhy w
+      → WritesPages {S = S} {X = X} g pages pages' old new (Err w)
+  broken_off leaves w may = record {
     written = λ _. tt;
-    found = found_then g old mid counts read new leaves;
-    kept = kept_then g old mid counts read new leaves;
-    refused = λ _. tt;
-    failed = λ _. tt;
-    unwritten = tt;
+    fails = open_or IsWritingWhy w may;
+    found = λ clean. unless_refused X w _ (found_then g old mid counts read new leaves clean);
+    kept = λ clean. unless_refused X w _ (kept_then g old mid counts read new leaves clean);
+    refused = λ _. not_open IsWritingWhy (λ _ is. is) _ w may;
+    failed = λ _. not_open IsWritingWhy (λ _ is. is) _ w may;
+    unwritten = not_open IsWritingWhy (λ _ is. is) _ w may;
     same = λ _. tt;
     mode = leaves.mode read.mode;
     survives = nothing_then g old mid counts read new leaves;

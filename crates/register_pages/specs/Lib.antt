@@ -5,4 +5,5 @@ pub mod Shown
 pub mod Site
 pub mod Reading
 pub mod Short
+pub mod Faults
 pub mod Visible

@@ -10,7 +10,7 @@ use Rattle.xbrl_report.specs.ReportParts.{facts}
 use Rattle.filing_model.specs.Request.{Request}
 use Rattle.filing_model.specs.Register.{Filing, Kept, kept, register}
 use Rattle.register_rows.specs.Register.{number_of}
-use Rattle.register_pages.specs.declared.fault.WritingFault.{WritingFault}
+use Rattle.register_pages.specs.declared.fault.Missed.{Missed}
 
 -- what is written into a folder: a page of this name, or a report under this name, byte for byte
 pub data File : Type 0 where
@@ -24,8 +24,7 @@ Adds (Some before) None files = ⊥
 Adds (Some before) (Some after) files = after ≡ before ++ files
 
 -- If no file was missed at the end, none was before, and these are written.
-abbrev pub Writes : Option WritingFault → Option WritingFault → Option (List File) → Option (List File) → List File
-    → Type 0
+abbrev pub Writes : Option Missed → Option Missed → Option (List File) → Option (List File) → List File → Type 0
 Writes missed missed' old new files = missed' ≡ None → (missed ≡ None) × Adds old new files
 
 -- ---- names

@@ -2,36 +2,27 @@
 -- takes no other page, and a text becomes HTML by `text` alone. Beside the pages of a filing stands its report, byte
 -- for byte. `pages` and `pages'` are the files that were written into the folder before and after it, if these are
 -- known.
-use Rattle.std.specs.Prelude.{◌≡◌, ℕ, false, List, Option, Result, Ok, Err, IfErr, OnOk}
+use Rattle.std.specs.Prelude.{◌≡◌, ℕ, false, List, Option, Result, IfErr, OnOk}
 use Rattle.sqlite.specs.Store.{Ghosts}
 use Rattle.sqlite.specs.Held.{Held, state}
 use Rattle.sqlite.specs.State.{HasCleanDisk}
 use Rattle.table_rows.specs.Standing.{HasCommitted, CommitsNothing, StaysOnOk}
-use Rattle.register_tables.specs.declared.fault.OpenFault.{OpenFault}
 use Rattle.register_tables.specs.Faults.{IsFailure}
 use Rattle.register_tables.specs.Opening.{IsRefused, IsReadAsRegister}
 use Rattle.register_tables.specs.Registers.{ForRows, IsRegisterOf}
-use Rattle.register_pages.specs.declared.fault.PagesFault.{PagesFault}
-use Rattle.register_pages.specs.declared.fault.PagesFault.TheVariants as fault
+use Rattle.register_extracts.specs.declared.fault.Why.{Why}
+use Rattle.register_extracts.specs.Faults.{IfOpen, OpenOr, UnlessRefused}
+use Rattle.register_pages.specs.Faults.{IsWritingWhy}
 use Rattle.register_pages.specs.Pages.{File, WritesSite}
-
--- this holds of the fault by which an opening was refused; nothing is said of the faults of a sound register
-abbrev pub IfOpen : (OpenFault → Type 0) → PagesFault → Type 0
-IfOpen Holds (fault.Open why) = Holds why
-IfOpen Holds (fault.Pages why) = Unit {0}
-
--- this holds unless the register is refused: also if it is sound, and not all its pages are written
-abbrev pub UnlessRefused : {X : Type 0} → Result X PagesFault → Type 0 → Type 0
-UnlessRefused (Ok done) Holds = Holds
-UnlessRefused (Err (fault.Pages why)) Holds = Holds
-UnlessRefused (Err (fault.Open why)) Holds = Unit {0}
 
 -- What `write_pages` writes of the register that a database is, and that it writes nothing to the database.
 pub record WritesPages {S X : Type 0} (g : Ghosts S) (pages pages' : Option (List File)) (old new : Held S)
-    (result : Result X PagesFault) : Type 0 where
+    (result : Result X Why) : Type 0 where
   -- The rows stand for requests, and there is one such list at most.
   pub written : HasCleanDisk (state g new)
       → OnOk result (ForRows g old (λ _ requests. WritesSite requests pages pages'))
+  -- It is refused, or not read, or memory or the folder failed.
+  pub fails : IfErr result (OpenOr IsWritingWhy)
   -- Unless it is refused, it is read as a register, and what its rows stand for is still committed.
   pub found : HasCleanDisk (state g new) → UnlessRefused result (IsReadAsRegister g old)
   pub kept : HasCleanDisk (state g new)

@@ -1,17 +1,17 @@
 //! What each page says of the register that it is of.
 
-ghost use Rattle.std.specs.Prelude.{◌≤◌, ◌^◌, length, IfOk};
+ghost use Rattle.std.specs.Prelude.{◌≤◌, ◌^◌, length, IfErr, IfOk};
 ghost use Rattle.filing_model.specs.Register.{kept as kept_lem};
 ghost use Rattle.table_rows.specs.Leaving.{MayRead};
 ghost use Rattle.register_extracts.specs.Dated.{ForDated};
 ghost use Rattle.register_extracts.specs.Digest.{digest_until};
+ghost use Rattle.register_extracts.specs.Faults.{IsReadingWhy};
 ghost use Rattle.register_extracts.specs.Views.{bytes_of, count_of};
 ghost use Rattle.register_pages.specs.Shown.{TellsDigest};
 
 use crate::Markup;
-use crate::fault::WritingFault;
 use crate::frame::moment;
-use register_extracts::{Digest, Moment, first_digest, moment_at};
+use register_extracts::{Digest, Moment, Why, first_digest, moment_at};
 use sqlite::{Alter, Connection};
 use std::alloc::{AllocError, Global};
 
@@ -43,12 +43,13 @@ pub(crate) fn about_register<S: Alter>(
     alloc: Global,
     conn: &mut Connection<S>,
     kept: u64,
-) -> Result<Markup, WritingFault>
+) -> Result<Markup, Why>
     requires { kept ≤ 2 ^ 62 }
     ensures told { ForDated S.Store conn.old conn.new (λ F moments.
         kept ≤ length (kept_lem F) → kept ≤ length moments
         → IfOk result (λ about. TellsDigest kept (digest_until kept F moments) about)) }
     ensures leaves { MayRead S.Store conn.old conn.new result }
+    ensures fails { IfErr result IsReadingWhy }
 {
     let digest = first_digest(conn, kept)?;
     let last = moment_at(conn, kept)?;

@@ -1,62 +1,40 @@
-//! Why a register is not shown as pages.
+//! Why a file of a register's pages is missed.
 
 ghost use Rattle.std.specs.Prelude.{◌≡◌};
-ghost use Rattle.register_pages.specs.declared.fault.PagesFault.TheVariants as fault;
+ghost use Rattle.register_pages.specs.Faults.{missed_why};
 
 use crate::folder::NotWritten;
-use register_store::{OpenFault, StoreFault};
+use register_extracts::Why;
 use std::alloc::AllocError;
 
-/// Why the pages of a register are not all written.
-#[derive(Clone, Copy, Debug, PartialEq, Eq)]
-pub enum PagesFault {
-    /// The database is no sound register, or was not read. No page was written.
-    Open(OpenFault),
-    /// The register is sound, and not all its pages are written.
-    Pages(WritingFault),
-}
-
-/// Why the pages are not all written.
-#[derive(Clone, Copy, Debug, PartialEq, Eq)]
-pub enum WritingFault {
-    /// The register was not read.
-    Store(StoreFault),
-    /// No memory was left for them.
+/// Why a file is missed. The others are written still.
+#[derive(Clone, Copy, Debug)]
+pub enum Missed {
+    /// No memory was left for it.
     Memory,
     /// The folder failed.
     Folder,
 }
 
-impl From<OpenFault> for PagesFault {
-    ghost from_gives = { λ why given. given ≡ fault.Open why };
-
-    fn from(fault: OpenFault) -> PagesFault {
-        PagesFault::Open(fault)
+impl From<AllocError> for Missed {
+    fn from(_error: AllocError) -> Missed {
+        Missed::Memory
     }
 }
 
-impl From<WritingFault> for PagesFault {
-    ghost from_gives = { λ why given. given ≡ fault.Pages why };
-
-    fn from(fault: WritingFault) -> PagesFault {
-        PagesFault::Pages(fault)
+impl From<NotWritten> for Missed {
+    fn from(_fault: NotWritten) -> Missed {
+        Missed::Folder
     }
 }
 
-impl From<StoreFault> for WritingFault {
-    fn from(fault: StoreFault) -> WritingFault {
-        WritingFault::Store(fault)
-    }
-}
+impl From<Missed> for Why {
+    ghost from_gives = { λ missed given. given ≡ missed_why missed };
 
-impl From<AllocError> for WritingFault {
-    fn from(_error: AllocError) -> WritingFault {
-        WritingFault::Memory
-    }
-}
-
-impl From<NotWritten> for WritingFault {
-    fn from(_fault: NotWritten) -> WritingFault {
-        WritingFault::Folder
+    fn from(missed: Missed) -> Why {
+        match missed {
+            Missed::Memory => Why::Memory,
+            Missed::Folder => Why::Folder,
+        }
     }
 }

@@ -1,12 +1,13 @@
 //! The pages of a filer.
 
-ghost use Rattle.std.specs.Prelude.{◌≤◌, length, OnOk};
+ghost use Rattle.std.specs.Prelude.{◌≤◌, length, IfErr, OnOk};
 ghost use Rattle.filing_model.specs.Register.{kept};
 ghost use Rattle.table_rows.specs.Leaving.{MayRead};
 ghost use Rattle.register_store.specs.Store.{ForRegister};
+ghost use Rattle.register_extracts.specs.Faults.{IsReadingWhy};
 ghost use Rattle.register_pages.specs.Pages.{Writes, filer_page, numbered, pages_for as pages_for_lem, files_of_filer};
 
-use crate::fault::WritingFault;
+use crate::fault::Missed;
 use crate::folder::{Folder, put};
 use crate::frame::{Search, begin, end_by_table, filing_cell, moment_cell, number_cell, text_cell};
 use crate::own::{Filed, Own, own_of};
@@ -14,7 +15,7 @@ use crate::parts::{MOST_ROWS, Part, behind, first, neighbours, pages_for};
 use crate::refused::write_refused;
 use crate::reports::write_reports;
 use crate::{Markup, names};
-use register_extracts::{Moment, moment_at};
+use register_extracts::{Moment, Why, moment_at};
 use register_rows::Catalogue;
 use sqlite::{Alter, Connection};
 use std::alloc::{AllocError, Global};
@@ -61,8 +62,9 @@ fn read_row<S: Alter>(
     conn: &mut Connection<S>,
     catalogue: &Catalogue,
     filed: &Filed,
-) -> Result<(), WritingFault>
-    ensures { MayRead S.Store conn.old conn.new result }
+) -> Result<(), Why>
+    ensures leaves { MayRead S.Store conn.old conn.new result }
+    ensures fails { IfErr result IsReadingWhy }
 {
     let received = moment_at(conn, filed.place)?;
     filing_row(rows, alloc, catalogue, filed, received)?;
@@ -75,9 +77,10 @@ fn read_rows<S: Alter>(
     conn: &mut Connection<S>,
     catalogue: &Catalogue,
     filings: &[Filed],
-) -> Result<Markup, WritingFault>
+) -> Result<Markup, Why>
     requires { length filings.now ≤ 1000 }
-    ensures { MayRead S.Store conn.old conn.new result }
+    ensures leaves { MayRead S.Store conn.old conn.new result }
+    ensures fails { IfErr result IsReadingWhy }
 {
     let mut rows = Markup::new(alloc);
     for filed in filings {
@@ -141,11 +144,12 @@ fn write_filings<S: Alter, F: Folder>(
     own: &Own,
     about: &Markup,
     folder: &mut F,
-    missed: &mut Option<WritingFault>,
-) -> Result<(), WritingFault>
+    missed: &mut Option<Missed>,
+) -> Result<(), Why>
     ensures written { OnOk result (Writes missed.old missed.new (F.pages folder.old) (F.pages folder.new)
         (numbered (filer_page filer.now) (pages_for_lem 1000 (length own.now.filings.items)))) }
     ensures leaves { MayRead S.Store conn.old conn.new result }
+    ensures fails { IfErr result IsReadingWhy }
 {
     let mut rest = own.filings.as_slice();
     let pages = pages_for(MOST_ROWS, rest.len());
@@ -173,15 +177,17 @@ pub(crate) fn write_filer<S: Alter, F: Folder>(
     filer: &str,
     about: &Markup,
     folder: &mut F,
-    missed: &mut Option<WritingFault>,
-) -> Result<(), WritingFault>
+    missed: &mut Option<Missed>,
+) -> Result<(), Why>
     ensures written { ForRegister S.Store conn.old conn.new (λ _ requests.
         OnOk result (Writes missed.old missed.new (F.pages folder.old) (F.pages folder.new)
         (files_of_filer (kept requests) filer.now))) }
     ensures leaves { MayRead S.Store conn.old conn.new result }
+    ensures fails { IfErr result IsReadingWhy }
 {
     let own = own_of(alloc, conn, filer)?;
     write_filings(alloc, conn, catalogue, filer, &own, about, folder, missed)?;
     write_refused(alloc, conn, catalogue, filer, &own, about, folder, missed)?;
-    write_reports(alloc, conn, &own.refused, folder, missed)
+    write_reports(alloc, conn, &own.refused, folder, missed)?;
+    Ok(())
 }

@@ -4,7 +4,7 @@ ghost use Rattle.std.specs.Prelude.{◌≤◌, ◌++◌, ◌∷◌, [], length};
 ghost use Rattle.register_pages.specs.Pages.{Report, Writes, filing_page, numbered, report_file};
 ghost use Rattle.register_pages.specs.Pages.{pages_for as pages_for_lem};
 
-use crate::fault::WritingFault;
+use crate::fault::Missed;
 use crate::folder::{Folder, put, put_report};
 use crate::frame::{Search, begin, end_by_table, filer_link, filing_link, moment, text_cell};
 use crate::parts::{MOST_ROWS, Part, behind, first, neighbours, pages_for};
@@ -39,7 +39,7 @@ pub(crate) fn write_filing<F: Folder>(
     filing: &WholeFiling,
     about: &Markup,
     folder: &mut F,
-    missed: &mut Option<WritingFault>,
+    missed: &mut Option<Missed>,
 )
     ensures { Writes missed.old missed.new (F.pages folder.old) (F.pages folder.new)
         (numbered (filing_page filing.now.number) (pages_for_lem 1000 (length filing.now.facts))
@@ -56,7 +56,7 @@ fn write_facts<F: Folder>(
     filing: &WholeFiling,
     about: &Markup,
     folder: &mut F,
-    missed: &mut Option<WritingFault>,
+    missed: &mut Option<Missed>,
 )
     ensures { Writes missed.old missed.new (F.pages folder.old) (F.pages folder.new)
         (numbered (filing_page filing.now.number) (pages_for_lem 1000 (length filing.now.facts))) }

@@ -4,7 +4,7 @@ ghost use Rattle.std.specs.Prelude.{◌≡◌, ◌≢◌, ◌∷◌, [], ℕ, Li
 ghost use Rattle.register_pages.specs.Pages.{Adds, File, Page, Report, Writes};
 
 use crate::Markup;
-use crate::fault::WritingFault;
+use crate::fault::Missed;
 use std::alloc::AllocError;
 
 /// A file was not written. The folder knows why.
@@ -33,7 +33,7 @@ fn write<F: Folder>(
     folder: &mut F,
     name: Result<String, AllocError>,
     page: Result<Markup, AllocError>,
-) -> Result<(), WritingFault>
+) -> Result<(), Missed>
     ensures { (wanted : List ℕ) → IfOk name (λ text. string_bytes text ≡ wanted)
         → OnOk result (Adds (F.pages folder.old) (F.pages folder.new) (Page wanted ∷ [])) }
 {
@@ -44,7 +44,7 @@ fn write<F: Folder>(
 }
 
 /// Keeps the first of two faults.
-fn miss(missed: &mut Option<WritingFault>, fault: WritingFault)
+fn miss(missed: &mut Option<Missed>, fault: Missed)
     ensures { missed.new ≢ None }
 {
     if missed.is_none() {
@@ -55,7 +55,7 @@ fn miss(missed: &mut Option<WritingFault>, fault: WritingFault)
 /// Writes a page, or keeps why it was missed, if it is the first that is.
 pub(crate) fn put<F: Folder>(
     folder: &mut F,
-    missed: &mut Option<WritingFault>,
+    missed: &mut Option<Missed>,
     name: Result<String, AllocError>,
     page: Result<Markup, AllocError>,
 )
@@ -72,7 +72,7 @@ fn write_report<F: Folder>(
     folder: &mut F,
     name: Result<String, AllocError>,
     report: &[u8],
-) -> Result<(), WritingFault>
+) -> Result<(), Missed>
     ensures { (wanted : List ℕ) → IfOk name (λ text. string_bytes text ≡ wanted)
         → OnOk result (Adds (F.pages folder.old) (F.pages folder.new) (Report wanted report.now ∷ [])) }
 {
@@ -84,7 +84,7 @@ fn write_report<F: Folder>(
 /// Writes a report, or keeps why it was missed, if it is the first file that is.
 pub(crate) fn put_report<F: Folder>(
     folder: &mut F,
-    missed: &mut Option<WritingFault>,
+    missed: &mut Option<Missed>,
     name: Result<String, AllocError>,
     report: &[u8],
 )

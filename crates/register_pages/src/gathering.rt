@@ -1,17 +1,17 @@
 //! What is gathered of all kept requests before a page is written.
 
-ghost use Rattle.std.specs.Prelude.{◌≡◌, ◌∷◌, [], OnOk};
+ghost use Rattle.std.specs.Prelude.{◌≡◌, ◌∷◌, [], IfErr, OnOk};
 ghost use Rattle.filing_model.specs.Register.{Kept, kept};
 ghost use Rattle.table_rows.specs.Leaving.{MayRead};
 ghost use Rattle.register_store.specs.Found.{IsPlaced};
 ghost use Rattle.register_store.specs.Store.{ForRegister};
+ghost use Rattle.register_extracts.specs.Faults.{IsReadingWhy};
 ghost use Rattle.register_pages.specs.Gathering.{AreCountsOf, HaveSame, codes_of, senders_of};
 
-use crate::fault::WritingFault;
 use crate::filers::Filers;
 use crate::found::Found;
 use crate::reads::findings_at;
-use register_extracts::sent_at;
+use register_extracts::{Why, sent_at};
 use register_rows::{Catalogue, Line};
 use register_store::{Counts, StoreFault};
 use sqlite::{Alter, Connection};
@@ -65,11 +65,12 @@ fn gather_one<S: Alter>(
     line: Option<Line>,
     filers: &mut Filers,
     found: &mut Found,
-) -> Result<(), WritingFault>
+) -> Result<(), Why>
     ensures gathered { ForRegister S.Store conn.old conn.new (λ _ requests.
         (k : Kept) → IsPlaced 1 place (kept requests) k
         → OnOk result (HaveSame (codes_of filers.new) (k.request.filer ∷ codes_of filers.old))) }
     ensures leaves { MayRead S.Store conn.old conn.new result }
+    ensures fails { IfErr result IsReadingWhy }
 {
     let sent = sent_at(conn, place)?;
     let filer = sent.filer.as_str();
@@ -93,11 +94,12 @@ pub(crate) fn gather<S: Alter>(
     counts: &Counts,
     filers: &mut Filers,
     found: &mut Found,
-) -> Result<(), WritingFault>
+) -> Result<(), Why>
     ensures gathered { ForRegister S.Store conn.old conn.new (λ _ requests.
         AreCountsOf requests counts.now → codes_of filers.old ≡ []
         → OnOk result (HaveSame (codes_of filers.new) (senders_of (kept requests)))) }
     ensures leaves { MayRead S.Store conn.old conn.new result }
+    ensures fails { IfErr result IsReadingWhy }
 {
     let mut number = 1u64;
     for at in 0..counts.kept {

@@ -26,7 +26,6 @@ mod short;
 mod site;
 mod words;
 
-pub use fault::{PagesFault, WritingFault};
 pub use folder::{Folder, NotWritten};
 pub use piece::Markup;
 pub use site::write_pages;

@@ -5,7 +5,7 @@ ghost use Rattle.register_pages.specs.Pages.{Page, Writes};
 
 use crate::Markup;
 use crate::chart::findings_page;
-use crate::fault::WritingFault;
+use crate::fault::Missed;
 use crate::filer::refused_count;
 use crate::filers::{Filers, Tally};
 use crate::folder::{Folder, put};
@@ -69,7 +69,7 @@ pub(crate) fn write_others<F: Folder>(
     found: &Found,
     about: &Markup,
     folder: &mut F,
-    missed: &mut Option<WritingFault>,
+    missed: &mut Option<Missed>,
 )
     ensures { Writes missed.old missed.new (F.pages folder.old) (F.pages folder.new)
         (Page (codes "findings.html") ∷ Page (codes "index.html") ∷ []) }

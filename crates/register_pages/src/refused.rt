@@ -1,12 +1,13 @@
 //! The pages of a filer's refused reports.
 
-ghost use Rattle.std.specs.Prelude.{◌≡◌, ◌≤◌, ◌++◌, [], length, take, IfOk, OnOk};
+ghost use Rattle.std.specs.Prelude.{◌≡◌, ◌≤◌, ◌++◌, [], length, take, IfErr, IfOk, OnOk};
 ghost use Rattle.table_rows.specs.Leaving.{MayRead};
+ghost use Rattle.register_extracts.specs.Faults.{IsReadingWhy};
 ghost use Rattle.register_pages.specs.Pages.{Writes, refused_pages};
 ghost use Rattle.register_pages.specs.Shown.{AddsFindings, AddsLine, AddsLines, AddsRefused, AddsRows, Holds};
 ghost use Rattle.register_pages.specs.Shown.{others as others_lem, report_cell as report_cell_lem};
 
-use crate::fault::WritingFault;
+use crate::fault::Missed;
 use crate::folder::{Folder, put};
 use crate::frame::{Search, begin_by, end_by_table, filing_cell, moment_cell, number_cell};
 use crate::own::{Filed, Own};
@@ -14,7 +15,7 @@ use crate::parts::{MOST_REPORTS, Part, behind, first, neighbours, pages_for};
 use crate::reads::{findings_at, target_at};
 use crate::{Markup, names};
 use finding_lines::{Form, lines, one_line};
-use register_extracts::{KeptReport, Moment, moment_at, sent_at};
+use register_extracts::{KeptReport, Moment, Why, moment_at, sent_at};
 use register_rows::Catalogue;
 use sqlite::{Alter, Connection};
 use std::alloc::{AllocError, Global};
@@ -263,9 +264,10 @@ fn read_row<S: Alter>(
     catalogue: &Catalogue,
     filings: &[Filed],
     place: u64,
-) -> Result<(), WritingFault>
+) -> Result<(), Why>
     ensures shown { OnOk result (AddsRefused place rows.old rows.new) }
     ensures leaves { MayRead S.Store conn.old conn.new result }
+    ensures fails { IfErr result IsReadingWhy }
 {
     let sent = sent_at(conn, place)?;
     let received = moment_at(conn, place)?;
@@ -289,10 +291,11 @@ fn read_rows<S: Alter>(
     catalogue: &Catalogue,
     filings: &[Filed],
     places: &[u64],
-) -> Result<Markup, WritingFault>
+) -> Result<Markup, Why>
     requires { length places.now ≤ 50 }
     ensures shown { IfOk result (λ rows. AddsRows places.now [] rows) }
     ensures leaves { MayRead S.Store conn.old conn.new result }
+    ensures fails { IfErr result IsReadingWhy }
 {
     let mut rows = Markup::new(alloc);
     for place in places {
@@ -330,11 +333,12 @@ pub(crate) fn write_refused<S: Alter, F: Folder>(
     own: &Own,
     about: &Markup,
     folder: &mut F,
-    missed: &mut Option<WritingFault>,
-) -> Result<(), WritingFault>
+    missed: &mut Option<Missed>,
+) -> Result<(), Why>
     ensures written { OnOk result (Writes missed.old missed.new (F.pages folder.old) (F.pages folder.new)
         (refused_pages filer.now (length own.now.refused.items))) }
     ensures leaves { MayRead S.Store conn.old conn.new result }
+    ensures fails { IfErr result IsReadingWhy }
 {
     if own.refused.len() == 0 {
         return Ok(());

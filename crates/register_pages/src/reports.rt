@@ -9,10 +9,11 @@ ghost use Rattle.register_store.specs.Store.{ForRegister};
 ghost use Rattle.register_pages.specs.Own.{ArePlaced, places_of};
 ghost use Rattle.register_pages.specs.Pages.{Writes, refused_report};
 
-use crate::fault::WritingFault;
+use crate::fault::Missed;
 use crate::folder::{Folder, put_report};
 use crate::names;
 use register_extracts::sent_at;
+use register_store::StoreFault;
 use sqlite::{Alter, Connection};
 use std::alloc::Global;
 
@@ -22,8 +23,8 @@ fn write_report<S: Alter, F: Folder>(
     conn: &mut Connection<S>,
     place: u64,
     folder: &mut F,
-    missed: &mut Option<WritingFault>,
-) -> Result<(), WritingFault>
+    missed: &mut Option<Missed>,
+) -> Result<(), StoreFault>
     ensures written { ForRegister S.Store conn.old conn.new (λ _ requests.
         (k : Kept) → IsPlaced 1 place (kept requests) k
         → OnOk result (Writes missed.old missed.new (F.pages folder.old) (F.pages folder.new)
@@ -42,8 +43,8 @@ pub(crate) fn write_reports<S: Alter, F: Folder>(
     conn: &mut Connection<S>,
     places: &[u64],
     folder: &mut F,
-    missed: &mut Option<WritingFault>,
-) -> Result<(), WritingFault>
+    missed: &mut Option<Missed>,
+) -> Result<(), StoreFault>
     ensures written { ForRegister S.Store conn.old conn.new (λ _ requests.
         (refused : List (ℕ × Kept)) → ArePlaced (kept requests) refused → places.now ≡ places_of refused
         → OnOk result (Writes missed.old missed.new (F.pages folder.old) (F.pages folder.new)

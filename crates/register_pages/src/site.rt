@@ -1,6 +1,6 @@
 //! The pages of a register.
 
-ghost use Rattle.std.specs.Prelude.{◌≡◌, ◌≤◌, ◌++◌, ◌^◌, Some, OnOk};
+ghost use Rattle.std.specs.Prelude.{◌≡◌, ◌≤◌, ◌++◌, ◌^◌, Some, IfErr, OnOk};
 ghost use Rattle.std.specs.Ordering.{nat_cmp};
 ghost use Rattle.std.specs.Cmp.Lexicographic.{slice_cmp};
 ghost use Rattle.std.specs.List.Sorted.{IsStrictlySortedBy};
@@ -11,6 +11,8 @@ ghost use Rattle.table_rows.specs.Standing.{IsAtRest};
 ghost use Rattle.register_rows.specs.Catalogue.{catalogue_of, view_lines};
 ghost use Rattle.register_store.specs.Numbered.{filing_numbered};
 ghost use Rattle.register_store.specs.Store.{ForRegister};
+ghost use Rattle.register_extracts.specs.Faults.{IsReadingWhy};
+ghost use Rattle.register_pages.specs.Faults.{IsWritingWhy};
 ghost use Rattle.register_pages.specs.Gathering.{AreCountsOf, codes_of};
 ghost use Rattle.register_pages.specs.Pages.{Adds, Writes, WritesSite, filing_files, other_files, files_of_filer};
 ghost use Rattle.register_pages.specs.Pages.{files_of_filing};
@@ -18,7 +20,7 @@ ghost use Rattle.register_pages.specs.Site.{WritesPages};
 
 use crate::Markup;
 use crate::about::about_register;
-use crate::fault::{PagesFault, WritingFault};
+use crate::fault::Missed;
 use crate::filer::write_filer;
 use crate::filers::Filers;
 use crate::filing::write_filing;
@@ -26,7 +28,7 @@ use crate::folder::Folder;
 use crate::found::Found;
 use crate::gathering::gather;
 use crate::others::write_others;
-use register_extracts::filing_at;
+use register_extracts::{Why, filing_at};
 use register_rows::Catalogue;
 use register_store::{Counts, StoreFault, Unwatched, read_register};
 use sqlite::{Alter, Connection};
@@ -42,7 +44,7 @@ pub fn write_pages<S: Alter, F: Folder>(
     alloc: Global,
     conn: &mut Connection<S>,
     folder: &mut F,
-) -> Result<(), PagesFault>
+) -> Result<(), Why>
     requires { IsAtRest conn.old }
     ensures { WritesPages S.Store (F.pages folder.old) (F.pages folder.new) conn.old conn.new result }
 {
@@ -57,12 +59,13 @@ fn write_all<S: Alter, F: Folder>(
     conn: &mut Connection<S>,
     counts: &Counts,
     folder: &mut F,
-) -> Result<(), WritingFault>
+) -> Result<(), Why>
     requires { counts.now.kept ≤ 2 ^ 62 }
     ensures written { ForRegister S.Store conn.old conn.new (λ _ requests.
         AreCountsOf requests counts.now
         → OnOk result (WritesSite requests (F.pages folder.old) (F.pages folder.new))) }
     ensures leaves { MayRead S.Store conn.old conn.new result }
+    ensures fails { IfErr result IsWritingWhy }
 {
     let mut filers = Filers::new(alloc);
     let mut found = Found::new(alloc)?;
@@ -80,13 +83,14 @@ fn write_site<S: Alter, F: Folder>(
     found: &Found,
     about: &Markup,
     folder: &mut F,
-) -> Result<(), WritingFault>
+) -> Result<(), Why>
     ensures ascend { OnOk result (IsStrictlySortedBy (slice_cmp nat_cmp) (codes_of filers.now)) }
     ensures written { ForRegister S.Store conn.old conn.new (λ _ requests.
         AreCountsOf requests counts.now
         → OnOk result (Adds (F.pages folder.old) (F.pages folder.new)
         (filing_files (register requests) ++ other_files (kept requests) (codes_of filers.now)))) }
     ensures leaves { MayRead S.Store conn.old conn.new result }
+    ensures fails { IfErr result IsWritingWhy }
 {
     let mut missed = None;
     let reports = write_reports(alloc, conn, counts, filers, about, folder, &mut missed);
@@ -101,7 +105,7 @@ fn write_site<S: Alter, F: Folder>(
     );
     reports?;
     match missed {
-        Some(fault) => Err(fault),
+        Some(missed) => Err(Why::from(missed)),
         None => Ok(()),
     }
 }
@@ -114,14 +118,15 @@ fn write_reports<S: Alter, F: Folder>(
     filers: &Filers,
     about: &Markup,
     folder: &mut F,
-    missed: &mut Option<WritingFault>,
-) -> Result<(), WritingFault>
+    missed: &mut Option<Missed>,
+) -> Result<(), Why>
     ensures ascend { OnOk result (IsStrictlySortedBy (slice_cmp nat_cmp) (codes_of filers.now)) }
     ensures written { ForRegister S.Store conn.old conn.new (λ _ requests.
         AreCountsOf requests counts.now
         → OnOk result (Writes missed.old missed.new (F.pages folder.old) (F.pages folder.new)
         (filing_files (register requests) ++ flat_map (files_of_filer (kept requests)) (codes_of filers.now)))) }
     ensures leaves { MayRead S.Store conn.old conn.new result }
+    ensures fails { IfErr result IsReadingWhy }
 {
     write_filings(alloc, conn, counts, about, folder, missed)?;
     write_filers(
@@ -142,7 +147,7 @@ fn write_filings<S: Alter, F: Folder>(
     counts: &Counts,
     about: &Markup,
     folder: &mut F,
-    missed: &mut Option<WritingFault>,
+    missed: &mut Option<Missed>,
 ) -> Result<(), StoreFault>
     ensures written { ForRegister S.Store conn.old conn.new (λ _ requests.
         AreCountsOf requests counts.now
@@ -172,7 +177,7 @@ fn write_numbered<S: Alter, F: Folder>(
     number: u64,
     about: &Markup,
     folder: &mut F,
-    missed: &mut Option<WritingFault>,
+    missed: &mut Option<Missed>,
 ) -> Result<(), StoreFault>
     ensures written { ForRegister S.Store conn.old conn.new (λ _ requests.
         (f : Filing) → view_lines catalogue.now ≡ catalogue_of requests
@@ -197,13 +202,14 @@ fn write_filers<S: Alter, F: Folder>(
     filers: &Filers,
     about: &Markup,
     folder: &mut F,
-    missed: &mut Option<WritingFault>,
-) -> Result<(), WritingFault>
+    missed: &mut Option<Missed>,
+) -> Result<(), Why>
     ensures ascend { OnOk result (IsStrictlySortedBy (slice_cmp nat_cmp) (codes_of filers.now)) }
     ensures written { ForRegister S.Store conn.old conn.new (λ _ requests.
         OnOk result (Writes missed.old missed.new (F.pages folder.old) (F.pages folder.new)
         (flat_map (files_of_filer (kept requests)) (codes_of filers.now)))) }
     ensures leaves { MayRead S.Store conn.old conn.new result }
+    ensures fails { IfErr result IsReadingWhy }
 {
     for (code, _) in filers.list.iter() {
         write_filer(alloc, conn, catalogue, code.as_str(), about, folder, missed)?;

@@ -13,8 +13,6 @@ use Rattle.filing_model.specs.Serving.{keeping}
 use Rattle.filing_model.specs.Stopping.{Crash, No}
 use Rattle.filing_model.specs.declared.served.Ended.{Ended}
 use Rattle.filing_model.specs.declared.served.Mark.{Mark}
-use Rattle.register_tables.specs.declared.fault.OpenFault.{OpenFault}
-use Rattle.register_tables.specs.declared.fault.OpenFault.TheVariants as register
 use Rattle.table_rows.proofs.CleanLemmas.{always_clean}
 use Rattle.intake_core.specs.declared.intake.Intake.{Intake}
 use Rattle.intake_core.specs.Held.{HoldsRequests, KeepsSetting, store_of, old_style_in}
@@ -24,15 +22,11 @@ use Rattle.gateway_server.specs.declared.stop.Stop.{Stop}
 use Rattle.gateway_server.specs.Progress.{ServesToEnd, ServesConnection}
 use Rattle.gateway_server.specs.Stopping.{ServesConnectionUntil, ServesUpTo, IsEndedOrStoppedBy, view_stop}
 use Rattle.database_places.specs.Places.{IsHonest}
-use Rattle.intake_process.specs.declared.fault.OpeningFault.{OpeningFault}
-use Rattle.intake_process.specs.declared.fault.OpeningFault.TheVariants as opening
 use Rattle.intake_process.specs.declared.process.Answered.{Answered}
 use Rattle.intake_process.specs.Beginning.{HoldsAs}
-use Rattle.intake_process.specs.Process.{IsNotOpened, IsLeftBy, KeepsBy, AnswersBy}
+use Rattle.intake_process.specs.Process.{IsLeftBy, KeepsBy, AnswersBy}
 use Rattle.database_places.specs.Places as place
-use Rattle.schedule.specs.Causes.{register_cause, opening_cause, close_cause}
-use Rattle.schedule.specs.declared.ends.fault.EndFault.TheVariants as cause
-use Rattle.schedule.proofs.Causes.{of_files}
+use Rattle.schedule.specs.Causes.{close_cause}
 use Rattle.schedule.specs.Processes.{IsNotStopped}
 
 -- ---- a part of a connection
@@ -122,21 +116,7 @@ pub still_up : {D : Type 0} {g : Ghosts D} (from to : Wire) (old new : Option (I
 still_up from to (Some old) new answered by = ap is_some by.1
 still_up from to None new answered by = ap is_some by.0
 
--- ---- why it is not opened or closed
-
-register_not : (fault : OpenFault) → register_cause fault ≢ cause.Store
-register_not register.NotOurs e = cc
-register_not (register.Damaged row) e = cc
-register_not register.Memory e = cc
-register_not register.Disk e = cc
-
--- a register that had to be there is not told as one that was not made
-pub found_not : {D : Type 0} (g : Ghosts D) (old new : Option (Option (Files D))) (was_taken : Bool)
-    (fault : OpeningFault) → IsNotOpened g true old new was_taken fault → opening_cause fault ≢ cause.Store
-found_not g old new was_taken (opening.Files why) is = of_files why
-found_not g old new was_taken (opening.Taken holding) is = absurd (true≢false is.3.0)
-found_not g old new was_taken (opening.Create why) is = absurd (true≢false is.3.0)
-found_not g old new was_taken (opening.Open why holding) is = register_not why
+-- ---- why it is not closed
 
 -- an error of a close says why the register, which was open, was not closed
 pub not_closed : {D : Type 0} {g : Ghosts D} (old : Option (Intake (FileStore D g))) (there : Option (Files D))

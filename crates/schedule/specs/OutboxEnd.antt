@@ -5,14 +5,16 @@ use Rattle.sqlite_disk.specs.declared.Files.{Files}
 use Rattle.sqlite_store.specs.declared.store.FileStore.{FileStore}
 use Rattle.sqlite.specs.declared.error.Error.{Error}
 use Rattle.filing_model.specs.Outbox.{Entry}
+use Rattle.database_places.specs.Closing.{IsNotClosed}
+use Rattle.database_places.specs.Places as place
 use Rattle.database_places.specs.declared.drawer.Drawer.{Drawer}
 use Rattle.outbox_tables.specs.Entries.{contents_of}
 use Rattle.outbox_core.specs.OutboxParts.{OutboxParts}
-use Rattle.outbox_process.specs.Process.{KeepsBy, IsLeftOpen, IsNotOpened}
+use Rattle.outbox_process.specs.Process.{KeepsBy, IsNotOpened}
 use Rattle.outbox_process.specs.declared.beginning.Beginning.TheVariants.{Found}
-use Rattle.outbox_process.specs.declared.fault.OpeningFault.{OpeningFault}
+use Rattle.outbox_process.specs.declared.fault.Why.{Why}
 use Rattle.outbox_process.specs.declared.process.OutboxProcess.{OutboxProcess}
-use Rattle.schedule.specs.Causes.{outbox_opening_cause, close_cause}
+use Rattle.schedule.specs.Causes.{outbox_cause, close_cause}
 use Rattle.schedule.specs.declared.ends.fault.EndFault.{EndFault}
 use Rattle.schedule.specs.declared.ends.outbox_end.OutboxEnd.{OutboxEnd}
 use Rattle.schedule.specs.declared.ends.fault.EndFault.TheVariants.{Reopen}
@@ -78,13 +80,15 @@ IfUp None Holds = Unit {0}
 abbrev pub IsNotOpenedIn : {D : Type 0} → Ghosts D → Option (Option (Files D)) → Option (Option (Files D)) → EndFault
     → Type 0
 IsNotOpenedIn g old new why =
-    (was_taken : Bool) × (fault : OpeningFault) × IsNotOpened g Found old new was_taken fault
-    × (why ≡ outbox_opening_cause fault)
+    (was_taken : Bool) × (fault : Why) × IsNotOpened g Found old new was_taken fault × (why ≡ outbox_cause fault)
 
--- the outbox was open, and was not closed for an error of this cause
+-- the outbox was open, and was not closed for an error of this cause; what the close left lies there
 abbrev pub IsNotClosedIn : {D : Type 0} {g : Ghosts D} → Option (OutboxParts (FileStore D g))
     → Option (Option (Files D)) → Option (Option (Files D)) → EndFault → Type 0
-IsNotClosedIn outbox old new why = (error : Error) × IsLeftOpen outbox old new error × (why ≡ close_cause error)
+IsNotClosedIn (Some outbox) old new why =
+    (files : Files _) × (error : Error) × place.Leaves old new files × IsNotClosed outbox.conn files error
+    × (why ≡ close_cause error)
+IsNotClosedIn None old new why = ⊥
 
 -- What was left in the drawer is given up with the process.
 abbrev pub IsNotStoppedBy : {D : Type 0} {g : Ghosts D} → Option (OutboxProcess D (Drawer D) g) → EndFault → Type 0

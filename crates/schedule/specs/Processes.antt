@@ -14,10 +14,10 @@ use Rattle.database_places.specs.Closing.{IsNotClosed}
 use Rattle.database_places.specs.declared.drawer.Drawer.{Drawer}
 use Rattle.intake_core.specs.declared.intake.Intake.{Intake}
 use Rattle.intake_core.specs.Held.{store_of, has_stopped}
+use Rattle.register_extracts.specs.declared.fault.Why.{Why}
 use Rattle.intake_process.specs.Process.{KeepsBy, IsNotOpened}
-use Rattle.intake_process.specs.declared.fault.OpeningFault.{OpeningFault}
 use Rattle.intake_process.specs.declared.process.IntakeProcess.{IntakeProcess}
-use Rattle.schedule.specs.Causes.{opening_cause, close_cause}
+use Rattle.schedule.specs.Causes.{register_cause, close_cause}
 use Rattle.schedule.specs.OutboxEnd.{lying_in}
 use Rattle.schedule.specs.declared.ends.fault.EndFault.{EndFault}
 
@@ -51,8 +51,8 @@ is_asleep None = true
 abbrev pub IsNotStarted : {D : Type 0} → Ghosts D → Bool → Option (Option (Files D)) → Option (Option (Files D))
     → EndFault → Type 0
 IsNotStarted g has_to_be_there old new why =
-    (fault : OpeningFault) × (was_taken : Bool) × IsNotOpened g has_to_be_there old new was_taken fault
-    × (why ≡ opening_cause fault)
+    (fault : Why) × (was_taken : Bool) × IsNotOpened g has_to_be_there old new was_taken fault
+    × (why ≡ register_cause fault)
 
 -- its register was open, and was not closed for an error of this cause; the files that were left lie in its place
 abbrev pub IsNotStopped : {D : Type 0} {g : Ghosts D} → Option (Intake (FileStore D g)) → Option (Option (Files D))

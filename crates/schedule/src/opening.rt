@@ -44,7 +44,7 @@ pub(crate) fn open<D: Honest>(
 {
     match process.open(alloc, Opening::Found(PageCache::OfTheFile), limit) {
         Ok(_) => Ok(()),
-        Err(fault) => Err(EndFault::from(fault)),
+        Err(refusal) => Err(EndFault::from(refusal)),
     }
 }
 

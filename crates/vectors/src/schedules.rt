@@ -32,13 +32,13 @@ pub(crate) fn run(alloc: Global, number: u32) -> Result<bool, AllocError> {
     };
     match passed {
         Ok(passed) => Ok(passed),
-        Err(fault) if wants_memory(fault) => Err(AllocError),
+        Err(fault) if wants_memory(&fault) => Err(AllocError),
         Err(_) => Ok(false),
     }
 }
 
 /// Whether memory was refused.
-fn wants_memory(fault: NotDone) -> bool {
+fn wants_memory(fault: &NotDone) -> bool {
     match fault {
         NotDone::Command(CommandFault::Memory)
         | NotDone::Script(ScriptFault::Memory)

@@ -1,16 +1,18 @@
 //! Prints when filings were received.
 
-ghost use Rattle.std.specs.Prelude.{◌≡◌, string_bytes, IfOk, None};
+ghost use Rattle.std.specs.Prelude.{◌≡◌, true, string_bytes, IfErr, IfOk, None};
 ghost use Rattle.filing_model.specs.Listing.{listings};
 ghost use Rattle.filing_model.specs.Register.{kept, register};
+ghost use Rattle.register_extracts.specs.Faults.{IsReadingWhy};
 ghost use Rattle.register_extracts.specs.Moments.{moment_of};
 ghost use Rattle.register_store.specs.Calls.{KeepsStore};
 ghost use Rattle.register_store.specs.Moments.{ForMoments, milliseconds_of};
-ghost use Rattle.intake_process.specs.Lines.{moment_line, moment_lines};
-ghost use Rattle.intake_process.specs.Tasks.{ListsMoments};
+ghost use Rattle.intake_process.specs.Listing.{moment_line, moment_lines};
+ghost use Rattle.intake_process.specs.Tasks.{AnswersQuestion};
 
+use crate::tasks::errand::Question;
 use crate::tasks::text::print;
-use register_extracts::{RecordsFault, moment_text};
+use register_extracts::{Why, moment_text};
 use register_store::{Moment, Store, StoreFault};
 use sqlite::Alter;
 use std::alloc::{AllocError, Global};
@@ -22,27 +24,21 @@ pub(crate) fn list_moments<S: Alter, O: Write>(
     store: &mut Store<S>,
     filer: &str,
     output: &mut O,
-) -> Result<(), RecordsFault>
-    ensures { ListsMoments S.Store filer.now (O.contents output.old) (O.contents output.new) store.old store.new
-        result }
+) -> Result<(), Why>
+    ensures { AnswersQuestion S.Store (Question.List filer.entry true) (O.contents output.old) (O.contents output.new)
+        store.old store.new.conn result }
 {
     let text = moment_lines(alloc, store, filer)?;
-    match print(output, text.as_bytes()) {
-        Ok(()) => Ok(()),
-        Err(_) => Err(RecordsFault::Output),
-    }
+    print(output, text.as_bytes())
 }
 
 /// A line for each filing of a filer.
-fn moment_lines<S: Alter>(
-    alloc: Global,
-    store: &mut Store<S>,
-    filer: &str,
-) -> Result<String, RecordsFault>
+fn moment_lines<S: Alter>(alloc: Global, store: &mut Store<S>, filer: &str) -> Result<String, Why>
     ensures lines { ForMoments S.Store store.old store.new (λ requests moments. IfOk result (λ text.
         string_bytes text
         ≡ moment_lines (kept requests) moments (listings filer.now None (register requests)))) }
     ensures keeps { KeepsStore S.Store store.old store.new }
+    ensures fails { IfErr result IsReadingWhy }
 {
     let rows = store.filings(filer)?;
     let mut text = String::new(alloc);

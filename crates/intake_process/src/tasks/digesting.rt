@@ -1,28 +1,32 @@
 //! Prints the digest of a register.
 
-ghost use Rattle.std.specs.Prelude.{IfErr, IfOk, OnOk, ◌≡◌};
-ghost use Rattle.std.specs.Io.KnownBytes.{Appends};
+ghost use Rattle.std.specs.Prelude.{IfOk, ◌≡◌};
+ghost use Rattle.table_rows.specs.Standing.{IsAtRest};
 ghost use Rattle.register_extracts.specs.Views.{view_digest};
-ghost use Rattle.intake_process.specs.Lines.{digest_line};
-ghost use Rattle.intake_process.specs.Tasks.{PrintsNothing};
-ghost use Rattle.intake_process.specs.declared.tasks.text.TextFault.TheVariants.{Output};
+ghost use Rattle.intake_process.specs.Errands.{RunsErrand};
+ghost use Rattle.intake_process.specs.Extracting.{digest_line};
 
-use crate::tasks::text::{TextFault, print};
-use register_extracts::Digest;
+use crate::tasks::errand::Errand;
+use crate::tasks::text::print;
+use register_extracts::{Digest, Why, digest_register};
+use sqlite::{Alter, Connection};
 use std::alloc::{AllocError, Global};
 use std::io::Write;
 
-/// Prints a digest, behind the number of the requests that it is of, as a line.
-pub(crate) fn print_digest<O: Write>(
+/// Prints the digest of the first requests, so many, or of all, behind the number of the requests that it is of, as a
+/// line.
+pub(crate) fn digest<S: Alter, O: Write>(
     alloc: Global,
-    digest: &Digest,
+    conn: &mut Connection<S>,
+    until: Option<u64>,
     output: &mut O,
-) -> Result<(), TextFault>
-    ensures printed { OnOk result (Appends (O.contents output.old) (O.contents output.new)
-        (digest_line (view_digest digest.now))) }
-    ensures quiet { IfErr result (PrintsNothing Output (O.contents output.old) (O.contents output.new)) }
+) -> Result<(), Why>
+    requires { IsAtRest conn.old }
+    ensures { RunsErrand S.Store (Errand.Digest until) (O.contents output.old) (O.contents output.new) conn.old
+        conn.new result }
 {
-    let line = digest_line(alloc, digest)?;
+    let digest = digest_register(alloc, conn, until)?;
+    let line = digest_line(alloc, &digest)?;
     print(output, &line)
 }
 

@@ -9,9 +9,9 @@ pub struct Published {
     pub bytes: [u8; 32],
 }
 
-/// What is done with a register that is there.
+/// What is asked of a register, which answers it while it is open.
 #[derive(Clone, Copy)]
-pub enum Errand<'a> {
+pub enum Question<'a> {
     /// Show the filings of a filer, or when each was received.
     List { filer: &'a str, moments: bool },
     /// Show the facts of a filing, and before them when it was received, if that is asked for.
@@ -20,6 +20,13 @@ pub enum Errand<'a> {
     FilingBody { number: u64 },
     /// Print the bytes of the first report of this filer under this key, whether it was registered or refused.
     RequestBody { filer: &'a str, key: &'a str },
+}
+
+/// What is done with a register that is there.
+#[derive(Clone, Copy)]
+pub enum Errand<'a> {
+    /// Open it, and answer a question.
+    Ask(Question<'a>),
     /// Say whether the register is sound, and has the requests of a digest that was published, if one is given.
     Check { against: Option<Published> },
     /// Upgrade a register of an earlier version to this version. No opening does that, since no way leads back.

@@ -1,66 +1,36 @@
 //! Prints the filings of a filer.
 
-ghost use Rattle.std.specs.Prelude.{◌≡◌, map, IfOk};
+ghost use Rattle.std.specs.Prelude.{◌≡◌, false, map, IfOk};
 ghost use Rattle.filing_model.specs.Reply.{list_reply};
 ghost use Rattle.filing_model.specs.Views.{view_row};
-ghost use Rattle.intake_process.specs.Lines.{line};
-ghost use Rattle.intake_process.specs.Tasks.{ListsFilings};
-ghost use Rattle.intake_process.specs.declared.tasks.listing.ListFault.TheVariants as fault;
-ghost use Rattle.intake_process.specs.declared.tasks.text.TextFault.TheVariants as text;
+ghost use Rattle.intake_process.specs.Listing.{line};
+ghost use Rattle.intake_process.specs.Tasks.{AnswersQuestion};
 
-use crate::tasks::text::{TextFault, print};
-use intake_core::{FilingRow, Intake, Unavailable, list_reply};
+use crate::tasks::errand::Question;
+use crate::tasks::text::print;
+use intake_core::{FilingRow, list_reply};
+use register_extracts::Why;
+use register_store::Store;
 use sqlite::Alter;
 use std::alloc::{AllocError, Global};
 use std::io::Write;
 
-/// Why the filings of a filer are not listed.
-#[derive(Clone, Copy, Debug, PartialEq, Eq)]
-pub enum ListFault {
-    /// The intake does not answer.
-    Intake(Unavailable),
-    /// They could not be printed.
-    Text(TextFault),
-}
-
-impl From<Unavailable> for ListFault {
-    ghost from_gives = { λ why given. given ≡ fault.Intake why };
-
-    fn from(fault: Unavailable) -> ListFault {
-        ListFault::Intake(fault)
-    }
-}
-
-impl From<AllocError> for ListFault {
-    ghost from_gives = { λ _ given. given ≡ fault.Text text.Memory };
-
-    fn from(_error: AllocError) -> ListFault {
-        ListFault::Text(TextFault::Memory)
-    }
-}
-
-impl From<TextFault> for ListFault {
-    ghost from_gives = { λ why given. given ≡ fault.Text why };
-
-    fn from(fault: TextFault) -> ListFault {
-        ListFault::Text(fault)
-    }
-}
-
 /// Prints the filings of a filer, as the reply to a GET lists them, as a line.
-pub fn list<S: Alter, O: Write>(
+pub(crate) fn list<S: Alter, O: Write>(
     alloc: Global,
-    intake: &mut Intake<S>,
+    store: &mut Store<S>,
     filer: &str,
     output: &mut O,
-) -> Result<(), ListFault>
-    ensures { ListsFilings S.Store filer.now (O.contents output.old) (O.contents output.new) intake.old intake.new
-        result }
+) -> Result<(), Why>
+    ensures { AnswersQuestion S.Store (Question.List filer.entry false) (O.contents output.old) (O.contents output.new)
+        store.old store.new.conn result }
 {
-    let rows = intake.list(filer)?;
+    let rows = match store.filings(filer) {
+        Ok(rows) => rows,
+        Err(fault) => return Err(Why::List(fault)),
+    };
     let text = list_line(alloc, &rows)?;
-    print(output, &text)?;
-    Ok(())
+    print(output, &text)
 }
 
 /// The content of the reply that lists these filings, as a line.

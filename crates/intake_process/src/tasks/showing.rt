@@ -1,98 +1,63 @@
 //! Prints the facts of a filing.
 
 ghost use Rattle.std.specs.Prelude.{◌≡◌, string_bytes, IfOk, IfErr};
-ghost use Rattle.intake_process.specs.Lines.{fact_lines, shown_lines};
+ghost use Rattle.intake_process.specs.Showing.{fact_lines, shown_lines};
 ghost use Rattle.register_store.specs.Calls.{KeepsStore};
 ghost use Rattle.register_store.specs.Moments.{ForMoments};
 ghost use Rattle.filing_model.specs.Register.{kept};
+ghost use Rattle.register_extracts.specs.Faults.{IsReadingWhy};
 ghost use Rattle.register_extracts.specs.Moments.{moment_of};
-ghost use Rattle.intake_process.specs.Tasks.{IsReadingFault, ShowsFiling};
-ghost use Rattle.intake_process.specs.declared.tasks.showing.ShowFault.TheVariants as fault;
-ghost use Rattle.intake_process.specs.declared.tasks.text.TextFault.TheVariants as text;
+ghost use Rattle.intake_process.specs.Tasks.{AnswersQuestion};
 
 use crate::tasks::dating::{moment_line, received};
-use crate::tasks::text::{TextFault, print};
+use crate::tasks::errand::Question;
+use crate::tasks::text::print;
 use intake_core::fact_line;
-use register_store::{Store, StoreFault};
+use register_extracts::Why;
+use register_store::Store;
 use sqlite::Alter;
 use std::alloc::{AllocError, Global};
 use std::io::Write;
 use terminal_text::OneLine;
 use xbrl_report::Fact;
 
-/// Why a filing is not shown, or the report of a request.
-#[derive(Clone, Copy, Debug, PartialEq, Eq)]
-pub enum ShowFault {
-    /// There is none of this number, or of this filer and key.
-    Missing,
-    /// The register could not be read.
-    Store(StoreFault),
-    /// It could not be printed.
-    Text(TextFault),
-}
-
-impl From<StoreFault> for ShowFault {
-    ghost from_gives = { λ why given. given ≡ fault.Store why };
-
-    fn from(fault: StoreFault) -> ShowFault {
-        ShowFault::Store(fault)
-    }
-}
-
-impl From<AllocError> for ShowFault {
-    ghost from_gives = { λ _ given. given ≡ fault.Text text.Memory };
-
-    fn from(_error: AllocError) -> ShowFault {
-        ShowFault::Text(TextFault::Memory)
-    }
-}
-
-impl From<TextFault> for ShowFault {
-    ghost from_gives = { λ why given. given ≡ fault.Text why };
-
-    fn from(fault: TextFault) -> ShowFault {
-        ShowFault::Text(fault)
-    }
-}
-
 /// Prints the facts of the filing of this number, each as a line, and before them when it was received, if that is
 /// asked for.
-pub fn show<S: Alter, O: Write>(
+pub(crate) fn show<S: Alter, O: Write>(
     alloc: Global,
-    register: &mut Store<S>,
+    store: &mut Store<S>,
     number: u64,
     moments: bool,
     output: &mut O,
-) -> Result<(), ShowFault>
-    ensures { ShowsFiling S.Store number moments (O.contents output.old) (O.contents output.new) register.old
-        register.new result }
+) -> Result<(), Why>
+    ensures { AnswersQuestion S.Store (Question.Show number moments) (O.contents output.old) (O.contents output.new)
+        store.old store.new.conn result }
 {
-    let Some(facts) = register.facts(number)? else {
-        return Err(ShowFault::Missing);
+    let Some(facts) = store.facts(number)? else {
+        return Err(Why::NoFiling { number });
     };
-    let text = shown_lines(alloc, register, number, moments, &facts)?;
-    print(output, text.as_bytes())?;
-    Ok(())
+    let text = shown_lines(alloc, store, number, moments, &facts)?;
+    print(output, text.as_bytes())
 }
 
 /// What is printed of the filing of this number, which has these facts.
 fn shown_lines<S: Alter>(
     alloc: Global,
-    register: &mut Store<S>,
+    store: &mut Store<S>,
     number: u64,
     moments: bool,
     facts: &[Fact],
-) -> Result<String, ShowFault>
-    ensures lines { ForMoments S.Store register.old register.new (λ requests received. IfOk result (λ text.
+) -> Result<String, Why>
+    ensures lines { ForMoments S.Store store.old store.new (λ requests received. IfOk result (λ text.
         string_bytes text ≡ shown_lines moments number (moment_of (kept requests) received number) facts.now)) }
-    ensures keeps { KeepsStore S.Store register.old register.new }
-    ensures fault { IfErr result IsReadingFault }
+    ensures keeps { KeepsStore S.Store store.old store.new }
+    ensures fails { IfErr result IsReadingWhy }
 {
     if !moments {
         let text = fact_lines(alloc, facts)?;
         return Ok(text);
     }
-    let received = received(register, number)?;
+    let received = received(store, number)?;
     let mut text = moment_line(alloc, number, received)?;
     let lines = fact_lines(alloc, facts)?;
     text.push_str(lines.as_str())?;

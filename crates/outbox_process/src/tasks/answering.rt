@@ -1,6 +1,6 @@
 //! The reply to a question about an entry is printed.
 
-ghost use Rattle.std.specs.Prelude.{◌≡◌, string_bytes, IfOk, OnOk};
+ghost use Rattle.std.specs.Prelude.{◌≡◌, string_bytes, IfOk, IfErr, OnOk};
 ghost use Rattle.http_messages.specs.Reply.{phrase};
 ghost use Rattle.http_messages.specs.Replies.{reply_parts};
 ghost use Rattle.finding_lines.specs.Objects.{json_text};
@@ -8,8 +8,9 @@ ghost use Rattle.outbox_core.specs.Reading.{view_entry};
 ghost use Rattle.outbox_process.specs.Answering.{HasString, Refuses, MayReplace, HasFindings, phrase_part};
 ghost use Rattle.outbox_process.specs.Answering.{sentence_head, object_head, head_text, entry_name, IsAnswerText};
 ghost use Rattle.outbox_process.specs.Answering.{PrintsAnswer};
+ghost use Rattle.outbox_process.specs.Faults.{IsNotPrinted};
 
-use crate::tasks::fault::LineFault;
+use crate::fault::Why;
 use crate::tasks::lines::print_bytes;
 use finding_lines::{Form, lines, one_line};
 use http_wire::{Reply, phrase};
@@ -156,9 +157,10 @@ pub(crate) fn print_answer<O: Write>(
     entry: &Entry,
     reply: &Reply,
     output: &mut O,
-) -> Result<(), LineFault>
-    ensures { OnOk result (PrintsAnswer form filer.now (view_entry entry.now) (reply_parts reply.now)
+) -> Result<(), Why>
+    ensures printed { OnOk result (PrintsAnswer form filer.now (view_entry entry.now) (reply_parts reply.now)
         (O.contents output.old) (O.contents output.new)) }
+    ensures refused { IfErr result IsNotPrinted }
 {
     let text = answer_text(alloc, form, filer, entry, reply)?;
     print_bytes(text.as_slice(), output)

@@ -8,9 +8,9 @@ ghost use Rattle.outbox_core.specs.Reading.{view_entry};
 ghost use Rattle.outbox_process.specs.Asking.{FindsQuestion, WritesQuestion, IsReplied, Looks, LooksFirst, TellsReply};
 ghost use Rattle.outbox_process.specs.Asking.{AsksEntry};
 
+use crate::fault::Why;
 use crate::tasks::answering::print_answer;
 use crate::tasks::dial::Dial;
-use crate::tasks::fault::{LineFault, SendFault, TaskFault};
 use crate::tasks::listing::{find_listed, list_request};
 use crate::tasks::looking::{entry_of, is_open};
 use filer_client::{ExchangeFault, request_bytes};
@@ -29,22 +29,18 @@ struct Question {
 }
 
 /// What is asked about the entry of this id. An open entry is refused.
-fn question_of<S: Alter>(
-    alloc: Global,
-    outbox: &mut Outbox<S>,
-    id: u64,
-) -> Result<Question, TaskFault>
+fn question_of<S: Alter>(alloc: Global, outbox: &mut Outbox<S>, id: u64) -> Result<Question, Why>
     ensures { FindsQuestion S.Store outbox.old outbox.new id result }
 {
     let entry = entry_of(outbox, id)?;
     if is_open(entry.state) {
-        return Err(TaskFault::IsOpen { id });
+        return Err(Why::IsOpen { id });
     }
     match request_bytes(alloc, outbox, id) {
         Ok(request) => Ok(Question { entry, request }),
-        Err(fault) => Err(TaskFault::Send {
+        Err(fault) => Err(Why::Exchange {
             id,
-            fault: SendFault::Exchange(ExchangeFault::Take(fault)),
+            fault: ExchangeFault::Take(fault),
         }),
     }
 }
@@ -71,57 +67,30 @@ fn ask_on<R: Source, W: Sink>(
     }
 }
 
-/// Sends this question about the entry of this id on a connection of its own, and answers the reply.
+/// Sends a request on a connection of its own, for the entry of this id in this state, and answers the reply.
 fn ask_once<N: Dial>(
     alloc: Global,
     network: &mut N,
     id: u64,
-    question: &Question,
-) -> Result<Reply, SendFault>
-    ensures { IsReplied id question.now.entry.state question.now.request.items (N.traffic network.old)
-        (N.traffic network.new) result }
-{
-    match network.connect() {
-        Ok((mut reader, mut writer)) => {
-            let request = question.request.as_slice();
-            match ask_on(alloc, &mut reader, &mut writer, request) {
-                Ok(reply) => {
-                    network.end(reader, writer, id, Ok(question.entry.state));
-                    Ok(reply)
-                }
-                Err(fault) => {
-                    network.end(reader, writer, id, Err(fault));
-                    Err(SendFault::Exchange(fault))
-                }
-            }
-        }
-        Err(error) => Err(SendFault::Connect(error)),
-    }
-}
-
-/// Sends a request for a list on a connection of its own, for the entry of this id, and answers the reply.
-fn look_once<N: Dial>(
-    alloc: Global,
-    network: &mut N,
-    id: u64,
+    state: State,
     request: &[u8],
-) -> Result<Reply, SendFault>
-    ensures { IsReplied id State.Open request.now (N.traffic network.old) (N.traffic network.new) result }
+) -> Result<Reply, Why>
+    ensures { IsReplied id state request.now (N.traffic network.old) (N.traffic network.new) result }
 {
     match network.connect() {
         Ok((mut reader, mut writer)) => {
             match ask_on(alloc, &mut reader, &mut writer, request) {
                 Ok(reply) => {
-                    network.end_look(reader, writer, id, Ok(State::Open));
+                    network.end(reader, writer, id, Ok(state), true);
                     Ok(reply)
                 }
                 Err(fault) => {
-                    network.end_look(reader, writer, id, Err(fault));
-                    Err(SendFault::Exchange(fault))
+                    network.end(reader, writer, id, Err(fault), true);
+                    Err(Why::Exchange { id, fault })
                 }
             }
         }
-        Err(error) => Err(SendFault::Connect(error)),
+        Err(error) => Err(Why::Connect(error)),
     }
 }
 
@@ -134,17 +103,13 @@ fn look<N: Dial>(
     id: u64,
     number: u64,
     entry: &Entry,
-) -> Result<(), TaskFault>
+) -> Result<(), Why>
     ensures { Looks filer.now id number (view_entry entry.now).1 (N.traffic network.old) (N.traffic network.new)
         result }
 {
-    let Ok(request) = list_request(alloc, filer, number) else {
-        return Err(TaskFault::Line(LineFault::Memory));
-    };
-    match look_once(alloc, network, id, request.as_slice()) {
-        Ok(reply) => find_listed(alloc, filer, id, number, entry, &reply),
-        Err(fault) => Err(TaskFault::Send { id, fault }),
-    }
+    let request = list_request(alloc, filer, number)?;
+    let reply = ask_once(alloc, network, id, State::Open, request.as_slice())?;
+    find_listed(alloc, filer, id, number, entry, &reply)
 }
 
 /// Before the request of this entry of this filer is sent again: if it is confirmed, its filing has to be listed.
@@ -154,7 +119,7 @@ fn look_first<N: Dial>(
     filer: &str,
     id: u64,
     entry: &Entry,
-) -> Result<(), TaskFault>
+) -> Result<(), Why>
     ensures { LooksFirst filer.now id (view_entry entry.now).1 entry.now.state (N.traffic network.old)
         (N.traffic network.new) result }
 {
@@ -175,16 +140,14 @@ fn tell_reply<O: Write>(
     entry: &Entry,
     reply: &Reply,
     output: &mut O,
-) -> Result<(), TaskFault>
+) -> Result<(), Why>
     ensures { TellsReply form filer.now id entry.now.state (view_entry entry.now) (reply_parts reply.now)
         (O.contents output.old) (O.contents output.new) result }
 {
-    let Ok(said) = said_of(alloc, entry.state, reply) else {
-        return Err(TaskFault::Line(LineFault::Memory));
-    };
+    let said = said_of(alloc, entry.state, reply)?;
     print_answer(alloc, form, filer, entry, reply, output)?;
     match said {
-        Said::Otherwise(told) => Err(TaskFault::Contradicts {
+        Said::Otherwise(told) => Err(Why::Contradicts {
             id,
             state: entry.state,
             told,
@@ -205,24 +168,26 @@ pub fn ask<S: Alter, N: Dial, O: Write>(
     form: Form,
     id: u64,
     output: &mut O,
-) -> Result<(), TaskFault>
+) -> Result<(), Why>
     ensures { AsksEntry S.Store form id (N.traffic network.old) (N.traffic network.new) outbox.old outbox.new
         (O.contents output.old) (O.contents output.new) result }
 {
     let question = question_of(alloc, outbox, id)?;
     look_first(alloc, network, outbox.filer(), id, &question.entry)?;
-    match ask_once(alloc, network, id, &question) {
-        Ok(reply) => {
-            tell_reply(
-                alloc,
-                form,
-                outbox.filer(),
-                id,
-                &question.entry,
-                &reply,
-                output,
-            )
-        }
-        Err(fault) => Err(TaskFault::Send { id, fault }),
-    }
+    let reply = ask_once(
+        alloc,
+        network,
+        id,
+        question.entry.state,
+        question.request.as_slice(),
+    )?;
+    tell_reply(
+        alloc,
+        form,
+        outbox.filer(),
+        id,
+        &question.entry,
+        &reply,
+        output,
+    )
 }

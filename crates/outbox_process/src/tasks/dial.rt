@@ -25,25 +25,15 @@ pub trait Dial {
     fn connect(&mut self) -> io::Result<(Self::Reader, Self::Writer)>
         ensures { Connects (wire Self.Reader.Source Self.Writer.Sink) (traffic self.old) (traffic self.new) result };
 
-    /// Takes back a connection that is over, and what came of the exchange on it for the entry of this id.
+    /// Takes back a connection that is over, and what came of the exchange on it for the entry of this id. What comes
+    /// of a question is said by the task, and not to be reported.
     fn end(
         &mut self,
         reader: Self::Reader,
         writer: Self::Writer,
         id: u64,
         came: Result<State, ExchangeFault>,
-    )
-        ensures coming { (traffic self.new).coming ≡ (traffic self.old).coming }
-        ensures over { Adds (traffic self.old).over (traffic self.new).over id came (Self.Writer.written writer) };
-
-    /// Takes back a connection that is over, on which it was only asked whether a filing is listed, as which the entry
-    /// of this id is confirmed. So nothing is to be reported or kept of what came.
-    fn end_look(
-        &mut self,
-        reader: Self::Reader,
-        writer: Self::Writer,
-        id: u64,
-        came: Result<State, ExchangeFault>,
+        is_question: bool,
     )
         ensures coming { (traffic self.new).coming ≡ (traffic self.old).coming }
         ensures over { Adds (traffic self.old).over (traffic self.new).over id came (Self.Writer.written writer) };

@@ -1,38 +1,42 @@
 //! The lines that are printed.
 
-ghost use Rattle.std.specs.Prelude.{◌≡◌, Some, IfOk, OnOk, flat_map, string_bytes};
+ghost use Rattle.std.specs.Prelude.{◌≡◌, Some, IfOk, IfErr, OnOk, flat_map, string_bytes};
 ghost use Rattle.std.specs.Io.KnownBytes.{Appends};
 ghost use Rattle.filing_model.specs.Views.{view_state};
 ghost use Rattle.outbox_core.specs.Reading.{view_entry};
+ghost use Rattle.outbox_process.specs.Faults.{IsNotPrinted};
 ghost use Rattle.outbox_process.specs.Lines.{id_line, entry_line, front_part, size_part, target_part, long_line};
 ghost use Rattle.outbox_process.specs.Lines.{nothing_open, told_line};
 
-use crate::tasks::fault::LineFault;
+use crate::fault::Why;
 use command_line::show;
 use outbox_core::{Entry, State};
 use std::alloc::{AllocError, Global};
 use std::io::Write;
 
 /// Prints a text whole.
-fn print<O: Write>(text: &str, output: &mut O) -> Result<(), LineFault>
-    ensures { OnOk result (Appends (O.contents output.old) (O.contents output.new) text.now) }
+fn print<O: Write>(text: &str, output: &mut O) -> Result<(), Why>
+    ensures printed { OnOk result (Appends (O.contents output.old) (O.contents output.new) text.now) }
+    ensures refused { IfErr result IsNotPrinted }
 {
     print_bytes(text.as_bytes(), output)
 }
 
 /// Prints bytes whole.
-pub(crate) fn print_bytes<O: Write>(text: &[u8], output: &mut O) -> Result<(), LineFault>
-    ensures { OnOk result (Appends (O.contents output.old) (O.contents output.new) text.now) }
+pub(crate) fn print_bytes<O: Write>(text: &[u8], output: &mut O) -> Result<(), Why>
+    ensures printed { OnOk result (Appends (O.contents output.old) (O.contents output.new) text.now) }
+    ensures refused { IfErr result IsNotPrinted }
 {
     match show(output, text) {
         Ok(()) => Ok(()),
-        Err(_) => Err(LineFault::Output),
+        Err(_) => Err(Why::Output),
     }
 }
 
 /// Prints the id of an entry.
-pub(crate) fn print_id<O: Write>(alloc: Global, id: u64, output: &mut O) -> Result<(), LineFault>
-    ensures { OnOk result (Appends (O.contents output.old) (O.contents output.new) (id_line id)) }
+pub(crate) fn print_id<O: Write>(alloc: Global, id: u64, output: &mut O) -> Result<(), Why>
+    ensures printed { OnOk result (Appends (O.contents output.old) (O.contents output.new) (id_line id)) }
+    ensures refused { IfErr result IsNotPrinted }
 {
     let text = format!(in alloc; "entry {id}\n")?;
     print(text.as_str(), output)
@@ -44,9 +48,10 @@ pub(crate) fn print_state<O: Write>(
     id: u64,
     state: State,
     output: &mut O,
-) -> Result<(), LineFault>
-    ensures { OnOk result
+) -> Result<(), Why>
+    ensures printed { OnOk result
         (Appends (O.contents output.old) (O.contents output.new) (entry_line id (view_state state))) }
+    ensures refused { IfErr result IsNotPrinted }
 {
     let text = format!(in alloc; "entry {id} {state}\n")?;
     print(text.as_str(), output)
@@ -57,9 +62,10 @@ pub(crate) fn print_states<O: Write>(
     alloc: Global,
     states: &[(u64, State)],
     output: &mut O,
-) -> Result<(), LineFault>
-    ensures { OnOk result
+) -> Result<(), Why>
+    ensures printed { OnOk result
         (Appends (O.contents output.old) (O.contents output.new) (flat_map told_line states.now)) }
+    ensures refused { IfErr result IsNotPrinted }
 {
     let text = state_lines(alloc, states)?;
     print(text.as_str(), output)
@@ -83,9 +89,10 @@ pub(crate) fn print_long<O: Write>(
     id: u64,
     entry: &Entry,
     output: &mut O,
-) -> Result<(), LineFault>
-    ensures { OnOk result
+) -> Result<(), Why>
+    ensures printed { OnOk result
         (Appends (O.contents output.old) (O.contents output.new) (long_line (id, (view_entry entry.now).1))) }
+    ensures refused { IfErr result IsNotPrinted }
 {
     let text = long_text(alloc, id, entry)?;
     print(text.as_str(), output)
@@ -140,8 +147,9 @@ fn replaces_text(alloc: Global, number: u64) -> Result<String, AllocError>
 }
 
 /// Prints that no entry is open.
-pub(crate) fn print_none<O: Write>(output: &mut O) -> Result<(), LineFault>
-    ensures { OnOk result (Appends (O.contents output.old) (O.contents output.new) nothing_open) }
+pub(crate) fn print_none<O: Write>(output: &mut O) -> Result<(), Why>
+    ensures printed { OnOk result (Appends (O.contents output.old) (O.contents output.new) nothing_open) }
+    ensures refused { IfErr result IsNotPrinted }
 {
     print("nothing open\n", output)
 }

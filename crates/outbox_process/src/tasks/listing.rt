@@ -11,7 +11,7 @@ ghost use Rattle.outbox_core.specs.Reading.{view_entry};
 ghost use Rattle.outbox_process.specs.Listing.{list_request, facts_if, filing_of, has_number, has_facts};
 ghost use Rattle.outbox_process.specs.Listing.{has_replaced, is_sought, begins_with, listed_by, said_of, IsFound};
 
-use crate::tasks::fault::{LineFault, TaskFault};
+use crate::fault::Why;
 use http_wire::Reply;
 use outbox_core::Entry;
 use serde_json::Value;
@@ -168,17 +168,16 @@ pub(crate) fn find_listed(
     number: u64,
     entry: &Entry,
     reply: &Reply,
-) -> Result<(), TaskFault>
+) -> Result<(), Why>
     ensures { IsFound filer.now id number (view_entry entry.now).1 (reply_parts reply.now) result }
 {
-    match listed_entry(alloc, filer, number, entry, reply) {
-        Ok(Listed::Yes) => Ok(()),
-        Ok(Listed::No) => Err(TaskFault::NotListed { id, number }),
-        Ok(Listed::Unsaid) => Err(TaskFault::NoList {
+    match listed_entry(alloc, filer, number, entry, reply)? {
+        Listed::Yes => Ok(()),
+        Listed::No => Err(Why::NotListed { id, number }),
+        Listed::Unsaid => Err(Why::NoList {
             id,
             number,
             status: reply.status,
         }),
-        Err(_) => Err(TaskFault::Line(LineFault::Memory)),
     }
 }

@@ -11,12 +11,12 @@ ghost use Rattle.outbox_core.specs.OutboxParts.{shows, HasEntries, ForEntries};
 ghost use Rattle.outbox_process.specs.Faults.{IsUnread};
 ghost use Rattle.outbox_process.specs.Looking.{IsNotFound};
 
-use crate::tasks::fault::TaskFault;
+use crate::fault::Why;
 use outbox_core::{Entry, Outbox, State};
 use sqlite::Alter;
 
 /// The entry of this id.
-pub(crate) fn entry_of<S: Alter>(outbox: &mut Outbox<S>, id: u64) -> Result<Entry, TaskFault>
+pub(crate) fn entry_of<S: Alter>(outbox: &mut Outbox<S>, id: u64) -> Result<Entry, Why>
     ensures found { ForEntries S.Store outbox.old outbox.new (λ entries.
         IfOk result (λ entry. Some (view_entry entry) ≡ found_at entries id)) }
     ensures refused { IfErr result (λ fault. IsNotFound S.Store outbox.old outbox.new id fault) }
@@ -27,12 +27,12 @@ pub(crate) fn entry_of<S: Alter>(outbox: &mut Outbox<S>, id: u64) -> Result<Entr
 {
     match outbox.entry(id)? {
         Some(entry) => Ok(entry),
-        None => Err(TaskFault::NoEntry { id }),
+        None => Err(Why::NoEntry { id }),
     }
 }
 
 /// The id and the state of each entry.
-pub(crate) fn states_of<S: Alter>(outbox: &mut Outbox<S>) -> Result<Vec<(u64, State)>, TaskFault>
+pub(crate) fn states_of<S: Alter>(outbox: &mut Outbox<S>) -> Result<Vec<(u64, State)>, Why>
     ensures found { ForEntries S.Store outbox.old outbox.new (λ entries.
         IfOk result (λ states. map view_pair states.items ≡ map id_and_state (numbered entries))) }
     ensures refused { IfErr result IsUnread }

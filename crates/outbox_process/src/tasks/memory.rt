@@ -89,6 +89,7 @@ impl<'a> Dial for Replies<'a> {
         writer: MemoryWriter,
         id: u64,
         came: Result<State, ExchangeFault>,
+        _is_question: bool,
     ) {
         let finished = Finished {
             id,
@@ -99,16 +100,6 @@ impl<'a> Dial for Replies<'a> {
             Some(over) => with_one(over, finished),
             None => None,
         };
-    }
-
-    fn end_look(
-        &mut self,
-        reader: Device<&'a [u8]>,
-        writer: MemoryWriter,
-        id: u64,
-        came: Result<State, ExchangeFault>,
-    ) {
-        self.end(reader, writer, id, came);
     }
 
     fn gives_up(&self) -> bool {

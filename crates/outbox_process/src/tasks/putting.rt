@@ -3,7 +3,7 @@
 ghost use Rattle.http_messages.specs.Posting.{IsTarget};
 ghost use Rattle.outbox_process.specs.Putting.{PutsAndTells};
 
-use crate::tasks::fault::TaskFault;
+use crate::fault::Why;
 use crate::tasks::lines::print_id;
 use key_string::KeyText;
 use outbox_core::Outbox;
@@ -20,7 +20,7 @@ pub fn put<S: Alter, O: Write>(
     target: Option<u64>,
     body: Vec<u8>,
     output: &mut O,
-) -> Result<u64, TaskFault>
+) -> Result<u64, Why>
     requires { IsTarget target }
     ensures { PutsAndTells S.Store outbox.old outbox.new key target body.items (O.contents output.old)
         (O.contents output.new) result }
@@ -29,8 +29,11 @@ pub fn put<S: Alter, O: Write>(
     match outbox.put(key, target, body) {
         Ok(id) => match print_id(alloc, id, output) {
             Ok(()) => Ok(id),
-            Err(fault) => Err(TaskFault::NotTold { id, fault }),
+            Err(why) => Err(Why::NotTold {
+                id,
+                wants_memory: matches!(why, Why::Memory),
+            }),
         },
-        Err(fault) => Err(TaskFault::Put(fault)),
+        Err(fault) => Err(Why::Put(fault)),
     }
 }

@@ -7,8 +7,8 @@ ghost use Rattle.outbox_process.specs.Endings.{ending_of, with_one, one_sent};
 ghost use Rattle.outbox_process.specs.Faults.{IsUnread};
 ghost use Rattle.outbox_process.specs.Rounds.{open_ids, is_open_pair, TakesTurn, SendsEach, SendsAll};
 
+use crate::fault::Why;
 use crate::tasks::dial::Dial;
-use crate::tasks::fault::TaskFault;
 use crate::tasks::lines::print_none;
 use crate::tasks::looking::{is_open, states_of};
 use crate::tasks::sending::send_open;
@@ -113,7 +113,7 @@ fn open_among(alloc: Global, states: &[(u64, State)]) -> Result<Vec<u64>, AllocE
 }
 
 /// The ids of the open entries.
-fn open_entries<S: Alter>(alloc: Global, outbox: &mut Outbox<S>) -> Result<Vec<u64>, TaskFault>
+fn open_entries<S: Alter>(alloc: Global, outbox: &mut Outbox<S>) -> Result<Vec<u64>, Why>
     ensures found { ForEntries S.Store outbox.old outbox.new (λ entries.
         IfOk result (λ ids. ids.items ≡ open_ids entries)) }
     ensures refused { IfErr result IsUnread }
@@ -124,7 +124,7 @@ fn open_entries<S: Alter>(alloc: Global, outbox: &mut Outbox<S>) -> Result<Vec<u
     let states = states_of(outbox)?;
     match open_among(alloc, states.as_slice()) {
         Ok(ids) => Ok(ids),
-        Err(_) => Err(TaskFault::Read(StoreFault::Memory)),
+        Err(_) => Err(Why::Store(StoreFault::Memory)),
     }
 }
 
@@ -136,17 +136,17 @@ fn send_in_round<S: Alter, N: Dial, O: Write>(
     outbox: &mut Outbox<S>,
     id: u64,
     output: &mut O,
-) -> Result<Ending, TaskFault>
+) -> Result<Ending, Why>
     ensures { TakesTurn S.Store id (N.traffic network.old) (N.traffic network.new) outbox.old outbox.new
         (O.contents output.old) (O.contents output.new) result }
 {
     match send_open(alloc, network, outbox, id, output) {
         Ok(state) => Ok(Ending::of(state)),
-        Err(fault) => {
-            if fault.is_of_entry() && !network.gives_up() {
+        Err(why) => {
+            if why.is_of_entry() && !network.gives_up() {
                 Ok(Ending::Failed)
             } else {
-                Err(fault)
+                Err(why)
             }
         }
     }
@@ -159,7 +159,7 @@ fn send_each<S: Alter, N: Dial, O: Write>(
     outbox: &mut Outbox<S>,
     ids: &[u64],
     output: &mut O,
-) -> Result<Round, TaskFault>
+) -> Result<Round, Why>
     ensures { SendsEach S.Store ids.now (N.traffic network.old) (N.traffic network.new) outbox.old outbox.new
         (O.contents output.old) (O.contents output.new) result }
 {
@@ -179,7 +179,7 @@ pub fn send_all<S: Alter, N: Dial, O: Write>(
     network: &mut N,
     outbox: &mut Outbox<S>,
     output: &mut O,
-) -> Result<Round, TaskFault>
+) -> Result<Round, Why>
     ensures { SendsAll S.Store (N.traffic network.old) (N.traffic network.new) outbox.old outbox.new
         (O.contents output.old) (O.contents output.new) result }
 {

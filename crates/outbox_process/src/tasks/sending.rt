@@ -2,8 +2,8 @@
 
 ghost use Rattle.outbox_process.specs.Sending.{IsOpenAt, Tries, Sends, SendsEntry, SendsNext};
 
+use crate::fault::Why;
 use crate::tasks::dial::Dial;
-use crate::tasks::fault::{SendFault, TaskFault};
 use crate::tasks::lines::{print_none, print_state};
 use crate::tasks::looking::entry_of;
 use filer_client::exchange;
@@ -18,20 +18,20 @@ fn exchange_once<S: Alter, N: Dial>(
     network: &mut N,
     outbox: &mut Outbox<S>,
     id: u64,
-) -> Result<State, SendFault>
+) -> Result<State, Why>
     ensures { Tries S.Store (λ entries. IsOpenAt entries id) id (N.traffic network.old) (N.traffic network.new)
         outbox.old outbox.new result }
 {
     match network.connect() {
         Ok((mut reader, mut writer)) => {
             let came = exchange(alloc, &mut reader, &mut writer, outbox, id);
-            network.end(reader, writer, id, came);
+            network.end(reader, writer, id, came, false);
             match came {
                 Ok(state) => Ok(state),
-                Err(fault) => Err(SendFault::Exchange(fault)),
+                Err(fault) => Err(Why::Exchange { id, fault }),
             }
         }
-        Err(error) => Err(SendFault::Connect(error)),
+        Err(error) => Err(Why::Connect(error)),
     }
 }
 
@@ -42,7 +42,7 @@ pub(crate) fn send_open<S: Alter, N: Dial, O: Write>(
     outbox: &mut Outbox<S>,
     id: u64,
     output: &mut O,
-) -> Result<State, TaskFault>
+) -> Result<State, Why>
     ensures { Sends S.Store (λ entries. IsOpenAt entries id) id (N.traffic network.old) (N.traffic network.new)
         outbox.old outbox.new (O.contents output.old) (O.contents output.new) result }
 {
@@ -51,9 +51,9 @@ pub(crate) fn send_open<S: Alter, N: Dial, O: Write>(
             print_state(alloc, id, state, output)?;
             Ok(state)
         }
-        Err(fault) => {
+        Err(why) => {
             print_state(alloc, id, State::Open, output)?;
-            Err(TaskFault::Send { id, fault })
+            Err(why)
         }
     }
 }
@@ -66,7 +66,7 @@ pub fn send_entry<S: Alter, N: Dial, O: Write>(
     outbox: &mut Outbox<S>,
     id: u64,
     output: &mut O,
-) -> Result<State, TaskFault>
+) -> Result<State, Why>
     ensures { SendsEntry S.Store id (N.traffic network.old) (N.traffic network.new) outbox.old outbox.new
         (O.contents output.old) (O.contents output.new) result }
 {
@@ -86,14 +86,14 @@ pub fn send_next<S: Alter, N: Dial, O: Write>(
     network: &mut N,
     outbox: &mut Outbox<S>,
     output: &mut O,
-) -> Result<Option<State>, TaskFault>
+) -> Result<Option<State>, Why>
     ensures { SendsNext S.Store (N.traffic network.old) (N.traffic network.new) outbox.old outbox.new
         (O.contents output.old) (O.contents output.new) result }
 {
     match outbox.next_open()? {
         Some(entry) => match send_open(alloc, network, outbox, entry.id, output) {
             Ok(state) => Ok(Some(state)),
-            Err(fault) => Err(fault),
+            Err(why) => Err(why),
         },
         None => {
             print_none(output)?;

@@ -43,109 +43,49 @@ impl From<StoreFault> for EndFault {
     }
 }
 
-impl From<intake_process::OpeningFault> for EndFault {
+impl From<intake_process::Refusal> for EndFault {
     ghost use Rattle.std.specs.Prelude.{◌≡◌};
-    ghost use Rattle.schedule.specs.Causes.{opening_cause};
+    ghost use Rattle.schedule.specs.Causes.{register_cause};
 
-    ghost from_gives = { λ fault cause. cause ≡ opening_cause fault };
+    ghost from_gives = { λ refusal cause. cause ≡ register_cause refusal.why };
 
-    fn from(fault: intake_process::OpeningFault) -> EndFault {
-        match fault {
-            intake_process::OpeningFault::Files(fault) => EndFault::of_files(fault),
-            intake_process::OpeningFault::Taken(_) => EndFault::Reopen,
-            intake_process::OpeningFault::Create(fault) => EndFault::of_making(fault),
-            intake_process::OpeningFault::Open(fault, _) => EndFault::of_register(fault),
+    fn from(refusal: intake_process::Refusal) -> EndFault {
+        match refusal.why {
+            register_extracts::Why::Files(DatabaseFault::Memory)
+            | register_extracts::Why::Create(CreateFault::Memory)
+            | register_extracts::Why::Open(OpenFault::Memory) => EndFault::Memory,
+            register_extracts::Why::Create(_) => EndFault::Store,
+            _ => EndFault::Reopen,
         }
     }
 }
 
-impl From<outbox_process::OpeningFault> for EndFault {
+impl From<outbox_process::NotOpened> for EndFault {
     ghost use Rattle.std.specs.Prelude.{◌≡◌};
-    ghost use Rattle.schedule.specs.Causes.{outbox_opening_cause};
+    ghost use Rattle.schedule.specs.Causes.{outbox_cause};
 
-    ghost from_gives = { λ fault cause. cause ≡ outbox_opening_cause fault };
+    ghost from_gives = { λ refusal cause. cause ≡ outbox_cause refusal.why };
 
-    fn from(fault: outbox_process::OpeningFault) -> EndFault {
-        match fault {
-            outbox_process::OpeningFault::Files(fault) => EndFault::of_files(fault),
-            outbox_process::OpeningFault::Taken(_) => EndFault::Reopen,
-            outbox_process::OpeningFault::Create(fault) => EndFault::of_making_outbox(fault),
-            outbox_process::OpeningFault::Open(fault, _) => EndFault::of_outbox(fault),
-            outbox_process::OpeningFault::IsCurrent => EndFault::Reopen,
-            outbox_process::OpeningFault::Migrate(fault, _) => EndFault::of_outbox(fault),
+    fn from(refusal: outbox_process::NotOpened) -> EndFault {
+        match &refusal.why {
+            outbox_process::Why::Files(DatabaseFault::Memory)
+            | outbox_process::Why::Create(OutboxFault::Memory)
+            | outbox_process::Why::Open(OutboxFault::Memory) => EndFault::Memory,
+            outbox_process::Why::Create(_) => EndFault::Store,
+            _ => EndFault::Reopen,
         }
     }
 }
 
 impl EndFault {
     ghost use Rattle.std.specs.Prelude.{◌≡◌};
-    ghost use Rattle.schedule.specs.Causes.{files_cause, making_cause, register_cause, outbox_making_cause};
-    ghost use Rattle.schedule.specs.Causes.{outbox_cause, closing_cause, close_cause};
-
-    /// The cause if a place gave no database.
-    fn of_files(fault: DatabaseFault) -> EndFault
-        ensures { result ≡ files_cause fault }
-    {
-        match fault {
-            DatabaseFault::Memory => EndFault::Memory,
-            _ => EndFault::Reopen,
-        }
-    }
-
-    /// The cause if no register was made.
-    fn of_making(fault: CreateFault) -> EndFault
-        ensures { result ≡ making_cause fault }
-    {
-        match fault {
-            CreateFault::Memory => EndFault::Memory,
-            CreateFault::Taken => EndFault::Store,
-            CreateFault::Disk => EndFault::Store,
-        }
-    }
+    ghost use Rattle.schedule.specs.Causes.{closing_cause, close_cause};
 
     /// The cause if a database was not closed.
     pub fn of_close(error: DatabaseError) -> EndFault
         ensures { result ≡ close_cause error }
     {
         EndFault::of_closing(StoreFault::from(error))
-    }
-
-    /// The cause if a register was not opened.
-    fn of_register(fault: OpenFault) -> EndFault
-        ensures { result ≡ register_cause fault }
-    {
-        match fault {
-            OpenFault::Memory => EndFault::Memory,
-            OpenFault::NotOurs | OpenFault::Damaged { .. } | OpenFault::Disk => EndFault::Reopen,
-        }
-    }
-
-    /// The cause if no outbox was made.
-    fn of_making_outbox(fault: OutboxFault) -> EndFault
-        ensures { result ≡ outbox_making_cause fault }
-    {
-        match fault {
-            OutboxFault::Memory => EndFault::Memory,
-            OutboxFault::BadFiler
-            | OutboxFault::Taken
-            | OutboxFault::NotOurs
-            | OutboxFault::Damaged { .. }
-            | OutboxFault::Disk => EndFault::Store,
-        }
-    }
-
-    /// The cause if an outbox was not opened.
-    fn of_outbox(fault: OutboxFault) -> EndFault
-        ensures { result ≡ outbox_cause fault }
-    {
-        match fault {
-            OutboxFault::Memory => EndFault::Memory,
-            OutboxFault::BadFiler
-            | OutboxFault::Taken
-            | OutboxFault::NotOurs
-            | OutboxFault::Damaged { .. }
-            | OutboxFault::Disk => EndFault::Reopen,
-        }
     }
 
     /// The cause if a store did not give its files back.

@@ -37,7 +37,7 @@ pub(crate) fn open<D: Honest>(
 {
     match process.open(alloc, Beginning::Found) {
         Ok(()) => Ok(()),
-        Err(fault) => Err(EndFault::from(fault)),
+        Err(refusal) => Err(EndFault::from(refusal)),
     }
 }
 

@@ -5,7 +5,7 @@ ghost use Rattle.database_places.specs.Places.{Leaves};
 
 use command_line::DatabaseFault;
 use database_places::Place;
-use intake_process::{Closed, Observer, OpeningFault, Totals, Went};
+use intake_process::{Closed, Observer, Totals, Went};
 use sqlite::Files;
 use sqlite_disk::{Crash, Fuse, Memory};
 use std::alloc::Global;

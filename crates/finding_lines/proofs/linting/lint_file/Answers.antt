@@ -24,7 +24,7 @@ returns-after-linted g c =
 pub returns-in-Ok-push : goal.returns-in-Ok-push
 returns-in-Ok-push g c = (
   Err c.in-Err.fault,
-  refl,
+  (rw c.in-Err.ensures.1 refl, refl),
   sym (or_false c.args.linted.now.is_found),
   c.in-Ok-push.ensures.items,
 )

@@ -13,8 +13,8 @@ returns-in-Ok g c =
       mid,
       c.visit-done.result,
       c.visit-done.ensures,
-      subst (λ done. IsVisitTold c.args.name c.args.errand done between between mid mid (Ok 0)) (sym c.in-Ok.is)
-          (refl, refl, refl),
+      subst (λ done. IsVisitTold c.args.name c.args.errand done c.visit-done.result.holding between between mid mid
+          (Ok 0)) (sym c.in-Ok.is) (refl, refl, refl),
     )
 
 pub returns-then-is_not_earlier : goal.returns-then-is_not_earlier
@@ -27,9 +27,9 @@ returns-then-is_not_earlier g c =
       mid,
       c.visit-done.result,
       c.visit-done.ensures,
-      subst (λ done. IsVisitTold c.args.name c.args.errand done between out' mid new c.visit_current.result)
-          (sym c.in-Err.is)
-          (wanted (is_not_earlier c.in-Err.fault) _ _ (sym c.if-is_not_earlier.true ∙ c.is_not_earlier.ensures)
+      subst (λ done. IsVisitTold c.args.name c.args.errand done c.visit-done.result.holding between out' mid new
+          c.visit_current.result) (sym c.in-Err.is)
+          (wanted (is_not_earlier c.in-Err.why) _ _ (sym c.if-is_not_earlier.true ∙ c.is_not_earlier.ensures)
           c.visit_current.ensures),
     )
 
@@ -42,8 +42,8 @@ returns-else-is_not_earlier g c =
       mid,
       c.visit-done.result,
       c.visit-done.ensures,
-      subst (λ done. IsVisitTold c.args.name c.args.errand done between out' mid mid c.end_refused.result)
-          (sym c.in-Err.is)
-          (unwanted (is_not_earlier c.in-Err.fault) _ _ (sym c.if-is_not_earlier.false ∙ c.is_not_earlier.ensures)
+      subst (λ done. IsVisitTold c.args.name c.args.errand done c.visit-done.result.holding between out' mid mid
+          c.end_refused.result) (sym c.in-Err.is)
+          (unwanted (is_not_earlier c.in-Err.why) _ _ (sym c.if-is_not_earlier.false ∙ c.is_not_earlier.ensures)
           (c.end_refused.ensures.told, c.end_refused.ensures.same, refl)),
     )

@@ -24,7 +24,8 @@ returns-in-Ok g c =
       _,
       c.visit-done.result,
       c.visit-done.ensures,
-      subst (λ done. IsCurrentTold c.args.name c.args.not_earlier done out out' c.show_current.result) (sym c.in-Ok.is)
+      subst (λ done. IsCurrentTold c.args.name c.args.not_earlier done c.visit-done.result.holding out out'
+          c.show_current.result) (sym c.in-Ok.is)
           c.show_current.ensures,
     )
 
@@ -39,7 +40,8 @@ returns-in-Err g c =
       _,
       c.visit-done.result,
       same_pages (Check None) _ _ pages _ _ old new c.visit-done.result c.end_refused.ensures.same c.visit-done.ensures,
-      subst (λ done. IsCurrentTold c.args.name c.args.not_earlier done out out' c.end_refused.result) (sym c.in-Err.is)
-          (subst (λ why. IsFaultTold c.args.name Migrate why out out' c.end_refused.result) c.refusal_of.ensures
+      subst (λ done. IsCurrentTold c.args.name c.args.not_earlier done c.visit-done.result.holding out out'
+          c.end_refused.result) (sym c.in-Err.is)
+          (subst (λ it. IsFaultTold c.args.name Migrate it out out' c.end_refused.result) c.refusal_of.ensures
           c.end_refused.ensures.told),
     )

@@ -19,5 +19,5 @@ returns-in-Err g c = record {
   opened = Err c.in-Err.unopened;
   between = g.P.Place.lying c.open.new.place;
   opens = c.in-Err.ensures.opens;
-  goes = (refl, refl, refl, refl, refl);
+  goes = (refl, refl, refl, refl, refl, refl);
 }

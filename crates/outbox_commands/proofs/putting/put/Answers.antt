@@ -15,7 +15,7 @@ returns-in_err-reports g c =
 pub returns-in-Err : goal.returns-in-Err
 returns-in-Err g c =
     let r = refused g.D.Disk Found (parts g.P.Place.lying c.args.process.now) (parts g.P.Place.lying c.open.new.process)
-    c.in-Err.fault c.in-Err.ensures in
+    c.in-Err.refusal c.in-Err.ensures in
     inr (
       sym c.if-not-is_for_one.ensures,
       inl (
@@ -23,7 +23,7 @@ returns-in-Err g c =
         c.in_ok-reports.ensures.read,
         c.in_ok-reports.ensures.fit,
         refl,
-        inr (record { why = r.why; opens = r.opens; says = c.of_opening.ensures ∙ r.says }, refl),
+        inr (record { refusal = r.refusal; opens = r.opens; says = c.of_refusal.ensures ∙ r.says }, refl),
       ),
     )
 

@@ -39,12 +39,12 @@ returns-in-Err-clause-puts g c =
     let between = parts g.P.Place.lying c.loop-report.process in
     let new = parts g.P.Place.lying c.put_one.new.process in
     let one =
-    subst (λ net. PutsOne (put_of c.args.target report) net mid out' between new (Err c.in-Err.fault))
+    subst (λ net. PutsOne (put_of c.args.target report) net mid out' between new (Err c.in-Err.why))
     c.loop-report.invariant.traffic c.in-Err.ensures.puts in (
-      Err c.in-Err.fault,
+      Err c.in-Err.why,
       next_failed (g.N.Dial.traffic c.args.network.now) (put_of c.args.target) items c.loop-report.yielded report
           (g.O.Write.contents c.args.output.now) mid out' (parts g.P.Place.lying c.args.process.now) between new
-          c.in-Err.fault turn.0 turn.1 (YieldsList-so_far road c.loop-report.yielded at c.loop-report.yielded_by)
+          c.in-Err.why turn.0 turn.1 (YieldsList-so_far road c.loop-report.yielded at c.loop-report.yielded_by)
           c.loop-report.invariant.puts one,
       c.fault_of_put.ensures,
     )

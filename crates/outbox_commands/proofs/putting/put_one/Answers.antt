@@ -35,7 +35,7 @@ returns-in-Err-clause-puts g c =
     puts_one c.args.report.key c.args.target c.args.report.body (g.N.Dial.traffic c.args.network.now)
     (g.N.Dial.traffic c.perform-came.new.network) (g.O.Write.contents c.args.output.now)
     (g.O.Write.contents c.perform-came.new.output) (parts g.P.Place.lying c.args.process.now) done
-    (parts g.P.Place.lying c.if-is_random.process) c.perform-came.result (Err c.in-Err.fault) c.perform-came.ensures
+    (parts g.P.Place.lying c.if-is_random.process) c.perform-came.result (Err c.in-Err.why) c.perform-came.ensures
     (elim c.if-is_random.branch [
       | then-is_random w ↦ subst (λ p. IsHonest g.D.Disk → Leaves done (parts g.P.Place.lying p)) (sym w.process-is)
           w.tell_same.ensures.kept

@@ -7,8 +7,8 @@ use Rattle.outbox_commands.proofs.tasks.init.Goals as goal
 pub returns-in-Err : goal.returns-in-Err
 returns-in-Err g c =
     let r = refused g.D.Disk (Made c.args.filer) (parts g.P.Place.lying c.args.process.now)
-    (parts g.P.Place.lying c.open.new.process) c.in-Err.fault c.in-Err.ensures in
-    inr (inr (record { why = r.why; opens = r.opens; says = c.of_opening.ensures ∙ r.says }))
+    (parts g.P.Place.lying c.open.new.process) c.in-Err.refusal c.in-Err.ensures in
+    inr (inr (record { refusal = r.refusal; opens = r.opens; says = c.of_refusal.ensures ∙ r.says }))
 
 pub returns : goal.returns
 returns g c =

@@ -8,30 +8,30 @@ use Rattle.outbox_commands.proofs.tasks.migrate.Goals as goal
 
 pub returns-then-is_current : goal.returns-then-is_current
 returns-then-is_current g c =
-    let told = c.in-Err.fault in
+    let told = c.in-Err.refusal in
     let r = not_migrated (parts g.P.Place.lying c.args.process.now) (parts g.P.Place.lying c.open.new.process)
     c.requires told c.in-Err.ensures in
     inr (
-      r.why,
-      told,
+      r.refusal,
+      told.why,
       r.opens,
       r.told_as,
       r.current,
-      wanted (is_current told) _ _ (sym c.if-is_current.true ∙ c.is_current.ensures) c.show_line.ensures,
+      wanted (is_current told.why) _ _ (sym c.if-is_current.true ∙ c.is_current.ensures) c.show_line.ensures,
     )
 
 pub returns-in-Err : goal.returns-in-Err
 returns-in-Err g c =
-    let told = c.in-Err.fault in
+    let told = c.in-Err.refusal in
     let r = not_migrated (parts g.P.Place.lying c.args.process.now) (parts g.P.Place.lying c.open.new.process)
     c.requires told c.in-Err.ensures in
     inr (
-      r.why,
-      told,
+      r.refusal,
+      told.why,
       r.opens,
       r.told_as,
       r.current,
-      unwanted (is_current told) _ _ (sym c.if-is_current.false ∙ c.is_current.ensures) c.show_refused.ensures,
+      unwanted (is_current told.why) _ _ (sym c.if-is_current.false ∙ c.is_current.ensures) c.show_refused.ensures,
     )
 
 pub returns : goal.returns

@@ -1,5 +1,9 @@
+use Rattle.std.proofs.Common.{refl, inl}
 use Rattle.outbox_process.proofs.Migrating.{all_migrated, all_refused}
 use Rattle.outbox_process.proofs.beginning.migrate_outbox.Goals as goal
+
+pub returns-in-Ok-clause-refused : goal.returns-in-Ok-clause-refused
+returns-in-Ok-clause-refused g c = inl (refl, c.in-Ok.outbox, c.in-Ok.ensures.outcome, c.into_conn.ensures)
 
 pub returns-in-Err-NotOurs-default-clause-migrated : goal.returns-in-Err-NotOurs-default-clause-migrated
 returns-in-Err-NotOurs-default-clause-migrated g c =

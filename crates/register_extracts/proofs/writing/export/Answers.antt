@@ -18,4 +18,4 @@ returns-in_err-write_records g c =
     (search rules)
     (broken_off g.S.Store c.args.form wanted out out' c.args.conn.now c.read_register.new.conn c.write_records.new.conn
     c.in_ok-counts.counts c.in_ok-counts.ensures c.in_err-write_records.ensures.leaves
-    c.in_err-write_records.field-0.0 (c.in_err-write_records.ensures.begun))
+    c.in_err-write_records.field-0.0 c.in_err-write_records.ensures.fails c.in_err-write_records.ensures.begun)

@@ -13,10 +13,11 @@ use Rattle.filing_model.proofs.Keeping.{register_numbered}
 use Rattle.register_tables.proofs.Calls.{refuses}
 use Rattle.table_rows.proofs.LeavingLemmas.{clean_before, ended, none_yet, passed_then, stands}
 use Rattle.table_rows.specs.Leaving.Ending.{Passed}
-use Rattle.register_extracts.specs.declared.fault.RecordsFault.TheVariants as records
+use Rattle.register_extracts.specs.declared.fault.Why.TheVariants as why
 use Rattle.register_extracts.specs.Exports.{UnlessOutput}
 use Rattle.register_extracts.specs.Records.{export_begun, filing_records}
-use Rattle.register_extracts.proofs.Done.{Begun, unless}
+use Rattle.register_extracts.proofs.Done.{Begun}
+use Rattle.register_extracts.proofs.Faults.{unless_output}
 use Rattle.register_extracts.proofs.Steps.{next_filing, next_written}
 use Rattle.register_extracts.proofs.writing.write_records.Goals as goal
 
@@ -61,6 +62,7 @@ returns g c =
           (take_all c.loop-at.at (register F) (omega (arith, c.loop-at-test.false, count)))
           (had.written clean old_style F was moments one_each dated is count);
       begun = λ clean old_style F was moments one_each dated is count. tt;
+      fails = tt;
       leaves = had.leaves;
     }
 
@@ -75,7 +77,7 @@ returns-in_err-write_numbered-clause-leaves g c =
 
 pub returns-in_err-print-clause-begun : goal.returns-in_err-print-clause-begun
 returns-in_err-print-clause-begun g c = λ clean old_style F was moments one_each dated is count.
-    let came : Err records.Output ≡ c.from_residual.result =
+    let came : Err why.Output ≡ c.from_residual.result =
     search (rules, c.in_err-print.ensures.failed) in
     subst (λ r. IfErr r (UnlessOutput (Begun c.args.form c.args.wanted (g.O.Write.contents c.args.output.now)
     (g.O.Write.contents c.print.new.output) F moments))) came tt
@@ -83,14 +85,14 @@ returns-in_err-print-clause-begun g c = λ clean old_style F was moments one_eac
 pub returns-in_err-write_numbered-clause-begun : goal.returns-in_err-write_numbered-clause-begun
 returns-in_err-write_numbered-clause-begun g c = λ clean old_style F was moments one_each dated is count.
     let told = c.in_err-write_numbered.ensures in
-    let why = c.in_err-write_numbered.field-0.0 in
+    let fault = c.in_err-write_numbered.field-0.0 in
     let out = g.O.Write.contents c.args.output.now in
-    let came : Err why ≡ c.from_residual-in_err-write_numbered.result = search rules in
+    let came : Err fault ≡ c.from_residual-in_err-write_numbered.result = search rules in
     let Written : Type 0 =
     Begun c.args.form c.args.wanted out (g.O.Write.contents c.write_numbered.new.output) F moments in
     subst (λ r. IfErr r (UnlessOutput Written)) came
     (⊎_elim (λ output. subst (UnlessOutput Written) (sym output) tt)
-    (λ same. unless why (
+    (λ same. unless_output fault Written (
       c.loop-at.at,
       subst (λ o. Appends out o (export_begun c.loop-at.at c.args.form c.args.wanted (kept F) moments)) (sym same)
           (c.loop-at.invariant.written (clean_before told.leaves clean) old_style F was moments one_each dated is

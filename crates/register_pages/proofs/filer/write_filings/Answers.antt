@@ -8,7 +8,7 @@ pub loop-at-preserved : goal.loop-at-preserved
 loop-at-preserved g c =
     let had = c.loop-at.invariant in
     let page = filer_page c.args.filer.now in record {
-      leaves = passed_then had.leaves c.in_ok-rows.ensures;
+      leaves = passed_then had.leaves c.in_ok-rows.ensures.leaves;
       written = page_added _ _ _ _ _ _ page c.loop-at.at had.written
           (c.put.ensures (page (c.loop-at.at + 1)) c.of_filer.ensures);
     }

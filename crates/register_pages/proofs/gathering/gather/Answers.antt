@@ -41,6 +41,7 @@ returns g c =
           (take_all c.loop-at.at (kept requests) (omega (arith, c.loop-at-test.false, are.kept_is)))
           (had.gathered clean old_style requests was are none);
       leaves = had.leaves;
+      fails = tt;
     }
 
 pub returns-in_err-gather_one-clause-leaves : goal.returns-in_err-gather_one-clause-leaves

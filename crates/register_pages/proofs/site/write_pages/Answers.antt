@@ -14,4 +14,5 @@ returns-in_err-write_all g c =
     let pages' = g.F.Folder.pages c.write_all.new.folder in
     subst (λ result. WritesPages g.S.Store pages pages' c.args.conn.now c.write_all.new.conn result) (search rules)
     (broken_off g.S.Store pages pages' c.args.conn.now c.read_register.new.conn c.write_all.new.conn
-    c.in_ok-counts.counts c.in_ok-counts.ensures c.in_err-write_all.ensures.leaves c.in_err-write_all.field-0.0)
+    c.in_ok-counts.counts c.in_ok-counts.ensures c.in_err-write_all.ensures.leaves c.in_err-write_all.field-0.0
+    c.in_err-write_all.ensures.fails)

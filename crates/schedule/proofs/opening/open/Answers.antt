@@ -1,6 +1,6 @@
 use Rattle.std.proofs.Common.{refl, sym, ◌∙◌}
 use Rattle.schedule.specs.OutboxEnd.{lying_in}
-use Rattle.schedule.proofs.Serving.{found_not}
+use Rattle.schedule.proofs.Causes.{of_register}
 use Rattle.schedule.proofs.opening.open.Goals as goal
 
 pub returns-in-Ok-clause-kept : goal.returns-in-Ok-clause-kept
@@ -10,7 +10,7 @@ returns-in-Ok-clause-kept g c = λ requests keeps.
 
 pub returns-in-Err-clause-refused : goal.returns-in-Err-clause-refused
 returns-in-Err-clause-refused g c = (
-  c.in-Err.fault,
+  c.in-Err.refusal.why,
   c.in-Err.ensures.why.0,
   c.in-Err.ensures.why.1,
   c.from.ensures,
@@ -18,5 +18,5 @@ returns-in-Err-clause-refused g c = (
 
 pub returns-in-Err-clause-store : goal.returns-in-Err-clause-store
 returns-in-Err-clause-store g c = λ e.
-    found_not g.D.Disk (lying_in c.args.process.now.place) (lying_in c.open.new.self.place) c.in-Err.ensures.why.0
-    c.in-Err.fault c.in-Err.ensures.why.1 (sym c.from.ensures ∙ (cc e))
+    of_register g.D.Disk (lying_in c.args.process.now.place) (lying_in c.open.new.self.place) c.in-Err.ensures.why.0
+    c.in-Err.refusal.why c.in-Err.ensures.why.1 (sym c.from.ensures ∙ (cc e))

@@ -3,8 +3,7 @@ use Rattle.database_places.specs.Opening.{is_found}
 use Rattle.database_places.proofs.Certainty.{falls}
 use Rattle.database_places.proofs.Lying.{kept_lying, missing, there}
 use Rattle.database_places.proofs.Options.{none_of}
-use Rattle.intake_process.specs.declared.fault.OpeningFault.TheVariants.{Files as Unopened}
-use Rattle.intake_process.specs.Process.{parts}
+use Rattle.intake_process.specs.Process.{parts, without_files}
 use Rattle.intake_process.proofs.Keeping.{refuses, is_open, not_begun, opens}
 use Rattle.intake_process.proofs.process.IntakeProcess.open.Goals as goal
 
@@ -21,7 +20,7 @@ returns-in-Err g c =
     c.in-Err.ensures.opens
     (λ is none. let is_missing = missing (is_found c.args.opening) (g.P.Place.lying c.args.self.now.place) _
     c.in-Err.unopened c.in-Err.ensures.opens is none in
-    (ap Unopened is_missing.0, is_missing.1))
+    (ap without_files is_missing.0, is_missing.1))
 
 pub returns-in-Ok-begin : goal.returns-in-Ok-begin
 returns-in-Ok-begin g c =
@@ -41,7 +40,7 @@ returns-then-is_of_others g c =
     refuses g.met.D.Disk.seen_may_stay (is_found c.args.opening) c.args.limit _ _ true _
     (falls c.args.self.now.is_certain doubt.result _ doubt.ensures) closed closed refl
     (not_begun (is_found c.args.opening) old mid new c.in-Ok.conn c.in-Err-begin.back c.give_up.ensures.0
-    c.in-Err-begin.fault c.in-Ok.ensures.opens.comes c.in-Err-begin.ensures.refused
+    c.in-Err-begin.why c.in-Ok.ensures.opens.comes c.in-Err-begin.ensures.refused
     (kept_lying mid (g.P.Place.lying c.give_up.new.place) new c.give_up.ensures.0 c.give_up.ensures.1
     c.remove_new_log.ensures) c.give_up.ensures.2)
     (there (is_found c.args.opening) old _ c.in-Ok.conn c.in-Ok.ensures.opens)
@@ -54,6 +53,6 @@ returns-else-is_of_others g c =
     refuses g.met.D.Disk.seen_may_stay (is_found c.args.opening) c.args.limit _ _ true _
     (falls c.args.self.now.is_certain doubt.result _ doubt.ensures) closed closed refl
     (not_begun (is_found c.args.opening) old (g.P.Place.lying c.open.new.place) (g.P.Place.lying c.give_up.new.place)
-    c.in-Ok.conn c.in-Err-begin.back c.give_up.ensures.0 c.in-Err-begin.fault c.in-Ok.ensures.opens.comes
+    c.in-Ok.conn c.in-Err-begin.back c.give_up.ensures.0 c.in-Err-begin.why c.in-Ok.ensures.opens.comes
     c.in-Err-begin.ensures.refused c.give_up.ensures.1 c.give_up.ensures.2)
     (there (is_found c.args.opening) old _ c.in-Ok.conn c.in-Ok.ensures.opens)

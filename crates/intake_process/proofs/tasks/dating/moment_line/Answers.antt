@@ -1,6 +1,6 @@
 use Rattle.std.proofs.Common.{◌≡◌, ◌++◌, append_assoc, codes, string_bytes, subst}
 use Rattle.std.specs.Fmt.{decimal}
-use Rattle.intake_process.specs.Lines.{moment_line}
+use Rattle.intake_process.specs.Listing.{moment_line}
 use Rattle.intake_process.proofs.tasks.dating.moment_line.Goals as goal
 
 pub returns-in_ok-line-in-Some : goal.returns-in_ok-line-in-Some

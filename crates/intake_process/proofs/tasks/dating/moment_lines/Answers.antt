@@ -2,7 +2,7 @@ use Rattle.std.proofs.Common.{ap, arith, map, ◌∙◌}
 use Rattle.std.proofs.lemmas.List.{take_all}
 use Rattle.filing_model.specs.Register.{kept}
 use Rattle.filing_model.specs.Views.{view_row}
-use Rattle.intake_process.specs.Lines.{moment_lines}
+use Rattle.intake_process.specs.Listing.{moment_lines}
 use Rattle.intake_process.proofs.Dating.{clean_mid, keeps_same, keeps_then, lines_more}
 use Rattle.intake_process.proofs.tasks.dating.moment_lines.Goals as goal
 

@@ -3,7 +3,7 @@ use Rattle.filing_model.specs.Register.{kept}
 use Rattle.filing_model.specs.Views.{view_row}
 use Rattle.register_store.specs.Calls.{KeepsStore}
 use Rattle.register_store.specs.Moments.{ForMoments}
-use Rattle.intake_process.specs.Lines.{moment_lines}
+use Rattle.intake_process.specs.Listing.{moment_lines}
 use Rattle.intake_process.proofs.tasks.dating.moment_lines.Given as goal
 
 abbrev pub invariant-loop-row : goal.invariant-loop-row

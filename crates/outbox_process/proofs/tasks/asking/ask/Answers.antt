@@ -1,5 +1,6 @@
-use Rattle.std.proofs.Common.{refl, Ok, Err, inl}
+use Rattle.std.proofs.Common.{refl, subst, Ok, Err, inl}
 use Rattle.std.proofs.lemmas.Result.{err_from_is_err_and}
+use Rattle.outbox_process.specs.Asking.{IsReplied}
 use Rattle.outbox_process.proofs.tasks.asking.ask.Goals as goal
 
 pub returns-in_err-look_first : goal.returns-in_err-look_first
@@ -20,9 +21,10 @@ returns-in_err-look_first g c =
       }),
     )
 
-pub returns-in-Ok : goal.returns-in-Ok
-returns-in-Ok g c =
-    let found = c.in_ok-question.ensures in (
+pub returns-in_err-reply : goal.returns-in_err-reply
+returns-in_err-reply g c =
+    let found = c.in_ok-question.ensures in
+    let told = err_from_is_err_and c.from_residual-in_err-reply.result c.from_residual-in_err-reply.ensures.1 in (
       found.reads,
       inl (record {
         entry = c.in_ok-question.question.entry;
@@ -33,9 +35,11 @@ returns-in-Ok g c =
         between = g.N.Dial.traffic c.look_first.new.network;
         looks = rw (c.filer.ensures.value, found.reads.filer) at c.in_ok-look_first.ensures;
         asks = (
-          Ok c.in-Ok.reply,
-          rw c.in-Ok.is at c.ask_once.ensures,
-          rw (c.filer-in-Ok.ensures.value, found.reads.filer) at c.tell_reply.ensures,
+          Err c.in_err-reply.field-0.0,
+          subst (λ request. IsReplied c.args.id c.in_ok-question.question.entry.state request
+              (g.N.Dial.traffic c.look_first.new.network) (g.N.Dial.traffic c.ask_once.new.network)
+              (Err c.in_err-reply.field-0.0)) c.as_slice.ensures.value c.in_err-reply.ensures,
+          (rw told.2 at told.1, refl),
         );
       }),
     )
@@ -52,6 +56,10 @@ returns g c =
         looked = Ok tt;
         between = g.N.Dial.traffic c.look_first.new.network;
         looks = rw (c.filer.ensures.value, found.reads.filer) at c.in_ok-look_first.ensures;
-        asks = (Err c.in-Err.fault, rw c.in-Err.is at c.ask_once.ensures, (refl, refl));
+        asks = (
+          Ok c.in_ok-reply.reply,
+          rw c.as_slice.ensures.value at c.in_ok-reply.ensures,
+          rw (c.filer-2.ensures.value, found.reads.filer) at c.tell_reply.ensures,
+        );
       }),
     )

@@ -16,7 +16,7 @@ returns-then-is_empty g c =
     ))
     c.open_entries.ensures.filer c.open_entries.ensures.clean (g.N.Dial.traffic c.args.network.now)
     (g.O.Write.contents c.args.output.now) (g.O.Write.contents c.print_none.new.output) empty
-    c.in_ok-print_none.ensures
+    c.in_ok-print_none.ensures.printed
 
 pub returns-in_err-print_none : goal.returns-in_err-print_none
 returns-in_err-print_none g c =
@@ -32,7 +32,7 @@ returns-in_err-print_none g c =
       c.open_entries.ensures.kept clean entries had,
     ))
     c.open_entries.ensures.filer c.open_entries.ensures.clean (g.N.Dial.traffic c.args.network.now) told.0 empty
-    (c.in_err-print_none.field-0.0, told.2))))
+    (rw told.2 c.in_err-print_none.ensures.refused))))
 
 pub returns : goal.returns
 returns g c =

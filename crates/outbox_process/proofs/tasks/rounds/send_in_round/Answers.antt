@@ -15,5 +15,5 @@ returns-then-not-gives_up g c =
     let goes_on : c.gives_up.result ≡ false = search rules in
     turn_failed g.S.Store c.args.id (g.N.Dial.traffic c.args.network.now) (g.N.Dial.traffic c.send_open.new.network)
     c.args.outbox.now c.send_open.new.outbox (g.O.Write.contents c.args.output.now)
-    (g.O.Write.contents c.send_open.new.output) c.in-Err.fault (rw c.in-Err.is at c.send_open.ensures)
+    (g.O.Write.contents c.send_open.new.output) c.in-Err.why (rw c.in-Err.is at c.send_open.ensures)
     (sym c.is_of_entry.ensures ∙ own) (sym c.gives_up.ensures ∙ goes_on)

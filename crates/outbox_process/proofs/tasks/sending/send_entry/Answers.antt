@@ -22,7 +22,7 @@ returns-in_err-print_state-in_default g c =
     (g.N.Dial.traffic c.args.network.now) (g.O.Write.contents c.args.output.now)
     (g.O.Write.contents c.print_state.new.output) c.from_residual-in_err-print_state-in_default.result
     c.in_default.not-Open
-    (inr (told.0, told.1, (c.in_err-print_state-in_default.field-0.0, told.2))))
+    (inr (told.0, told.1, rw told.2 c.in_err-print_state-in_default.ensures.refused)))
 
 pub returns : goal.returns
 returns g c =
@@ -30,4 +30,4 @@ returns g c =
     c.in_ok-entry_of.ensures.found c.entry_of.ensures.kept c.entry_of.ensures.filer c.entry_of.ensures.clean
     (g.N.Dial.traffic c.args.network.now) (g.O.Write.contents c.args.output.now)
     (g.O.Write.contents c.print_state.new.output) (Ok c.in_ok-entry_of.field-0.state) c.in_default.not-Open
-    (inl (refl, c.in_ok-print_state-in_default.ensures)))
+    (inl (refl, c.in_ok-print_state-in_default.ensures.printed)))

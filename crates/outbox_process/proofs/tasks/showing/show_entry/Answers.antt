@@ -1,25 +1,7 @@
 use Rattle.std.proofs.Common.{inl}
-use Rattle.std.proofs.lemmas.Result.{err_from_is_err_and}
 use Rattle.outbox_core.specs.Reading.{view_entry}
 use Rattle.outbox_process.proofs.Looks.{entry_found}
 use Rattle.outbox_process.proofs.tasks.showing.show_entry.Goals as goal
-
-pub returns-in_err-print_long : goal.returns-in_err-print_long
-returns-in_err-print_long g c =
-    let told =
-    err_from_is_err_and c.from_residual-in_err-print_long.result c.from_residual-in_err-print_long.ensures.1 in
-    rw told.1 (record {
-      shown = inl (
-        (view_entry c.in_ok-entry.entry).1,
-        (λ clean entries had. (entry_found entries c.args.id c.in_ok-entry.entry
-            (c.in_ok-entry.ensures.found clean entries had)).0),
-        tt,
-        (c.in_err-print_long.field-0.0, told.2),
-      );
-      kept = c.entry_of.ensures.kept;
-      filer = c.entry_of.ensures.filer;
-      clean = c.entry_of.ensures.clean;
-    })
 
 pub returns : goal.returns
 returns g c = record {
@@ -27,8 +9,8 @@ returns g c = record {
     (view_entry c.in_ok-entry.entry).1,
     (λ clean entries had. (entry_found entries c.args.id c.in_ok-entry.entry
         (c.in_ok-entry.ensures.found clean entries had)).0),
-    c.in_ok-print_long.ensures,
-    tt,
+    c.print_long.ensures.printed,
+    c.print_long.ensures.refused,
   );
   kept = c.entry_of.ensures.kept;
   filer = c.entry_of.ensures.filer;
