@@ -1,8 +1,9 @@
 #!/usr/bin/env python3
 """Tries the page for filers (deploy/filer) in a Chromium, against the built intake behind nginx with the files of
 deploy/ and certificates of filers. Between the browser and nginx, and between nginx and the intake, everything goes
-through this script, which can break it, hold it and count it. Each report has to be filed once, under the number that
-the page shows. The core of the page is tried in Node, by the conformance kit.
+through this script, which can break it, hold it and count it. What the browser asks of the disk can be held and refused
+as the conformance kit does it. Each report has to be filed once, under the number that the page shows. That kit also
+tries the core of the page and its sender, in Node.
 
     tools/check_filer_page.py [--only WORD] [--intake FILE] [--outbox FILE] [--pictures FOLDER]
     tools/check_filer_page.py --planted        # damages the page in each way of FAULTS: whether that is seen
@@ -15,7 +16,6 @@ seen.
 import argparse
 import base64
 import contextlib
-import hashlib
 import json
 import os
 import pathlib
@@ -33,21 +33,24 @@ import time
 
 from trials import INTAKE, OUTBOX, REPORT, ROOT, exchange, failures, free_port, hold, request, tell
 
+sys.path.append(str(ROOT / "conformance"))
+from syncs import Disk, Unseen  # noqa: E402
+
 try:
     from selenium import webdriver
     from selenium.common.exceptions import WebDriverException
     from selenium.webdriver import ActionChains
     from selenium.webdriver.chrome.options import Options
-    from selenium.webdriver.chrome.service import Service
+    from selenium.webdriver.chromium.remote_connection import ChromiumRemoteConnection
     from selenium.webdriver.common.keys import Keys
 except ImportError:
     webdriver = None
 
 PROGRAMS = ["chromium", "chromedriver", "certutil", "pk12util", "node", "nginx", "openssl"]
 HOST, OTHER = "intake.example", "other.example"
-# The programs, the page, and how many seconds are waited for what should come, on a machine that has much else to do,
-# or more by BERRUZPIL_PATIENCE. The filers of the trials begin with `prefix`, and `port` is that of the intake.
-given = argparse.Namespace(intake=INTAKE, outbox=OUTBOX, page=ROOT / "deploy" / "filer", pictures=None,
+# The programs, what is deployed, and how many seconds are waited for what should come, on a machine that has much else
+# to do, or more by BERRUZPIL_PATIENCE. The filers of the trials begin with `prefix`; `port` is that of the intake.
+given = argparse.Namespace(intake=INTAKE, outbox=OUTBOX, deploy=ROOT / "deploy", pictures=None,
                            patience=180 * float(os.environ.get("BERRUZPIL_PATIENCE", "1")), prefix="", port=0)
 
 
@@ -259,11 +262,11 @@ class Bench:
             self.nginx.terminate()
             self.nginx.wait(60)
         folder = self.folder
-        text = (ROOT / "deploy" / "nginx-intake.conf").read_text()
+        text = (given.deploy / "nginx-intake.conf").read_text()
         for old, new in [
             ("127.0.0.1:8080", f"127.0.0.1:{self.back.port}"), ("listen 443", f"listen 127.0.0.1:{self.nginx_port}"),
             ("/etc/nginx/tls/filers-ca.pem", f"{folder}/ca.pem"), ("/etc/nginx/tls", str(folder)),
-            ("/var/log/berruzpil/", f"{folder}/"), ("/usr/share/berruzpil/filer", str(given.page)),
+            ("/var/log/berruzpil/", f"{folder}/"), ("/usr/share/berruzpil/filer", str(given.deploy / "filer")),
             ('    "~^acme ACME$" 1;', f'    "~^acme {self.filer}$" 1;'),
         ]:
             text = text.replace(old, new)
@@ -275,16 +278,18 @@ class Bench:
         (folder / "other.log").touch()
         temporary = "".join(f"    {kind}_temp_path {folder}/{kind};\n"
                             for kind in ["client_body", "proxy", "fastcgi", "uwsgi", "scgi"])
-        log = (ROOT / "deploy" / "nginx-berruzpil-log.conf").read_text()
+        log = (ROOT / "deploy" / "nginx-berruzpil-log.conf").read_text().replace(":8079", f":{free_port()}")
+        # The machine's own files may compress whatever they can.
         (folder / "nginx.conf").write_text(
             f"daemon off;\nuser root;\npid {folder}/pid;\nerror_log {folder}/error.log;\nworker_processes 1;\n"
-            f"events {{ worker_connections 768; }}\nhttp {{\n    access_log off;\n{temporary}{log}{text}}}\n")
+            "events { worker_connections 768; }\nhttp {\n    access_log off;\n    gzip on;\n    gzip_types *;\n"
+            f"{temporary}{log}{text}}}\n")
         self.nginx = subprocess.Popen(["nginx", "-c", folder / "nginx.conf", "-p", folder],
                                       stdout=subprocess.DEVNULL, stderr=subprocess.DEVNULL)
         wait_until("nginx", lambda: is_listening(self.nginx_port))
 
-    def browser(self, width=1200, **options):
-        browser = Browser(self, width, **options)
+    def browser(self, disk=None):
+        browser = Browser(self, disk)
         self.browsers.append(browser)
         return browser
 
@@ -318,43 +323,54 @@ def is_listening(port):
         return True
 
 
-def start_driver(options, home):
-    """A driver of a new browser. Another program may take the port that was found for it; then another is found."""
-    for left in (2, 1, 0):
-        try:
-            service = Service(shutil.which("chromedriver"), env={**os.environ, "HOME": str(home)})
-            return webdriver.Chrome(service=service, options=options)
-        except WebDriverException:
-            if left == 0:
-                raise
+def start_driver(options, home, disk):
+    """A driver of a new browser, and what ends it. If a disk is given, the browser asks that one."""
+    start = disk.start if disk else subprocess.Popen
+    process = start([shutil.which("chromedriver"), "--port=0"], env={**os.environ, "HOME": str(home)},
+                    stdout=subprocess.PIPE, stderr=subprocess.DEVNULL, text=True)
+    try:
+        ports = (re.search(r"started successfully on port (\d+)", line) for line in process.stdout)
+        port = next(filter(None, ports), None)
+        if port is None:
+            raise Late("chromedriver")
+        threading.Thread(target=process.stdout.read, daemon=True).start()
+        connection = ChromiumRemoteConnection(f"http://127.0.0.1:{port[1]}", "goog", "chrome")
+        return webdriver.Remote(command_executor=connection, options=options), process.terminate
+    except (Late, WebDriverException):
+        process.terminate()
+        raise
 
 
 class Browser:
-    """A Chromium with the profile and the certificates of a folder."""
+    """A Chromium with the profile and the certificates of a folder. If a disk is given, it asks that one."""
 
-    def __init__(self, bench, width, is_dark=False):
+    def __init__(self, bench, disk=None):
         self.bench, self.profile = bench, bench.folder / "profile"
         options = Options()
         options.binary_location = shutil.which("chromium")
         for word in ["headless=new", "no-sandbox", "disable-gpu", "disable-dev-shm-usage", "no-first-run",
-                     f"window-size={width},1000", f"user-data-dir={self.profile}", "disable-background-networking",
+                     "window-size=1200,1000", f"user-data-dir={self.profile}", "disable-background-networking",
                      f"host-resolver-rules=MAP *:443 127.0.0.1:{bench.front.port}"]:
             options.add_argument(f"--{word}")
-        if is_dark:
-            options.add_argument("--force-dark-mode")
         options.set_capability("goog:loggingPrefs", {"browser": "ALL"})
         # For this host the browser takes the certificate that it has, and does not ask which one.
         chosen = {f"https://{HOST}:443,*": {"setting": {"filters": [{}]}}}
         setting = "profile.content_settings.exceptions.auto_select_certificate"
-        options.add_experimental_option("prefs", {setting: chosen})
-        self.driver = start_driver(options, bench.folder / "home")
+        options.add_experimental_option("prefs", {setting: chosen, "intl.accept_languages": "en-US,en"})
+        for left in (2, 1, 0):
+            try:
+                self.driver, self.stop = start_driver(options, bench.folder / "home", disk)
+                break
+            except WebDriverException:
+                # On a machine that has much else to do the browser may begin too late for chromedriver.
+                if left == 0:
+                    raise
         self.driver.set_script_timeout(given.patience)
         self.driver.set_page_load_timeout(given.patience)
         self.process = int(os.readlink(self.profile / "SingletonLock").rpartition("-")[2])
         downloads = bench.folder / "downloads"
         downloads.mkdir(exist_ok=True)
-        self.driver.execute_cdp_cmd("Browser.setDownloadBehavior",
-                                    {"behavior": "allow", "downloadPath": str(downloads)})
+        self.command("Browser.setDownloadBehavior", behavior="allow", downloadPath=str(downloads))
 
     def open(self):
         self.driver.get(f"https://{HOST}/file/?filer={self.bench.filer}")
@@ -388,11 +404,19 @@ class Browser:
     def chosen(self):
         return self.run("return document.getElementById('chosen-rows').rows.length")
 
+    def choose(self, reports):
+        """Drops reports, and gives their keys once they are chosen."""
+        before = self.chosen()
+        self.drop(reports)
+        wait_until("the files are chosen", lambda: self.chosen() == before + len(reports))
+        keys = self.run("return [...document.querySelectorAll('#chosen-rows tr')].map("
+                        "(row) => row.querySelector('input').value)")
+        return keys[before:]
+
     def file(self, reports, keys=(), target=None):
         """Drops reports, writes these keys, and presses the button. Gives the keys, once all are in the outbox."""
         before = len(self.entries())
-        self.drop(reports)
-        wait_until("the files are chosen", lambda: self.chosen() == len(reports))
+        self.choose(reports)
         self.run("""
             const rows = [...document.getElementById("chosen-rows").rows];
             arguments[0].forEach((key, at) => { rows[at].querySelectorAll("input")[0].value = key; });
@@ -423,14 +447,27 @@ class Browser:
                           lambda: len(self.states()) == count and "open" not in self.states() and self.entries())
 
     def console(self):
-        return [line["message"] for line in self.driver.get_log("browser")]
+        return [line["message"] for line in self.driver.execute("getLog", {"type": "browser"})["value"]]
 
     def command(self, name, **words):
-        return self.driver.execute_cdp_cmd(name, words)
+        return self.driver.execute("executeCdpCommand", {"cmd": name, "params": words})["value"]
+
+    def cut_off(self, is_offline):
+        """Takes the browser off the network, or lets it on again."""
+        conditions = {"offline": is_offline, "latency": 0, "throughput": -1}
+        self.driver.execute("setNetworkConditions", {"network_conditions": conditions})
 
     def resize(self, width, height):
         size = {"width": width, "height": height, "deviceScaleFactor": 1, "mobile": False}
         self.command("Emulation.setDeviceMetricsOverride", **size)
+
+    def look(self, width, colours, language):
+        """Opens the page at this width, in these colours, for a reader of this language."""
+        agent = self.run("return navigator.userAgent")
+        self.command("Emulation.setUserAgentOverride", userAgent=agent, acceptLanguage=language)
+        self.command("Emulation.setEmulatedMedia", features=[{"name": "prefers-color-scheme", "value": colours}])
+        self.resize(width, 1000)
+        return self.open()
 
     def saved(self, name):
         """The bytes of a file that the page gave, once it is there."""
@@ -448,7 +485,7 @@ class Browser:
         with contextlib.suppress(Exception):
             self.driver.quit()
         with contextlib.suppress(Exception):
-            self.driver.service.stop()
+            self.stop()
 
 
 # ---- trials of the core, in Node
@@ -461,7 +498,7 @@ def in_node(script, *words):
 
 
 def module(name):
-    return json.dumps((given.page / name).as_uri())
+    return json.dumps((given.deploy / "filer" / name).as_uri())
 
 
 def findings_of_protocol():
@@ -484,6 +521,7 @@ WRONG = [
     b"[1, 2]",
     b'{"a":\n1e400}',
     b'{"a":\n "\xff"}',
+    b'{"a":\n"\xc3\xa9\xef\xbf',
     b'\xef\xbb\xbf{"a":1}', b'{"a":"x\\ud800y"}', b'{"a":"xyz', b"[" * 128 + b"]" * 128, b"[01]", b"[tru]", b'{"a" 1}',
     b"[1,]", b'{"a":1,}', b"[1] x", b" ",
     b'{"documentInfo":{"documentType":"https://xbrl.org/2021/xbrl-json","taxonomy":["t",\n7]},"facts":{"":{}}}',
@@ -491,13 +529,13 @@ WRONG = [
 
 
 def try_core(folder):
-    outbox = given.page.parent.parent / "tools" / "outbox_of_page.mjs"
-    # What the page keeps is the browser's to bring to the disk, and in Node there is none.
-    kit = [sys.executable, ROOT / "conformance" / "run.py", "outbox", "--no-syncs", "--patience", "60", "--command",
+    """What the page sends, what it makes of replies, and what it keeps before."""
+    outbox = given.deploy.parent / "tools" / "outbox_of_page.mjs"
+    kit = [sys.executable, ROOT / "conformance" / "run.py", "outbox", "--patience", "60", "--command",
            f"node {shlex.quote(str(outbox))}"]
     ran = subprocess.run(kit, capture_output=True, text=True, check=False)
-    tell(f"the conformance kit: {(ran.stdout.splitlines() or [''])[-1]}",
-         ran.stdout + ran.stderr if ran.returncode else None)
+    tell(f"the conformance kit: {'; '.join(ran.stdout.splitlines()[-2:])}",
+         f"status {ran.returncode}: {ran.stdout}{ran.stderr}" if ran.returncode else None)
 
 
 def lint(*reports):
@@ -507,6 +545,13 @@ def lint(*reports):
     return list(map(json.loads, lines))
 
 
+def shape(texts):
+    """Of each text what is filled in, and what is code."""
+    if isinstance(texts, dict):
+        return {name: shape(text) for name, text in texts.items()}
+    return list(map(shape, texts)) if isinstance(texts, list) else sorted(re.findall(r"\{\d\}|`[^`]*`", texts))
+
+
 def try_words(folder):
     """Pauses, the words of findings, and where findings are, as docs/PROTOCOL.md and `outbox lint` have them."""
     texts = in_node(f"return (await import({module('texts.mjs')})).TEXTS")
@@ -514,7 +559,7 @@ def try_words(folder):
                      "return [1, 2, 3, 8, 9, 1000].map(pauseAfter)")
     hold("the pauses grow", pauses, [2_000, 4_000, 8_000, 256_000, 300_000, 300_000])
     for language, table in texts.items():
-        hold(f"{language} has each text", sorted(table), sorted(texts["en"]))
+        hold(f"{language} has each text", shape(table), shape(texts["en"]))
     hold("the words of findings", texts["en"]["findings"], findings_of_protocol())
     reports = [folder / f"{at}.json" for at in range(len(WRONG))]
     for path, body in zip(reports, WRONG):
@@ -566,8 +611,7 @@ def try_day(folder):
                   (3, "other.json", keys[2], "confirmed", 2)]
         hold("a report, a wrong one, and another", browser.settled(3), wanted)
         # A key that this outbox used is not taken; one that another outbox used clashes.
-        browser.drop([("again.json", bench.report(8))])
-        wait_until("it is chosen", lambda: browser.chosen() == 1)
+        browser.choose([("again.json", bench.report(8))])
         browser.run("document.querySelector('#chosen-rows input').value = 'k-1'")
         browser.press("#put")
         wait_until("a used key", lambda: "a key is used already" in browser.text("alert"))
@@ -656,9 +700,7 @@ def try_killed(folder):
                 return False
 
             setattr(bench.back, when, kill)
-            browser.drop([("report.json", bench.report(at))])
-            wait_until("it is chosen", lambda browser=browser: browser.chosen() == 1)
-            key = browser.run("return document.querySelector('#chosen-rows input').value")
+            [key] = browser.choose([("report.json", bench.report(at))])
             with contextlib.suppress(WebDriverException):
                 browser.press("#put")
             wait_until("a request", is_killed.is_set)
@@ -692,12 +734,12 @@ def try_lost(folder):
 def try_offline(folder):
     with contextlib.closing(Bench(folder, given.prefix + "OFFLINE")) as bench:
         browser = bench.browser().open()
-        browser.driver.set_network_conditions(offline=True, latency=0, throughput=-1)
+        browser.cut_off(True)
         sent = [(f"{at}.json", bench.report(at)) for at in range(3)]
         keys = browser.file(sent)
         wait_until("it says so", lambda: "No whole answer came." in browser.text("entry-rows"))
         hold("offline", (browser.states(), bench.back.came), (["open"] * 3, []))
-        browser.driver.set_network_conditions(offline=False, latency=0, throughput=-1)
+        browser.cut_off(False)
         hold_filed(bench, browser.settled(3), [(key, body) for key, (_, body) in zip(keys, sent)])
 
 
@@ -723,6 +765,52 @@ def try_two_tabs(folder):
         hold_filed(bench, entries, [(key, body) for key, (_, body) in zip(keys, files)])
 
 
+# For how many seconds what waits for the disk may not be seen.
+HELD = 5
+
+
+def try_disk(folder):
+    """What the browser asks of the disk waits: so does a request for its report, and a state that is shown for the
+    answer. If the disk refuses, what is in the outbox after a reload is filed."""
+    with contextlib.closing(Bench(folder, given.prefix + "DISK")) as bench:
+        disk, reports = Disk(), [(f"{at}.json", bench.report(at)) for at in range(3)]
+        try:
+            browser = bench.browser(disk).open()
+        except Unseen as cause:
+            print(f"not tried: {cause}")
+            return
+        try:
+            keys = browser.file(reports[:1])
+            browser.settled(1)
+            disk.go("hold")
+            keys += browser.choose(reports[1:2])
+            browser.press("#put")
+            wait_until("the disk is asked for a report", lambda: disk.held)
+            time.sleep(HELD)
+            hold("before a report is on the disk", (browser.states(), bench.back.came), (["confirmed"], keys[:1]))
+            bench.back.after = lambda _: disk.go("hold")
+            disk.go("pass")
+            wait_until("the disk is asked for a state", lambda: len(bench.back.came) == 2 and disk.held)
+            time.sleep(HELD)
+            hold("before a state is on the disk", (browser.states(), "Entry 2" in browser.text("status")),
+                 (["confirmed", "open"], False))
+            bench.back.after = None
+            disk.go("pass")
+            browser.settled(2)
+            disk.go("refuse")
+            keys += browser.choose(reports[2:])
+            browser.press("#put")
+            wait_until("it says so", lambda: "Load the page again" in browser.text("alert"))
+        finally:
+            disk.go("pass")
+        browser.open()
+        kept = len(browser.entries())
+        tell(f"of the report that the disk refused, {kept - 2} is in the outbox")
+        hold_filed(bench, browser.settled(kept), [(key, body) for key, (_, body) in zip(keys, reports)][:kept])
+        hold("nothing else was sent", sorted(set(bench.back.came)), sorted(keys[:kept]))
+        tell("the calls of the browser are seen", disk.is_blind or None)
+
+
 # For how many seconds Chromium goes by the room that it found at the last look.
 LOOK = 35
 
@@ -732,8 +820,7 @@ def try_quota(folder):
     with contextlib.closing(Bench(folder, given.prefix + "QUOTA")) as bench:
         browser, origin = bench.browser().open(), f"https://{HOST}"
         browser.command("Storage.overrideQuotaForOrigin", origin=origin, quotaSize=1)
-        browser.drop([("one.json", bench.report(1))])
-        wait_until("it is chosen", lambda: browser.chosen() == 1)
+        browser.choose([("one.json", bench.report(1))])
         browser.press("#put")
         wait_until("it says so", lambda: "no room left" in browser.text("alert"))
         hold("no room for a report", (browser.entries(), browser.chosen(), bench.back.came), ([], 1, []))
@@ -759,7 +846,7 @@ def try_quota(folder):
 
 def try_expired(folder):
     """The certificate expires while the page is open; with a new one the report is filed."""
-    seconds = 60
+    seconds = max(60, given.patience / 3)
     with contextlib.closing(Bench(folder, given.prefix + "EXPIRED", seconds)) as bench:
         end = time.monotonic() + seconds + 2
         browser = bench.browser().open()
@@ -796,10 +883,7 @@ def try_many(folder):
         browser = bench.browser().open()
         files = [(f"{at}.json", bench.report(at)) for at in range(MANY)]
         begin = time.monotonic()
-        browser.drop(files)
-        wait_until("the files are chosen", lambda: browser.chosen() == MANY)
-        keys = browser.run("return [...document.querySelectorAll('#chosen-rows tr')].map("
-                           "(row) => row.querySelector('input').value)")
+        keys = browser.choose(files)
         browser.press("#put")
         wait_until("some are sent", lambda: len(bench.back.came) >= MANY // 5)
         browser.kill()
@@ -813,16 +897,23 @@ def try_many(folder):
         tell(f"{MANY} reports in {time.monotonic() - begin:.0f} s, a new browser among them")
 
 
+def copy_deployed(source, target):
+    """Copies the page and the file of nginx into a new folder."""
+    shutil.copytree(source / "filer", target / "filer")
+    shutil.copy(source / "nginx-intake.conf", target)
+
+
 def try_policy(folder):
     """What gets into the page's markup loads nothing from elsewhere, and runs no script."""
-    page, own = folder / "page", given.page
-    shutil.copytree(own, page)
-    index = (page / "index.html").read_text()
-    (page / "index.html").write_text(index.replace("</body>", f"""<script src="https://{OTHER}/script"></script>
+    deploy, own = folder / "deploy", given.deploy
+    copy_deployed(own, deploy)
+    page = deploy / "filer" / "index.html"
+    index = page.read_text()
+    page.write_text(index.replace("</body>", f"""<script src="https://{OTHER}/script"></script>
 <script>window.inline = true;</script><style>body {{ --inline: 1; }}</style>
 <link rel="stylesheet" href="https://{OTHER}/style"><img src="https://{OTHER}/image">
 <iframe src="https://{OTHER}/frame"></iframe></body>"""))
-    given.page = page
+    given.deploy = deploy
     try:
         with contextlib.closing(Bench(folder, given.prefix + "POLICY")) as bench:
             browser = bench.browser().open()
@@ -840,27 +931,30 @@ def try_policy(folder):
             time.sleep(1)
             hold("nothing is asked for elsewhere", (folder / "other.log").read_text(), "")
     finally:
-        given.page = own
+        given.deploy = own
+
+
+# The widths, colours and languages in which the page is looked at.
+LOOKS = [(1200, "light", "en"), (1200, "dark", "de"), (390, "light", "de"), (390, "dark", "en")]
 
 
 def try_looks(folder):
-    """Keyboard, names, widths and colours."""
+    """Keyboard, names, widths, colours and languages."""
     with contextlib.closing(Bench(folder, given.prefix + "LOOKS")) as bench:
         bench.back.before = lambda data: b"k-open" not in data
-        for width, is_dark in [(1200, False), (1200, True), (390, False), (390, True)]:
-            browser = bench.browser(width, is_dark=is_dark).open()
-            if not browser.entries():
-                bodies = [bench.report(1), WRONG[0], bench.report(5)]
-                browser.file(list(zip(["annual-2024.json", "quarter.json", "late.json"], bodies)),
-                             ["2024-annual-1", "2024-q4-1", "k-open"])
-                wait_until("two are settled", lambda browser=browser: browser.states()[:2] == ["confirmed", "refused"])
-                try_keyboard(browser)
-            browser.resize(width, 1000)
-            browser.drop([("correction.json", bench.report(6)), ("annual-2024.json", bench.report(1))])
-            wait_until("they are chosen", lambda browser=browser: browser.chosen() == 2)
+        browser = bench.browser().open()
+        bodies = [bench.report(1), WRONG[0], bench.report(5)]
+        browser.file(list(zip(["annual-2024.json", "quarter.json", "late.json"], bodies)),
+                     ["2024-annual-1", "2024-q4-1", "k-open"])
+        wait_until("two are settled", lambda: browser.states()[:2] == ["confirmed", "refused"])
+        try_keyboard(browser)
+        for width, colours, language in LOOKS:
+            browser.look(width, colours, language)
+            browser.choose([("correction.json", bench.report(6)), ("annual-2024.json", bench.report(1))])
             browser.press("#list")
-            wait_until("the list", lambda browser=browser: ": 1." in browser.text("filings-said"))
-            name = f"{width}{'-dark' if is_dark else ''}"
+            wait_until("the list", lambda: ": 1." in browser.text("filings-said"))
+            name = f"{width}-{colours}-{language}"
+            hold(f"{name}: the language", browser.run("return document.documentElement.lang"), language)
             hold(f"{name}: nothing is wider than the screen",
                  browser.run("return document.scrollingElement.scrollWidth <= innerWidth"), True)
             hold(f"{name}: contrast", browser.run(CONTRAST), [])
@@ -868,7 +962,9 @@ def try_looks(folder):
             browser.press("[data-action=findings]")
             hold(f"{name}: contrast of the findings", browser.run(CONTRAST), [])
             take_picture(browser, f"{name}-findings", width, 900)
-            browser.close()
+            browser.press("#findings button")
+            hold(f"{name}: the button closes the findings",
+                 browser.run("return document.getElementById('findings').open"), False)
 
 
 def try_keyboard(browser):
@@ -922,53 +1018,70 @@ def take_picture(browser, name, width, height=None):
     browser.resize(width, 1000)
 
 
-TRIALS = [try_core, try_words, try_day, try_killed, try_lost, try_offline, try_two_tabs, try_quota, try_expired,
-          try_sizes, try_many, try_policy, try_looks]
+TRIALS = [try_core, try_words, try_day, try_killed, try_lost, try_offline, try_two_tabs, try_disk, try_quota,
+          try_expired, try_sizes, try_many, try_policy, try_looks]
 # Which trial sees what: a file of the page, what it has, and what it gets.
 FAULTS = [
-    ("the state stored after the send", try_killed, "page.mjs", "        await store.put(filer, reports);\n",
+    ("the state stored after the send", try_killed, "filer/page.mjs", "        await store.put(filer, reports);\n",
      """        for (const { key, bytes } of reports) {
             const fields = { "Idempotency-Key": `"${key}"` };
             await exchange(BASE, { method: "POST", path: `/filings/${filer}`, fields }, bytes);
         }
         await store.put(filer, reports);
 """),
-    ("the key made again after a reload", try_killed, "sender.mjs", "requestOf(entry)",
+    ("the key made again after a reload", try_killed, "filer/sender.mjs", "requestOf(entry)",
      "requestOf({ ...entry, key: `${entry.key}-${performance.timeOrigin}` })"),
-    ("two senders", try_two_tabs, "sender.mjs", "await navigator.locks.request(lock, async () => {",
+    ("two senders", try_two_tabs, "filer/sender.mjs", "await navigator.locks.request(lock, async () => {",
      "await (async (_, run) => run())(lock, async () => {"),
-    ("a policy that allows a foreign script", try_policy, "index.html", "script-src 'self'",
+    ("a policy that allows a foreign script", try_policy, "filer/index.html", "script-src 'self'",
      "script-src 'self' https:"),
-    ("a state shown that could not be stored", try_quota, "sender.mjs", "this.#tell({ id: entry.id, isUnkept: true });",
-     "this.#tell({ id: entry.id, state: 'confirmed' });"),
-    ("no pause after a failure", try_words, "core.mjs", "Math.min(1000 * 2 ** tries, 300_000)", "10"),
-    ("a reply that is cut counts as whole", try_core, "core.mjs", "BigInt(part) === BigInt(content.length)", "true"),
-    ("columns are bytes of UTF-16", try_words, "json.mjs", "code > 0xffff ? 2 : 1", "1"),
-    ("a report of any size is taken", try_sizes, "page.mjs", "file.size > LARGEST_REPORT", "false"),
-    ("a 403 settles an entry", try_expired, "core.mjs",
+    ("a state shown that could not be stored", try_quota, "filer/sender.mjs",
+     "this.#tell({ id: entry.id, isUnkept: true });", "this.#tell({ id: entry.id, state: 'confirmed' });"),
+    ("no pause after a failure", try_words, "filer/core.mjs", "Math.min(1000 * 2 ** tries, 300_000)", "10"),
+    ("a reply that is cut counts as whole", try_core, "filer/core.mjs", "BigInt(part) === BigInt(content.length)",
+     "true"),
+    ("columns are bytes of UTF-16", try_words, "filer/json.mjs", "code > 0xffff ? 2 : 1", "1"),
+    ("a report of any size is taken", try_sizes, "filer/page.mjs", "file.size > LARGEST_REPORT", "false"),
+    ("a 403 settles an entry", try_expired, "filer/core.mjs",
      '(reply.status === 422 || reply.status === 400) && words.includes("refused")',
      "reply.status >= 400 && reply.status < 500"),
+    ("a report that does not wait for the disk", try_disk, "filer/store.mjs", '"reports"], "readwrite", STRICT);',
+     '"reports"], "readwrite");'),
+    ("a state that does not wait for the disk", try_disk, "filer/store.mjs", "this.#change(id, STRICT,",
+     "this.#change(id, {},"),
+    ("a state told before it is stored", try_core, "filer/sender.mjs",
+     "const kept = reply === null ? entry : await this.#store.settle(entry.id, reply);",
+     """this.#tell({ id: entry.id, state: "confirmed", number: "7" });
+            const kept = reply === null ? entry : await this.#store.settle(entry.id, reply);"""),
+    ("a front that compresses replies", try_expired, "nginx-intake.conf", "gzip_types text/css text/javascript;", ""),
+    ("a text that fills in something else", try_words, "filer/german.mjs", '"{0} entfernen"', '"{1} entfernen"'),
 ]
+
+
+def described(fault):
+    """An exception in a line: a driver's has the stack of the browser behind its message."""
+    return f"{type(fault).__name__}: {(str(fault).splitlines() or [''])[0]}"
 
 
 def is_seen(fault, folder):
     """Whether a trial fails on a page with this fault."""
     _, trial, name, old, new = fault
-    given.page = folder / "deploy" / "filer"
-    shutil.copytree(ROOT / "deploy" / "filer", given.page)
+    given.deploy = folder / "deploy"
+    copy_deployed(ROOT / "deploy", given.deploy)
     (folder / "tools").mkdir()
     shutil.copy(ROOT / "tools" / "outbox_of_page.mjs", folder / "tools")
-    text = (given.page / name).read_text()
+    path = given.deploy / name
+    text = path.read_text()
     if text.count(old) != 1:
         sys.exit(f"{name} has {old!r} {text.count(old)} times")
-    (given.page / name).write_text(text.replace(old, new))
+    path.write_text(text.replace(old, new))
     own = folder / "trial"
     own.mkdir()
     failures.clear()
     try:
         trial(own)
     except (Late, WebDriverException, OSError, ValueError, LookupError, subprocess.SubprocessError) as late:
-        tell(trial.__name__, repr(late))
+        tell(trial.__name__, described(late))
     return bool(failures)
 
 
@@ -995,7 +1108,7 @@ def main():
 def try_faults():
     """Damages the page in each way of FAULTS."""
     unseen = []
-    given.patience = 60
+    given.patience /= 3
     for at, fault in enumerate(FAULTS):
         if given.only in fault[0]:
             # A filer whose code no other trial has.
@@ -1015,7 +1128,7 @@ def try_page():
                 try:
                     trial(pathlib.Path(folder).resolve())
                 except (Late, WebDriverException, OSError, ValueError, LookupError, subprocess.SubprocessError) as late:
-                    tell(trial.__name__, repr(late))
+                    tell(trial.__name__, described(late))
     print(f"{len(failures)} failed")
     return 1 if failures else 0
 

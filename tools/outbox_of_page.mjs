@@ -1,6 +1,7 @@
 #!/usr/bin/env node
 /**
- * Stands for `outbox` as far as the conformance kit needs it, over the core of the page for filers (deploy/filer):
+ * Stands for `outbox` as far as the conformance kit needs it, over the core and the sender of the page for filers
+ * (deploy/filer):
  *
  *     conformance/run.py outbox --command 'node tools/outbox_of_page.mjs'
  *
@@ -9,23 +10,25 @@
  *     send --db FILE --port PORT --entry ENTRY --patience SECONDS
  *     status --db FILE
  *
- * What to send and what a reply means is the page's. How a request and a reply lie on a connection is said here, since
- * a browser does that by itself. The outbox is a file of JSON.
+ * What to send, what a reply means, and what is kept before what is sent or told, is the page's. How a request and a
+ * reply lie on a connection is said here, since a browser does that by itself; and so is the store, which is a file of
+ * JSON in place of the browser's.
  */
-import { readFileSync, writeFileSync } from "node:fs";
+import { closeSync, fsyncSync, openSync, readFileSync, renameSync, writeFileSync } from "node:fs";
 import { connect } from "node:net";
+import { dirname } from "node:path";
 import { parseArgs } from "node:util";
 
-import { LARGEST_CONTENT, entryAfter, openEntry, requestOf } from "../deploy/filer/core.mjs";
+import { LARGEST_CONTENT, entryAfter, openEntry } from "../deploy/filer/core.mjs";
+import { Sender } from "../deploy/filer/sender.mjs";
 
 const LARGEST_HEAD = 16_384;
 const MOST_FIELDS = 64;
 const STATUS_LINE = /^HTTP\/1\.[01] ([0-9]{3})(?: [\t\x20-\x7e\x80-\xff]*)?$/;
 const FIELD = /^([!#$%&'*+.^_`|~0-9A-Za-z-]+):([\t\x20-\x7e\x80-\xff]*)$/;
 
-/** The bytes of an entry's request. */
-function bytesOf(entry, report) {
-    const { method, path, fields } = requestOf(entry);
+/** The bytes of a request with its report. */
+function bytesOf({ method, path, fields }, report) {
     const lines = Object.entries(fields).map(([name, value]) => `${name}: ${value}\r\n`);
     const head = [
         `${method} ${path} HTTP/1.1\r\nHost: localhost\r\n`,
@@ -105,34 +108,87 @@ function exchange(bytes, port, seconds) {
     });
 }
 
-const outbox = {
-    load: (file) => JSON.parse(readFileSync(file, "utf8")),
-    save: (file, whole) => writeFileSync(file, JSON.stringify(whole)),
-};
+/** What store.mjs is to the sender, in a file: a change is on the disk once it is made. */
+class FileStore {
+    #file;
+    #whole;
+
+    /** The outbox in this file; or a new one of this filer. */
+    constructor(file, filer = null) {
+        this.#file = file;
+        this.#whole = filer === null ? JSON.parse(readFileSync(file, "utf8")) : { filer, entries: [] };
+    }
+
+    get entries() {
+        return this.#whole.entries;
+    }
+
+    put(key, target, report) {
+        const entry = { ...openEntry(this.#whole.filer, key, target), id: this.entries.length + 1, tries: 0 };
+        this.save([...this.entries, { ...entry, report: report.toString("base64") }]);
+    }
+
+    entry(id) {
+        return this.entries[id - 1];
+    }
+
+    report(id) {
+        return Buffer.from(this.entry(id).report, "base64");
+    }
+
+    settle(id, reply) {
+        return this.#change(id, (entry) => entryAfter(entry, reply));
+    }
+
+    postpone(id, said, due) {
+        return this.#change(id, (entry) => ({ ...entry, tries: entry.tries + 1, said, due }));
+    }
+
+    #change(id, change) {
+        this.save(this.entries.map((entry) => (entry.id === id ? change(entry) : entry)));
+        return this.entry(id);
+    }
+
+    /** Writes these entries beside the file, and then in its place. */
+    save(entries = this.entries) {
+        const [whole, beside] = [{ ...this.#whole, entries }, `${this.#file}.new`];
+        onDisk(beside, "w", (descriptor) => writeFileSync(descriptor, JSON.stringify(whole)));
+        renameSync(beside, this.#file);
+        onDisk(dirname(this.#file), "r");
+        this.#whole = whole;
+    }
+}
+
+/** Opens a file or a folder, writes it, and waits for the disk. */
+function onDisk(path, way, write = () => {}) {
+    const descriptor = openSync(path, way);
+    try {
+        write(descriptor);
+        fsyncSync(descriptor);
+    } finally {
+        closeSync(descriptor);
+    }
+}
+
+function lineOf({ id, state, number }) {
+    return `entry ${id} ${state}${number === null ? "" : ` ${number}`}`;
+}
 
 const commands = {
     init({ db, filer }) {
-        outbox.save(db, { filer, entries: [] });
+        new FileStore(db, filer).save();
     },
     put({ db, body, key, amend }) {
-        const whole = outbox.load(db);
-        const report = readFileSync(body).toString("base64");
-        whole.entries.push({ ...openEntry(whole.filer, key, amend ?? null), report });
-        outbox.save(db, whole);
+        new FileStore(db).put(key, amend ?? null, readFileSync(body));
     },
     async send({ db, port, entry, patience }) {
-        const whole = outbox.load(db);
-        const at = Number(entry) - 1;
-        const report = Buffer.from(whole.entries[at].report, "base64");
-        const reply = await exchange(bytesOf(whole.entries[at], report), Number(port), Number(patience));
-        if (reply !== null) {
-            whole.entries[at] = entryAfter(whole.entries[at], reply);
-            outbox.save(db, whole);
-        }
+        const store = new FileStore(db);
+        const send = (request, report) => exchange(bytesOf(request, report), Number(port), Number(patience));
+        await new Sender(store, send, (told) => console.log(lineOf(told))).send(store.entry(Number(entry)));
     },
     status({ db }) {
-        for (const [at, { state, number }] of outbox.load(db).entries.entries()) {
-            console.log(`entry ${at + 1} ${state}${number === null ? "" : ` ${number}`}`);
+        for (const entry of new FileStore(db).entries) {
+            console.log(lineOf(entry));
         }
     },
 };

@@ -5,7 +5,7 @@
 
 const DEEPEST = 127;
 const SPACE = new Set(" \t\n\r");
-const WORD = /[^ \t\n\r,\]}:]+/y;
+const WORD = /[^ \t\n\r,:{}[\]]+/y;
 const NUMBER = /^-?(?:0|[1-9][0-9]*)(?:\.[0-9]+)?(?:[eE][+-]?[0-9]+)?$/;
 const LITERALS = ["true", "false", "null"];
 const LONE_SURROGATE = /\p{Surrogate}/u;
@@ -107,7 +107,8 @@ export function readJson(text) {
             return { kind: "literal", text: word };
         }
         if (!NUMBER.test(word)) {
-            fail(start);
+            const isCut = NUMBER.test(`${word}0`) || LITERALS.some((literal) => literal.startsWith(word));
+            fail(isCut && at === text.length ? at : start);
         }
         return Number.isFinite(Number(word)) ? { kind: "number", text: word } : fail();
     }
@@ -133,7 +134,8 @@ export function textOf(bytes) {
     try {
         return new TextDecoder("utf-8", { fatal: true, ignoreBOM: true }).decode(bytes);
     } catch {
-        throw new JsonFault(soundPart(bytes).length);
+        const sound = soundPart(bytes);
+        throw new JsonFault(sound.isCut ? lossyText(bytes).length : sound.text.length);
     }
 }
 
@@ -142,12 +144,21 @@ export function lossyText(bytes) {
     return new TextDecoder("utf-8", { ignoreBOM: true }).decode(bytes);
 }
 
-/** The text of these bytes up to the first one that is no UTF-8. */
+/** The text of these bytes up to where they cease to be UTF-8, and whether they only end within a character. */
 function soundPart(bytes) {
-    const lossy = lossyText(bytes);
-    const again = new TextEncoder().encode(lossy);
-    const wrong = again.findIndex((byte, at) => byte !== bytes[at]);
-    return lossyText(bytes.subarray(0, wrong === -1 ? bytes.length : wrong));
+    // As long as a beginning can go on as UTF-8, it gives the text of its whole characters.
+    let [text, length, wrong] = ["", 0, bytes.length + 1];
+    while (wrong - length > 1) {
+        const middle = Math.floor((length + wrong) / 2);
+        try {
+            const decoder = new TextDecoder("utf-8", { fatal: true, ignoreBOM: true });
+            text = decoder.decode(bytes.subarray(0, middle), { stream: true });
+            length = middle;
+        } catch {
+            wrong = middle;
+        }
+    }
+    return { text, isCut: length === bytes.length };
 }
 
 /**

@@ -1,9 +1,10 @@
 /** The page: what is shown, and what is done if somebody chooses files or presses a button. */
 import { LARGEST_REPORT, filingsIn, findingsIn, isFiler, isKey, isNumber, listRequest, reasonOf } from "./core.mjs";
 import { arrange, filled, make, marked, offer } from "./dom.mjs";
+import { exchange } from "./exchange.mjs";
 import { located } from "./findings.mjs";
 import { digestOf, receiptName, receiptText } from "./receipt.mjs";
-import { Sender, exchange } from "./sender.mjs";
+import { Sender } from "./sender.mjs";
 import { Store } from "./store.mjs";
 import { TEXTS } from "./texts.mjs";
 
@@ -401,16 +402,31 @@ async function showKept(asks) {
     at("kept").textContent = isKept ? texts.isKept : texts.mayDelete;
 }
 
+/** What was heard of entries that were settled, and not said yet. */
+let settled = [];
+
 /** What is heard of entries that were sent, in this tab or in another one. */
 function hear(message) {
     if (message.isUnkept) {
         warn(filled(texts.unkept, message.id));
     } else if (message !== "put" && message.state !== "open") {
-        store.entry(message.id).then(({ state, number }) => {
-            say(filled(texts.settled[state], message.id, number));
-        }).catch(stop);
+        settled.push(message);
+        // Once a second: who listens to the page would hear nothing else if many are settled one after another.
+        if (settled.length === 1) {
+            setTimeout(saySettled, 1000);
+        }
     }
     refreshSoon();
+}
+
+/** Says what became of an entry; or of several, how many are in which state. */
+function saySettled() {
+    const [{ id, state, number }, ...others] = settled;
+    const counts = STATES.map((it) => [it, settled.filter((one) => one.state === it).length]);
+    const counted = counts.flatMap(([it, count]) => (count > 0 ? [filled(texts.counted[it], count)] : []));
+    const one = filled(texts.settled[state], id, number);
+    say(others.length === 0 ? one : filled(texts.settledMany, settled.length, counted.join(", ")));
+    settled = [];
 }
 
 function stop(fault) {
@@ -496,7 +512,8 @@ async function begin() {
         warn(filled(texts.unusable, fault.message));
         return;
     }
-    sender = new Sender(store, BASE, (message) => {
+    const send = (request, report) => exchange(BASE, request, report);
+    sender = new Sender(store, send, (message) => {
         channel.postMessage(message);
         hear(message);
     });

@@ -3,55 +3,23 @@
  * has the lock. An entry is read from the store before it is sent, so nothing is sent that is not kept. Its state is
  * stored before anybody hears of it.
  */
-import { LARGEST_CONTENT, dueEntries, isWhole, pauseAfter, reasonOf, requestOf, waitFor } from "./core.mjs";
-
-/** How long an answer is waited for: longer than a server in front waits for the register. */
-const PATIENCE = 200_000;
-
-/**
- * The reply to a request, once it came whole: a reply of core.mjs, with the `moment` and the `port` of a receipt. Null
- * if none came. `base` is the address below which the paths of requests lie.
- */
-export async function exchange(base, { method, path, fields }, body) {
-    try {
-        const answer = await fetch(new URL(path.slice(1), base), {
-            method,
-            headers: fields,
-            body,
-            cache: "no-store",
-            redirect: "manual",
-            referrerPolicy: "no-referrer",
-            signal: AbortSignal.timeout(PATIENCE),
-        });
-        const length = answer.headers.get("Content-Length");
-        if (length === null || Number(length) > LARGEST_CONTENT) {
-            await answer.body?.cancel();
-            return null;
-        }
-        const content = new Uint8Array(await answer.arrayBuffer());
-        const port = Number(base.port) || (base.protocol === "https:" ? 443 : 80);
-        const reply = { status: answer.status, length, content, moment: new Date().toISOString(), port };
-        return isWhole(reply) ? reply : null;
-    } catch {
-        return null;
-    }
-}
+import { dueEntries, pauseAfter, reasonOf, requestOf, waitFor } from "./core.mjs";
 
 export class Sender {
     #store;
-    #base;
+    #exchange;
     #tell;
     #woken;
     #wake;
     #failures = 0;
 
     /**
-     * `tell` hears of each entry that was sent: `{ id, state }`, or `{ id, isUnkept: true }` if the browser had no room
-     * for the answer.
+     * `exchange` gives the reply to a request with its report, or null if none came whole. `tell` hears of each entry
+     * that was sent: `{ id, state, number }`, or `{ id, isUnkept: true }` if there was no room for the answer.
      */
-    constructor(store, base, tell) {
+    constructor(store, exchange, tell) {
         this.#store = store;
-        this.#base = base;
+        this.#exchange = exchange;
         this.#tell = tell;
         this.#sleepFromNow();
     }
@@ -71,6 +39,12 @@ export class Sender {
         this.#wake();
     }
 
+    /** Sends an entry once. Whether an answer came and what became of the entry is kept. */
+    async send(entry) {
+        const reply = await this.#exchange(requestOf(entry), await this.#store.report(entry.id));
+        return (await this.#keep(entry, reply)) && reply !== null;
+    }
+
     #sleepFromNow() {
         this.#woken = new Promise((resolve) => {
             this.#wake = resolve;
@@ -88,9 +62,7 @@ export class Sender {
         const entries = await this.#store.openEntries();
         const due = dueEntries(entries, Date.now());
         for (const entry of due) {
-            const reply = await exchange(this.#base, requestOf(entry), await this.#store.report(entry.id));
-            const isKept = await this.#keep(entry, reply);
-            this.#failures = reply !== null && isKept ? 0 : this.#failures + 1;
+            this.#failures = (await this.send(entry)) ? 0 : this.#failures + 1;
             // If nobody answers, or nothing can be kept, that is so for each entry.
             if (this.#failures > 0) {
                 await this.#rest(pauseAfter(this.#failures));
@@ -111,7 +83,7 @@ export class Sender {
                 const said = reply && { status: reply.status, reason: reasonOf(reply) };
                 await this.#store.postpone(entry.id, said, Date.now() + pauseAfter(entry.tries + 1));
             }
-            this.#tell({ id: entry.id, state: kept.state });
+            this.#tell({ id: entry.id, state: kept.state, number: kept.number });
             return true;
         } catch (fault) {
             if (fault.name !== "QuotaExceededError") {
