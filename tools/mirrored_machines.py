@@ -17,6 +17,8 @@ import pathlib
 import re
 import shutil
 import signal
+import socket
+import struct
 import subprocess
 import sys
 import tempfile
@@ -49,6 +51,8 @@ for it in {}; do /bin/busybox insmod "/$it.ko"; done
 exec /bin/busybox switch_root /root /sbin/init
 """
 MEGABYTE = 1 << 20
+# Megabytes of the disk of a machine's own, on which copies of the register lie, too. Its file has holes.
+IMAGE = 4000
 # What a machine does at its start, before ssh: its networks, as the kernel's words have its number. User-mode Linux has
 # names of its own for disks and networks.
 BEGIN = """#!/bin/sh
@@ -262,7 +266,7 @@ def base():
     `initrd`; `key`, to come in by. The first call makes it, from Debian's mirror."""
     sources = [inspect.getsource(it) for it in (unpack, furnish, take_kernels, keep_modules, archive,
                                                 with_what_they_need)]  # fmt: skip
-    recipe = repr((PACKAGES, FIRST_MODULES, LATER_MODULES, INIT, BEGIN, BEGIN_UNIT, MANAGER, MASKED, sources))
+    recipe = repr((PACKAGES, IMAGE, FIRST_MODULES, LATER_MODULES, INIT, BEGIN, BEGIN_UNIT, MANAGER, MASKED, sources))
     kept = machines.CACHE / f"mirrored-{hashlib.sha256(recipe.encode()).hexdigest()[:16]}"
     if kept.exists():
         return kept
@@ -275,7 +279,7 @@ def base():
         furnish(tree)
         shutil.copy(tree / "lab/key", folder / "key")
         with open(folder / "image", "wb") as file:
-            file.truncate(1200 * MEGABYTE)
+            file.truncate(IMAGE * MEGABYTE)
         run("mkfs.ext4", "-q", "-F", "-J", "size=8", "-d", tree, folder / "image")
         for it in ("tree", "debs"):
             shutil.rmtree(folder / it)
@@ -328,9 +332,9 @@ class Machine:
 
     def by_qemu(self):
         kernel = f"console=ttyS0 quiet {self.kernel}"
-        words = [QEMU, "-cpu", "max", "-m", "384M", "-nodefaults", "-no-user-config", "-display", "none", "-monitor",
-                 "none", "-serial", "stdio", "-kernel", self.lab.base / "linux", "-initrd", self.lab.base / "initrd",
-                 "-append", kernel]  # fmt: skip
+        words = [QEMU, "-cpu", "max", "-m", f"{self.lab.memory}M", "-nodefaults", "-no-user-config", "-display", "none",
+                 "-monitor", "none", "-serial", "stdio", "-kernel", self.lab.base / "linux", "-initrd",
+                 self.lab.base / "initrd", "-append", kernel]  # fmt: skip
         for it in ACCELERATORS:
             words += ["-accel", it]
         for path in (self.root, self.disk, self.plain):
@@ -341,9 +345,9 @@ class Machine:
         return words
 
     def by_user_mode_linux(self):
-        return [self.lab.base / "linux.uml", f"umid={self.name}", f"uml_dir={self.lab.scratch}/", "mem=384M",
-                f"ubda={self.root}", f"ubdb={self.disk}", f"ubdc={self.plain}", "root=/dev/ubda", "rw", "con=null",
-                "con0=null,fd:1", *self.kernel.split(),
+        return [self.lab.base / "linux.uml", f"umid={self.name}", f"uml_dir={self.lab.scratch}/",
+                f"mem={self.lab.memory}M", f"ubda={self.root}", f"ubdb={self.disk}", f"ubdc={self.plain}",
+                "root=/dev/ubda", "rw", "con=null", "con0=null,fd:1", *self.kernel.split(),
                 *(f"vec{net}:transport=tap,ifname={self.name}{net},mac=52:54:00:00:0{net}:0{self.number},gro=1"
                   for net in (0, 1))]  # fmt: skip
 
@@ -368,17 +372,20 @@ class Machine:
         """Puts it into the filers' network (0) or onto the cable (1), or takes it out."""
         run("ip", "link", "set", f"{self.name}{net}", "up" if is_in else "down")
 
+    def into(self):
+        """The words before a command that is to run on the machine. If that loses its power meanwhile, they end."""
+        return ["ssh", "-q", "-i", str(self.lab.key), "-o", "BatchMode=yes", "-o", "StrictHostKeyChecking=no", "-o",
+                "UserKnownHostsFile=/dev/null", "-o", f"ConnectTimeout={10 * PATIENCE:.0f}", "-o",
+                f"ServerAliveInterval={10 * PATIENCE:.0f}", f"root@{self.host}"]  # fmt: skip
+
     def ssh(self, command, timeout=120, given=None):
         """The status of a command, and what it prints."""
-        words = ["ssh", "-q", "-i", self.lab.key, "-o", "BatchMode=yes", "-o", "StrictHostKeyChecking=no", "-o",
-                 "UserKnownHostsFile=/dev/null", "-o", f"ConnectTimeout={10 * PATIENCE:.0f}",
-                 f"root@{self.host}", command]  # fmt: skip
         try:
-            done = subprocess.run(list(map(str, words)), input=given or b"", stdout=subprocess.PIPE,
+            done = subprocess.run([*self.into(), command], input=given or b"", stdout=subprocess.PIPE,
                                   stderr=subprocess.STDOUT, timeout=timeout * PATIENCE, check=False)  # fmt: skip
-        except subprocess.TimeoutExpired:
-            return 124, "no answer in time"
-        return done.returncode, done.stdout if command.startswith("cat ") else done.stdout.decode("utf-8", "replace")
+        except subprocess.TimeoutExpired as fault:
+            return 124, (fault.stdout or b"").decode("utf-8", "replace") + "no answer in time"
+        return done.returncode, done.stdout.decode("utf-8", "replace")
 
     def until(self, command, is_there=lambda status, said: status == 0, seconds=120):
         """Whether it comes to that in so many seconds."""
@@ -387,7 +394,8 @@ class Machine:
             if time.monotonic() > deadline:
                 print(f"{self.name}: not in time: {command}: {found}", flush=True)
                 return False
-            time.sleep(0.3)
+            # Each time costs a processor more than what is waited for.
+            time.sleep(0.3 * PATIENCE)
         return True
 
     def boot(self):
@@ -420,9 +428,50 @@ class Machine:
 
     def fetch(self, path, to):
         """Brings a file from the machine."""
-        status, content = self.ssh(f"cat {path}", timeout=300)
-        to.write_bytes(content)
-        return status == 0
+        with open(to, "wb") as file, contextlib.suppress(subprocess.TimeoutExpired):
+            done = subprocess.run([*self.into(), f"cat {path}"], stdin=subprocess.DEVNULL, stdout=file,
+                                  stderr=subprocess.DEVNULL, timeout=600 * PATIENCE, check=False)  # fmt: skip
+            return done.returncode == 0
+        return False
+
+    def explain(self):
+        """Prints what can be seen of a machine from outside, and what it says of itself, for whoever looks for a
+        cause."""
+        print(f"---- {self.name}", "has no power" if self.process is None else "", flush=True)
+        console = self.lab.scratch / f"{self.name}.console"
+        if console.exists():
+            print(console.read_bytes()[-3000:].decode("utf-8", "replace"))
+        if self.process is None:
+            return
+        for task in pathlib.Path(f"/proc/{self.process.pid}/task").glob("*"):
+            with contextlib.suppress(OSError):
+                state = re.search(r"State:\s*(.*)", (task / "status").read_text())[1]
+                print(f"task {task.name}: {state}, waits in {(task / 'wchan').read_text()}")
+        if not BY_QEMU:
+            for command in ("version", "sysrq w", "sysrq m"):
+                print(f"asked for {command!r} past its network:\n{self.asked_past_network(command)}")
+        print(self.ssh("mirror-state; systemctl list-jobs --no-pager; ps -eo pid,stat,wchan:24,args | grep -v ' \\['; "
+                       "journalctl -b -n 60 -o short-monotonic --no-pager", timeout=30)[1], flush=True)  # fmt: skip
+
+    def asked_past_network(self, command):
+        """What the kernel of User-mode Linux answers on its unix socket."""
+        folder = self.lab.scratch / self.name
+        with socket.socket(socket.AF_UNIX, socket.SOCK_DGRAM) as own, contextlib.suppress(FileNotFoundError):
+            (folder / "asks").unlink(missing_ok=True)
+            own.bind(str(folder / "asks"))
+            own.settimeout(10)
+            request = struct.pack("=III512s", 0xCAFEBABE, 2, len(command), command.encode())
+            said, more = b"", 1
+            try:
+                own.sendto(request, str(folder / "mconsole"))
+                while more:
+                    answer = own.recv(1024)
+                    _, more, length = struct.unpack("=III", answer[:12])
+                    said += answer[12 : 12 + length]
+            except OSError as fault:
+                return f"{said.decode('utf-8', 'replace')}({fault})"
+            return said.decode("utf-8", "replace")
+        return "there is no socket"
 
     def dead_register(self, folder):
         """The register of a machine that has no power, as a start of the file system finds it: its path in a folder."""
@@ -439,10 +488,12 @@ class Machine:
 
 
 class Lab:
-    """Both machines, their networks and the power switch. `deploy` is the folder of that name, as it is to be tried."""
+    """Both machines, their networks and the power switch. `deploy` is the folder of that name, as it is to be tried.
+    `size` are the megabytes of the mirrored disk, `memory` those of a machine."""
 
-    def __init__(self, programs, deploy, size):
-        self.base, self.scratch, self.size, self.lock = base(), machines.scratch(), size, threading.RLock()
+    def __init__(self, programs, deploy, size, memory):
+        self.base, self.scratch, self.size, self.memory = base(), machines.scratch(), size, memory
+        self.lock = threading.RLock()
         self.programs, self.deploy, self.key = programs, deploy, self.scratch / "key"
         shutil.copy(self.base / "key", self.key)
         self.key.chmod(0o600)
@@ -463,6 +514,10 @@ class Lab:
         class Switch(http.server.BaseHTTPRequestHandler):
             def do_GET(self):
                 machine = {"/off/a": lab.a, "/off/b": lab.b}.get(self.path)
+                if machine:
+                    whose = {lab.a.host: "a", lab.b.host: "b"}.get(self.client_address[0])
+                    print(f"the power switch: {whose} takes the power from {machine.name}"
+                          + (", in vain" if not lab.switch_answers else ""), flush=True)  # fmt: skip
                 if machine and lab.switch_answers:
                     machine.off()
                 self.send_response(200 if machine and lab.switch_answers else 503)

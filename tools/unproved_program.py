@@ -1,16 +1,22 @@
 #!/usr/bin/env python3
 """Builds a program by `rt try`, in some minutes and without any proof, and keeps it.
 
-    tools/unproved_program.py CLONE NAME FILE       writes the program NAME (intake, outbox or drill) of a clone to FILE
+    tools/unproved_program.py [--plain] CLONE NAME FILE
+                                    writes the program NAME (intake, outbox or drill) of a clone to FILE
 
 `rt try` compiles a program with checks, runs it, maybe by a loader of the kit's, and throws it away. So this has it do
 something that lasts, copies its executable, and stops it. Nothing is proved of that program; it is for trials alone,
 and slower than the one that `rt run` builds. Status 1 if it can't be had.
+
+With --plain it has none of the checks (the address sanitizer), so that it runs on User-mode Linux, too, and is some ten
+times as fast: this takes the program as the kit hands it to its clang, and has that compile it without them (5 minutes
+more). It needs a C compiler to link it.
 """
 import contextlib
 import os
 import pathlib
 import shutil
+import signal
 import socket
 import sqlite3
 import subprocess
@@ -102,7 +108,34 @@ def built_program(ancestor, others):
     return None
 
 
-def build(clone, name, target):
+def words_of(process):
+    return [os.fsdecode(word) for word in (process / "cmdline").read_bytes().split(b"\0")[:-1]]
+
+
+def handed_to_clang(ancestor, folder):
+    """Once a process below this one compiles a program with the address sanitizer: its words, and the libraries that
+    will be linked with it. The program itself is `module.bc` in the folder then."""
+    for process in pathlib.Path("/proc").glob("[0-9]*"):
+        try:
+            words = words_of(process)
+            if "-fsanitize=address" in words and "module.bc" in words and descends(int(process.name), ancestor):
+                shutil.copy(process / "cwd" / "module.bc", folder)
+                parent = (process / "stat").read_text().rpartition(")")[2].split()[1]
+                given = words_of(pathlib.Path("/proc", parent))
+                return words, [after for word, after in zip(given, given[1:]) if word == "--link"]
+        except OSError:
+            continue
+    return None
+
+
+def compile_plain(words, libraries, folder, target):
+    plain = [word for word in words if word not in ("-O0", "-fsanitize=address")]
+    subprocess.run([*plain, "-O1"], cwd=folder, check=True)
+    linking = ["cc", "-pie", "-Wl,--gc-sections", "-o", target, folder / "module.o", *libraries, "-lm"]
+    subprocess.run(linking, check=True)
+
+
+def build(clone, name, target, is_plain):
     crate = clone / "crates" / name
     with contextlib.ExitStack() as held:
         folder = pathlib.Path(held.enter_context(tempfile.TemporaryDirectory(prefix="unproved-"))).resolve()
@@ -115,8 +148,11 @@ def build(clone, name, target):
             )
             try:
                 deadline = time.monotonic() + PATIENCE
-                while process.poll() is None and time.monotonic() < deadline:
-                    if found := built_program(process.pid, others):
+                handed = None
+                while process.poll() is None and time.monotonic() < deadline and not handed:
+                    if is_plain:
+                        handed = handed_to_clang(process.pid, folder)
+                    elif found := built_program(process.pid, others):
                         with found, open(target, "wb") as kept:
                             shutil.copyfileobj(found, kept)
                         target.chmod(0o755)
@@ -126,22 +162,30 @@ def build(clone, name, target):
                 # It ends what it started, and removes its folder.
                 process.terminate()
                 process.wait()
+            if handed:
+                compile_plain(*handed, folder, target)
+                return
             said.seek(0)
             raise NotBuilt(said.read().decode(errors="replace").strip()[-2000:] or f"nothing ran within {PATIENCE} s")
 
 
 def main():
+    is_plain = sys.argv[1:2] == ["--plain"]
+    if is_plain:
+        del sys.argv[1]
     if len(sys.argv) != 4:
         sys.exit(__doc__)
     if shutil.which("rt") is None:
         sys.exit("unproved_program.py: there is no rt")
     clone, name, target = pathlib.Path(sys.argv[1]).resolve(), sys.argv[2], pathlib.Path(sys.argv[3]).resolve()
+    # Whoever ends this ends what it started, too.
+    signal.signal(signal.SIGTERM, lambda *_: sys.exit(143))
     try:
-        build(clone, name, target)
+        build(clone, name, target, is_plain)
         said = subprocess.run([target, "--version"], capture_output=True, text=True, timeout=60)
         if said.returncode or not said.stdout.startswith(f"{name} "):
             raise NotBuilt(f"--version: status {said.returncode}, {said.stdout}{said.stderr}")
-    except (NotBuilt, subprocess.TimeoutExpired) as fault:
+    except (NotBuilt, OSError, subprocess.SubprocessError) as fault:
         sys.exit(f"unproved_program.py: {name}: {fault}")
 
 
