@@ -19,7 +19,7 @@ ROOT = pathlib.Path(__file__).resolve().parent.parent
 PROGRAMS = [f"crates/{name}/out/{name}" for name in ("intake", "outbox")]
 # The words of each check, and about how many minutes it takes.
 CHECKS = [
-    (["tools/check_pages.py"], 1),
+    (["tools/check_pages.py", "--programs"], 2),
     (["tools/count_trusted.py", "--check"], 1),
     (["tools/try_wrong_bodies.py", "--reads"], 1),
     (["tools/check_openapi.py", PROGRAMS[0]], 1),
@@ -38,7 +38,7 @@ CHECKS = [
     (["tools/check_conformance.py"], 20),
     (["tools/check_first_days.py", *PROGRAMS], 15),
     (["tools/check_takeover.py", *PROGRAMS], 40),
-    (["tools/check_filer_page.py"], 15),
+    (["tools/check_filer_page.py"], 20),
     (["tools/refuse_programs.py"], 30),
     (["bench/run.py"], 10),
     (["bench/steps.py"], 1),

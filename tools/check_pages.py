@@ -2,22 +2,24 @@
 """Checks the pages of the repository: links, tables, lengths in examples, phrases that are hard to read, and commands.
 
     tools/check_pages.py                        what needs neither root nor a built program
-    tools/check_pages.py --programs FOLDER      also the examples that need the programs intake and outbox,
-                                                which are in FOLDER
+    tools/check_pages.py --programs [FOLDER]    also the examples that need the programs intake and outbox, which are in
+                                                FOLDER, or where `rt run` builds them
+    tools/check_pages.py --planted              the pages with each of the FAULTS: a check has to fail
 
 Links lead to files and headings that are there; nothing outside the repository is asked for. Each row of a table has as
 many cells as its head, and a cell of README.md at most CELL words. Each page has at most a handful of the phrases in
-PHRASES and, but for docs/GLOSSARY.md, none of the words in COINED, and those at the top and in docs/ have at most WORDS
-words together. No line of README.md is longer than 400 characters, and none of the code and the scripts than 120, but
-for strings in the code. docs/ARCHITECTURE.md has the table that tools/crate_table.py makes. docs/PROOF.md says how many
-wrong bodies there are, and those that it names are there. The contracts that README.md names are there, and each word
-of docs/GLOSSARY.md is defined where that page says. docs/PROTOCOL.md has a heading for each word of an error, and an
-anchor for each code of a finding; its programs that repeat a request are tried on tools/intake_stand_in.py, after peers
-that fail.
+PHRASES and, but for docs/GLOSSARY.md, none of the words in COINED, and all of them have at most WORDS words together,
+as `git ls-files '*.md' | xargs cat | wc -w` counts. No line of README.md is longer than 400 characters, and none of the
+code and the scripts than 120, but for strings in the code. docs/ARCHITECTURE.md has the table that tools/crate_table.py
+makes. The pictures of README.md show what the page of a filing has. docs/PROOF.md says how many wrong bodies there are,
+and those that it names are there. The contracts that README.md names are there, and each word of docs/GLOSSARY.md is
+defined where that page says. docs/PROTOCOL.md has a heading for each word of an error, and an anchor for each code of a
+finding; its programs that repeat a request have at most LINES lines, and are tried after peers that fail: on intake
+with --programs, otherwise on tools/intake_stand_in.py.
 
 The index of docs/OPERATIONS.md has the questions in QUESTIONS and no others, and each links to a section with the words
-there. tools/questions.txt has what strangers ask, and which section answers it: it is two links from README.md at most,
-and has the words of the answer among its first FIRST words.
+there. tools/questions.txt has what strangers ask, as many of each as ASKING says, and which section answers it: it is
+two links from README.md at most, and has the words of the answer among its first FIRST words.
 
 Every block of commands in README.md, docs/FIRST_DAYS.md and docs/OPERATIONS.md is one that bash can read, and either
 runs here as it is written, or needs root, or needs the kit. Those that need root are played by
@@ -25,9 +27,12 @@ tools/check_first_days.py. An example that runs is a row in EXAMPLES. With --pro
 intake or outbox has to be in their help, and each example of a finding in docs/PROTOCOL.md has that finding. Ports 8080
 and 8081 of 127.0.0.1 have to be free.
 
-Status 1 if something fails.
+Status 1 if something fails, and 77 if nothing does but the programs are not built.
 """
+import argparse
+import contextlib
 import hashlib
+import io
 import os
 import pathlib
 import re
@@ -57,6 +62,10 @@ HANDFUL = 5
 WORDS = 43_000
 CELL = 35
 FIRST = 300
+LINES = 12
+ASKING = {"supervisor": 10, "filer": 10, "sceptic": 5, "contributor": 5}
+# The code that writes a filing's page, and how README.md shows that page.
+FILING, PICTURES = "crates/register_pages/src/filing.rt", ("docs/filing.svg", "docs/filing-narrow.svg")
 # Between these two lines docs/PROOF.md has how many wrong bodies there are.
 COUNTED, COUNTED_END = "<!-- counted by tools/try_wrong_bodies.py --count -->", "<!-- end of what is counted -->"
 # When the one request of a copy came, in milliseconds since 1970.
@@ -76,6 +85,10 @@ PHRASES = {
     r"to (?:the|what|its|their|it|this|them|account)\b": "compares .. with, tests .. against",
     r"\b(?:is|are|was|were) to (?:be|come|replace|have|hold)\b": "has to, will, replaces",
     r"\b(?:take|takes|taken|taking) along\b": "converts, upgrades",
+    r"\ba first part\b": "the beginning",
+    r"\bwhat (?:its|the) words? says?\b": "what is defined for it",
+    r"\bfor good\b": "permanently",
+    r"\b(?:is|was|were) wanting\b": "ran out",
 }
 # Words of contracts, which only the page that explains them has.
 COINED = r"\b(?:old-style|deeds?|hall|told|(?:a|the) front|fronts)\b"
@@ -130,8 +143,15 @@ def pages():
     return sorted(name for name in names if (ROOT / name).is_file())
 
 
+# The fault that is planted, while --planted looks whether it is seen.
+planted = []
+
+
 def text_of(page):
-    return (ROOT / page).read_text(encoding="utf-8")
+    text = (ROOT / page).read_text(encoding="utf-8")
+    for fault in planted:
+        text = text.replace(fault.old, fault.new) if fault.page == page else text
+    return text
 
 
 def without_fences(text):
@@ -268,7 +288,7 @@ def check_questions():
 
 def asked():
     """The rows of tools/questions.txt: who asks what, the page and the heading with the answer, and its words."""
-    for line in (ROOT / "tools/questions.txt").read_text(encoding="utf-8").splitlines():
+    for line in text_of("tools/questions.txt").splitlines():
         if line and not line.startswith("#"):
             who, question, answer, words = line.split(" | ")
             page, _, anchor = answer.partition("#")
@@ -291,9 +311,9 @@ def reached():
 
 def check_strangers():
     """Each question of tools/questions.txt finds its answer."""
-    faults, known, count = [], reached(), 0
+    faults, known, asking = [], reached(), dict.fromkeys(ASKING, 0)
     for who, question, page, anchor, answer in asked():
-        count += 1
+        asking[who] = asking.get(who, 0) + 1
         section = section_of(page, anchor)
         if not section:
             faults.append(f"{who}: {question!r}: there is no {page}#{anchor}")
@@ -303,14 +323,14 @@ def check_strangers():
         begun = " ".join(section.split()[:FIRST])
         faults += [f"{who}: {question!r}: the first {FIRST} words of {page}#{anchor} do not have {words!r}"
                    for words in answer if words not in begun]  # fmt: skip
-    trials.tell(f"tools/questions.txt: the answers to {count} questions", "; ".join(faults))
+    faults += [f"{asking} questions in place of {ASKING}"] if asking != ASKING else []
+    trials.tell(f"tools/questions.txt: the answers to {sum(asking.values())} questions", "; ".join(faults))
 
 
-def check_words():
-    """The pages can be read: words are what is between spaces, as `cat *.md docs/*.md | wc -w` counts them."""
-    count = sum(len(text_of(page).split()) for page in pages() if re.fullmatch(r"(?:docs/)?[^/]+", page))
-    trials.tell(f"{count:,} words on the pages at the top and in docs/, at most {WORDS:,}",
-                None if count <= WORDS else "shorten some")
+def check_words_of_pages():
+    """The pages can be read: words are what is between spaces, as `wc -w` counts them."""
+    count = sum(len(text_of(page).split()) for page in pages())
+    trials.tell(f"{count:,} words on the pages, at most {WORDS:,}", None if count <= WORDS else "shorten some")
 
 
 def check_readme():
@@ -320,6 +340,25 @@ def check_readme():
     cells = [cell for line in text_of("README.md").split("\n") if line.startswith("|") for cell in line.split("|")]
     trials.tell(f"README.md: no cell of a table has more than {CELL} words",
                 "; ".join(cell for cell in cells if len(cell.split()) > CELL))
+
+
+def check_picture():
+    """The picture of a filing's page has the table's caption and columns, and of what is above it no other terms, in
+    the order of the page that `intake pages` writes. On a narrow screen each cell has its column's name before it."""
+    source = text_of(FILING)
+    columns = re.findall(r'<th scope=\\"col\\"[^>]*>([^<]+)</th>', source)
+    caption, terms = re.search(r"<caption>([^<]+)</caption>", source)[1], re.findall(r"<dt>([^<]+)</dt>", source)
+    for picture in PICTURES:
+        shown = re.findall(r'<text(?: class="[^"]*")? x="(\d+)" y="\d+">([^<]+)</text>', text_of(picture))
+        texts = [text for _, text in shown]
+        said = " ".join(texts)
+        above, _, below = said.partition(caption)
+        at = [terms.index(text) if text in terms else -1
+              for x, text in shown[texts.index("Filing 1") + 1:] if x == "24" and text in above]
+        names = re.findall(rf"\b({'|'.join(columns)})\b:?(?= )", below)
+        wanted = columns if names[:1] == columns[:1] else columns[1:]
+        right = below and at == sorted(set(at)) and at[:1] == [0] and names[:len(wanted)] == wanted
+        trials.tell(f"{picture}: what a filing's page shows", None if right else f"{at}, {names} in place of {wanted}")
 
 
 def check_contracts():
@@ -349,7 +388,7 @@ def check_errors():
     under an address of its own."""
     page = "docs/PROTOCOL.md"
     words = set(re.findall(r"(?m)^\| [^|]+ \| [45]\d\d(?:, closes)? \| `([\w-]+)`", text_of(page)))
-    words.update(re.findall(r'"reason":"([\w-]+)"', (ROOT / "deploy/nginx-intake.conf").read_text(encoding="utf-8")))
+    words.update(re.findall(r'"reason":"([\w-]+)"', text_of("deploy/nginx-intake.conf")))
     codes = set(re.findall(r"(?m)^\| \d+ \| ([\w-]+) \|", text_of(page)))
     gone = sorted(words - set(anchors_of(page))) + sorted(codes ^ set(marks_of(page)))
     trials.tell(f"{page}: an address for each of {len(words)} errors and {len(codes)} findings",
@@ -562,13 +601,21 @@ AWAY = b"HTTP/1.1 503 Service Unavailable\r\nContent-Length: 24\r\n\r\n" + b'{"r
 CUT = b'HTTP/1.1 201 Created\r\nContent-Length: 34\r\n\r\n{"number":7,"status":"registered"'
 
 
-def try_repeat(first, runner):
+def try_repeats(programs=None):
+    for first, runner in REPEATS:
+        try_repeat(first, runner, programs)
+
+
+def try_repeat(first, runner, programs):
     """Runs one: its first requests meet a reset, a 503 and a reply that is cut, the next one an intake. A second run
     gets the same answer, and a run with another report is not filed."""
     block = next((it for it in blocks_of(text_of("docs/PROTOCOL.md")) if it.startswith(first)), None)
-    what = f"docs/PROTOCOL.md: {first} .."
+    what = f"docs/PROTOCOL.md: {first} .., on {'intake' if programs else 'a stand-in'}"
     if block is None:
         return trials.tell(what, "there is no such block")
+    if (lines := block.count("\n") + 1) > LINES:
+        return trials.tell(what, f"it has {lines} lines, more than {LINES}")
+    own = [programs / "intake"] if programs else [sys.executable, ROOT / "tools/intake_stand_in.py"]
     with tempfile.TemporaryDirectory() as folder:
         peer = trials.Peer(trials.breaks, trials.answers(AWAY), trials.answers(CUT))
         block = block.replace("8080", str(peer.port))
@@ -577,9 +624,8 @@ def try_repeat(first, runner):
         program = subprocess.Popen([*runner, "-c", block], cwd=folder, stdout=subprocess.PIPE, text=True)
         while len(peer.taken) < 3 and program.poll() is None:
             time.sleep(0.05)
-        intake = subprocess.Popen([sys.executable, ROOT / "tools/intake_stand_in.py", "serve", "--db", "register",
-                                   "--port", str(peer.port), "--connections", "9", "--new"],
-                                  cwd=folder, stderr=subprocess.DEVNULL)  # fmt: skip
+        intake = subprocess.Popen([*own, "serve", "--db", "register", "--port", str(peer.port), "--connections", "9",
+                                   "--new"], cwd=folder, stderr=subprocess.DEVNULL)  # fmt: skip
         try:
             said = [program.communicate(timeout=60)[0]]
             for body in (trials.REPORT, trials.REPORT + b" "):
@@ -671,31 +717,103 @@ def check_findings(programs):
                 "; ".join(faults) if len(set(codes)) == 25 else f"examples of {codes}")  # fmt: skip
 
 
-def main(words):
-    if words and (len(words) != 2 or words[0] != "--programs"):
-        print(__doc__, file=sys.stderr)
-        return 2
-    programs = pathlib.Path(words[1]).resolve() if words else None
-    if programs and not all((programs / name).is_file() for name in ("intake", "outbox")):
-        print(f"check_pages.py: {programs}: intake and outbox are not there", file=sys.stderr)
-        return 2
+# ---- planted faults
+
+
+@dataclass
+class Fault:
+    """A text of a page that becomes another one, and the check that has to see it."""
+
+    check: Callable
+    page: str
+    old: str
+    new: str
+
+
+FAULTS = [
+    Fault(lambda: check_links("README.md"), "README.md", "(docs/TRUST.md)", "(docs/TRUTH.md)"),
+    Fault(lambda: check_links("README.md"), "README.md", "#what-is-not-guaranteed)", "#what-is-not-known)"),
+    Fault(lambda: check_tables("README.md"), "README.md", "| you want to | read |", "| you want to |"),
+    Fault(lambda: check_phrases("docs/PROTOCOL.md"), "docs/PROTOCOL.md", "## Sources", "## What is told"),
+    Fault(lambda: check_phrases("docs/PROTOCOL.md"), "docs/PROTOCOL.md", "## Sources", "a first part " * (HANDFUL + 1)),
+    Fault(check_words_of_pages, "conformance/README.md", "# Conformance kit", "# Conformance kit" + " word" * WORDS),
+    Fault(check_readme, "README.md", "| the same |", "| the same" + " word" * CELL + " |"),
+    Fault(check_readme, "README.md", "# Berruzpil", "# Berruzpil" + "-" * README_WIDTH),
+    Fault(check_picture, "docs/filing.svg", ">Unit</text>", ">Entity</text>"),
+    Fault(check_picture, "docs/filing.svg", ">Key</text>", ">Keys</text>"),
+    Fault(check_picture, "docs/filing-narrow.svg", ">Facts. A date", ">Facts. Each date"),
+    Fault(check_picture, FILING, '<th scope=\\"col\\">Unit</th>', '<th scope=\\"col\\">Entity</th>'),
+    Fault(check_contracts, "README.md", "`xbrl_report::judge`", "`xbrl_report::judges`"),
+    Fault(check_glossary, "docs/GLOSSARY.md", "`filing_model/Answer`", "`filing_model/Answers`"),
+    Fault(check_errors, "docs/PROTOCOL.md", "### `key-bad`", "### `bad-key`"),
+    Fault(check_errors, "docs/PROTOCOL.md", '<a id="period-order"></a>', ""),
+    Fault(check_errors, "deploy/nginx-intake.conf", '"reason":"wrong-host"', '"reason":"other-host"'),
+    Fault(check_lengths, "docs/PROTOCOL.md", "Content-Length: 393", "Content-Length: 394"),
+    Fault(check_wrong_bodies, "docs/PROOF.md", "`xbrl_report/finding_kept_first`", "`xbrl_report/finding_kept_last`"),
+    Fault(check_questions, "docs/OPERATIONS.md", "`database is locked`", "`database is open`"),
+    Fault(check_strangers, "README.md", "No licence is given yet.", "It has a licence."),
+    Fault(check_strangers, "README.md", "[docs/DECISIONS.md](docs/DECISIONS.md)", "docs/DECISIONS.md"),
+    Fault(check_strangers, "docs/TRUST.md", "The claim: ", "word " * FIRST),
+    Fault(check_strangers, "tools/questions.txt", "sceptic | What is not? ", "filer | What is not? "),
+    Fault(lambda: check_commands("README.md"), "README.md", "outbox init --db", "outbox 'init --db"),
+    Fault(lambda: check_commands("README.md"), "README.md", "    export PATH=", "    true; export PATH="),
+    Fault(try_repeats, "docs/PROTOCOL.md", "'\"2024-annual-1\"'}", "f'\"{time.time()}\"'}"),
+    Fault(try_repeats, "docs/PROTOCOL.md", "key='\"2024-annual-1\"'", "key=\\\"$RANDOM\\\""),
+    Fault(try_repeats, "docs/PROTOCOL.md", "400*'\"refused\"'* | 422*'\"refused\"'*) ", "4*) exit ;;\n            *) "),
+    Fault(try_repeats, "docs/PROTOCOL.md", "pause=1; : > reply.json", "pause=1\n    : > reply.json"),
+]
+
+
+def try_faults():
+    """Each of the FAULTS is seen by its check, which passes without it."""
+    for fault in FAULTS:
+        what = f"{fault.page}: {fault.old[:50]!r} => {fault.new[:50]!r}"
+        if fault.old not in text_of(fault.page):
+            trials.tell(what, "this text is not there")
+            continue
+        seen = []
+        for with_fault in (False, True):
+            before, said = list(trials.failures), io.StringIO()
+            planted[:] = [fault] if with_fault else []
+            with contextlib.redirect_stdout(said):
+                fault.check()
+            seen.append(trials.failures[len(before):])
+            trials.failures[:], planted[:] = before, []
+        trials.tell(f"{what}: seen by: {', '.join(seen[1])}",
+                    f"it fails without: {seen[0]}" if seen[0] else None if seen[1] else "no check fails")
+
+
+@contextlib.contextmanager
+def folder_of(given):
+    """The folder with the programs, made of those that `rt run` built if none is given; nothing if they are missing."""
+    built = [ROOT / "crates" / name / "out" / name for name in ("intake", "outbox")]
+    with tempfile.TemporaryDirectory() as folder:
+        if given is None:
+            given = folder
+            for program in built:
+                pathlib.Path(folder, program.name).symlink_to(program)
+        programs = pathlib.Path(given).resolve()
+        yield programs if all((programs / it.name).is_file() for it in built) else None
+
+
+def check(programs):
     for page in pages():
         check_links(page)
         check_tables(page)
         check_phrases(page)
-    check_words()
+    check_words_of_pages()
     check_readme()
     trials.tell("docs/ARCHITECTURE.md: the table of crates", crate_table.fault())
     check_widths()
     check_lengths()
     check_wrong_bodies()
+    check_picture()
     check_contracts()
     check_glossary()
     check_errors()
     check_questions()
     check_strangers()
-    for first, runner in REPEATS:
-        try_repeat(first, runner)
+    try_repeats(programs)
     for page in ("README.md", "docs/FIRST_DAYS.md", "docs/OPERATIONS.md"):
         check_commands(page)
     for example in EXAMPLES:
@@ -704,8 +822,26 @@ def main(words):
     if programs:
         check_options(programs)
         check_findings(programs)
+
+
+def main(words):
+    parser = argparse.ArgumentParser(prog="check_pages.py", description="Checks the pages of the repository.")
+    kind = parser.add_mutually_exclusive_group()
+    kind.add_argument("--programs", metavar="FOLDER", nargs="?", const="", help="with intake and outbox in this folder")
+    kind.add_argument("--planted", action="store_true", help="with planted faults, each of which has to be seen")
+    given = parser.parse_args(words)
+    if given.planted:
+        try_faults()
+    else:
+        with folder_of(given.programs or None) as programs:
+            if given.programs and not programs:
+                parser.error(f"{given.programs}: intake and outbox are not there")
+            is_missing = given.programs is not None and not programs
+            check(programs if given.programs is not None else None)
+            if is_missing:
+                print("not tried: the examples that need programs, since `rt run` has not built both")
     print(f"{len(trials.failures)} failed")
-    return 1 if trials.failures else 0
+    return 1 if trials.failures else 77 if not given.planted and is_missing else 0
 
 
 if __name__ == "__main__":

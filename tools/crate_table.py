@@ -5,7 +5,8 @@
     tools/crate_table.py --check    says whether the page has this table
 
 The rows are in the order of crates.txt. The row of a crate has the crates of this repository that it names there, but
-for those that another one of the row uses already, and the first lines of its root file, up to `What may live here`.
+for those that another one of the row uses already, and the first lines of its root file, up to `What may live here`, or
+to a colon behind LEAST words or more: what comes after it are details.
 
 Status 1 if a crate has no such lines, or if the page has no table or, with --check, another one.
 """
@@ -16,6 +17,7 @@ import sys
 
 ROOT = pathlib.Path(__file__).resolve().parent.parent
 PAGE = ROOT / "docs" / "ARCHITECTURE.md"
+LEAST = 7
 HEAD = "| crate | uses | what it is for |\n|---|---|---|\n"
 
 
@@ -38,12 +40,15 @@ def nearest(known):
 
 
 def purpose(name):
-    """The first paragraph of a crate's root file, up to what may live there; empty if there is none."""
+    """What the first paragraph of a crate's root file says that it is for; empty if there is none."""
     source = ROOT / "crates" / name / "src"
     root = next(it for it in (source / "lib.rt", source / "main.rt") if it.is_file())
     head = re.match(r"(?://![^\n]*\n)*", root.read_text(encoding="utf-8"))[0]
     paragraph = " ".join(re.sub(r"(?m)^//! ?", "", head).split("\n\n")[0].split())
-    return paragraph.split("What may live here")[0].strip().replace("|", "\\|")
+    why, colon, details = paragraph.split("What may live here")[0].strip().partition(": ")
+    if len(why.split()) < LEAST:
+        why += colon + details
+    return f"{why.rstrip('.')}.".replace("|", "\\|") if why else ""
 
 
 def table():
