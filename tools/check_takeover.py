@@ -19,13 +19,14 @@ begin with the digest that the other machine's register had before, and to agree
 one. All the time both machines are asked whether they serve: never may both.
 
 The parts are those of PARTS below; all of them kill 20 machines and more. `price` is played only if it is named: it
-measures requests a second with the mirror and without.
+measures requests a second with the mirror and without, and take-overs by the size of the register.
 
 With --planted the faults of FAULTS are planted, one after the other, in what is deployed: each has to make the check
-fail that is meant to see it. A WORD takes the faults that have it in their name.
+fail that is meant to see it, and nothing more is played then. A WORD takes the faults that have it in their name.
 
 On a machine that has other things to do anything may take longer: so many times as --patience says, or the variable
-BERRUZPIL_PATIENCE, or, without either, as this program waits for a processor at the start.
+BERRUZPIL_PATIENCE, or, without either, as this program waits for a processor at the start. If something does not come
+in time it asks again how busy the machine is, before it counts as failed.
 The last line says how many checks passed and failed. Status 1 if one failed, 2 for a wrong command line, 77 if nothing
 could be tried.
 """
@@ -56,7 +57,7 @@ import mirrored_machines
 import register_digest
 import trials
 from machines import NotPossible, run
-from mirrored_machines import ADDRESS, PATIENCE, Lab
+from mirrored_machines import ADDRESS, PATIENCE, Deadline, Lab
 
 SECTION = "How does a second machine take over?"
 REGISTER = "/var/lib/berruzpil/register.db"
@@ -71,18 +72,26 @@ NAMES = [
 BEGAN = time.monotonic()
 passed, failed = collections.Counter(), []
 figures = collections.defaultdict(list)
+# A part of the name of the check that a planted fault has to make fail.
+awaited = []
+
+
+class Over(Exception):
+    """Why the play does not go on."""
+
+
+class Seen(Exception):
+    """The planted fault was seen, so nothing more is played."""
 
 
 def hold(what, found, wanted=True):
     if found == wanted:
         passed[what] += 1
-    else:
-        failed.append(what)
-        print(f"failed: {what}: {str(found)[:600]!r} in place of {str(wanted)[:300]!r}", flush=True)
-
-
-class Over(Exception):
-    """Why the play does not go on."""
+        return
+    failed.append(what)
+    print(f"failed: {what}: {str(found)[:600]!r} in place of {str(wanted)[:300]!r}", flush=True)
+    if any(it in what for it in awaited):
+        raise Seen
 
 
 def say(*words):
@@ -162,14 +171,16 @@ class Filers:
     def pause(self, seconds=180):
         """Whether all of them came to rest."""
         self.go.clear()
-        deadline = time.monotonic() + seconds * PATIENCE
-        return all(it.wait(max(0.0, deadline - time.monotonic())) for it in self.quiet)
+        deadline = Deadline(seconds)
+        while not all(it.is_set() for it in self.quiet) and not deadline.is_over():
+            time.sleep(0.02)
+        return all(it.is_set() for it in self.quiet)
 
     def until(self, more, seconds=120):
         """Waits until so many more answers came."""
         self.go.set()
-        wanted, deadline = len(self.told) + more, time.monotonic() + seconds * PATIENCE
-        while len(self.told) < wanted and time.monotonic() < deadline:
+        wanted, deadline = len(self.told) + more, Deadline(seconds)
+        while len(self.told) < wanted and not deadline.is_over():
             time.sleep(0.02)
         return len(self.told) >= wanted
 
@@ -230,8 +241,8 @@ class Outbox:
 
     def finish(self, seconds=180):
         """Rounds until each entry is confirmed. Whether they came to be in time."""
-        deadline = time.monotonic() + seconds * PATIENCE
-        while len(self.confirmed()) < self.count and time.monotonic() < deadline:
+        deadline = Deadline(seconds)
+        while len(self.confirmed()) < self.count and not deadline.is_over():
             self.statuses[self.begin_round().wait()] += 1
             time.sleep(0.3)
         return len(self.confirmed()) == self.count
@@ -413,12 +424,13 @@ class Play:
             min((it for it in list(self.filers.times) if it > since + 0.5), default=since) - since)  # fmt: skip
         return said
 
-    def refuses(self, what, machine, cause):
-        """register-takeover serves nothing, and says why on its last line."""
-        status, said = machine.ssh("register-takeover", timeout=400)
+    def refuses(self, what, machine, cause, command="register-takeover", status=1):
+        """It serves nothing, and says why on its last line, which is given back."""
+        found, said = machine.ssh(command, timeout=400)
         last = (said.strip().splitlines() or [""])[-1]
         say("   ", last)
-        hold(f"{what}: register-takeover refuses", (status, cause if cause in last else last), (1, cause))
+        hold(f"{what}: {command.split()[0]} refuses", (found, cause if cause in last else last), (status, cause))
+        return last
 
     def heal(self, machine, what):
         """The machine that was off starts again, and the mirror is whole again without a human."""
@@ -449,10 +461,10 @@ class Play:
     def begin_filing(self, what, entries=60):
         """Clients file, and a round of the outbox is under way, some of whose entries are confirmed."""
         self.outbox.put(entries)
-        before, deadline = len(self.outbox.confirmed()), time.monotonic() + 60 * PATIENCE
+        before, deadline = len(self.outbox.confirmed()), Deadline(60)
         hold(f"{what}: clients are answered", self.filers.until(random.randrange(30, 200)))
         sending = self.outbox.begin_round()
-        while len(self.outbox.confirmed()) < before + 3 and time.monotonic() < deadline:
+        while len(self.outbox.confirmed()) < before + 3 and sending.poll() is None and not deadline.is_over():
             time.sleep(0.02)
         time.sleep(random.random() / 2)
         return sending
@@ -511,12 +523,14 @@ class Play:
         what = "a kill of the second machine"
         first, second = self.first, self.second
         sending = self.begin_filing(what)
+        # Of one cause there are five an hour at most, and some may have come since this machine was started.
+        first.ssh("systemctl reset-failed berruzpil-alert@berruzpil-mirror-health.service.service")
         before = len(self.health_alerts(first))
         since = self.dies(second)
         hold(f"{what}: the first goes on", self.filers.until(300))
         figures["pause as the second machine dies, s"].append(self.filers.pause_since(since - 1))
-        alarmed = first.until("journalctl -q -b -t berruzpil -p alert -o cat",
-                              lambda _, said: said.count("berruzpil-mirror-health") > before,
+        alarmed = first.until("journalctl -q -b -t berruzpil -p alert -o cat | grep -c ^berruzpil-mirror-health",
+                              lambda status, said: status == 0 and int(said) > before,
                               max(0.0, since + 60 - time.monotonic()))  # fmt: skip
         hold(f"{what}: an alert within a minute", alarmed)
         figures["from the failure until the alert, s"].append(time.monotonic() - since)
@@ -710,9 +724,119 @@ class Play:
         hold(f"{what}: it goes on", self.filers.until(50))
         self.compare(what)
 
+    def typed(self):
+        """What a human types with wrong words, or at the wrong time, is refused on one line with the next step, and
+        changes nothing; the next step helps."""
+        first, second = self.first, self.second
+        a, b = first.name, second.name
+        for machine in (first, second):
+            for words, status, line in WRONG_WORDS:
+                line = line.format(own=machine.name, other=machine.other.name)
+                self.refuses(f"wrong words on {machine.name}", machine, line, words.format(own=machine.name), status)
+        what = "on the machine that serves"
+        for words in ("register-takeover", f"register-takeover --is-off {b}"):
+            hold(f"{what}: {words}", first.ssh(words)[0], 0)
+        what = "on the other machine"
+        status, said = second.ssh("register-release")
+        hold(f"{what}: register-release", (status, said),
+             (0, "register-release: this machine has not got the register\n"))  # fmt: skip
+        self.refuses(what, second, "another register-takeover is at work on this machine: wait until that ends",
+                     "flock /run/berruzpil-takeover sleep 9 & sleep 2; register-takeover")
+        hold(f"{what}: nothing was changed", (self.filers.until(20), first.is_whole(), second.process is None),
+             (True, True, False))  # fmt: skip
+        what = "another disk is mounted"
+        second.ssh("mount -t tmpfs tmpfs /var/lib/berruzpil")
+        self.refuses(what, second, "tmpfs is mounted at /var/lib/berruzpil, and not the mirrored disk: umount"
+                     " /var/lib/berruzpil, and call this again")
+        second.ssh("sleep 1; umount /var/lib/berruzpil")
+        hold(f"{what}: the first serves on", self.filers.until(20))
+        what = "a file of the register is open"
+        first.ssh(f"setsid sleep 100000 < {REGISTER} > /dev/null 2>&1 &")
+        open_there = f"so {a} serves on: end it there (fuser -vm /var/lib/berruzpil names it), and call this again"
+        self.refuses(what, first, open_there, "register-release")
+        hold(f"{what}: the first serves on", self.filers.until(20))
+        self.refuses(what, second, f"{open_there}; or take its power: register-fence {a}")
+        hold(f"{what}: it serves on still", self.filers.until(20))
+        first.ssh("pkill -f 'sleep 100000'")
+        what = "the mirror was cut by hand"
+        second.ssh("drbdadm disconnect register")
+        self.follow(self.refuses(what, second, "split brain): drbdadm connect register"), second)
+        hold(f"{what}: it is whole again", first.is_whole())
+        what = "DRBD does not run"
+        second.ssh("drbdadm down register")
+        self.follow(self.refuses(what, second, "does not run here: systemctl restart drbd", status=3), second)
+        hold(f"{what}: it is whole again", first.is_whole())
+        hold("the first serves on through all of it", self.filers.until(20))
+        what = "the machine that serves was stopped"
+        for said in (f"{a} has let go of the register", "this machine has not got the register"):
+            hold(f"{what}: register-release", first.ssh("register-release", timeout=300),
+                 (0, f"register-release: {said}\n"))  # fmt: skip
+        self.take_over(first)
+        self.compare("what a human types")
+        what = "the power switch does not answer"
+        self.lab.switch_answers = False
+        sending = self.begin_filing(what)
+        since = self.dies(first)
+        last = self.refuses(what, second, f"{a} is not surely down")
+        self.lab.switch_answers = True
+        step = last.rpartition("pull its plug, and then call: ")[2]
+        hold(f"{what}: the next step", step, f"register-takeover --is-off {a}")
+        self.take_over(second, step.partition(" ")[2], since)
+        sending.wait()
+        self.compare(what)
+        self.heal(first, what)
+
+    @staticmethod
+    def follow(line, machine):
+        """Types the command behind the last colon of a refusal."""
+        hold(f"the next step: {line}", machine.ssh(line.rpartition(": ")[2])[0], 0)
+
     def price(self):
-        """Requests a second with the mirror, on DRBD while the other machine is away, and on a disk without DRBD."""
-        self.filers.pause()
+        """What a mirror costs: requests a second, and how long a take-over takes with a register of each size, all of
+        it by what the programs on the machines say of themselves."""
+        hold("all clients come to rest", self.filers.pause())
+        self.requests_a_second()
+        for count in SIZES:
+            self.time_take_overs(count)
+
+    def time_take_overs(self, count):
+        """A planned change, and one after a kill, while the register has so many filings."""
+        first, folder = self.first, REGISTER.rpartition("/")[0]
+        # In memory, where there is some, since each filing is synced.
+        memory = pathlib.Path("/dev/shm")
+        with tempfile.TemporaryDirectory(dir=memory if memory.exists() else self.lab.scratch) as name:
+            content = make_register(self.given.intake, pathlib.Path(name), count).read_bytes()
+        hold("register-release", first.ssh("register-release", timeout=300)[0], 0)
+        status, said = first.ssh(
+            f"systemctl start berruzpil-mirror && mkdir {folder}/aside && mv {REGISTER}* {folder}/aside/ && "
+            f"cat > {REGISTER} && chown berruzpil: {REGISTER} && chmod 600 {REGISTER} && sync",
+            600, content)  # fmt: skip
+        hold("a register is put there", (status, said), (0, ""))
+        self.timed(first)
+        what = f"register-takeover with {count} filings ({len(content) / 1e6:.0f} MB), s"
+        figures[f"{what}: a planned change"].append(self.timed(self.second))
+        hold("the mirror is whole", self.first.is_whole())
+        dead = self.first
+        self.dies(dead)
+        figures[f"{what}: after a kill"].append(self.timed(dead.other))
+        self.heal(dead, what)
+        self.first.ssh("register-release", timeout=300)
+        self.first.ssh(f"systemctl start berruzpil-mirror && rm {REGISTER}* && mv {folder}/aside/* {folder}/ && "
+                       f"rmdir {folder}/aside")  # fmt: skip
+        self.timed(self.first)
+
+    def timed(self, machine):
+        """The seconds that register-takeover says it took."""
+        status, said = machine.ssh("register-takeover", timeout=600)
+        hold("register-takeover ends with 0", status, 0)
+        if status:
+            raise Over(said)
+        self.takeovers += machine is not self.first
+        self.first = machine
+        return int(re.search(r"since (\d+) ms", said)[1]) / 1000
+
+    def requests_a_second(self):
+        """On the mirrored disk, and on a disk without DRBD."""
         first = self.first
         first.ssh("mkfs.ext4 -q -F -E nodiscard /dev/vdc && mkdir -p /srv/plain && "
                   "mount -o noatime /dev/vdc /srv/plain")  # fmt: skip
@@ -722,6 +846,7 @@ class Play:
                 for clients in (1, 64):
                     serial += 1
                     said = self.load(first, folder, clients, serial)
+                    hold("clients are answered", said > 0)
                     figures[f"requests a second: {where}, {clients} clients"].append(said)
         first.ssh("rm -rf /var/lib/berruzpil/price; umount /srv/plain")
 
@@ -734,6 +859,29 @@ class Play:
                    f"python3 - {port} {clients} 10; kill $p; wait; }}")  # fmt: skip
         status, said = machine.ssh(program, timeout=200, given=LOAD.encode())
         return float(said.strip().splitlines()[-1]) if status == 0 else 0.0
+
+
+def make_register(intake, folder, count):
+    """A register with so many filings, as an intake on this machine makes it: its path."""
+    path, port = folder / "register.db", trials.free_port()
+    serving = subprocess.Popen([intake, "serve", "--db", path, "--port", str(port), "--connections", "1", "--new"],
+                               stdout=subprocess.DEVNULL, stderr=subprocess.DEVNULL)  # fmt: skip
+    deadline, peer = Deadline(60), None
+    while not peer and not deadline.is_over():
+        with contextlib.suppress(OSError):
+            peer = socket.create_connection(("127.0.0.1", port))
+    with peer:
+        for at in range(0, count, 100):
+            numbers = range(at, min(at + 100, count))
+            peer.sendall(b"".join(trials.request(f"k-{n}", report_of("ACME", n), close=False) for n in numbers))
+            with peer.makefile("rb") as replies:
+                for _ in numbers:
+                    head = b"".join(iter(replies.readline, b"\r\n"))
+                    replies.read(int(re.search(rb"(?i)content-length: (\d+)", head)[1]))
+    serving.wait()
+    made = subprocess.run([intake, "check", "--db", path], capture_output=True, text=True, check=False)
+    hold("a register is made", made.stdout + made.stderr, f"sound: {count} kept, {count} filings\n")
+    return path
 
 
 # So many clients file for so many seconds, each on one connection; prints the requests a second.
@@ -762,8 +910,24 @@ for it in them: it.start()
 for it in them: it.join()
 print(sum(answers) / seconds)
 """ % trials.REPORT
+# How many filings a register has whose take-over is timed.
+SIZES = (1_000, 10_000, 100_000)
+# What is typed with wrong words: the status, and what the last line says.
+WRONG_WORDS = [
+    ("register-takeover now", 2, "usage: register-takeover [--is-off MACHINE]"),
+    ("register-takeover --is-off", 2, "usage: register-takeover [--is-off MACHINE]"),
+    ("register-takeover --is-off {own}", 2,
+     "the other machine is {other}, and not {own}: register-takeover --is-off {other}"),
+    ("register-takeover --is-off ''", 2,
+     "the other machine is {other}, and not : register-takeover --is-off {other}"),
+    ("register-release now", 2, "usage: register-release"),
+    ("register-fence", 2, "usage: register-fence MACHINE"),
+    ("register-fence {own}", 2, "the other machine is {other}, and not {own}"),
+    ("runuser -u berruzpil -- register-takeover", 3, "run it as root"),
+    ("runuser -u berruzpil -- register-release", 3, "run it as root"),
+]  # fmt: skip
 PARTS = ["states", "units", "planned", "kills", "torn", "dead_second", "cut_cable", "hangs", "isolated", "cut_apart",
-         "both", "stale", "damaged", "slow"]  # fmt: skip
+         "both", "stale", "damaged", "slow", "typed"]  # fmt: skip
 
 
 # ---- the states of a mirror, without machines
@@ -815,7 +979,8 @@ STATES = [
     ("register-takeover", WHOLE, {"arping": "127 arping: not found"}, 1, "b is not surely down: nobody can ask on eth0"
      " (arping: not found)", False),
     ("register-takeover", ALONE, {"getent": "2"}, 1, "b is not surely down: its name has no address here", False),
-    ("register-takeover --is-off c", ALONE, {}, 2, "the other machine is b, and not c", False),
+    ("register-takeover --is-off c", ALONE, {}, 2, "the other machine is b, and not c: register-takeover --is-off b",
+     False),
     ("register-takeover --is-off", ALONE, {}, 2, "usage: register-takeover", False),
     ("register-takeover --off b", ALONE, {}, 2, "usage: register-takeover", False),
     ("register-takeover", SERVED, {"ssh": "255", "switch": "1"}, 1, "b is not surely down", False),
@@ -842,7 +1007,11 @@ STATES = [
     # Another disk is there in its place, or none.
     ("register-takeover", WHOLE, {"findmnt": "0 /dev/vdb1"}, 1, "/dev/vdb1 is mounted at /var/lib/berruzpil, and not"
      " the mirrored disk: umount", False),
-    ("register-takeover", SERVING, {"findmnt": "1"}, 1, "nothing is mounted at /var/lib/berruzpil", False),
+    # This is asked before the other one is.
+    ("register-takeover", SERVED, {"findmnt": "0 tmpfs", "ssh": "1 no"}, 1, "tmpfs is mounted at /var/lib/berruzpil,"
+     " and not the mirrored disk: umount /var/lib/berruzpil, and call this again", False),
+    ("register-takeover", SERVING, {"findmnt": "1"}, 1, "nothing is mounted at /var/lib/berruzpil, and not the mirrored"
+     " disk: systemctl restart berruzpil-mirror, and call this again", False),
     # The register is not served.
     ("register-takeover", ALONE, {"runuser": "1 damaged at row 3"}, 1,
      "intake check does not pass /var/lib/berruzpil/register.db (damaged at row 3)", False),
@@ -863,7 +1032,7 @@ STATES = [
     ("register-fence", "", {}, 2, "usage: register-fence MACHINE", False),
     # Steps back only if it has let go of the disk.
     ("register-release", SERVING, {"mountpoint": "1"}, 0, "has let go of the register", False),
-    ("register-release", SERVING, {}, 1, "has a file below /var/lib/berruzpil open, so this machine serves on", True),
+    ("register-release", SERVING, {}, 1, "has a file below /var/lib/berruzpil open, so", True),
     ("register-release", SERVING, {"mountpoint": "1", "drbdadm": "11"}, 1, "serves on", True),
     ("register-release", WHOLE, {}, 0, "this machine has not got the register", False),
     ("register-release", SERVING.replace("C r", "C s"), {}, 1, "nothing is written here until b is surely down", False),
@@ -978,7 +1147,7 @@ UNITS = [
     # It is started again, and the address stays.
     (f"systemctl kill --signal=KILL berruzpil-intake; sleep 1; {ANSWERS}; {ACTIVE}; {HAS_ADDRESS}",
      "active\nactive\nactive\n1\n"),
-    (f"setsid sleep 1000 < {REGISTER} > /dev/null 2>&1 & sleep 0.5; register-release", "this machine serves on: end"),
+    (f"setsid sleep 1000 < {REGISTER} > /dev/null 2>&1 & sleep 0.5; register-release", "so a serves on: end"),
     (f"{ANSWERS}; {ACTIVE}", "active\nactive\nactive\n"),
     (f"pkill sleep; sleep 1; register-release; cat /run/role; {ACTIVE}; {HAS_ADDRESS}; mountpoint /var/lib/berruzpil",
      "a has let go of the register\nSecondary\ninactive\ninactive\ninactive\n0\n/var/lib/berruzpil is not a"),
@@ -1065,7 +1234,7 @@ FAULTS = {
                  ("register-takeover", '[ "$protocol" = C ]', "true")], "are missing"),
     "a mount without the mirror, and nobody asks for it": Fault(
         "kills", [("berruzpil-mirror.service", "errors=panic /dev/drbd0", "errors=panic /dev/vdc"),
-                  ("register-takeover", '[ "$at" = /dev/drbd0 ]', "true")], "are missing", plain_disk),
+                  ("register-takeover", '[ "$1" = /dev/drbd0 ]', "true")], "are missing", plain_disk),
     "a mirror that does not fence": Fault(
         "cut_cable", [("drbd-register.res", "fencing resource-and-stonith;", "fencing dont-care;")],
         "the second is out of date"),
@@ -1093,7 +1262,7 @@ FAULTS = {
                                                       "answers still"),
     "what an asynchronous mirror has is served": in_states(
         "register-takeover", '[ "$protocol" = C ]', "true", "the protocol of"),
-    "whatever is mounted is served": in_states("register-takeover", '[ "$at" = /dev/drbd0 ]', "true", "is mounted at"),
+    "whatever is mounted is served": in_states("register-takeover", '[ "$1" = /dev/drbd0 ]', "true", "is mounted at"),
     "the disk was not let go of": in_states(
         "register-release", "&& ! mountpoint -q /var/lib/berruzpil && drbdadm", "; drbdadm", "a file below"),
     "a mirror without a protocol has five words": in_states("mirror-state", " | sed 's/   / ? /'", "", ""),
@@ -1142,6 +1311,7 @@ def play(given):
         if given.fault:
             fault = FAULTS[given.fault]
             deploy, parts, given.prepare = with_fault(fault, pathlib.Path(folder)), [fault.part], fault.prepare
+            awaited[:] = [fault.seen] if fault.part != "states" else []
         if "states" in parts:
             play_states(deploy, *([fault.edits[0][0], fault.seen] if given.fault else []))
         if "units" in parts:
@@ -1164,9 +1334,6 @@ def play_on_machines(given, deploy, parts):
         if given.filings:
             hold("the filings to begin with", it.filers.until(given.filings, 1800))
         for part in parts:
-            # A fault may show before its part begins.
-            if failed and given.fault:
-                break
             say(f"part {part}")
             getattr(it, part)()
         if not given.fault:
@@ -1175,6 +1342,8 @@ def play_on_machines(given, deploy, parts):
             hold("the end: each entry is filed once", filed, it.outbox.count)
             numbers = {number for _, number, _ in it.outbox.confirmed()}
             hold("the end: each entry is confirmed under a number of its own", len(numbers), it.outbox.count)
+    except Seen:
+        say("the planted fault was seen")
     except Over as fault:
         failed.append(str(fault))
         say(f"the play is over: {fault}")
@@ -1189,14 +1358,6 @@ def play_on_machines(given, deploy, parts):
     print(f"{it.deaths} times a machine lost its power, {it.takeovers} take-overs; {len(it.filers.told)} answers 201,"
           f" {it.filers.repeats} of them to a repeat; {it.outbox.count} entries of the outbox;"
           f" other answers {dict(it.filers.failures)}")  # fmt: skip
-
-
-def slowness():
-    """How many times longer than its time on a processor this program takes."""
-    began, used = time.monotonic(), time.process_time()
-    while time.process_time() - used < 0.5:
-        pass
-    return (time.monotonic() - began) / 0.5
 
 
 def main(words):
@@ -1223,7 +1384,7 @@ def main(words):
     if given.patience:
         os.environ["BERRUZPIL_PATIENCE"] = str(given.patience)
     elif not given.planted:
-        os.environ.setdefault("BERRUZPIL_PATIENCE", f"{max(1.0, slowness()):.1f}")
+        os.environ.setdefault("BERRUZPIL_PATIENCE", f"{max(1.0, mirrored_machines.slowness()):.1f}")
     try:
         if why := mirrored_machines.lacking():
             raise NotPossible(why)

@@ -94,6 +94,39 @@ MASKED = """apt-daily-upgrade.timer apt-daily.timer dbus.service dbus.socket dev
     systemd-update-utmp-runlevel.service systemd-update-utmp.service systemd-user-sessions.service""".split()
 
 
+# ---- the time that a busy machine takes
+
+
+def slowness():
+    """How many times longer than its time on a processor this program takes."""
+    began, used = time.monotonic(), time.process_time()
+    while time.process_time() - used < 0.5:
+        pass
+    return (time.monotonic() - began) / 0.5
+
+
+class Deadline:
+    """The end of so many seconds, as they are on a machine with nothing else to do. Once they are over, this asks how
+    busy this one has become, and waits on if that explains it."""
+
+    patience = PATIENCE
+
+    def __init__(self, seconds):
+        self.began, self.seconds = time.monotonic(), seconds
+
+    def left(self):
+        return self.began + self.seconds * Deadline.patience - time.monotonic()
+
+    def is_over(self):
+        if self.left() > 0:
+            return False
+        # As they are started again and again, what is waited for gets less than a program that works all the time.
+        if (found := 1.5 * slowness()) > Deadline.patience:
+            Deadline.patience = found
+            print(f"this machine is busy: anything may take {found:.1f} times as long", flush=True)
+        return self.left() <= 0
+
+
 # ---- apart from this machine
 
 
@@ -112,6 +145,8 @@ def apart():
     if machines.APART in os.environ:
         return None
     machines.CACHE.mkdir(parents=True, exist_ok=True)
+    # Whoever ends this removes the folder, too.
+    signal.signal(signal.SIGTERM, lambda *_: sys.exit(143))
     with tempfile.TemporaryDirectory(prefix="berruzpil-", dir=machines.CACHE) as folder:
         # The shell is the first process there, and waits for each that has lost its parent.
         words = ["setpriv", "--pdeathsig", "KILL", "unshare", "--mount", "--net", "--pid", "--fork", "--kill-child",
@@ -309,6 +344,7 @@ class Machine:
 
     def __init__(self, name, number, lab):
         self.name, self.number, self.lab, self.process = name, number, lab, None
+        self.master, self.starts = None, 0
         self.host, self.other = f"192.0.2.{number}", None
         self.disk, self.plain = lab.scratch / f"{name}.disk", lab.scratch / f"{name}.plain"
         for path in (self.disk, self.plain):
@@ -323,6 +359,7 @@ class Machine:
 
     def on(self):
         """Gives it power."""
+        self.starts += 1
         for net in (0, 1):
             self.plug(net, True)
         words = self.by_qemu() if BY_QEMU else self.by_user_mode_linux()
@@ -367,6 +404,10 @@ class Machine:
             else:
                 raise SystemExit(f"{self.name} without power runs still")
             self.process = None
+            if self.master:
+                self.master.kill()
+                self.master.wait()
+                self.master = None
 
     def plug(self, net, is_in):
         """Puts it into the filers' network (0) or onto the cable (1), or takes it out."""
@@ -376,22 +417,33 @@ class Machine:
         """The words before a command that is to run on the machine. If that loses its power meanwhile, they end."""
         return ["ssh", "-q", "-i", str(self.lab.key), "-o", "BatchMode=yes", "-o", "StrictHostKeyChecking=no", "-o",
                 "UserKnownHostsFile=/dev/null", "-o", f"ConnectTimeout={10 * PATIENCE:.0f}", "-o",
-                f"ServerAliveInterval={10 * PATIENCE:.0f}", f"root@{self.host}"]  # fmt: skip
+                f"ServerAliveInterval={10 * PATIENCE:.0f}", "-S", str(self.lab.scratch / f"{self.name}-{self.starts}"),
+                f"root@{self.host}"]  # fmt: skip
+
+    def keep_connection(self):
+        """Begins the connection that all commands share from now on: to make one costs a machine a second."""
+        with self.lab.lock:
+            if self.process and (self.master is None or self.master.poll() is not None):
+                silent = subprocess.DEVNULL
+                self.master = subprocess.Popen([*self.into(), "-M", "-N"], stdin=silent, stdout=silent, stderr=silent)
 
     def ssh(self, command, timeout=120, given=None):
         """The status of a command, and what it prints."""
         try:
             done = subprocess.run([*self.into(), command], input=given or b"", stdout=subprocess.PIPE,
-                                  stderr=subprocess.STDOUT, timeout=timeout * PATIENCE, check=False)  # fmt: skip
+                                  stderr=subprocess.STDOUT, timeout=timeout * Deadline.patience,
+                                  check=False)  # fmt: skip
         except subprocess.TimeoutExpired as fault:
             return 124, (fault.stdout or b"").decode("utf-8", "replace") + "no answer in time"
+        if done.returncode != 255:
+            self.keep_connection()
         return done.returncode, done.stdout.decode("utf-8", "replace")
 
     def until(self, command, is_there=lambda status, said: status == 0, seconds=120):
         """Whether it comes to that in so many seconds."""
-        deadline = time.monotonic() + seconds * PATIENCE
+        deadline = Deadline(seconds)
         while not is_there(*(found := self.ssh(command))):
-            if time.monotonic() > deadline:
+            if deadline.is_over():
                 print(f"{self.name}: not in time: {command}: {found}", flush=True)
                 return False
             # Each time costs a processor more than what is waited for.
