@@ -335,12 +335,10 @@ def try_views(folder):
     """Each view of reading.sql over a register whose rows are known, in a file that only may be read."""
     if not (sqlite := find("sqlite3")):
         return
-    tables = tables_of_protocol()
-    hold("the tables of docs/PROTOCOL.md", len(tables), 11)
     copy = folder / "views.db"
     with contextlib.closing(sqlite3.connect(copy)) as database:
         database.executescript(
-            "\n".join(tables)
+            "\n".join(tables_of_protocol())
             + "CREATE TABLE receipt (number INTEGER PRIMARY KEY, sha256 TEXT, received TEXT, user TEXT) STRICT;"
         )
         database.executemany("INSERT INTO kept VALUES (NULL, ?, ?, x'626f6479', ?)", KEPT)
@@ -844,6 +842,7 @@ def try_pages(folder, intake, port):
         site = folder / "pages" / name
         site.mkdir(parents=True)
         (site / "index.html").write_text(f"the pages of {name}")
+        (site / "filing-1.json").write_text("{}")
     (folder / "pages" / "secret").write_text("secret")
     (folder / "pages").chmod(0o755)
     page = (200, "text/html; charset=utf-8", b"the pages of register")
@@ -852,6 +851,7 @@ def try_pages(folder, intake, port):
     for what, user, path, wanted in [
         ("an officer", "officer", "/pages/index.html", page),
         ("an officer, the folder", "officer", "/pages/", page),
+        ("an officer, a report", "officer", "/pages/filing-1.json", (200, "application/json", b"{}")),
         ("a filer", "acme", "/pages/index.html", NOT_YOURS),
         ("a filer, the folder", "acme", "/pages/", NOT_YOURS),
         ("a filer, by a path through its own", "acme", "/filings/ACME/../../pages/index.html", NOT_YOURS),
@@ -872,8 +872,8 @@ def try_pages(folder, intake, port):
         hold(f"an officer who files for {filer}", ask_kind(folder, port, "officer", filer), NOT_YOURS)
     hold("none of these reached the intake", len(intake.requests), before)
     hold("the log says who read the pages",
-         [line["user"] for line in log_lines(folder, written + 17)[written:]
-          if line["uri"].startswith("/pages/") and line["status"] == 200], ["officer"] * 3)  # fmt: skip
+         [line["user"] for line in log_lines(folder, written + 18)[written:]
+          if line["uri"].startswith("/pages/") and line["status"] == 200], ["officer"] * 4)  # fmt: skip
 
 
 def try_requests(folder, intake, port, outbox_port):

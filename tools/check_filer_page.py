@@ -31,31 +31,22 @@ import tempfile
 import threading
 import time
 
-from trials import INTAKE, OUTBOX, REPORT, ROOT, exchange, failures, free_port, hold, request, tell
+import browsers
+from browsers import CONTRAST, FACTOR, Late, described, plain_options, start_driver, try_keyboard
+from trials import INTAKE, OUTBOX, REPORT, ROOT, Serving, exchange, failures, free_port, hold, request, tell
 
 sys.path.append(str(ROOT / "conformance"))
 from syncs import Disk, Unseen  # noqa: E402
 
-try:
-    from selenium import webdriver
-    from selenium.common.exceptions import WebDriverException
-    from selenium.webdriver import ActionChains
-    from selenium.webdriver.chrome.options import Options
-    from selenium.webdriver.chromium.remote_connection import ChromiumRemoteConnection
-    from selenium.webdriver.common.keys import Keys
-except ImportError:
-    webdriver = None
+if browsers.webdriver:
+    from browsers import ActionChains, Keys, WebDriverException
 
 PROGRAMS = ["chromium", "chromedriver", "certutil", "pk12util", "node", "nginx", "openssl"]
 HOST, OTHER = "intake.example", "other.example"
 # The programs, what is deployed, and how many seconds are waited for what should come, on a machine that has much else
 # to do, or more by BERRUZPIL_PATIENCE. The filers of the trials begin with `prefix`; `port` is that of the intake.
 given = argparse.Namespace(intake=INTAKE, outbox=OUTBOX, deploy=ROOT / "deploy", pictures=None,
-                           patience=180 * float(os.environ.get("BERRUZPIL_PATIENCE", "1")), prefix="", port=0)
-
-
-class Late(Exception):
-    """What did not come in time."""
+                           patience=180 * FACTOR, prefix="", port=0)
 
 
 def wait_until(what, test, seconds=None):
@@ -87,31 +78,36 @@ def make_authority(folder):
          "-out", folder / "server.pem")
 
 
-def make_certificate(folder, seconds):
-    """A certificate for ACME that is valid for so many seconds, as a file that a browser imports."""
+# Whose certificates there are.
+SUBJECTS = {"acme": "/O=ACME/CN=acme-filing", "officer": "/O=Supervisor/CN=officer-1"}
+
+
+def make_certificate(folder, seconds, user="acme"):
+    """A user's certificate that is valid for so many seconds, as a file that a browser imports."""
     (folder / "index.txt").write_text("")
     (folder / "ca.conf").write_text(
         f"[ca]\ndefault_ca=own\n[own]\ndatabase={folder}/index.txt\nnew_certs_dir={folder}\nrand_serial=yes\n"
         "default_md=sha256\npolicy=any\nunique_subject=no\n[any]\norganizationName=supplied\ncommonName=supplied\n"
     )
     done("openssl", "req", "-new", "-newkey", "ec", "-pkeyopt", "ec_paramgen_curve:P-256", "-nodes",
-         "-subj", "/O=ACME/CN=acme-filing", "-keyout", folder / "acme.key", "-out", folder / "acme.csr")
+         "-subj", SUBJECTS[user], "-keyout", folder / f"{user}.key", "-out", folder / f"{user}.csr")
     day = [time.strftime("%Y%m%d%H%M%SZ", time.gmtime(time.time() + at)) for at in (-60, seconds)]
-    done("openssl", "ca", "-batch", "-notext", "-preserveDN", "-config", folder / "ca.conf", "-in", folder / "acme.csr",
+    done("openssl", "ca", "-batch", "-notext", "-preserveDN", "-config", folder / "ca.conf",
+         "-in", folder / f"{user}.csr",
          "-cert", folder / "ca.pem", "-keyfile", folder / "ca.key", "-startdate", day[0], "-enddate", day[1],
-         "-out", folder / "acme.pem")
-    done("openssl", "pkcs12", "-export", "-in", folder / "acme.pem", "-inkey", folder / "acme.key", "-name", "acme",
-         "-passout", "pass:", "-out", folder / "acme.p12")
+         "-out", folder / f"{user}.pem")
+    done("openssl", "pkcs12", "-export", "-in", folder / f"{user}.pem", "-inkey", folder / f"{user}.key",
+         "-name", user, "-passout", "pass:", "-out", folder / f"{user}.p12")
 
 
-def import_certificate(folder):
-    """Makes the browser's store of certificates, with the authority and the filer's certificate."""
+def import_certificate(folder, user="acme"):
+    """Makes the browser's store of certificates, with the authority and this user's certificate."""
     store = folder / "home" / ".pki" / "nssdb"
     shutil.rmtree(store, ignore_errors=True)
     store.mkdir(parents=True)
     done("certutil", "-N", "-d", f"sql:{store}", "--empty-password")
     done("certutil", "-A", "-d", f"sql:{store}", "-n", "authority", "-t", "CT,,", "-i", folder / "ca.pem")
-    done("pk12util", "-i", folder / "acme.p12", "-d", f"sql:{store}", "-W", "")
+    done("pk12util", "-i", folder / f"{user}.p12", "-d", f"sql:{store}", "-W", "")
 
 
 # ---- what lies between
@@ -266,7 +262,8 @@ class Bench:
         for old, new in [
             ("127.0.0.1:8080", f"127.0.0.1:{self.back.port}"), ("listen 443", f"listen 127.0.0.1:{self.nginx_port}"),
             ("/etc/nginx/tls/filers-ca.pem", f"{folder}/ca.pem"), ("/etc/nginx/tls", str(folder)),
-            ("/var/log/berruzpil/", f"{folder}/"), ("/usr/share/berruzpil/filer", str(given.deploy / "filer")),
+            ("/srv/pages/register", f"{folder}/pages"), ("/var/log/berruzpil/", f"{folder}/"),
+            ("/usr/share/berruzpil/filer", str(given.deploy / "filer")),
             ('    "~^acme ACME$" 1;', f'    "~^acme {self.filer}$" 1;'),
         ]:
             text = text.replace(old, new)
@@ -323,48 +320,18 @@ def is_listening(port):
         return True
 
 
-def start_driver(options, home, disk):
-    """A driver of a new browser, and what ends it. If a disk is given, the browser asks that one."""
-    start = disk.start if disk else subprocess.Popen
-    process = start([shutil.which("chromedriver"), "--port=0"], env={**os.environ, "HOME": str(home)},
-                    stdout=subprocess.PIPE, stderr=subprocess.DEVNULL, text=True)
-    try:
-        ports = (re.search(r"started successfully on port (\d+)", line) for line in process.stdout)
-        port = next(filter(None, ports), None)
-        if port is None:
-            raise Late("chromedriver")
-        threading.Thread(target=process.stdout.read, daemon=True).start()
-        connection = ChromiumRemoteConnection(f"http://127.0.0.1:{port[1]}", "goog", "chrome")
-        return webdriver.Remote(command_executor=connection, options=options), process.terminate
-    except (Late, WebDriverException):
-        process.terminate()
-        raise
-
-
 class Browser:
     """A Chromium with the profile and the certificates of a folder. If a disk is given, it asks that one."""
 
     def __init__(self, bench, disk=None):
         self.bench, self.profile = bench, bench.folder / "profile"
-        options = Options()
-        options.binary_location = shutil.which("chromium")
-        for word in ["headless=new", "no-sandbox", "disable-gpu", "disable-dev-shm-usage", "no-first-run",
-                     "window-size=1200,1000", f"user-data-dir={self.profile}", "disable-background-networking",
-                     f"host-resolver-rules=MAP *:443 127.0.0.1:{bench.front.port}"]:
-            options.add_argument(f"--{word}")
-        options.set_capability("goog:loggingPrefs", {"browser": "ALL"})
+        options = plain_options(self.profile, f"host-resolver-rules=MAP *:443 127.0.0.1:{bench.front.port}")
         # For this host the browser takes the certificate that it has, and does not ask which one.
         chosen = {f"https://{HOST}:443,*": {"setting": {"filters": [{}]}}}
         setting = "profile.content_settings.exceptions.auto_select_certificate"
         options.add_experimental_option("prefs", {setting: chosen, "intl.accept_languages": "en-US,en"})
-        for left in (2, 1, 0):
-            try:
-                self.driver, self.stop = start_driver(options, bench.folder / "home", disk)
-                break
-            except WebDriverException:
-                # On a machine that has much else to do the browser may begin too late for chromedriver.
-                if left == 0:
-                    raise
+        start = disk.start if disk else subprocess.Popen
+        self.driver, self.stop = start_driver(options, bench.folder / "home", start)
         self.driver.set_script_timeout(given.patience)
         self.driver.set_page_load_timeout(given.patience)
         self.process = int(os.readlink(self.profile / "SingletonLock").rpartition("-")[2])
@@ -446,11 +413,14 @@ class Browser:
         return wait_until(f"{count} entries are settled",
                           lambda: len(self.states()) == count and "open" not in self.states() and self.entries())
 
+    def ask(self, path, report=None):
+        return self.driver.execute_async_script(ASK, path, report)
+
     def console(self):
         return [line["message"] for line in self.driver.execute("getLog", {"type": "browser"})["value"]]
 
     def command(self, name, **words):
-        return self.driver.execute("executeCdpCommand", {"cmd": name, "params": words})["value"]
+        return browsers.command(self.driver, name, **words)
 
     def cut_off(self, is_offline):
         """Takes the browser off the network, or lets it on again."""
@@ -458,8 +428,7 @@ class Browser:
         self.driver.execute("setNetworkConditions", {"network_conditions": conditions})
 
     def resize(self, width, height):
-        size = {"width": width, "height": height, "deviceScaleFactor": 1, "mobile": False}
-        self.command("Emulation.setDeviceMetricsOverride", **size)
+        browsers.resize(self.driver, width, height)
 
     def look(self, width, colours, language):
         """Opens the page at this width, in these colours, for a reader of this language."""
@@ -561,6 +530,7 @@ def try_words(folder):
     for language, table in texts.items():
         hold(f"{language} has each text", shape(table), shape(texts["en"]))
     hold("the words of findings", texts["en"]["findings"], findings_of_protocol())
+    hold("it says what else to use", re.findall("`(.*?)`", texts["en"]["notProved"]), ["outbox", "curl"])
     reports = [folder / f"{at}.json" for at in range(len(WRONG))]
     for path, body in zip(reports, WRONG):
         path.write_bytes(body)
@@ -862,6 +832,47 @@ def try_expired(folder):
         hold_filed(bench, bench.browser().open().settled(1), [(keys[0], bench.report(1))])
 
 
+# Asks nginx for a path, with a report if one is given. Gives the status, the type and the content of the answer.
+ASK = """
+    const [path, report, give] = arguments;
+    const more = report && { method: "POST", headers: { "Idempotency-Key": '"k-1"' }, body: report };
+    fetch(path, more || {}).then(async (it) => give([it.status, it.headers.get("Content-Type"), await it.text()]));
+"""
+NOT_YOURS = [403, "application/problem+json",
+             '{"reason":"not-yours","status":403,"title":"Forbidden","type":"about:blank"}']
+
+
+def try_rights(folder):
+    """A filer has the page for filers, and no page of the register; an officer has these, and files for nobody."""
+    serving_one = Serving(folder / "odd.db", 1, "--new", program=given.intake)
+    exchange(serving_one.port, request("k-1", REPORT))
+    serving_one.end()
+    (folder / "pages").mkdir()
+    done(given.intake, "pages", "--db", folder / "odd.db", "--into", folder / "pages")
+    with contextlib.closing(Bench(folder, given.prefix + "RIGHTS")) as bench:
+        own = f"/filings/{bench.filer}"
+        browser = bench.browser().open()
+        for path in ("/pages/", "/pages/index.html", "/pages/filing-1.json", "/pages/none", "/filings/OTHER"):
+            hold(f"a filer, {path}", browser.ask(path), NOT_YOURS)
+        hold("a filer, the own list", browser.ask(own), [200, "application/json", '{"filings":[]}'])
+        browser.close()
+        make_certificate(folder, 86_400, "officer")
+        import_certificate(folder, "officer")
+        browser = bench.browser()
+        browser.driver.get(f"https://{HOST}/pages")
+        wait_until("the pages", lambda: browser.run("return document.querySelectorAll('tbody tr').length") == 1)
+        hold("an officer, the pages", browser.run("return location.pathname"), "/pages/")
+        browser.press("tbody a")
+        wait_until("the page of the filer", lambda: "filer-ACME" in browser.run("return location.pathname"))
+        hold("an officer, a report", browser.ask("filing-1.json"), [200, "application/json", REPORT.decode()])
+        hold("nothing in the console", browser.console(), [])
+        for report in (None, REPORT.decode()):
+            hold(f"an officer, {'a report' if report else 'a list'} of a filer", browser.ask(own, report), NOT_YOURS)
+        browser.open().file([("report.json", bench.report(1))])
+        wait_until("it says so", lambda: "certificate is not for this filer" in browser.text("entry-rows"))
+        hold("an officer files nothing", (browser.states(), bench.back.came, bench.filings()), (["open"], [], []))
+
+
 def try_sizes(folder):
     """A report of 1 MiB is filed, and one of a byte more is not taken."""
     with contextlib.closing(Bench(folder, given.prefix + "SIZES")) as bench:
@@ -947,7 +958,7 @@ def try_looks(folder):
         browser.file(list(zip(["annual-2024.json", "quarter.json", "late.json"], bodies)),
                      ["2024-annual-1", "2024-q4-1", "k-open"])
         wait_until("two are settled", lambda: browser.states()[:2] == ["confirmed", "refused"])
-        try_keyboard(browser)
+        try_keyboard(browser.driver)
         for width, colours, language in LOOKS:
             browser.look(width, colours, language)
             browser.choose([("correction.json", bench.report(6)), ("annual-2024.json", bench.report(1))])
@@ -967,59 +978,18 @@ def try_looks(folder):
                  browser.run("return document.getElementById('findings').open"), False)
 
 
-def try_keyboard(browser):
-    """Each thing that can be pressed has a name, and is reached by the key Tab, from the top to the bottom."""
-    tree = browser.command("Accessibility.getFullAXTree")["nodes"]
-    named = {"button", "textbox", "link", "radio", "heading"}
-    shown = [node for node in tree if not node.get("ignored") and node.get("role", {}).get("value") in named]
-    hold("what can be pressed has a name",
-         [node["role"]["value"] for node in shown if not node.get("name", {}).get("value")], [])
-    wanted = browser.run("return [...document.querySelectorAll('button, input, a')].filter((it) => it.checkVisibility()"
-                         " && !(it.type === 'radio' && !it.checked)).length")
-    browser.run("document.activeElement.blur(); document.body.tabIndex = -1; document.body.focus()")
-    seen = set()
-    for _ in range(wanted + 2):
-        browser.type(Keys.TAB)
-        seen.add(browser.run("const it = document.activeElement; return it === document.body ? '' : "
-                             "[it.id, it.ariaLabel, it.innerText, it.name].join(' ')"))
-    hold("each is reached by Tab", len(seen - {""}), wanted)
-
-
-# The texts whose contrast with what lies behind them is less than 4.5 (WCAG 2.2, 1.4.3).
-CONTRAST = """
-    const parse = (text) => text.match(/[\\d.]+/g).map(Number);
-    const light = ([red, green, blue]) => [red, green, blue].map((it) => it / 255).map((it) =>
-        it <= 0.04045 ? it / 12.92 : ((it + 0.055) / 1.055) ** 2.4)
-        .reduce((sum, it, at) => sum + it * [0.2126, 0.7152, 0.0722][at], 0);
-    const behind = (element) => {
-        for (let it = element; it; it = it.parentElement) {
-            const colour = parse(getComputedStyle(it).backgroundColor);
-            if (colour.length === 3 || colour[3] === 1) { return colour; }
-        }
-        return [255, 255, 255];
-    };
-    const texts = [...document.querySelectorAll("body *")].filter((it) => it.checkVisibility() &&
-        [...it.childNodes].some((node) => node.nodeType === 3 && node.data.trim()));
-    return texts.filter((it) => {
-        const [one, other] = [light(parse(getComputedStyle(it).color)), light(behind(it))];
-        return (Math.max(one, other) + 0.05) / (Math.min(one, other) + 0.05) < 4.5;
-    }).map((it) => `${it.tagName} ${it.className} ${it.textContent.slice(0, 30)}`);
-"""
-
-
 def take_picture(browser, name, width, height=None):
     if given.pictures is None:
         return
     height = height or browser.run("return document.scrollingElement.scrollHeight")
     browser.resize(width, height)
     time.sleep(0.5)
-    picture = browser.command("Page.captureScreenshot", format="png")["data"]
-    (given.pictures / f"{name}.png").write_bytes(base64.b64decode(picture))
+    browsers.take_picture(browser.driver, given.pictures / f"{name}.png")
     browser.resize(width, 1000)
 
 
 TRIALS = [try_core, try_words, try_day, try_killed, try_lost, try_offline, try_two_tabs, try_disk, try_quota,
-          try_expired, try_sizes, try_many, try_policy, try_looks]
+          try_expired, try_rights, try_sizes, try_many, try_policy, try_looks]
 # Which trial sees what: a file of the page, what it has, and what it gets.
 FAULTS = [
     ("the state stored after the send", try_killed, "filer/page.mjs", "        await store.put(filer, reports);\n",
@@ -1054,13 +1024,16 @@ FAULTS = [
      """this.#tell({ id: entry.id, state: "confirmed", number: "7" });
             const kept = reply === null ? entry : await this.#store.settle(entry.id, reply);"""),
     ("a front that compresses replies", try_expired, "nginx-intake.conf", "gzip_types text/css text/javascript;", ""),
+    ("pages of the register for everybody", try_rights, "nginx-intake.conf",
+     """        set $filer /pages;
+        if ($may_file = 0) {
+            return 403;
+        }
+""", ""),
+    ("an officer who files", try_rights, "nginx-intake.conf", '"~^officer /pages$" 1;', '"~^officer " 1;'),
+    ("a report that is called a problem", try_rights, "nginx-intake.conf", "application/json json;", ""),
     ("a text that fills in something else", try_words, "filer/german.mjs", '"{0} entfernen"', '"{1} entfernen"'),
 ]
-
-
-def described(fault):
-    """An exception in a line: a driver's has the stack of the browser behind its message."""
-    return f"{type(fault).__name__}: {(str(fault).splitlines() or [''])[0]}"
 
 
 def is_seen(fault, folder):
@@ -1094,7 +1067,7 @@ def main():
     parser.add_argument("--pictures", type=pathlib.Path, metavar="FOLDER")
     parser.parse_args(namespace=given)
     missing = [program for program in PROGRAMS if shutil.which(program) is None]
-    missing += [] if webdriver else ["python3-selenium"]
+    missing += [] if browsers.webdriver else ["python3-selenium"]
     if missing:
         print(f"not tried: {', '.join(missing)}: not installed")
         return 77

@@ -1,14 +1,19 @@
 #!/usr/bin/env python3
 """Tries `intake pages` of the built program: each text that was filed is read back from the pages, and no other tag is
 in them. Pages have at most 1,000 rows, and each names the next one. What a hostile filer sends stays within bounds, on
-the disk and in memory. If there is a Chromium, it opens them, and looks for errors and for what the search box shows.
+the disk and in memory. The page of an amendment shows what it changed. With a Chromium and its driver it opens them:
+what is in sight on a wide screen, on a narrow one and on paper, light and dark, what the keyboard reaches, how long a
+search and a sort over 10,000 filings take, and whether anything is asked for elsewhere.
 
-    tools/check_pages_of_register.py [SCREENSHOT]
-    tools/check_pages_of_register.py --planted        # damages the pages in each way of FAULTS: whether that is seen
+    tools/check_pages_of_register.py [--only WORD] [--pictures FOLDER]
+    tools/check_pages_of_register.py --planted [--only WORD]
+                                        # damages the pages in each way of FAULTS: whether that is seen
 
-It takes the program that `rt run` builds in its folder, as crates/intake/out/intake. With a name it keeps a screenshot
-of a page there, outside of the repository. Status 1 if a trial fails, or if a fault is not seen.
+It takes the program that `rt run` builds in its folder, as crates/intake/out/intake. With a folder it keeps pictures of
+pages there, outside of the repository. BERRUZPIL_PATIENCE says how much longer than on a quiet machine everything may
+take. Status 1 if a trial fails, or if a fault is not seen.
 """
+import argparse
 import base64
 import contextlib
 import functools
@@ -25,7 +30,9 @@ import tempfile
 import threading
 import time
 
-from odd_register import MOMENTS, REGION, SENT, REFUSED, date_register, fact, make_odd_register, many, moment_text
+import browsers
+from browsers import CONTRAST, FACTOR, plain_options, resize, start_driver, take_picture, try_keyboard
+from odd_register import MOMENTS, ODD, REGION, SENT, REFUSED, date_register, fact, make_odd_register, many, moment_text
 from odd_register import records, report
 from trials import INTAKE, ROOT, failures, hold, run, tell, try_all
 
@@ -61,6 +68,7 @@ class Page(html.parser.HTMLParser):
         self.tags, self.links, self.rows, self.classes, self.open = set(), [], [], [], []
         self.next, self.before, self.policy, self.texts, self.linked = None, None, "", {}, []
         self.terms, self.ids, self.footer = [], set(), ""
+        self.table, self.tables = None, []
         self.faults = []
         self.feed(text)
         self.close()
@@ -73,7 +81,10 @@ class Page(html.parser.HTMLParser):
         self.ids |= {value for name, value in attrs if name == "id"}
         self.links += [value for name, value in attrs if name in ("href", "src")]
         self.faults += [f"{tag} has {name}" for name, _ in attrs if name.startswith("on") or name == "style"]
+        if tag == "table":
+            self.table = its.get("class")
         if tag == "tr":
+            self.tables.append(self.table)
             self.rows.append([])
             self.classes.append([])
             self.linked.append([])
@@ -93,6 +104,10 @@ class Page(html.parser.HTMLParser):
             self.policy = its["content"]
         if tag not in VOID:
             self.open.append(tag)
+
+    def rows_of(self, table, its=None):
+        """The rows of the table of this class but for its head, or what `its` has of them."""
+        return [row for row, of in zip(its or self.rows, self.tables) if of == table][1:]
 
     def inside(self, *tags):
         return any(tag in self.open for tag in tags)
@@ -146,6 +161,7 @@ def hash_of(text):
     return f"'sha256-{base64.b64encode(hashlib.sha256(text.encode()).digest()).decode()}'"
 
 
+given = argparse.Namespace(only="", pictures=None, planted=False)
 # What damages a folder of pages, by the trial that has to see it: the file, what it has, and what it gets.
 planted = []
 
@@ -157,12 +173,17 @@ def pages_of(database, folder):
 
 
 def damage(folder):
-    """Damages the pages in a folder as the fault that is planted says."""
+    """Damages the pages in a folder as the fault that is planted says. A style or script that it changes gets its own
+    hash in the policy of the page, so that a browser takes it."""
     for name, old, new in planted:
         if (folder / name).exists():
             text = (folder / name).read_bytes().decode()
             assert old in text, (name, old)
-            (folder / name).write_bytes(text.replace(old, new, 1).encode())
+            damaged = text.replace(old, new, 1)
+            before, after = Page(text).texts, Page(damaged).texts
+            for tag in before.keys() & after.keys():
+                damaged = damaged.replace(hash_of(before[tag]), hash_of(after[tag]))
+            (folder / name).write_bytes(damaged.encode())
 
 
 def page(folder, name):
@@ -191,7 +212,7 @@ def check_texts(folder):
     for number, (_, _, _, facts) in enumerate(valid, 1):
         hold(f"filing {number}: its report", (site / f"filing-{number}.json").read_bytes(), report(facts))
         hold(f"filing {number}: links its report", f"filing-{number}.json" in read[f"filing-{number}.html"].links, True)
-        rows = read[f"filing-{number}.html"].rows[1:]
+        rows = read[f"filing-{number}.html"].rows_of("facts")
         names = sorted(facts, key=lambda it: it.encode())
         hold(f"filing {number}: facts", [row[0] for row in rows], [seen(name) for name in names])
         texts = [row["value"] for row in records(SENT) if row["number"] == number]
@@ -204,6 +225,16 @@ def check_texts(folder):
              f"lei:{valid[number - 1][0]}")
         hold(f"filing {number}: when it was received", dict(read[f"filing-{number}.html"].terms)["Received"],
              shown(MOMENTS[number - 1]))
+    hold("an amendment and the filing that it replaces link each other",
+         [dict(read["filing-3.html"].terms).get("Replaces"), dict(read["filing-1.html"].terms).get("Replaced by")],
+         ["Filing 1", "Filing 3"])
+    # It replaces nine facts with the same dimensions, which have no unit: the text of dimensions with one is before.
+    day = ["eg:A<b>&'", "2024-12-31"]
+    hold("what an amendment changed", read["filing-3.html"].rows_of("changes"),
+         [[*day, "iso4217:EUR", "added", "no fact", "1.5decimals: 0"],
+          *([*day, "", "left out", seen(text), "no fact"] for text in ODD)])
+    hold("other filings changed nothing", [number for number in range(1, len(valid) + 1)
+                                           if "changes" in read[f"filing-{number}.html"].tables], [3])
     hold("the keys of ACME", [row[1] for row in read["filer-ACME.html"].rows[1:]], ["k<1>'&", "k-2"])
     hold("when they were received", [row[2] for row in read["filer-ACME.html"].rows[1:]],
          [shown(MOMENTS[0]), shown(MOMENTS[2])])
@@ -221,7 +252,7 @@ def check_texts(folder):
              f"request-{at}.json")
     column = report(SENT[-1][3]).decode().index('"1,5"') + 1
     hold("what a finding means, and then where it is",
-         f'"1,5" is no numbernumber 1:{column} /facts/f1/value' in rows[1][4], True)
+         f'"1,5" is not a numbernumber 1:{column} /facts/f1/value' in rows[1][4], True)
     rows = read["findings.html"].rows[1:]
     hold("the codes: findings, reports, filers, and whose", {row[0]: row[3:] for row in rows},
          {code: ["1", "1", "1", "BETA "] for code in ("value", "name", "not-the-filer", "number", "not-replaceable")})
@@ -231,6 +262,78 @@ def check_texts(folder):
     line = run(INTAKE, "digest", "--db", folder / "register.db").stdout.decode().strip()
     hold("each page says of which register it is", {it.footer for it in read.values()},
          {f"Register of {len(SENT)} requests, the last received: {shown(MOMENTS[-1])}. Digest: {line}"})
+
+
+# Three reports of a filer, and the rows of what the second one and the third one changed, worked out by hand. The
+# second one says as the first one what the assets are, the sales of the south, in another order of members, and one of
+# three numbers of staff, of which the first one has another twice.
+EUR, YEAR = "iso4217:EUR", "2024-01-01T00:00:00/2025-01-01T00:00:00"
+SOUTH = fact("NEW", "6", EUR, 0, concept="eg:Sales", **{REGION: "eg:South", "eg:Typed": "t"})
+FIRST = {
+    "a": fact("NEW", "1", EUR, 0, concept="eg:Assets"),
+    "b": fact("NEW", "2", EUR, 0, concept="eg:Cash"),
+    "c": fact("NEW", "x<y>", concept="eg:Name", period=YEAR),
+    "d": fact("NEW", None, concept="eg:Note", noteId="n"),
+    "e": fact("NEW", "5", EUR, 0, concept="eg:Sales", **{REGION: "eg:North"}),
+    "f": SOUTH,
+    "p": fact("NEW", "10", concept="eg:Staff"),
+    "q": fact("NEW", "10", concept="eg:Staff"),
+    "r": fact("NEW", "11", concept="eg:Staff"),
+}
+SECOND = {
+    "b": fact("NEW", "3", EUR, 0, concept="eg:Cash"),
+    "c": fact("NEW", "x<z>", concept="eg:Name", period=YEAR),
+    "d": fact("NEW", "", concept="eg:Note", noteId="n"),
+    "g": fact("NEW", "7", EUR, 0, concept="eg:Sales", **{REGION: "eg:West"}),
+    "h": {**SOUTH, "dimensions": dict(reversed(SOUTH["dimensions"].items()))},
+    "s": fact("NEW", "11", concept="eg:Staff"),
+    "t": fact("NEW", "12", concept="eg:Staff"),
+    "u": fact("NEW", "13", concept="eg:Staff"),
+    "z": fact("NEW", "1", EUR, 0, concept="eg:Assets"),
+}
+THIRD = {**SECOND, "h": {**SECOND["h"], "decimals": -3}}
+CHANGED = [
+    ["eg:Cash", "2024-12-31", EUR, "changed", "2decimals: 0", "3decimals: 0"],
+    ["eg:Name", "2024-01-01/2025-01-01", "", "changed", "x<y>", "x<z>"],
+    ["eg:NotenoteId: n", "2024-12-31", "", "changed", "nil", ""],
+    ["eg:Saleseg:Region: eg:North", "2024-12-31", EUR, "left out", "5decimals: 0", "no fact"],
+    ["eg:Saleseg:Region: eg:West", "2024-12-31", EUR, "added", "no fact", "7decimals: 0"],
+    ["eg:Staff", "2024-12-31", "", "changed", "10", "12"],
+    ["eg:Staff", "2024-12-31", "", "changed", "10", "13"],
+]
+ROUNDED = [["eg:Saleseg:Region: eg:Southeg:Typed: t", "2024-12-31", EUR, "changed", "6decimals: 0", "6decimals: -3"]]
+# Reports of 1,500 facts, of which the second one has each value of the first one twice.
+DOUBLED = [{f"f{at}": fact("WIDE", str(at * by), EUR, 0, **{REGION: f"eg:r{at:04}"}) for at in range(1_500)}
+           for by in (1, 2)]
+# The number of the first filing of these, each with the place of the one that it replaces among them.
+BEGIN = len(SENT) - REFUSED + 1
+AMENDMENTS = [("NEW", "n-1", None, FIRST), ("NEW", "n-2", BEGIN, SECOND), ("NEW", "n-3", BEGIN + 1, THIRD),
+              ("NEW", "n-4", BEGIN + 2, THIRD), ("WIDE", "w-1", None, DOUBLED[0]),
+              ("WIDE", "w-2", BEGIN + 4, DOUBLED[1])]
+
+
+def check_changes(folder):
+    """An amendment that changes values, and has facts more and less; one that changes decimals alone; one that changes
+    nothing; and one that changes 1,499 facts of 1,500, of which a page has 1,000."""
+    make_odd_register(folder / "register.db", AMENDMENTS)
+    site = folder / "site"
+    site.mkdir()
+    pages_of(folder / "register.db", site)
+    said = "<p>Compared with the filing that this one replaces, facts that differ: {}; facts that are the same: {}</p>"
+    for number, (rows, same) in enumerate([(CHANGED, 3), (ROUNDED, 8), ([], 9)], BEGIN + 1):
+        name = f"filing-{number}.html"
+        its = page(site, name)
+        hold(f"{name}: what it changed", its.rows_of("changes"), rows)
+        hold(f"{name}: how much", said.format(len(rows), same) in (site / name).read_text(), True)
+        hold(f"{name}: a table, if there are rows", "changes" in its.tables, bool(rows))
+        hold(f"{name}: faults and tags", (its.faults, its.tags - TAGS), ([], set()))
+    name = f"filing-{BEGIN + 5}.html"
+    rows = [[f"eg:A<b>&'eg:Region: eg:r{at:04}", "2024-12-31", EUR, "changed", f"{at}decimals: 0",
+             f"{2 * at}decimals: 0"] for at in range(1, ROWS + 1)]
+    hold("as many changes as a page has rows", page(site, name).rows_of("changes"), rows)
+    hold("how many there are", said.format(1_499, 1) in (site / name).read_text(), True)
+    hold("how many more", "<p>and 499 more: " in (site / name).read_text(), True)
+    hold("they are on the first page alone", "changes" in page(site, f"filing-{BEGIN + 5}~2.html").tables, False)
 
 
 def check_looks(folder):
@@ -257,9 +360,10 @@ def check_looks(folder):
     for number, (_, _, _, facts) in enumerate(valid, 1):
         its = read[f"filing-{number}.html"]
         wanted = [("amount" if "unit" in facts[at]["dimensions"] else None) for at in sorted(facts, key=str.encode)]
-        hold(f"filing {number}: amounts on the right", [row[4] for row in its.classes[1:]], wanted)
-        hold(f"filing {number}: periods", {row[2] for row in its.classes[1:]}, {"period"})
-        hold(f"filing {number}: decimals on the right", {row[5] for row in its.classes[1:]}, {"number"})
+        classes = its.rows_of("facts", its.classes)
+        hold(f"filing {number}: amounts on the right", [row[4] for row in classes], wanted)
+        hold(f"filing {number}: periods", {row[2] for row in classes}, {"period"})
+        hold(f"filing {number}: decimals on the right", {row[5] for row in classes}, {"number"})
         hold(f"filing {number}: columns", {len(row) for row in its.rows}, {6})
     style = read["index.html"].texts["style"]
     hold("moments on one line", {row[2] for row in read["filer-ACME.html"].classes[1:]}, {"moment"})
@@ -403,100 +507,272 @@ def check_time(folder):
     tell(f"10,000 filings: {more / 1e6:.0f} MB of memory beyond the opening", None if more <= MEMORY else "too much")
     size = sum(it.stat().st_size for it in site.iterdir()) / 1e6
     tell(f"10,000 filings in {took:.1f} s, {size:.1f} MB",
-         None if took < 30 and size < 100 else "too slow, or too large")
+         None if took < 30 * FACTOR and size < 100 else "too slow, or too large")
 
 
-# Searches the page, and says in its title what is shown.
-SEARCHED = """
-var b = document.getElementById("search"); b.value = "bet"; b.dispatchEvent(new Event("input"));
-setTimeout(function () {
-var rows = Array.from(document.querySelectorAll("tbody tr"));
-document.title = rows.map(function (row) { return row.cells[0].textContent; }).join(" ");
-}, 500);
-"""
-# Searches a list of several pages from one of them, then sorts it by the keys, the last one first, and says in the
-# title what is shown, and how many milliseconds each took.
-LISTED = """
-var b = document.getElementById("search"), heads = document.querySelectorAll("thead button");
-function rows() { return document.querySelectorAll("tbody tr"); }
-function until(holds) { return new Promise(function (done) {
-(function look() { if (holds()) { done(); } else { setTimeout(look, 5); } })(); }); }
-async function all() {
-var begin = performance.now(); b.value = "m-2499"; b.dispatchEvent(new Event("input"));
-await until(function () { return rows().length === 1; });
-var found = rows()[0].cells[1].textContent, search = performance.now() - begin;
-b.value = ""; b.dispatchEvent(new Event("input")); begin = performance.now(); heads[1].click();
-await until(function () { return document.querySelector("[aria-sort=ascending]"); }); heads[1].click();
-await until(function () { return document.querySelector("[aria-sort=descending]"); });
-document.title = [found, rows().length, rows()[0].cells[1].textContent, Math.round(search),
-Math.round(performance.now() - begin)].join(" ");
-}
-all();
-"""
+# ---- in a browser
 
 
-def with_script(text, script):
-    """A page with one script more, which its policy allows: the folder is the trial's."""
-    return text.replace("script-src ", f"script-src {hash_of(script)} ").replace(
-        "</body>", f"<script>{script}</script></body>")
-
-
-def check_lists(folder, words):
-    """A list of 10,000 filings is searched and sorted over all its pages, within a second each."""
-    more = [("MANY", f"m-{at}", None, {"f1": fact("MANY", str(at))}) for at in range(10_000)]
-    make_odd_register(folder / "many.db", more)
-    site = folder / "many"
-    site.mkdir()
-    pages_of(folder / "many.db", site)
-    (site / "listed.html").write_text(with_script((site / "filer-MANY~2.html").read_text(), LISTED))
-    handler = functools.partial(Quiet, directory=site)
-    with http.server.ThreadingHTTPServer(("127.0.0.1", 0), handler) as server:
-        threading.Thread(target=server.serve_forever, daemon=True).start()
-        done = subprocess.run([*words, "--virtual-time-budget=30000", "--dump-dom",
-                               f"http://127.0.0.1:{server.server_port}/listed.html"],
-                              capture_output=True, check=False, timeout=120)
-        server.shutdown()
-    said = re.search(r"<title>(.*?)</title>", done.stdout.decode()).group(1).split()
-    hold("a list is searched and sorted over all its pages", said[:3], ["m-2499", "1000", "m-9999"])
-    if len(said) == 5:
-        tell(f"searched in {said[3]} ms, sorted twice in {said[4]} ms",
-             None if int(said[3]) <= 1000 and int(said[4]) <= 2000 else "too slow")
-
-
-class Quiet(http.server.SimpleHTTPRequestHandler):
-    def log_message(self, *_):
-        pass
-
-
-def check_browser(folder):
-    browser = next(filter(None, map(shutil.which, ("chromium", "chromium-browser", "google-chrome"))), None)
-    if browser is None:
-        print("left out: there is no Chromium (apt-get install chromium)")
+@contextlib.contextmanager
+def browser(folder):
+    """The driver of a Chromium; None if there is none."""
+    missing = [it for it in ("chromium", "chromedriver") if shutil.which(it) is None]
+    missing += [] if browsers.webdriver else ["python3-selenium"]
+    if missing:
+        print(f"left out: {', '.join(missing)}: not installed")
+        yield None
         return
-    make_odd_register(folder / "register.db")
+    driver, stop = start_driver(plain_options(folder / "profile"), folder)
+    driver.set_script_timeout(60 * FACTOR)
+    try:
+        yield driver
+    except browsers.WebDriverException as fault:
+        tell("the browser", browsers.described(fault))
+    finally:
+        with contextlib.suppress(Exception):
+            driver.quit()
+        stop()
+
+
+def made(folder, more=()):
+    """A folder with the pages of a register of what is odd, and of this."""
+    make_odd_register(folder / "register.db", more)
+    date_register(folder / "register.db", [*MOMENTS, *(MOMENTS[-1] for _ in more)])
     site = folder / "site"
     site.mkdir()
     pages_of(folder / "register.db", site)
-    words = [browser, "--headless=new", "--no-sandbox", "--disable-gpu",
-             "--enable-logging=stderr", "--v=0", f"--user-data-dir={folder}/profile"]
-    for name in sorted(it.name for it in site.glob("*.html")):
-        done = subprocess.run([*words, "--dump-dom", f"file://{site}/{name}"],
-                              capture_output=True, check=False, timeout=60)
-        hold(f"{name}: nothing in the console", re.findall(r"CONSOLE.*", done.stderr.decode(errors="replace")), [])
-    (site / "searched.html").write_text(with_script((site / "index.html").read_text(), SEARCHED))
-    done = subprocess.run([*words, "--virtual-time-budget=10000", "--dump-dom", f"file://{site}/searched.html"],
-                          capture_output=True, check=False, timeout=60)
-    hold("the search", re.search(r"<title>(.*?)</title>", done.stdout.decode()).group(1), "BETA")
-    check_lists(folder, words)
-    if len(sys.argv) > 1:
-        kept = pathlib.Path(sys.argv[1]).resolve()
-        if ROOT in kept.parents:
-            sys.exit("the screenshot is kept outside of the repository")
-        subprocess.run([*words, f"--screenshot={kept}", "--window-size=1280,900", f"file://{site}/filing-1.html"],
-                       capture_output=True, check=False, timeout=60)
+    return site
 
 
-TRIALS = [check_texts, check_looks, check_parts, check_hostile, check_folder, check_browser, check_time]
+def console(driver):
+    return [line["message"] for line in driver.execute("getLog", {"type": "browser"})["value"]]
+
+
+# The cells that are not in sight as a whole: outside of the screen, cut off, of no size, or, on a narrow screen,
+# without the name of their column.
+OUT_OF_SIGHT = """
+    const isNarrow = arguments[0];
+    const isSeen = (it) => {
+        const range = document.createRange();
+        range.selectNodeContents(it);
+        const boxes = [...range.getClientRects()].filter((box) => box.width > 0);
+        return it.checkVisibility({ opacityProperty: true, visibilityProperty: true }) && boxes.length > 0 &&
+            boxes.every((box) => box.left >= 0 && box.right <= innerWidth + 1 && box.height >= 8) &&
+            it.scrollWidth <= it.clientWidth + 1 && (!isNarrow || it.tagName !== "TD" || isNamed(it));
+    };
+    const isNamed = (it) => {
+        const head = it.closest("table").querySelectorAll("thead th")[it.cellIndex].textContent;
+        const short = { Number: "Filing", "What it means": "It means", "What to do": "To do" }[head] ?? head;
+        return getComputedStyle(it, "::before").content === `"${short}: "`;
+    };
+    return [...document.querySelectorAll("main td, main th, dt, dd, h1, footer")]
+        .filter((it) => it.textContent.trim() && !(isNarrow && it.closest("thead")) && !isSeen(it))
+        .map((it) => `${it.tagName} ${it.textContent.slice(0, 40)}`);
+"""
+# What a printed page shows that can only be pressed.
+ON_PAPER = """
+    return [...document.querySelectorAll("nav, .skip, #search-box, #parts")].filter((it) => it.checkVisibility())
+        .map((it) => it.textContent);
+"""
+# The widths of screens, and of a sheet of A4 with margins of a centimetre.
+WIDE, NARROW, PAPER = 1200, 390, 718
+SEEN = ["index", "findings", "filer-ACME", "filing-1", "filing-3", "filing-5", "refused-BETA"]
+
+
+def check_sight(folder):
+    """What tells rows apart is in sight, and what is written is plain to read."""
+    site = made(folder, MORE)
+    with browser(folder) as driver:
+        for name in SEEN if driver else ():
+            driver.get(f"file://{site}/{name}.html")
+            for width in (WIDE, NARROW, PAPER):
+                for colours in ("light", "dark"):
+                    look(driver, name, width, colours)
+
+
+def look(driver, name, width, colours):
+    """Looks at the page that is open, on a screen of this width or on paper."""
+    is_paper = width == PAPER
+    browsers.command(driver, "Emulation.setEmulatedMedia", media="print" if is_paper else "screen",
+                     features=[{"name": "prefers-color-scheme", "value": colours}])
+    resize(driver, width, 1000)
+    name = f"{name}-{'paper' if is_paper else width}-{colours}"
+    hold(f"{name}: nothing is wider than the screen",
+         driver.execute_script("return document.scrollingElement.scrollWidth <= innerWidth"), True)
+    hold(f"{name}: each cell is in sight", driver.execute_script(OUT_OF_SIGHT, width == NARROW), [])
+    # A printer leaves out what lies behind a text.
+    hold(f"{name}: contrast", driver.execute_script(CONTRAST, is_paper), [])
+    if is_paper:
+        hold(f"{name}: nothing that can only be pressed", driver.execute_script(ON_PAPER), [])
+    if given.pictures:
+        resize(driver, width, min(3_000, driver.execute_script("return document.scrollingElement.scrollHeight")))
+        take_picture(driver, given.pictures / f"{name}.png")
+
+
+def check_keyboard(folder):
+    """The keyboard reaches everything, and sorts; a search shows what was searched for; nothing is wrong."""
+    site = made(folder, MORE)
+    with browser(folder) as driver:
+        if driver is None:
+            return
+        for name in sorted(it.name for it in site.glob("*.html")):
+            driver.get(f"file://{site}/{name}")
+            hold(f"{name}: nothing in the console", console(driver), [])
+        for name in ("index", "filer-ACME", "filing-1", "refused-BETA"):
+            driver.get(f"file://{site}/{name}.html")
+            try_keyboard(driver, name)
+        driver.get(f"file://{site}/index.html")
+        driver.execute_script("document.querySelectorAll('thead button')[0].focus()")
+        for way in ("ascending", "descending"):
+            browsers.ActionChains(driver).send_keys(browsers.Keys.ENTER).perform()
+            filers = until(driver, f"document.querySelector('[aria-sort={way}]') && "
+                                   "[...document.querySelectorAll('tbody tr')].map((it) => it.cells[0].textContent)")
+            wanted = sorted({sent[0] for sent in [*SENT, *MORE]}, reverse=way == "descending")
+            hold(f"sorted by the keyboard, {way}", filers, wanted)
+        driver.execute_script("document.getElementById('search').focus()")
+        browsers.ActionChains(driver).send_keys("bet 2").perform()
+        rows = until(driver, "document.getElementById('found').textContent.startsWith('1 of') && "
+                             "[...document.querySelectorAll('tbody tr')].map((it) => it.cells[0].textContent)")
+        hold("the search", rows, ["BETA"])
+
+
+def until(driver, expression):
+    """The value of an expression of JavaScript once that is true."""
+    end = time.monotonic() + 30 * FACTOR
+    while time.monotonic() < end:
+        if found := driver.execute_script(f"return {expression}"):
+            return found
+        time.sleep(0.05)
+    return None
+
+
+# Does something, and waits until it is seen to be done. Gives how many milliseconds that took.
+TIMED = """
+    const give = arguments[0], begin = performance.now();
+    const act = () => {{ {} }}, isDone = () => {};
+    act();
+    (function look() {{
+        if (isDone()) {{ give(performance.now() - begin); }} else {{ setTimeout(look, 5); }}
+    }})();
+"""
+# How many milliseconds a search or a sort may take, on a quiet machine and of a processor.
+MOST = 1000
+SEARCH = """
+    const box = document.getElementById("search");
+    box.value = "{}";
+    box.dispatchEvent(new Event("input"));
+"""
+
+
+def check_lists(folder):
+    """A list of 10,000 filings is searched and sorted over all its pages, within a second each."""
+    more = [("MANY", f"m-{at}", None, {"f1": fact("MANY", str(at))}) for at in range(10_000)]
+    make_odd_register(folder / "register.db", more)
+    site = folder / "site"
+    site.mkdir()
+    pages_of(folder / "register.db", site)
+    rows, first = "document.querySelectorAll('tbody tr')", "document.querySelector('tbody tr').cells[1].textContent"
+    head = "document.querySelectorAll('thead button')[1].click()"
+    with serving(site) as own, browser(folder) as driver:
+        if driver is None:
+            return
+        driver.get(f"http://127.0.0.1:{own.server_port}/filer-MANY~2.html")
+        browsers.command(driver, "Performance.enable", timeDomain="threadTicks")
+        timed(driver, "a search over all pages", SEARCH.format("m-2499"), f"{rows}.length === 1")
+        hold("what was searched for is found", driver.execute_script(f"return {first}"), "m-2499")
+        timed(driver, "a search in what is there", SEARCH.format(""), f"{rows}.length === {ROWS}")
+        driver.get(f"http://127.0.0.1:{own.server_port}/filer-MANY~2.html")
+        timed(driver, "a sort over all pages", head, "document.querySelector('[aria-sort=ascending]')")
+        hold("the first of all", driver.execute_script(f"return {first}"), "m-0")
+        timed(driver, "a sort the other way", head, "document.querySelector('[aria-sort=descending]')")
+        hold("the last of all", driver.execute_script(f"return [{rows}.length, {first}]"), [ROWS, "m-9999"])
+        timed(driver, "a sort by numbers", head.replace("[1]", "[0]"),
+              "document.querySelector('[aria-sort=ascending]')?.cellIndex === 0")
+        numbers = driver.execute_script(f"return [...{rows}].map((it) => Number(it.cells[0].textContent))")
+        hold("as numbers", numbers, [len(SENT) - REFUSED + 1 + at for at in range(ROWS)])
+
+
+def spent_in(driver):
+    """The milliseconds of a processor that the page has taken."""
+    metrics = browsers.command(driver, "Performance.getMetrics")["metrics"]
+    return 1000 * next(it["value"] for it in metrics if it["name"] == "TaskDuration")
+
+
+def timed(driver, what, act, is_done):
+    before = spent_in(driver)
+    took = driver.execute_async_script(TIMED.format(act, is_done))
+    spent = spent_in(driver) - before
+    tell(f"{what}: {took:.0f} ms, {spent:.0f} of them of a processor",
+         "too slow" if took > MOST * FACTOR or spent > MOST else None)
+
+
+def check_sides(folder):
+    """What an amendment changed is in sight on a wide screen and on a narrow one, and a search of the facts leaves it
+    there."""
+    site = made(folder, AMENDMENTS)
+    rows = "['changes', 'facts'].map((it) => document.querySelectorAll(`.${it} tbody tr`).length)"
+    with serving(site) as own, browser(folder) as driver:
+        if driver is None:
+            return
+        name = f"filing-{BEGIN + 1}"
+        driver.get(f"http://127.0.0.1:{own.server_port}/{name}.html")
+        hold(f"{name}: rows of what it changed, and of its facts", driver.execute_script(f"return {rows}"),
+             [len(CHANGED), len(SECOND)])
+        for width in (WIDE, NARROW):
+            look(driver, name, width, "light")
+        driver.get(f"http://127.0.0.1:{own.server_port}/filing-{BEGIN + 5}.html")
+        driver.execute_script(SEARCH.format("eg:r1007"))
+        found = until(driver, f"document.getElementById('found').textContent && {rows}")
+        hold("a search of the facts leaves what changed", found, [ROWS, 1])
+
+
+class Noting(http.server.SimpleHTTPRequestHandler):
+    """Serves a folder, and notes what it is asked for."""
+
+    def log_message(self, *_):
+        self.server.asked.append(self.path)
+
+
+@contextlib.contextmanager
+def serving(folder):
+    with http.server.ThreadingHTTPServer(("127.0.0.1", 0), functools.partial(Noting, directory=folder)) as server:
+        server.asked = []
+        threading.Thread(target=server.serve_forever, daemon=True).start()
+        try:
+            yield server
+        finally:
+            server.shutdown()
+
+
+# Markup that somebody may get into a page.
+FOREIGN = """<script src="{0}/script"></script><script>window.inline = true;</script>
+<style>body {{ --inline: 1; }}</style><link rel="stylesheet" href="{0}/style"><img src="{0}/image">
+<iframe src="{0}/frame"></iframe><object data="{0}/object"></object><video src="{0}/video"></video></body>"""
+
+
+def check_elsewhere(folder):
+    """Pages ask for nothing elsewhere, nor does markup that gets into them; and no script runs but their own."""
+    site = made(folder, MORE)
+    with serving(site) as own, serving(folder) as other, browser(folder) as driver:
+        if driver is None:
+            return
+        for name in (f"{it}.html" for it in SEEN):
+            driver.get(f"http://127.0.0.1:{own.server_port}/{name}")
+            address = f"http://127.0.0.1:{other.server_port}"
+            text = (site / name).read_text()
+            (site / name).write_text(text.replace("</body>", FOREIGN.format(address)))
+            driver.get(f"http://127.0.0.1:{own.server_port}/{name}?")
+            driver.execute_async_script(f"fetch('{address}/fetch').catch(() => 0).finally(arguments[0])")
+            found = driver.execute_script("return [window.inline,"
+                                          "getComputedStyle(document.body).getPropertyValue('--inline')]")
+            hold(f"{name}: no other script and style", found, [None, ""])
+        time.sleep(1)
+        hold("nothing is asked for elsewhere", other.asked, [])
+        hold("nothing but the pages", {it.rstrip("?") for it in own.asked}, {f"/{it}.html" for it in SEEN})
+
+
+TRIALS = [check_texts, check_changes, check_looks, check_parts, check_hostile, check_folder, check_sight,
+          check_keyboard, check_lists, check_sides, check_elsewhere, check_time]
 # Which trial sees what.
 FAULTS = [
     (check_texts, "filing-1.html", "it&#39;s &amp; ", "it&#39;s "),
@@ -505,9 +781,17 @@ FAULTS = [
     (check_texts, "filing-2.html", "unknown", "1970-01-01T00:00:00.000Z"),
     (check_texts, "filing-4.html", "23:59:59.999Z", "24:00:00.000Z"),
     (check_texts, "filer-ACME.html", "1970-01-01T00:00:00.000Z", "1970-01-01T00:00:00Z"),
+    (check_texts, "filing-3.html", "<td>left out</td>", "<td>changed</td>"),
+    (check_changes, "filing-7.html", ">changed<", ">same<"),
+    (check_changes, "filing-7.html", "<td>3<br>", "<td>2<br>"),
+    (check_changes, "filing-7.html", "x&lt;y&gt;</td><td>x&lt;z&gt;", "x&lt;z&gt;</td><td>x&lt;y&gt;"),
+    (check_changes, "filing-7.html", "<em>no fact</em>", ""),
+    (check_changes, "filing-7.html", "the same: 3<", "the same: 4<"),
+    (check_changes, "filing-8.html", "decimals: -3", "decimals: 0"),
+    (check_changes, "filing-11.html", "and 499 more", "and 500 more"),
     (check_looks, "filer-ACME.html", 'class="moment"', 'class="text"'),
     (check_looks, "index.html", "filer-ACME.html", "filer-NONE.html"),
-    (check_looks, "index.html", "text-align: right", "text-align:right"),
+    (check_looks, "index.html", ".amount { text-align: right", ".amount { text-align:right"),
     (check_looks, "filing-2.html", 'class="amount"', 'class="text"'),
     (check_looks, "filing-2.html", 'class="period"', 'class="text"'),
     (check_looks, "filing-7.html", "\u2407", "\u0007"),
@@ -516,7 +800,7 @@ FAULTS = [
     (check_texts, "filing-5.html", "eg:Region: eg:South", "eg:Region: eg:North"),
     (check_texts, "request-6.json", "documentInfo", "documentinfo"),
     (check_texts, "refused-BETA.html", 'href="request-6.json"', 'href="request-7.json"'),
-    (check_texts, "refused-BETA.html", "is no number", "is a number"),
+    (check_texts, "refused-BETA.html", "is not a number", "is a number"),
     (check_texts, "refused-BETA.html", ">none<", ">1<"),
     (check_texts, "findings.html", "its value is no number", "its value is a number"),
     (check_texts, "filing-3.html", "Digest: <code>7 ", "Digest: <code>6 "),
@@ -531,23 +815,55 @@ FAULTS = [
     (check_parts, "filer-MANY~2.html", "</tbody>", "<tr><td>1</td></tr></tbody>"),
     (check_parts, "refused-MALLORY~3.html", 'rel="prev"', 'rel="first"'),
     (check_hostile, "refused-MALLORY.html", "and 980 more", "and 981 more"),
+    (check_looks, "index.html", "'sha256-", "'sha256-A"),
+    (check_sight, "index.html", "--link: #0645ad", "--link: #9ab"),
+    (check_sight, "filer-ACME.html", "--link: #8ab4f8", "--link: #345"),
+    (check_sight, "filing-1.html", "max-width: 30rem; overflow-wrap: anywhere", "max-width: 30rem; overflow: hidden"),
+    (check_sight, "filing-5.html", ".period { overflow-wrap: normal; }", ".period { display: none; }"),
+    (check_sight, "filing-5.html", '.facts td:nth-child(2)::before { content: "Concept: "; }', ""),
+    (check_sight, "refused-BETA.html", 'content: "Bytes: "', 'content: "Findings: "'),
+    (check_sight, "index.html", "#search-box, #parts { display", "#parts { display"),
+    (check_sight, "findings.html", ":root { color-scheme: light; --link: #000; }", ""),
+    (check_keyboard, "index.html", 'button.type = "button";', "button.tabIndex = -1;"),
+    (check_keyboard, "index.html", ":focus-visible { outline: 3px solid", ":focus-visible { outline: 0 none"),
+    (check_keyboard, "filer-ACME.html", '<label for="search">', '<label for="found">'),
+    (check_keyboard, "refused-BETA.html", '"use strict";', '"use strict"; undefined.x;'),
+    (check_keyboard, "index.html", "order.at === at ? -order.way : 1", "order.at === at ? order.way : 1"),
+    (check_keyboard, "index.html", "words.every(", "words.some("),
+    (check_lists, "filer-MANY~2.html", "rows = before.concat(rows,", "rows = rows.concat("),
+    (check_lists, "filer-MANY~2.html", "order.way * (isNumber ? a - b :", "order.way * ("),
+    (check_lists, "filer-MANY~2.html", "function compare(one, other) {",
+     "function compare(one, other) { for (var i = 0; i < 3e4; i++) { i += 0 * i; }"),
+    (check_sides, "filing-7.html", '.changes td:nth-child(4)::before { content: "Change: "; }', ""),
+    (check_sides, "filing-11.html", "table:last-of-type tbody", "tbody"),
+    (check_elsewhere, "index.html", "default-src 'none'", "default-src *"),
+    (check_elsewhere, "filing-1.html", "script-src 'sha256", "script-src http: 'sha256"),
+    (check_elsewhere, "findings.html", "connect-src 'self'", "connect-src http:"),
+    (check_elsewhere, "filer-ACME.html", "style-src 'sha256", "style-src 'unsafe-inline' http: 'none"),
 ]
 
 
 def try_faults():
     """Plants one fault after another. Each has to be seen."""
     unseen = []
-    for trial, *fault in FAULTS:
+    for trial, *fault in [fault for fault in FAULTS if given.only in fault[0].__name__]:
         planted[:] = [fault]
         failures.clear()
         with contextlib.redirect_stdout(None), tempfile.TemporaryDirectory() as folder:
-            trial(pathlib.Path(folder))
-        print(f"{'seen' if failures else 'NOT SEEN'}: {fault[0]}: {fault[2]!r}")
+            trial(pathlib.Path(folder).resolve())
+        print(f"{'seen' if failures else 'NOT SEEN'}: {fault[0]}: {fault[2]!r}", flush=True)
         unseen += [] if failures else [fault]
     sys.exit(bool(unseen))
 
 
 if __name__ == "__main__":
-    if sys.argv[1:] == ["--planted"]:
+    parser = argparse.ArgumentParser(description=__doc__.partition("\n")[0])
+    parser.add_argument("--planted", action="store_true", help="damage the pages, and see whether that is seen")
+    parser.add_argument("--only", metavar="WORD", default="", help="trials with this word in their name")
+    parser.add_argument("--pictures", metavar="FOLDER", type=pathlib.Path)
+    parser.parse_args(namespace=given)
+    if given.pictures and ROOT in given.pictures.resolve().parents:
+        sys.exit("the pictures are kept outside of the repository")
+    if given.planted:
         try_faults()
-    try_all([INTAKE], TRIALS)
+    try_all([INTAKE], [trial for trial in TRIALS if given.only in trial.__name__])

@@ -2,8 +2,9 @@
 export const ENGLISH = {
     title: "File reports",
     notProved:
-        "This page is an outbox for filers without Linux. Unlike the program `outbox`, it is not proved. " +
-        "It keeps reports in this browser, on this machine, until the register has answered.",
+        "This page is an outbox for filers without Linux. It is not proved. It keeps reports in this browser, on " +
+        "this machine, until the register has answered. If a machine with Linux runs day and night, use the program " +
+        "`outbox`, which is proved. `curl` keeps nothing: there you keep each report and its key yourself.",
 
     filer: "Filer's code",
     openFiler: "Open",
@@ -12,7 +13,7 @@ export const ENGLISH = {
     badFiler:
         "A filer's code is 1 to 64 letters, digits, `.`, `_` and `-`. A browser can't send the codes `.` and `..`.",
 
-    noFiler: "Say first for which filer.",
+    noFiler: "First choose a filer.",
 
     putIn: "New reports",
     choose: "Choose files",
@@ -24,7 +25,7 @@ export const ENGLISH = {
     key: "Key",
     keyHelp:
         "A key makes sure that a report is filed once. It is random here; write one that says what the report is, " +
-        "as `2024-annual-1`, if you have to find it again.",
+        "such as `2024-annual-1`, if you have to find it again.",
     target: "Replaces filing",
     keyOf: "Key of {0}",
     targetOf: "Filing that {0} replaces",
@@ -126,118 +127,9 @@ export const ENGLISH = {
     amendOf: "Replace filing {0}",
     amending: "The next report that you choose replaces filing {0}.",
     noAmending: "Do not replace it",
-    listFailed: "The list could not be got. {0}",
+    listFailed: "The list did not come. {0}",
     listed: "Filings of {0}: {1}.",
     notThere:
         "The register does not have these filings, which it had confirmed: {0}. It may have been restored from a " +
         "copy: ask the supervisor.",
-
-    findings: {
-        "not-json": [
-            "The body is no JSON: it is cut off, has a byte order mark or another encoding than UTF-8, a number " +
-            "beyond any float (`1e400`), half of a surrogate pair, or more than 127 levels.",
-            "See whether another JSON reader takes the file.",
-        ],
-        "not-object": [
-            "The body is JSON, but a list, a string or the like.",
-            "The report is one object.",
-        ],
-        "document-info": [
-            "There is no object `documentInfo`.",
-            "Add it, with `documentType` and `taxonomy`.",
-        ],
-        "document-type": [
-            "The document type is missing or of another edition.",
-            'Write `"documentType":"https://xbrl.org/2021/xbrl-json"`, to the letter.',
-        ],
-        namespaces: [
-            "`namespaces` is not an object.",
-            "Map each prefix to its URI, or leave it out.",
-        ],
-        "namespace-uri": [
-            "A prefix is bound to something other than a string.",
-            "Write the URI as a string.",
-        ],
-        taxonomy: [
-            "`taxonomy` is missing, empty or not a list, or one of its elements is not a string.",
-            "List a URI; it is not fetched.",
-        ],
-        facts: [
-            "`facts` is not an object.",
-            "Map each identifier to its fact.",
-        ],
-        fact: [
-            "A member of `facts` is not an object.",
-            "Write an object with `value` and `dimensions`.",
-        ],
-        value: [
-            "The value is missing, or a number, a boolean, a list or an object.",
-            'Write it as a string, `"100"`, or `null`.',
-        ],
-        decimals: [
-            "`decimals` is not a whole number of JSON: a string, `1.5`, `1.0`, or too large.",
-            "Leave it out if the value is exact.",
-        ],
-        dimensions: [
-            "The fact has no object `dimensions`.",
-            "Add it, with `concept` and `entity`.",
-        ],
-        "concept-missing": [
-            "The fact has no `concept`.",
-            "Add it.",
-        ],
-        "entity-missing": [
-            "The fact has no `entity`, and is not a note.",
-            "Add the scheme's prefix, a colon and the filer's code.",
-        ],
-        "dimension-value": [
-            "A core dimension is not a string, or one with a colon is neither a string nor `null`.",
-            "Write the value as a string.",
-        ],
-        name: [
-            "A concept, an entity or the name of a dimension has the wrong form.",
-            "A concept is `prefix:name`, an entity `prefix:identifier`.",
-        ],
-        "unbound-prefix": [
-            "A prefix is not a member of `namespaces`.",
-            "Bind it there, or correct it. Case counts.",
-        ],
-        "not-the-filer": [
-            "The entity's identifier is not the code in the path.",
-            "Correct one of them. Case counts.",
-        ],
-        period: [
-            "The period has the wrong form, or no such day or time exists.",
-            "`2024-12-31T00:00:00`, with no zone and no `24:00:00`.",
-        ],
-        "period-order": [
-            "The first of two times is not before the second.",
-            "For a moment write one alone.",
-        ],
-        unit: [
-            "The unit has the wrong form.",
-            "`iso4217:EUR`; `a:x*b:y`; `a:x/b:y`; `(a:x*b:y)/c:z`.",
-        ],
-        number: [
-            "The fact has a unit, and its value is no number.",
-            "`1234.5`, `-1e3`, `INF`, `NaN`: no comma, space or currency; or leave the unit out.",
-        ],
-        language: [
-            "The language is empty or has other characters than letters, digits and hyphens.",
-            "`en`, `de-AT`.",
-        ],
-        "unknown-dimension": [
-            "A name without a colon is no core dimension.",
-            "Mind the case (`noteId`), or add a prefix.",
-        ],
-        "too-many": [
-            "There are more than 1,000 findings, or one at a place of more than 1,024 bytes, and none of them is " +
-            "shown.",
-            "Look for one cause of many, as an unbound prefix, or send a part of the facts.",
-        ],
-        "not-replaceable": [
-            "The report was sent to replace a filing that is not the filer's, is not there, or was replaced.",
-            "Replace the one that has no `replaced_by` in the list.",
-        ],
-    },
 };

@@ -2,9 +2,10 @@
 export const GERMAN = {
     title: "Meldungen einreichen",
     notProved:
-        "Diese Seite ist ein Postausgang für Melder ohne Linux. Anders als das Programm `outbox` ist sie nicht " +
-        "bewiesen. Sie bewahrt die Meldungen in diesem Browser auf diesem Rechner auf, bis das Register geantwortet " +
-        "hat.",
+        "Diese Seite ist ein Postausgang für Melder ohne Linux. Sie ist nicht bewiesen. Sie bewahrt die Meldungen in " +
+        "diesem Browser auf diesem Rechner auf, bis das Register geantwortet hat. Läuft ein Rechner mit Linux Tag " +
+        "und Nacht, so nehmen Sie das Programm `outbox`, das bewiesen ist. `curl` bewahrt nichts auf: Dort behalten " +
+        "Sie jede Meldung und ihren Schlüssel selbst.",
 
     filer: "Code des Melders",
     openFiler: "Öffnen",
@@ -147,116 +148,4 @@ export const GERMAN = {
     notThere:
         "Diese Einreichungen, die das Register bestätigt hatte, hat es nicht: {0}. Vielleicht wurde es aus einer " +
         "Kopie wiederhergestellt: fragen Sie die Aufsicht.",
-
-    findings: {
-        "not-json": [
-            "Der Inhalt ist kein JSON: er ist abgeschnitten, hat eine Byte-Order-Mark oder eine andere Codierung als " +
-            "UTF-8, eine Zahl jenseits aller Gleitkommazahlen (`1e400`), ein halbes Surrogatpaar oder mehr als 127 " +
-            "Ebenen.",
-            "Prüfen Sie, ob ein anderer Leser von JSON die Datei annimmt.",
-        ],
-        "not-object": [
-            "Der Inhalt ist JSON, aber eine Liste, ein String oder dergleichen.",
-            "Die Meldung ist ein einziges Objekt.",
-        ],
-        "document-info": [
-            "Es gibt kein Objekt `documentInfo`.",
-            "Fügen Sie es an, mit `documentType` und `taxonomy`.",
-        ],
-        "document-type": [
-            "Der Dokumenttyp fehlt oder ist der einer anderen Ausgabe.",
-            'Schreiben Sie `"documentType":"https://xbrl.org/2021/xbrl-json"`, Buchstabe für Buchstabe.',
-        ],
-        namespaces: [
-            "`namespaces` ist kein Objekt.",
-            "Ordnen Sie jedem Präfix seine URI zu, oder lassen Sie es weg.",
-        ],
-        "namespace-uri": [
-            "Ein Präfix ist an etwas anderes als einen String gebunden.",
-            "Schreiben Sie die URI als String.",
-        ],
-        taxonomy: [
-            "`taxonomy` fehlt, ist leer oder keine Liste, oder eines seiner Elemente ist kein String.",
-            "Nennen Sie eine URI; sie wird nicht abgerufen.",
-        ],
-        facts: [
-            "`facts` ist kein Objekt.",
-            "Ordnen Sie jeder Kennung ihren Fakt zu.",
-        ],
-        fact: [
-            "Ein Mitglied von `facts` ist kein Objekt.",
-            "Schreiben Sie ein Objekt mit `value` und `dimensions`.",
-        ],
-        value: [
-            "Der Wert fehlt, oder er ist eine Zahl, ein Wahrheitswert, eine Liste oder ein Objekt.",
-            'Schreiben Sie ihn als String, `"100"`, oder `null`.',
-        ],
-        decimals: [
-            "`decimals` ist keine ganze Zahl von JSON: ein String, `1.5`, `1.0`, oder zu groß.",
-            "Lassen Sie es weg, wenn der Wert genau ist.",
-        ],
-        dimensions: [
-            "Der Fakt hat kein Objekt `dimensions`.",
-            "Fügen Sie es an, mit `concept` und `entity`.",
-        ],
-        "concept-missing": [
-            "Der Fakt hat kein `concept`.",
-            "Fügen Sie es an.",
-        ],
-        "entity-missing": [
-            "Der Fakt hat keine `entity`, und er ist keine Fußnote.",
-            "Fügen Sie das Präfix des Schemas, einen Doppelpunkt und den Code des Melders an.",
-        ],
-        "dimension-value": [
-            "Eine Kerndimension ist kein String, oder eine mit Doppelpunkt ist weder ein String noch `null`.",
-            "Schreiben Sie den Wert als String.",
-        ],
-        name: [
-            "Ein Konzept, ein Rechtsträger oder der Name einer Dimension hat die falsche Form.",
-            "Ein Konzept ist `prefix:name`, ein Rechtsträger `prefix:identifier`.",
-        ],
-        "unbound-prefix": [
-            "Ein Präfix ist kein Mitglied von `namespaces`.",
-            "Binden Sie es dort, oder berichtigen Sie es. Groß- und Kleinschreibung zählt.",
-        ],
-        "not-the-filer": [
-            "Die Kennung des Rechtsträgers ist nicht der Code im Pfad.",
-            "Berichtigen Sie eines von beiden. Groß- und Kleinschreibung zählt.",
-        ],
-        period: [
-            "Der Zeitraum hat die falsche Form, oder es gibt diesen Tag oder diese Uhrzeit nicht.",
-            "`2024-12-31T00:00:00`, ohne Zeitzone und ohne `24:00:00`.",
-        ],
-        "period-order": [
-            "Die erste von zwei Zeiten liegt nicht vor der zweiten.",
-            "Für einen Zeitpunkt schreiben Sie eine allein.",
-        ],
-        unit: [
-            "Die Einheit hat die falsche Form.",
-            "`iso4217:EUR`; `a:x*b:y`; `a:x/b:y`; `(a:x*b:y)/c:z`.",
-        ],
-        number: [
-            "Der Fakt hat eine Einheit, und sein Wert ist keine Zahl.",
-            "`1234.5`, `-1e3`, `INF`, `NaN`: ohne Komma, Leerzeichen oder Währung; oder lassen Sie die Einheit weg.",
-        ],
-        language: [
-            "Die Sprache ist leer oder hat andere Zeichen als Buchstaben, Ziffern und Bindestriche.",
-            "`en`, `de-AT`.",
-        ],
-        "unknown-dimension": [
-            "Ein Name ohne Doppelpunkt ist keine Kerndimension.",
-            "Achten Sie auf Groß- und Kleinschreibung (`noteId`), oder setzen Sie ein Präfix davor.",
-        ],
-        "too-many": [
-            "Es gibt mehr als 1.000 Befunde, oder einen an einer Stelle von mehr als 1.024 Bytes, und keiner davon " +
-            "wird gezeigt.",
-            "Suchen Sie nach einer Ursache vieler Befunde, wie einem ungebundenen Präfix, oder senden Sie einen Teil " +
-            "der Fakten.",
-        ],
-        "not-replaceable": [
-            "Die Meldung sollte eine Einreichung ersetzen, die nicht die des Melders ist, die es nicht gibt, oder " +
-            "die schon ersetzt wurde.",
-            "Ersetzen Sie die, die in der Liste kein `replaced_by` hat.",
-        ],
-    },
 };
