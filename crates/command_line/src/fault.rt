@@ -37,10 +37,10 @@ pub enum DatabaseFault {
     #[error("it has auto_vacuum, and cannot be read with that: {0} makes a database without it")]
     AutoVacuum(Restore),
     /// The sum of a page is wrong, or what the page says.
-    #[error("the sum or the structure of a page is wrong: keep the file and the log beside it, and restore a copy")]
+    #[error("the checksum or the structure of a page is wrong: keep the file and the log beside it, and restore a copy")]
     Damaged,
     /// The pages have room for sums, and SQLite, which does not know of them, wrote some.
-    #[error("SQLite wrote it without the sums of its pages: {0} makes a database that opens")]
+    #[error("SQLite wrote it without the checksums of its pages: {0} makes a database that opens")]
     Unsummed(Restore),
     /// Another program has the database open.
     #[error("another program has it open")]
@@ -126,7 +126,7 @@ impl DatabaseFault {
 pub enum CommandFault<'a> {
     #[error("a word of the command line is not UTF-8")]
     NotText,
-    #[error("the command line asks for nothing")]
+    #[error("the command line names no command")]
     NoTask,
     #[error("--filer: not a filer code, which is 1 to 64 ASCII letters, digits, '.', '_' and '-'")]
     Filer,

@@ -14,7 +14,7 @@ fn command<'a>(alloc: Global) -> Command<'a>
     Command::new(alloc, "drill")
         .version(VERSION)
         .about(
-            "Plays the script of standard input on an intake and outboxes in memory; prints the filings and entries",
+            "Simulates an intake and outboxes in memory by the script on standard input; prints the filings and entries",
         )
         .after_help(concat!(
             "Example: printf 'outbox ACME\\nput 1 \"k-1\" {}\\nsend 1 1\\ndeliver 1 all\\nhand 1 all\\n' | drill\n\n",

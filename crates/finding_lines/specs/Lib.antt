@@ -3,4 +3,3 @@ pub mod Messages
 pub mod Sentences
 pub mod Objects
 pub mod Lines
-pub mod Passing

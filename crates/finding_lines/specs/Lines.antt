@@ -26,7 +26,7 @@ line form file body told =
     line_with form file told.1.position told.0 (value body told.1) (message body told.1 told.0)
 
 abbrev pub fault_words : SyntaxFault → List ℕ
-fault_words fault = if fault.is_cut then codes "the body ends too soon" else codes "the body is no JSON text"
+fault_words fault = if fault.is_cut then codes "the body ends too soon" else codes "the body is not valid JSON"
 
 -- the line of a finding in a body that is no JSON text
 abbrev pub fault_line : Form → List ℕ → SyntaxFault → Pair → List ℕ

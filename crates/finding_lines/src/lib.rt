@@ -7,7 +7,6 @@ mod form;
 mod linting;
 mod message;
 mod object;
-mod passing;
 mod sentence;
 mod syntax_fault;
 mod telling;

@@ -2,7 +2,8 @@
 ghost use Rattle.std.specs.Prelude.{◌≡◌, IfOk};
 ghost use Rattle.finding_lines.specs.Lines.{IsFaultIn, fault_words};
 
-use crate::passing::is_surely_read;
+use json::Scratch;
+use json_tree::{Unread, read_tree};
 use report_places::{Position, position_of};
 use serde_json::Value;
 use std::alloc::{AllocError, Global};
@@ -28,7 +29,7 @@ impl SyntaxFault {
         if self.is_cut {
             "the body ends too soon"
         } else {
-            "the body is no JSON text"
+            "the body is not valid JSON"
         }
     }
 }
@@ -37,9 +38,18 @@ impl SyntaxFault {
 pub(crate) fn fault_in(alloc: Global, body: &[u8]) -> Result<Option<SyntaxFault>, AllocError>
     ensures { IfOk result (IsFaultIn body.now) }
 {
-    if is_surely_read(alloc, body)? {
-        return Ok(None);
+    let mut scratch = Scratch::new(alloc);
+    match read_tree(alloc, body, &mut scratch) {
+        Ok(_) => Ok(None),
+        Err(Unread::Memory) => Err(AllocError),
+        Err(Unread::NotJson) => fault_of(alloc, body),
     }
+}
+
+/// The same of a body that is no JSON text. `serde_json` alone says where.
+fn fault_of(alloc: Global, body: &[u8]) -> Result<Option<SyntaxFault>, AllocError>
+    ensures { IfOk result (IsFaultIn body.now) }
+{
     match Value::from_slice(alloc, body) {
         Ok(_) => Ok(None),
         Err(error) if error.is_memory() => Err(AllocError),
