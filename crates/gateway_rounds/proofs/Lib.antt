@@ -1,4 +1,5 @@
 mod Lists
+mod Dated
 mod Alike
 mod Turns
 mod Told

@@ -1,4 +1,5 @@
 pub mod Ports
+pub mod Dated
 pub mod Turns
 pub mod Rounds
 pub mod Away

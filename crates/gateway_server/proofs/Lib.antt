@@ -14,4 +14,3 @@ pub mod Written
 pub mod FirstBytes
 pub mod Steps
 pub mod Grouped
-pub mod Kept

@@ -1,5 +1,4 @@
 pub mod Answering
-pub mod Dating
 pub mod Deciding
 pub mod Group
 pub mod Together
