@@ -1,9 +1,13 @@
 //! A place in memory.
 
 ghost use Rattle.std.specs.Prelude.{◌≡◌, [], Some, None, IsTrue};
+ghost use Rattle.database_places.specs.Moves.{IsDrawn};
+ghost use Rattle.database_places.specs.DrawnOnce.{drawn_once};
 ghost use Rattle.database_places.specs.Places.{Leaves};
+ghost use Rattle.database_places.specs.Recorded.{shown, nothing, left};
 
 use crate::place::Place;
+use crate::record::Record;
 use command_line::DatabaseFault;
 use sqlite::Files;
 use sqlite_disk::{Disk, Memory};
@@ -26,21 +30,31 @@ impl Blank for Memory {
     }
 }
 
-/// The files of a database, if there are some.
+/// The files of a database, if there are some. What it gives is what was left there.
 #[derive(Drop)]
 pub struct Drawer<D: Blank> {
     alloc: Global,
     files: Option<Files<D>>,
+    noted: Record<D>,
+    ghost drawn: { IsDrawn D.Disk (shown noted) files } by { drawn_once D.Disk (shown noted) files },
 }
 
 impl<D: Blank> Drawer<D> {
     /// A place in which nothing lies.
-    pub fn new(alloc: Global) -> Drawer<D> {
-        Drawer { alloc, files: None }
+    pub fn new(alloc: Global) -> Drawer<D>
+        ensures { shown result.noted ≡ nothing }
+    {
+        Drawer {
+            alloc,
+            files: None,
+            noted: Record::new(),
+        }
     }
 }
 
 impl<D: Blank> Place<D> for Drawer<D> {
+    ghost recorded = { λ drawer. shown drawer.noted };
+
     ghost lying = { λ drawer. Some drawer.files };
 
     ghost file = { λ _. None };
@@ -49,12 +63,15 @@ impl<D: Blank> Place<D> for Drawer<D> {
         Some(SEED)
     }
 
-    fn is_missing(&self) -> bool {
-        self.files.is_none()
+    fn is_missing(&mut self) -> bool {
+        let told = self.files.is_none();
+        self.noted.tell_missing(told);
+        told
     }
 
     // An opening finds out whether files have a database.
-    fn is_empty(&self) -> bool {
+    fn is_empty(&mut self) -> bool {
+        self.noted.tell_empty(false);
         false
     }
 
@@ -74,25 +91,28 @@ impl<D: Blank> Place<D> for Drawer<D> {
     fn remove_empty_log(&self) {}
 
     fn take(&mut self) -> Result<Files<D>, DatabaseFault> {
-        match self.files.take() {
+        let files = match self.files.take() {
             Some(files) => {
-                if files.may_be_used() {
-                    Ok(files)
-                } else {
+                if !files.may_be_used() {
                     self.files = Some(files);
-                    Err(DatabaseFault::Disk)
+                    return Err(DatabaseFault::Disk);
                 }
+                files
             }
-            None => Ok(Files {
+            None => Files {
                 log: D::empty(self.alloc),
                 db: D::empty(self.alloc),
-            }),
-        }
+            },
+        };
+        self.noted.give(&files);
+        Ok(files)
     }
 
     fn leave(&mut self, files: Files<D>)
+        ensures got { shown self.new.noted ≡ left files (shown self.old.noted) }
         ensures left { Leaves (Some self.old.files) (Some self.new.files) files }
     {
+        self.noted.leave(&files);
         self.files = Some(files);
     }
 }

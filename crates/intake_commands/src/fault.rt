@@ -25,7 +25,7 @@ fn not_a_register(holding: Holding) -> &'static str {
         Holding::Nothing =>
             "not a register: the database has no tables (intake serve --new makes them)",
         Holding::Register | Holding::EarlierRegister => {
-            "not a register of this version (intake migrate takes one of an earlier version)"
+            "not a register of this version (intake migrate upgrades an earlier one)"
         }
         Holding::Outbox | Holding::EarlierOutbox => "not a register: this is an outbox",
         Holding::Others => "not a register: these are the tables of another program",
@@ -104,8 +104,11 @@ impl fmt::Display for Reason {
             Why::List(fault) => f.write_str(not_listed(fault)),
             Why::NoFiling { number } => write!(f, "there is no filing {number}"),
             Why::NoRequest => f.write_str("this filer has no request under this key"),
-            Why::TooFew { kept } => write!(f, "no more are kept than {kept}"),
-            Why::Another { count } => write!(f, "another register before {count}"),
+            Why::TooFew { kept } => write!(f, "fewer requests are kept than asked for: {kept}"),
+            Why::Another { count } => write!(
+                f,
+                "another register, or a changed one, up to request {count}"
+            ),
             Why::Memory => f.write_str("out of memory"),
             Why::Output => f.write_str("the output cannot be written"),
             Why::Folder => f.write_str("the folder failed"),

@@ -99,7 +99,7 @@ impl fmt::Display for LogMessage<'_> {
             ),
             LogMessage::NotAccepted(error) => write!(
                 f,
-                "no connection could be accepted: {error}; it is tried for a minute"
+                "no connection could be accepted: {error}; trying again for a minute"
             ),
             LogMessage::NotLogged(fault) => write!(f, "{fault}"),
         }

@@ -151,7 +151,7 @@ fn socket<'a>(alloc: Global) -> Arg<'a> {
         alloc,
         "socket",
         "PATH",
-        "The path of a unix socket to listen on, of 1 to 107 bytes; who may enter its folder may connect",
+        "The path of a unix socket to listen on, of 1 to 107 bytes; whoever may enter its folder may connect",
     )
     .required(false)
 }
@@ -233,7 +233,7 @@ fn key<'a>(alloc: Global) -> Result<Arg<'a>, AllocError> {
         alloc,
         "key",
         "KEY",
-        "The key under which the filer sent it, as the line Idempotency-Key has it without quotes, with --body",
+        "The key under which the filer sent it, as in the line Idempotency-Key but without quotes, with --body",
     )
     .required(false)
     .requires_arg("filer")?
@@ -258,7 +258,7 @@ fn format<'a>(alloc: Global) -> Arg<'a> {
         alloc,
         "format",
         "FORMAT",
-        "How the facts are written: csv, by RFC 4180 with a line of names, or jsonl, a JSON object on each line",
+        "How the facts are written: csv (RFC 4180, with a header line), or jsonl (a JSON object on each line)",
     )
     .value_parser(FORMATS.as_slice())
 }
@@ -278,7 +278,7 @@ fn after<'a>(alloc: Global) -> Arg<'a> {
         alloc,
         "after",
         "N",
-        "The number of a filing: only facts of filings with a greater one are printed [default: 0]",
+        "Prints only the facts of filings whose number is greater than N [default: 0]",
         value_parser!(u64).range(0..=i64::MAX),
     )
 }
@@ -307,7 +307,7 @@ fn against<'a>(alloc: Global) -> Arg<'a> {
         alloc,
         "against",
         "N:HEX",
-        "The digest of the first N requests that was published, in 64 hexadecimal digits [default: none]",
+        "A published digest of the first N requests, in 64 hexadecimal digits [default: compares with none]",
     )
     .required(false)
 }
@@ -514,9 +514,9 @@ pub(crate) fn command<'a>(alloc: Global) -> Result<Command<'a>, AllocError> {
         .about("Answers filers' requests, and registers each valid report once")
         .after_help(concat!(
             "Exit status: 0 done;\n",
-            "1 not a register, a damaged one, another one, one that is there already, or a report with findings;\n",
+            "1 not a register, a damaged one, one with another digest, one that is there already, or a report with findings;\n",
             "2 a wrong command line, or a report that is too large;\n",
-            "3 memory, a file, the disk or the network failed; 4 no such filing or request, or fewer requests",
+            "3 memory, a file, the disk or the network failed; 4 no such filing or request, or fewer requests than asked for",
         ))
         .subcommands(tasks)
 }

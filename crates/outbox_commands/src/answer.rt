@@ -214,7 +214,7 @@ pub(crate) fn tell_refused<E: Write>(
     if is_of_target {
         writeln!(
             errors,
-            "outbox: entry {id}: refused; the filing that it is to replace is not there, or was replaced already"
+            "outbox: entry {id}: refused; the filing that it was sent to replace is not there, or was replaced already"
         )
     } else {
         writeln!(

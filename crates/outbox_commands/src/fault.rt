@@ -34,7 +34,7 @@ impl fmt::Display for OutboxInWords {
     fn fmt<W: fmt::Write>(&self, f: &mut fmt::Formatter<W>) -> fmt::Result {
         let OutboxInWords(fault, held) = self;
         match fault {
-            OutboxFault::BadFiler => f.write_str("the filer is no filer code"),
+            OutboxFault::BadFiler => f.write_str("not a filer code"),
             OutboxFault::Taken => f.write_str(taken(*held)),
             OutboxFault::NotOurs => f.write_str(unfit(*held)),
             OutboxFault::Damaged { row } => write!(f, "row {row} of the outbox is damaged"),
@@ -94,11 +94,11 @@ impl fmt::Display for InWords<'_> {
             Why::Connect(error) => write!(f, "{error}"),
             Why::NotListed { id, number } => write!(
                 f,
-                "entry {id} is confirmed {number}, but the register has no such filing of this filer; nothing was sent: {OTHER_REGISTER}"
+                "entry {id} is confirmed as filing {number}, which the register does not list for this filer; nothing was sent: {OTHER_REGISTER}"
             ),
             Why::NoList { id, number, status } => write!(
                 f,
-                "asked for filing {number} of entry {id}, it answered {status} and no list of it; nothing was sent: ask again once it serves"
+                "asked for filing {number} of entry {id}, the register answered {status} and no list; nothing was sent: ask again later"
             ),
             Why::Contradicts { id, state, told } => write!(
                 f,
@@ -193,7 +193,7 @@ pub enum NotDone<'a> {
     #[error("--key and --amend are for one report, and not for several: put in each by itself")]
     ForOne,
     /// A report that has to be JSON is not.
-    #[error("{file}: no JSON, which a register refuses; with --strict no report is put in", file = OneLine(*.name))]
+    #[error("{file}: not JSON, so a register refuses it; with --strict no report is put in", file = OneLine(*.name))]
     NotJson {
         name: &'a str,
     },

@@ -285,7 +285,7 @@ static WORDS: [Word<Argument>; 8] = [
             "Several reports, as --body q1.json q2.json, get random keys and replace no filing. ",
             "All are read first: if one can't be, none is put in.\n",
             "If one is then refused, those before it stay in the outbox, and none after it is put in.\n",
-            "One that is no JSON, as an empty one, is put in with a warning: a register refuses it, and keeps its key.",
+            "One that is not JSON, such as an empty one, is put in with a warning: a register refuses it, and its key is used.",
         ),
         arguments: &[
             Argument::Database,
@@ -293,7 +293,7 @@ static WORDS: [Word<Argument>; 8] = [
             Argument::Key,
             Argument::Amend,
             Argument::Strict(
-                "Puts nothing in, and ends with 2, if a report is no JSON [default: warns]",
+                "Puts nothing in, and ends with 2, if a report is not JSON [default: warns]",
             ),
             Argument::Wait,
         ],
@@ -303,7 +303,7 @@ static WORDS: [Word<Argument>; 8] = [
         about: "Sends an open entry once, and prints its state after the reply",
         example: concat!(
             "Example: outbox send --db outbox.db --port 8080 --all\n\n",
-            "A reply that settles nothing, such as 403 or 503, leaves its entry open: standard error shows it.\n",
+            "A reply that settles nothing, such as 403 or 503, leaves its entry open: standard error says so.\n",
             "Exit status: 0 each reply was read; ",
             "1 not an outbox, a damaged one, or --strict and a report was refused;\n",
             "3 an exchange failed, nobody listens, memory or the disk failed, or --strict and an entry is open; ",
@@ -315,7 +315,7 @@ static WORDS: [Word<Argument>; 8] = [
             Argument::Entry("The entry's id [default: the open entry with the least id]"),
             Argument::All,
             Argument::Strict(concat!(
-                "Ends with 1 if an entry is refused or clashed, and else with 3 if one stays open ",
+                "Ends with 1 if an entry is refused or clashed, otherwise with 3 if one stays open ",
                 "[default: 0 if each reply was read]",
             )),
             Argument::Patience,
@@ -332,9 +332,9 @@ static WORDS: [Word<Argument>; 8] = [
         example: concat!(
             "Example: outbox ask --db outbox.db --entry 1 --port 8080\n\n",
             "A register that has the request answers as it did at first, and changes nothing.\n",
-            "Of a confirmed entry it is asked for the filing before: if it does not list it, nothing is sent.\n",
-            "The request of a refused or clashed one is sent at once: ",
-            "a register that lost it, as one restored from an older copy, decides it anew.\n",
+            "For a confirmed entry it is first asked for the filing: if it does not list that, nothing is sent.\n",
+            "For a refused or clashed one the request is sent at once: ",
+            "a register that lost it, for example by a restored copy, takes it for a new one.\n",
             "An open entry is refused: outbox send sends it.\n",
             "Exit status: 0 the reply was read; 1 not an outbox, or a damaged one; 2 the entry is open;\n",
             "3 the filing is not listed, the reply contradicts the entry, an exchange failed, nobody listens, ",
@@ -404,7 +404,7 @@ pub(crate) fn command<'a>(alloc: Global) -> Result<Command<'a>, AllocError> {
         .after_help(concat!(
             "Exit status: 0 done;\n",
             "1 not an outbox, a damaged one, one that is there already, or a report with findings;\n",
-            "2 a wrong command line, a key that is in use, a report that is too large or, with --strict, no JSON,\n",
+            "2 a wrong command line, a key that is in use, a report that is too large or, with --strict, not JSON,\n",
             "or a question about an open entry;\n",
             "3 memory, a file, the disk or the network failed; 4 no such entry",
         ))

@@ -1,4 +1,5 @@
-pub mod Ending
+pub mod Drawers
+mod Ending
 pub mod Causes
 pub mod Entries
 pub mod GoingThrough

@@ -34,11 +34,11 @@ const SENTENCES: &[(Found, &str)] = &[
             "{\n \"facts\": {\"f\": {\"value\": \"1,5\"}}}",
             &[("/facts/f/value", Code::Number)],
         ),
-        "r.json:2:27: number: \"1,5\" is no number (/facts/f/value)\n",
+        "r.json:2:27: number: \"1,5\" is not a number (/facts/f/value)\n",
     ),
     (
         ("r", r#"{"facts":[1]}"#, &[("/facts", Code::Facts)]),
-        "r:1:10: facts: the array is no object (/facts)\n",
+        "r:1:10: facts: the array is not an object (/facts)\n",
     ),
     (
         (
@@ -54,7 +54,7 @@ const SENTENCES: &[(Found, &str)] = &[
             r#"{"a\u000ab":5}"#,
             &[("/a\nb", Code::UnknownDimension)],
         ),
-        "r:1:13: unknown-dimension: \"a\\u000ab\" is no known dimension (/a\\u000ab)\n",
+        "r:1:13: unknown-dimension: \"a\\u000ab\" is not a known dimension (/a\\u000ab)\n",
     ),
     (
         ("r", " {}", &[("", Code::TooMany)]),
@@ -62,7 +62,7 @@ const SENTENCES: &[(Found, &str)] = &[
     ),
     (
         ("r", "-1.5e3", &[("", Code::NotObject)]),
-        "r:1:1: not-object: -1.5e3 is no object ()\n",
+        "r:1:1: not-object: -1.5e3 is not an object ()\n",
     ),
     (
         (
@@ -70,7 +70,7 @@ const SENTENCES: &[(Found, &str)] = &[
             "\"xxxxxxxxxxxxxxxxxxxxxxxxxxxxxxxxxxxxxxxxxxxxxxxxxxxxxxxxxx\"",
             &[("", Code::NotObject)],
         ),
-        "r:1:1: not-object: \"xxxxxxxxxxxxxxxxxxxxxxxxxxxxxxxxxxxxxxxxxxxxxxxxxxxxxxxxxx\" is no object ()\n",
+        "r:1:1: not-object: \"xxxxxxxxxxxxxxxxxxxxxxxxxxxxxxxxxxxxxxxxxxxxxxxxxxxxxxxxxx\" is not an object ()\n",
     ),
     (
         (
@@ -78,7 +78,7 @@ const SENTENCES: &[(Found, &str)] = &[
             "\"xxxxxxxxxxxxxxxxxxxxxxxxxxxxxxxxxxxxxxxxxxxxxxxxxxxxxxxxxxxx\"",
             &[("", Code::NotObject)],
         ),
-        "r:1:1: not-object: \"xxxxxxxxxxxxxxxxxxxxxxxxxxxxxxxxxxxxxxxxxxxxxxxxxxxxxxxxxxx... is no object ()\n",
+        "r:1:1: not-object: \"xxxxxxxxxxxxxxxxxxxxxxxxxxxxxxxxxxxxxxxxxxxxxxxxxxxxxxxxxxx... is not an object ()\n",
     ),
     (
         ("a\u{7f}b", r#"{"a":"#, &[("", Code::NotJson)]),
@@ -86,11 +86,11 @@ const SENTENCES: &[(Found, &str)] = &[
     ),
     (
         ("r", "[1,\n x]", &[("", Code::NotJson)]),
-        "r:2:2: not-json: the body is no JSON text ()\n",
+        "r:2:2: not-json: the body is not valid JSON ()\n",
     ),
     (
         ("r", "[\"é\", x]", &[("", Code::NotJson)]),
-        "r:1:7: not-json: the body is no JSON text ()\n",
+        "r:1:7: not-json: the body is not valid JSON ()\n",
     ),
 ];
 
@@ -108,7 +108,7 @@ const OBJECTS: &[(Found, &str)] = &[
             &[("/a", Code::Number), ("/b", Code::Value)],
         ),
         concat!(
-            r#"{"code":"number","column":6,"file":"r","line":1,"message":"\"1,5\" is no number","#,
+            r#"{"code":"number","column":6,"file":"r","line":1,"message":"\"1,5\" is not a number","#,
             r#""place":"/a","value":"\"1,5\""}"#,
             "\n",
             r#"{"code":"value","column":1,"file":"r","line":1,"message":"the member is missing","#,
