@@ -4,6 +4,9 @@
 #![tactic(auto)]
 
 mod about;
+mod alike;
+mod change_rows;
+mod changes;
 mod chart;
 mod escaping;
 mod fault;
@@ -22,6 +25,7 @@ mod piece;
 mod reads;
 mod refused;
 mod reports;
+mod said;
 mod short;
 mod site;
 mod words;
