@@ -895,12 +895,11 @@ def check_refusals():
 def check_cases():
     """Each intake's case has filer codes that no other has, so that all can be played on one register; no name is used
     twice."""
-    owners, names, counts = {}, [], {"intake": 0, "outbox": 0}
+    owners, names = {}, []
     for file in sorted((ROOT / "conformance/cases").glob("*.json")):
         whole = json.loads(file.read_text())
         for case in whole["cases"]:
             names.append(case["name"])
-            counts[whole["end"]] += 1
             if whole["end"] != "intake":
                 continue
             sent = json.dumps(case["connections"])
@@ -910,10 +909,6 @@ def check_cases():
     tell_one("each case has filers of its own", None if not shared else f"{shared}")
     tell_one("each case has a name of its own",
              None if len(names) == len(set(names)) else f"{len(names) - len(set(names))} names are used twice")
-    told = f"{counts['intake']} cases for an intake and {counts['outbox']} for an outbox"
-    for page in ("conformance/README.md", "docs/CONFORMANCE.md"):
-        is_there = told in " ".join((ROOT / page).read_text().split())
-        tell_one(f"{page} counts the cases", None if is_there else f"it doesn't say {told}")
     codes = set(re.findall(r"(?m)^\| \d+ \| ([\w-]+) \|", (ROOT / "docs/PROTOCOL.md").read_text()))
     examples = {name.removeprefix("example.") for name in names if name.startswith("example.")}
     tell_one("each code of a finding has its example", None if codes == examples else f"{sorted(codes ^ examples)}")

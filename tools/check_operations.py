@@ -150,7 +150,7 @@ def check_copies(folder, kind, database, restored, ask):
         for it in own.glob("tried*"):
             it.unlink()
         status, said, errors = script(f"{kind}-restore", copy, new)
-        sums = "" if what != ".dump" else "; its pages have no sums, as those of the copy"
+        sums = "" if what != ".dump" else "; its pages have no checksums, as those of the copy"
         hold(f"{what} of {kind}: restored", (status, said, errors), (0, f"{new}: restored: {restored}{sums}\n", ""))
         if status:
             continue
@@ -483,7 +483,7 @@ def check_earlier_copies(folder):
         status, said, _ = script(f"{kind}-restore", copy, new)
         wanted = (
             f"{new}: restored: migrated, {'sound: ' if kind == 'register' else ''}{restored}; "
-            "its pages have no sums, as those of the copy\n"
+            "its pages have no checksums, as those of the copy\n"
         )
         hold(f"a copy of an earlier {kind}", (status, said), (0, wanted))
 
@@ -598,7 +598,7 @@ def check_digests(folder):
     for what, text, status, cause in [
         ("its own digest", line, 0, ""),
         ("the digest of no request", none, 0, ""),
-        ("another digest", wrong, 1, f"another register before {count}"),
+        ("another digest", wrong, 1, f"another register, or a changed one, up to request {count}"),
         ("a digest of more requests", f"{int(count) + 1} {line.split()[1]}\n", 1, ""),
         ("a line that is no digest", line.upper(), 1, "not a line of `intake digest`"),
     ]:

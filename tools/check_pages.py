@@ -11,11 +11,11 @@ many cells as its head, and a cell of README.md at most CELL words. Each page ha
 PHRASES and, but for docs/GLOSSARY.md, none of the words in COINED, and all of them have at most WORDS words together,
 as `git ls-files '*.md' | xargs cat | wc -w` counts. No line of README.md is longer than 400 characters, and none of the
 code and the scripts than 120, but for strings in the code. docs/ARCHITECTURE.md has the table that tools/crate_table.py
-makes. The pictures of README.md show what the page of a filing has. docs/PROOF.md says how many wrong bodies there are,
-and those that it names are there. The contracts that README.md names are there, and each word of docs/GLOSSARY.md is
-defined where that page says. docs/PROTOCOL.md has a heading for each word of an error, and an anchor for each code of a
-finding; its programs that repeat a request have at most LINES lines, and are tried after peers that fail: on intake
-with --programs, otherwise on tools/intake_stand_in.py.
+makes. The pictures of README.md show what the page of a filing has. The wrong bodies that docs/PROOF.md names and the
+contracts that README.md names are there, and each word of docs/GLOSSARY.md is defined where that page says.
+docs/PROTOCOL.md has a heading for each word of an error, and an anchor for each code of a finding; its programs that
+repeat a request have at most LINES lines, and are tried after peers that fail: on intake with --programs, otherwise on
+tools/intake_stand_in.py.
 
 The index of docs/OPERATIONS.md has the questions in QUESTIONS and no others, and each links to a section with the words
 there. tools/questions.txt has what strangers ask, as many of each as ASKING says, and which section answers it: it is
@@ -48,7 +48,6 @@ from typing import Callable
 
 import crate_table
 import trials
-import try_wrong_bodies
 from man_pages import commands_of, help_of, sections
 from odd_register import date_register
 
@@ -63,11 +62,9 @@ WORDS = 43_000
 CELL = 35
 FIRST = 300
 LINES = 12
-ASKING = {"supervisor": 10, "filer": 10, "sceptic": 5, "contributor": 5}
+ASKING = {"supervisor": 10, "filer": 11, "sceptic": 5, "contributor": 5}
 # The code that writes a filing's page, and how README.md shows that page.
 FILING, PICTURES = "crates/register_pages/src/filing.rt", ("docs/filing.svg", "docs/filing-narrow.svg")
-# Between these two lines docs/PROOF.md has how many wrong bodies there are.
-COUNTED, COUNTED_END = "<!-- counted by tools/try_wrong_bodies.py --count -->", "<!-- end of what is counted -->"
 # When the one request of a copy came, in milliseconds since 1970.
 MOMENT = 1_735_689_599_999
 # How many seconds a block of commands may take. Programs that were built without proof are slow.
@@ -418,12 +415,8 @@ def check_lengths():
 
 
 def check_wrong_bodies():
-    """docs/PROOF.md says how many wrong bodies the crates have, and each one that it names is there."""
-    text, count = text_of("docs/PROOF.md"), try_wrong_bodies.count()
-    found = text.partition(COUNTED)[2].partition(COUNTED_END)[0].strip()
-    trials.tell("docs/PROOF.md: how many wrong bodies there are",
-                None if found == count else f"{found!r} in place of {count!r}")
-    named = [(crate, name) for crate, name in re.findall(r"`(\w+)/(\w+)`", text)
+    """Each wrong body that docs/PROOF.md names is there."""
+    named = [(crate, name) for crate, name in re.findall(r"`(\w+)/(\w+)`", text_of("docs/PROOF.md"))
              if name != "specs" and (ROOT / "crates" / crate).is_dir()]  # fmt: skip
     gone = [f"{crate}/{name}" for crate, name in named
             if not list((ROOT / "crates" / crate).glob(f"*/{name}.edit"))]  # fmt: skip

@@ -147,11 +147,11 @@ def check_sent_amendments(folder):
     report.write_bytes(REPORT)
     run(OUTBOX, "init", "--db", outbox, "--filer", "ACME")
     serving = Serving(folder / "register.db", 3, "--new")
-    replaced = "outbox: entry 3: refused; the filing that it is to replace is not there, or was replaced already\n"
+    replaced = "outbox: entry 3: refused; the filing that it was sent to replace is not there, or was replaced already"
     for entry, words, state, errors in (
         (1, (), "confirmed 1", ""),
         (2, ("--amend", 1), "confirmed 2", ""),
-        (3, ("--amend", 1), "refused", replaced),
+        (3, ("--amend", 1), "refused", f"{replaced}\n"),
     ):
         put = run(OUTBOX, "put", "--db", outbox, "--body", report, "--key", f"k-{entry}", *words)
         hold(f"put of entry {entry}", said(put, folder), (0, f"entry {entry}\n", ""))
@@ -369,8 +369,8 @@ def check_descriptors(folder):
          (3, "", "intake: register.db: too many open files: raise the limit (ulimit -n)\n"))
 
 
-DAMAGED = "the sum or the structure of a page is wrong: keep the file and the log beside it, and restore a copy"
-UNSUMMED = "SQLite wrote it without the sums of its pages: register-restore makes a database that opens"
+DAMAGED = "the checksum or the structure of a page is wrong: keep the file and the log beside it, and restore a copy"
+UNSUMMED = "SQLite wrote it without the checksums of its pages: register-restore makes a database that opens"
 
 
 def make_small_register(database):
@@ -661,14 +661,14 @@ def check_lint(folder):
     judged = run(INTAKE, given=request("k-1", bad.read_bytes())).stdout
     findings = json.loads(judged.partition(b"\r\n\r\n")[2])["findings"]
     hold("a filing is refused for that", findings, [{"code": "document-info", "place": "/documentInfo"}])
-    line = "bad.json:1:17: document-info: 1 is no object (/documentInfo)\n"
+    line = "bad.json:1:17: document-info: 1 is not an object (/documentInfo)\n"
     hold("lint finds what a filing is refused for", (status, output, errors), (1, line, ""))
     hold("and so does the outbox", said(run(OUTBOX, "lint", "--filer", "ACME", good, bad), folder), (1, line, ""))
     told = [json.loads(it)
             for it in said(run(OUTBOX, "lint", "--filer", "ACME", "--json", bad), folder)[1].splitlines()]
     wanted = {"file": "bad.json", "line": 1, "column": 17,
               "code": "document-info", "place": "/documentInfo", "value": "1"}
-    hold("as an object too", told, [{**wanted, "message": "1 is no object"}])
+    hold("as an object too", told, [{**wanted, "message": "1 is not an object"}])
     hold("lint of no file", said(run(INTAKE, "lint", "--filer", "ACME", folder / "none"), folder)[0], 3)
     hold("lint for no filer", run(INTAKE, "lint", "--filer", "a/b", good).returncode, 2)
 
@@ -998,7 +998,7 @@ LISTS = [
     (problem(b"503 Service Unavailable", "unavailable"), None),
 ]
 LOOK = b"GET /filings/ACME/7 HTTP/1.1\r\nHost: localhost\r\nConnection: close\r\n\r\n"
-NOT_LISTED = "entry 1 is confirmed 7, but the register has no such filing of this filer; nothing was sent: "
+NOT_LISTED = "entry 1 is confirmed as filing 7, which the register does not list for this filer; nothing was sent: "
 NOT_LISTED += "another register answers, or it was restored; ask its supervisor"
 
 
@@ -1016,8 +1016,8 @@ def check_looks(folder):
         told = f'entry 1: 201 Created\n{{"number":7,"status":"registered"}}\n'
         told, fault = (told, "") if is_listed else ("", NOT_LISTED)
         if is_listed is None:
-            fault = f"asked for filing 7 of entry 1, it answered {text[9:12].decode()} and no list of it; "
-            fault += "nothing was sent: ask again once it serves"
+            fault = f"asked for filing 7 of entry 1, the register answered {text[9:12].decode()} and no list; "
+            fault += "nothing was sent: ask again later"
         wanted = (0, told, "") if is_listed else (3, "", f"outbox: 127.0.0.1:{peer.port}: {fault}\n")
         hold(f"a look for a filing: {text[9:]}", found, wanted)
         hold("what is sent for it", peer.taken, [LOOK, *first.taken] if is_listed else [LOOK])
@@ -1062,7 +1062,7 @@ def check_what_a_restore_lost(folder):
     for entry in (1, 2, 3, 4):
         found = said(ask(outbox, entry, serving.port), folder)
         told = f'entry {entry}: 201 Created\n{{"number":{entry},"status":"registered"}}\n'
-        fault = NOT_LISTED.replace("entry 1", f"entry {entry}").replace("confirmed 7", f"confirmed {entry}")
+        fault = NOT_LISTED.replace("entry 1", f"entry {entry}").replace("filing 7", f"filing {entry}")
         hold(f"a question about entry {entry} after a restore", found,
              (0, told, "") if entry < 3 else (3, "", f"outbox: 127.0.0.1:{serving.port}: {fault}\n"))
     serving.end()
@@ -1201,7 +1201,7 @@ def check_same_report(folder):
     outbox, report = folder / "outbox.db", folder / "report.json"
     report.write_bytes(SMALLEST)
     run(OUTBOX, "init", "--db", outbox, "--filer", "ACME")
-    same = "outbox: the same report is entry %d\n"
+    same = "outbox: the same report is in the outbox already, as entry %d\n"
     for words, entry, errors in (((), 1, ""), ((), 2, same % 1), (("--key", "k-3"), 3, ""),
                                  (("--amend", 1), 4, ""), ((), 5, same % 3)):
         put = run(OUTBOX, "put", "--db", outbox, "--body", report, *words)

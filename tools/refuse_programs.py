@@ -8,7 +8,6 @@ if that is not so.
 
 It takes the programs that `rt run` builds, as crates/intake/out/intake.
 """
-import hashlib
 import pathlib
 import re
 import shutil
@@ -16,11 +15,11 @@ import subprocess
 import sys
 import tempfile
 
+import check_commands
 from allocations import count, library, run
-from trials import DRILL, INTAKE, OUTBOX, REPORT, ROOT, Serving, exchange, failures, make_earlier
-from trials import make_earlier_outbox, tell
+from odd_register import date_register
+from trials import DRILL, INTAKE, OUTBOX, REPORT, ROOT, Serving, failures, make_earlier, make_earlier_outbox, tell
 
-EXAMPLE = (ROOT / "crates/intake/stdin").read_bytes()
 UNAVAILABLE = b'{"reason":"unavailable","status":503,"title":"Service Unavailable","type":"about:blank"}'
 KEY_REUSED = b'{"reason":"key-reused","status":422,"title":"Unprocessable Content","type":"about:blank"}'
 REFUSED = (
@@ -285,34 +284,23 @@ def try_outbox_migration(counts, folder):
     )
 
 
-def make_register(folder):
-    """A register with the example."""
-    database = folder / "register.db"
-    serving = Serving(database, 1, "--new")
-    exchange(serving.port, EXAMPLE)
-    serving.end()
-    return database
+def answered():
+    """The command lines of tools/check_commands.py that a register answers: the first one with each set of options."""
+    found = {}
+    for line, status, *_ in check_commands.AFTER:
+        if not status and "@r.db" in line:
+            found.setdefault((line.split(" ")[0], *re.findall(r"--\w+", line)), line)
+    return found.values()
 
 
 def try_register(counts, folder):
-    database = make_register(folder)
+    database = folder / "r.db"
+    check_commands.make_example(database)
+    date_register(database, [check_commands.MOMENT])
     check = words_of(INTAKE, "check", "--db", database)
-    sound = stands_as(b"sound: 1 kept, 1 filings\n")
-    try_command(counts, folder, "intake check", check, check, sound)
-    try_command(
-        counts, folder, "intake list", words_of(INTAKE, "list", "--db", database, "--filer", "ACME"), check, sound
-    )
-    try_command(counts, folder, "intake show", words_of(INTAKE, "show", "--db", database, "--number", 1), check, sound)
-    try_command(counts, folder, "intake digest", words_of(INTAKE, "digest", "--db", database), check, sound)
-    against = words_of(INTAKE, "check", "--db", database, "--against", f"0:{hashlib.sha256(b'').hexdigest()}")
-    try_command(counts, folder, "intake check --against", against, check, sound)
-    moments = words_of(INTAKE, "list", "--db", database, "--filer", "ACME", "--moments")
-    try_command(counts, folder, "intake list --moments", moments, check, sound)
-    for words in (("--number", 1), ("--filer", "ACME", "--key", "k-1")):
-        body = words_of(INTAKE, "show", "--db", database, *words, "--body")
-        try_command(counts, folder, f"intake show {words[0]} --body", body, check, sound)
-    moments = words_of(INTAKE, "show", "--db", database, "--number", 1, "--moments")
-    try_command(counts, folder, "intake show --moments", moments, check, sound)
+    for line in answered():
+        words = words_of(INTAKE, *(word.replace("@", f"{folder}/") for word in line.split(" ")))
+        try_command(counts, folder, f"intake {line}", words, check, stands_as(b"sound: 1 kept, 1 filings\n"))
 
 
 def try_migration(counts, folder):

@@ -23,7 +23,7 @@ REPORT = (
     b'{"concept":"eg:Assets","entity":"lei:ACME","period":"2024-12-31T00:00:00","unit":"iso4217:EUR"}}}}'
 )
 # What both programs say of a database of another version.
-NOT_A_REGISTER = "not a register of this version (intake migrate takes one of an earlier version)"
+NOT_A_REGISTER = "not a register of this version (intake migrate upgrades an earlier one)"
 NO_OUTBOX = "this outbox has another version (outbox migrate upgrades an earlier one)"
 # A register of form 2, with an empty body, which is no JSON text.
 EARLIER = """

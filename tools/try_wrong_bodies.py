@@ -8,9 +8,6 @@ to be refused.
           same sum is taken over, so a run that was ended goes on where it was. N crates at once take up to 5 GB each
     tools/try_wrong_bodies.py --reads
           proves nothing, and says whether each can be read: whether its old texts are where it says
-    tools/try_wrong_bodies.py --count
-          proves nothing, and prints how many there are: the sentence of docs/PROOF.md, to which tools/check_pages.py
-          holds it
 
 The libraries below the crates are built where they lie (`rt lib`). The edits are made in a copy of what git has of the
 repository, and checked over those libraries by `rt check --only`: a change of a function by this function alone, with
@@ -391,24 +388,13 @@ def read_all():
     return 1 if faults else 0
 
 
-def count():
-    """How many there are, in the gate and outside, and of how many crates."""
-    gate, others = ([crate_of(edit) for edit in CRATES.glob(f"*/{folder}/*.edit")] for folder in FOLDERS)
-    return (f"There are {len(gate) + len(others)}: {len(gate)} in the gate, of {len(set(gate))} crates, "
-            f"and {len(others)} outside it, of {len(set(others))}.")  # fmt: skip
-
-
 def main():
     parser = argparse.ArgumentParser(description=__doc__, formatter_class=argparse.RawDescriptionHelpFormatter)
     parser.add_argument("--reads", action="store_true")
-    parser.add_argument("--count", action="store_true")
     parser.add_argument("--results", type=pathlib.Path, metavar="FILE")
     parser.add_argument("--jobs", type=int, default=1, metavar="N")
     parser.add_argument("names", nargs="*", metavar="CRATE | CRATE/NAME")
     given = parser.parse_args()
-    if given.count:
-        print(count())
-        return 0
     if given.reads:
         return read_all()
     known = {it: {crate_of(it), name_of(it)} for it in edits()}
