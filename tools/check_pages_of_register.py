@@ -1,9 +1,9 @@
 #!/usr/bin/env python3
 """Tries `intake pages` of the built program: each text that was filed is read back from the pages, and no other tag is
 in them. Pages have at most 1,000 rows, and each names the next one. What a hostile filer sends stays within bounds, on
-the disk and in memory. The page of an amendment shows what it changed. With a Chromium and its driver it opens them:
-what is in sight on a wide screen, on a narrow one and on paper, light and dark, what the keyboard reaches, how long a
-search and a sort over 10,000 filings take, and whether anything is asked for elsewhere.
+the disk and in memory. With a Chromium and its driver it opens them: what is in sight on a wide screen, on a narrow one
+and on paper, light and dark, what the keyboard reaches, how long a search and a sort over 10,000 filings take, and
+whether anything is asked for elsewhere.
 
     tools/check_pages_of_register.py [--only WORD] [--pictures FOLDER]
     tools/check_pages_of_register.py --planted [--only WORD]
@@ -32,7 +32,7 @@ import time
 
 import browsers
 from browsers import CONTRAST, FACTOR, plain_options, resize, start_driver, take_picture, try_keyboard
-from odd_register import MOMENTS, ODD, REGION, SENT, REFUSED, date_register, fact, make_odd_register, many, moment_text
+from odd_register import MOMENTS, REGION, SENT, REFUSED, date_register, fact, make_odd_register, many, moment_text
 from odd_register import records, report
 from trials import INTAKE, ROOT, failures, hold, run, tell, try_all
 
@@ -68,7 +68,6 @@ class Page(html.parser.HTMLParser):
         self.tags, self.links, self.rows, self.classes, self.open = set(), [], [], [], []
         self.next, self.before, self.policy, self.texts, self.linked = None, None, "", {}, []
         self.terms, self.ids, self.footer = [], set(), ""
-        self.table, self.tables = None, []
         self.faults = []
         self.feed(text)
         self.close()
@@ -81,10 +80,7 @@ class Page(html.parser.HTMLParser):
         self.ids |= {value for name, value in attrs if name == "id"}
         self.links += [value for name, value in attrs if name in ("href", "src")]
         self.faults += [f"{tag} has {name}" for name, _ in attrs if name.startswith("on") or name == "style"]
-        if tag == "table":
-            self.table = its.get("class")
         if tag == "tr":
-            self.tables.append(self.table)
             self.rows.append([])
             self.classes.append([])
             self.linked.append([])
@@ -104,10 +100,6 @@ class Page(html.parser.HTMLParser):
             self.policy = its["content"]
         if tag not in VOID:
             self.open.append(tag)
-
-    def rows_of(self, table, its=None):
-        """The rows of the table of this class but for its head, or what `its` has of them."""
-        return [row for row, of in zip(its or self.rows, self.tables) if of == table][1:]
 
     def inside(self, *tags):
         return any(tag in self.open for tag in tags)
@@ -212,7 +204,7 @@ def check_texts(folder):
     for number, (_, _, _, facts) in enumerate(valid, 1):
         hold(f"filing {number}: its report", (site / f"filing-{number}.json").read_bytes(), report(facts))
         hold(f"filing {number}: links its report", f"filing-{number}.json" in read[f"filing-{number}.html"].links, True)
-        rows = read[f"filing-{number}.html"].rows_of("facts")
+        rows = read[f"filing-{number}.html"].rows[1:]
         names = sorted(facts, key=lambda it: it.encode())
         hold(f"filing {number}: facts", [row[0] for row in rows], [seen(name) for name in names])
         texts = [row["value"] for row in records(SENT) if row["number"] == number]
@@ -225,16 +217,6 @@ def check_texts(folder):
              f"lei:{valid[number - 1][0]}")
         hold(f"filing {number}: when it was received", dict(read[f"filing-{number}.html"].terms)["Received"],
              shown(MOMENTS[number - 1]))
-    hold("an amendment and the filing that it replaces link each other",
-         [dict(read["filing-3.html"].terms).get("Replaces"), dict(read["filing-1.html"].terms).get("Replaced by")],
-         ["Filing 1", "Filing 3"])
-    # It replaces nine facts with the same dimensions, which have no unit: the text of dimensions with one is before.
-    day = ["eg:A<b>&'", "2024-12-31"]
-    hold("what an amendment changed", read["filing-3.html"].rows_of("changes"),
-         [[*day, "iso4217:EUR", "added", "no fact", "1.5decimals: 0"],
-          *([*day, "", "left out", seen(text), "no fact"] for text in ODD)])
-    hold("other filings changed nothing", [number for number in range(1, len(valid) + 1)
-                                           if "changes" in read[f"filing-{number}.html"].tables], [3])
     hold("the keys of ACME", [row[1] for row in read["filer-ACME.html"].rows[1:]], ["k<1>'&", "k-2"])
     hold("when they were received", [row[2] for row in read["filer-ACME.html"].rows[1:]],
          [shown(MOMENTS[0]), shown(MOMENTS[2])])
@@ -264,78 +246,6 @@ def check_texts(folder):
          {f"Register of {len(SENT)} requests, the last received: {shown(MOMENTS[-1])}. Digest: {line}"})
 
 
-# Three reports of a filer, and the rows of what the second one and the third one changed, worked out by hand. The
-# second one says as the first one what the assets are, the sales of the south, in another order of members, and one of
-# three numbers of staff, of which the first one has another twice.
-EUR, YEAR = "iso4217:EUR", "2024-01-01T00:00:00/2025-01-01T00:00:00"
-SOUTH = fact("NEW", "6", EUR, 0, concept="eg:Sales", **{REGION: "eg:South", "eg:Typed": "t"})
-FIRST = {
-    "a": fact("NEW", "1", EUR, 0, concept="eg:Assets"),
-    "b": fact("NEW", "2", EUR, 0, concept="eg:Cash"),
-    "c": fact("NEW", "x<y>", concept="eg:Name", period=YEAR),
-    "d": fact("NEW", None, concept="eg:Note", noteId="n"),
-    "e": fact("NEW", "5", EUR, 0, concept="eg:Sales", **{REGION: "eg:North"}),
-    "f": SOUTH,
-    "p": fact("NEW", "10", concept="eg:Staff"),
-    "q": fact("NEW", "10", concept="eg:Staff"),
-    "r": fact("NEW", "11", concept="eg:Staff"),
-}
-SECOND = {
-    "b": fact("NEW", "3", EUR, 0, concept="eg:Cash"),
-    "c": fact("NEW", "x<z>", concept="eg:Name", period=YEAR),
-    "d": fact("NEW", "", concept="eg:Note", noteId="n"),
-    "g": fact("NEW", "7", EUR, 0, concept="eg:Sales", **{REGION: "eg:West"}),
-    "h": {**SOUTH, "dimensions": dict(reversed(SOUTH["dimensions"].items()))},
-    "s": fact("NEW", "11", concept="eg:Staff"),
-    "t": fact("NEW", "12", concept="eg:Staff"),
-    "u": fact("NEW", "13", concept="eg:Staff"),
-    "z": fact("NEW", "1", EUR, 0, concept="eg:Assets"),
-}
-THIRD = {**SECOND, "h": {**SECOND["h"], "decimals": -3}}
-CHANGED = [
-    ["eg:Cash", "2024-12-31", EUR, "changed", "2decimals: 0", "3decimals: 0"],
-    ["eg:Name", "2024-01-01/2025-01-01", "", "changed", "x<y>", "x<z>"],
-    ["eg:NotenoteId: n", "2024-12-31", "", "changed", "nil", ""],
-    ["eg:Saleseg:Region: eg:North", "2024-12-31", EUR, "left out", "5decimals: 0", "no fact"],
-    ["eg:Saleseg:Region: eg:West", "2024-12-31", EUR, "added", "no fact", "7decimals: 0"],
-    ["eg:Staff", "2024-12-31", "", "changed", "10", "12"],
-    ["eg:Staff", "2024-12-31", "", "changed", "10", "13"],
-]
-ROUNDED = [["eg:Saleseg:Region: eg:Southeg:Typed: t", "2024-12-31", EUR, "changed", "6decimals: 0", "6decimals: -3"]]
-# Reports of 1,500 facts, of which the second one has each value of the first one twice.
-DOUBLED = [{f"f{at}": fact("WIDE", str(at * by), EUR, 0, **{REGION: f"eg:r{at:04}"}) for at in range(1_500)}
-           for by in (1, 2)]
-# The number of the first filing of these, each with the place of the one that it replaces among them.
-BEGIN = len(SENT) - REFUSED + 1
-AMENDMENTS = [("NEW", "n-1", None, FIRST), ("NEW", "n-2", BEGIN, SECOND), ("NEW", "n-3", BEGIN + 1, THIRD),
-              ("NEW", "n-4", BEGIN + 2, THIRD), ("WIDE", "w-1", None, DOUBLED[0]),
-              ("WIDE", "w-2", BEGIN + 4, DOUBLED[1])]
-
-
-def check_changes(folder):
-    """An amendment that changes values, and has facts more and less; one that changes decimals alone; one that changes
-    nothing; and one that changes 1,499 facts of 1,500, of which a page has 1,000."""
-    make_odd_register(folder / "register.db", AMENDMENTS)
-    site = folder / "site"
-    site.mkdir()
-    pages_of(folder / "register.db", site)
-    said = "<p>Compared with the filing that this one replaces, facts that differ: {}; facts that are the same: {}</p>"
-    for number, (rows, same) in enumerate([(CHANGED, 3), (ROUNDED, 8), ([], 9)], BEGIN + 1):
-        name = f"filing-{number}.html"
-        its = page(site, name)
-        hold(f"{name}: what it changed", its.rows_of("changes"), rows)
-        hold(f"{name}: how much", said.format(len(rows), same) in (site / name).read_text(), True)
-        hold(f"{name}: a table, if there are rows", "changes" in its.tables, bool(rows))
-        hold(f"{name}: faults and tags", (its.faults, its.tags - TAGS), ([], set()))
-    name = f"filing-{BEGIN + 5}.html"
-    rows = [[f"eg:A<b>&'eg:Region: eg:r{at:04}", "2024-12-31", EUR, "changed", f"{at}decimals: 0",
-             f"{2 * at}decimals: 0"] for at in range(1, ROWS + 1)]
-    hold("as many changes as a page has rows", page(site, name).rows_of("changes"), rows)
-    hold("how many there are", said.format(1_499, 1) in (site / name).read_text(), True)
-    hold("how many more", "<p>and 499 more: " in (site / name).read_text(), True)
-    hold("they are on the first page alone", "changes" in page(site, f"filing-{BEGIN + 5}~2.html").tables, False)
-
-
 def check_looks(folder):
     """Links, names, hashes, classes, symbols and columns."""
     make_odd_register(folder / "register.db", MORE)
@@ -360,10 +270,9 @@ def check_looks(folder):
     for number, (_, _, _, facts) in enumerate(valid, 1):
         its = read[f"filing-{number}.html"]
         wanted = [("amount" if "unit" in facts[at]["dimensions"] else None) for at in sorted(facts, key=str.encode)]
-        classes = its.rows_of("facts", its.classes)
-        hold(f"filing {number}: amounts on the right", [row[4] for row in classes], wanted)
-        hold(f"filing {number}: periods", {row[2] for row in classes}, {"period"})
-        hold(f"filing {number}: decimals on the right", {row[5] for row in classes}, {"number"})
+        hold(f"filing {number}: amounts on the right", [row[4] for row in its.classes[1:]], wanted)
+        hold(f"filing {number}: periods", {row[2] for row in its.classes[1:]}, {"period"})
+        hold(f"filing {number}: decimals on the right", {row[5] for row in its.classes[1:]}, {"number"})
         hold(f"filing {number}: columns", {len(row) for row in its.rows}, {6})
     style = read["index.html"].texts["style"]
     hold("moments on one line", {row[2] for row in read["filer-ACME.html"].classes[1:]}, {"moment"})
@@ -576,7 +485,7 @@ ON_PAPER = """
 """
 # The widths of screens, and of a sheet of A4 with margins of a centimetre.
 WIDE, NARROW, PAPER = 1200, 390, 718
-SEEN = ["index", "findings", "filer-ACME", "filing-1", "filing-3", "filing-5", "refused-BETA"]
+SEEN = ["index", "findings", "filer-ACME", "filing-1", "filing-5", "refused-BETA"]
 
 
 def check_sight(folder):
@@ -706,26 +615,6 @@ def timed(driver, what, act, is_done):
          "too slow" if took > MOST * FACTOR or spent > MOST else None)
 
 
-def check_sides(folder):
-    """What an amendment changed is in sight on a wide screen and on a narrow one, and a search of the facts leaves it
-    there."""
-    site = made(folder, AMENDMENTS)
-    rows = "['changes', 'facts'].map((it) => document.querySelectorAll(`.${it} tbody tr`).length)"
-    with serving(site) as own, browser(folder) as driver:
-        if driver is None:
-            return
-        name = f"filing-{BEGIN + 1}"
-        driver.get(f"http://127.0.0.1:{own.server_port}/{name}.html")
-        hold(f"{name}: rows of what it changed, and of its facts", driver.execute_script(f"return {rows}"),
-             [len(CHANGED), len(SECOND)])
-        for width in (WIDE, NARROW):
-            look(driver, name, width, "light")
-        driver.get(f"http://127.0.0.1:{own.server_port}/filing-{BEGIN + 5}.html")
-        driver.execute_script(SEARCH.format("eg:r1007"))
-        found = until(driver, f"document.getElementById('found').textContent && {rows}")
-        hold("a search of the facts leaves what changed", found, [ROWS, 1])
-
-
 class Noting(http.server.SimpleHTTPRequestHandler):
     """Serves a folder, and notes what it is asked for."""
 
@@ -771,8 +660,8 @@ def check_elsewhere(folder):
         hold("nothing but the pages", {it.rstrip("?") for it in own.asked}, {f"/{it}.html" for it in SEEN})
 
 
-TRIALS = [check_texts, check_changes, check_looks, check_parts, check_hostile, check_folder, check_sight,
-          check_keyboard, check_lists, check_sides, check_elsewhere, check_time]
+TRIALS = [check_texts, check_looks, check_parts, check_hostile, check_folder, check_sight, check_keyboard, check_lists,
+          check_elsewhere, check_time]
 # Which trial sees what.
 FAULTS = [
     (check_texts, "filing-1.html", "it&#39;s &amp; ", "it&#39;s "),
@@ -781,17 +670,9 @@ FAULTS = [
     (check_texts, "filing-2.html", "unknown", "1970-01-01T00:00:00.000Z"),
     (check_texts, "filing-4.html", "23:59:59.999Z", "24:00:00.000Z"),
     (check_texts, "filer-ACME.html", "1970-01-01T00:00:00.000Z", "1970-01-01T00:00:00Z"),
-    (check_texts, "filing-3.html", "<td>left out</td>", "<td>changed</td>"),
-    (check_changes, "filing-7.html", ">changed<", ">same<"),
-    (check_changes, "filing-7.html", "<td>3<br>", "<td>2<br>"),
-    (check_changes, "filing-7.html", "x&lt;y&gt;</td><td>x&lt;z&gt;", "x&lt;z&gt;</td><td>x&lt;y&gt;"),
-    (check_changes, "filing-7.html", "<em>no fact</em>", ""),
-    (check_changes, "filing-7.html", "the same: 3<", "the same: 4<"),
-    (check_changes, "filing-8.html", "decimals: -3", "decimals: 0"),
-    (check_changes, "filing-11.html", "and 499 more", "and 500 more"),
     (check_looks, "filer-ACME.html", 'class="moment"', 'class="text"'),
     (check_looks, "index.html", "filer-ACME.html", "filer-NONE.html"),
-    (check_looks, "index.html", ".amount { text-align: right", ".amount { text-align:right"),
+    (check_looks, "index.html", "text-align: right", "text-align:right"),
     (check_looks, "filing-2.html", 'class="amount"', 'class="text"'),
     (check_looks, "filing-2.html", 'class="period"', 'class="text"'),
     (check_looks, "filing-7.html", "\u2407", "\u0007"),
@@ -834,8 +715,6 @@ FAULTS = [
     (check_lists, "filer-MANY~2.html", "order.way * (isNumber ? a - b :", "order.way * ("),
     (check_lists, "filer-MANY~2.html", "function compare(one, other) {",
      "function compare(one, other) { for (var i = 0; i < 3e4; i++) { i += 0 * i; }"),
-    (check_sides, "filing-7.html", '.changes td:nth-child(4)::before { content: "Change: "; }', ""),
-    (check_sides, "filing-11.html", "table:last-of-type tbody", "tbody"),
     (check_elsewhere, "index.html", "default-src 'none'", "default-src *"),
     (check_elsewhere, "filing-1.html", "script-src 'sha256", "script-src http: 'sha256"),
     (check_elsewhere, "findings.html", "connect-src 'self'", "connect-src http:"),

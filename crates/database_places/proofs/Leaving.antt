@@ -1,5 +1,5 @@
 -- What the files hold that a store leaves, by what the store allows.
-use Rattle.std.proofs.Common.{◌≡◌, inl, inr, ℕ, IsTrue, refl, sym, ap, subst, ◌∙◌, arith}
+use Rattle.std.proofs.Common.{◌≡◌, inl, inr, ℕ, IsTrue, refl, sym, ap, subst, ◌∙◌}
 use Rattle.std.proofs.Math.Logic.{∥∥₁_elim, ∥∥₁_map}
 use mathlib.Core.HLevel.{Σ_prop_path}
 use Rattle.sqlite_disk.specs.declared.Disk.{Ghosts}
@@ -7,28 +7,26 @@ use Rattle.sqlite_disk.specs.declared.Files.{Files}
 use Rattle.sqlite_pages.specs.PageMap.{PageMap}
 use Rattle.sqlite_wal.specs.Recovery.{Image}
 use Rattle.sqlite_wal.proofs.LogLemmas.{SeenMayStay}
+use Rattle.sqlite_pool.specs.Pool as pool
 use Rattle.sqlite_pool.specs.Stored.{Recovers}
 use Rattle.sqlite_pool.specs.StoredLaws.{recovers_once}
 use Rattle.sqlite_pool.proofs.PoolLemmas.{pages_from}
 use Rattle.sqlite_pool.proofs.ResealLemmas.{adopts_of}
-use Rattle.sqlite_pool.proofs.StateLemmas.{size_is_allowed, may_leave_is, clean_is}
+use Rattle.sqlite_pool.proofs.StateLemmas.{size_is_allowed, may_leave_is}
 use Rattle.sqlite_store.specs.declared.store.FileStore.{FileStore}
 use Rattle.sqlite_store.specs.Laws.{settled_at}
 use Rattle.sqlite_store.specs.Listing.{IsOurs}
 use Rattle.sqlite_store.specs.FileStore.{state, view, schema_in, reading, recovers}
 use Rattle.sqlite_store.specs.FileStore as store
 use Rattle.sqlite_trees.specs.Tree.{Trees}
-use Rattle.sqlite_trees.specs.View.{IsClean}
-use Rattle.sqlite_trees.proofs.Doubt.{clean_of, no_doubt}
+use Rattle.sqlite_trees.specs.View.{IsClean, doubt}
 use Rattle.sqlite_schema.specs.declared.schema.Schema.{Schema}
 use Rattle.sqlite_catalog.specs.Listing.{IsSound}
 use Rattle.sqlite.specs.Effect.{Database, IsDatabase}
 use Rattle.sqlite.specs.Held.{Held, AreDatabases}
 use Rattle.sqlite.specs.declared.error.Error.{Error}
-use Rattle.sqlite.specs.Files.{image_of, file_state, HoldsDatabase, IsClosed, IsOpened}
-use Rattle.sqlite.specs.State.{HasCleanDisk}
-use Rattle.table_rows.proofs.CleanLemmas.{are_clean}
-use Rattle.sqlite_wal.specs.Reads.{AreClean}
+use Rattle.sqlite.specs.Files.{image_of, file_state, HoldsDatabase, IsOpened}
+use Rattle.table_rows.proofs.CleanLemmas.{always_clean, are_clean}
 use Rattle.table_rows.specs.Files.{HoldsDatabase as HoldsClosed}
 use Rattle.table_rows.specs.Standing.{CommitsNothing, HasCommitted}
 use Rattle.database_places.specs.Closing.{IsClosedIn, IsGivenUp, IsNotClosed}
@@ -46,26 +44,9 @@ pages_of size left found =
     (λ it. (it.0, ∣ it.1 ∣₁))
 
 module _ {D : Type 0} {g : Ghosts D} where
-  -- a store is clean if its files are
-  store_clean : (it : FileStore D g) → AreClean g (store.files it).0 (store.files it).1 → IsClean (view it)
-  store_clean it clean = no_doubt (view it).is_clean (subst IsTrue (sym (clean_is it.pool)) clean)
-
-  files_clean : (it : FileStore D g) → IsClean (view it) → AreClean g (store.files it).0 (store.files it).1
-  files_clean it clean = subst IsTrue (clean_is it.pool) (clean_of (view it).is_clean clean)
-
   pub store_is_clean : IsHonest g → (it : FileStore D g) → IsClean (view it)
-  store_is_clean honest it = store_clean it (are_clean g honest (store.files it).0 (store.files it).1)
-
-  -- so is one whose files are these
-  pub last_is_clean : (it : FileStore D g) (files : Files D) → store.files it ≡ (files.log, files.db)
-      → AreClean g files.log files.db → IsClean (view it)
-  last_is_clean it files same clean =
-      store_clean it (subst (λ (p : D × D). AreClean g p.0 p.1) (sym same) clean)
-
-  -- and a connection was clean if the store that it left is
-  pub was_clean : (conn : Held (FileStore D g)) (last : FileStore D g) → IsClosed conn last → IsClean (view last)
-      → HasCleanDisk (file_state conn)
-  was_clean conn last closed clean = let falls = closed.quiet.clean in omega (arith, falls, clean)
+  unfolding pool.state doubt
+  store_is_clean honest it = rw (honest it.pool.backing.pager.log.log, honest it.pool.backing.pager.log.db) refl
 
   module _ (it : FileStore D g) where
     -- Each image that a crash may leave holds a database, which is one of those that the store allows, and is known.
@@ -105,9 +86,13 @@ module _ {D : Type 0} {g : Ghosts D} where
         db = subst (g.may_leave (store.files it).1) (sym left.db) (stays (store.files it).1);
       }
 
-    module _ (clean : IsClean (view it)) (stays : SeenMayStay g) (files : Files D) where
+    module _ (honest : IsHonest g) (stays : SeenMayStay g) (files : Files D) where
       stopped_may_be_left : AreLeftByStop it files → (state it).may_leave (image_of g files)
-      stopped_may_be_left left = may_leave_is it.pool (image_of g files) (files_clean it clean) (left.log, left.db)
+      stopped_may_be_left left =
+          may_leave_is it.pool (image_of g files) (are_clean g honest (store.files it).0 (store.files it).1) (
+            left.log,
+            left.db,
+          )
 
       may_be_left : AreLeftBy it files → (state it).may_leave (image_of g files)
       may_be_left (inl killed) = stopped_may_be_left (killed_as_stopped stays files killed)
@@ -130,11 +115,19 @@ module _ {D : Type 0} {g : Ghosts D} where
     db = ap (λ (p : D × D). g.seen p.1) (sym failed.same);
   }
 
-  module _ (stays : SeenMayStay g) (conn : Held (FileStore D g)) where
+  module _ (honest : IsHonest g) (stays : SeenMayStay g) (conn : Held (FileStore D g)) where
     last_recovers : (last : FileStore D g) → IsLastOf conn last → (db : Trees) → recovers last db
         → recovers conn.store db
     last_recovers last (inl same) db allowed = subst (λ it. recovers it db) same allowed
     last_recovers last (inr closed) db allowed = closed.quiet.outcomes db allowed
+
+    -- The files that a connection's process leaves hold one of the databases that a crash leaves of it.
+    pub ends_with_one : (files : Files D) → EndsIn conn files → {X : Trees → Type 0}
+        → ((db : Trees) → recovers conn.store db → X db) → ((db : Trees) → X db → (schema : Schema) × IsSound schema db)
+        → (db : Trees) × X db × ∥ HoldsDatabase (image_of g files) db ∥₁
+    ends_with_one files ends each sound =
+        holds_one ends.last honest stays files ends.numbered ends.left
+        (λ db allowed. each db (last_recovers ends.last ends.is_last db allowed)) sound
 
     -- while the connection is open, what was committed is all that a crash leaves
     pub leaves_now : IsTrue (file_state conn).is_open → (file_state conn).committed ≡ (file_state conn).now
@@ -142,58 +135,29 @@ module _ {D : Type 0} {g : Ghosts D} where
     leaves_now is_open committed db allowed =
         settled_at conn.store stays db is_open allowed ∙ ap (λ (d : Database). d.trees) committed
 
-    ends_cleanly : (files : Files D) (ends : EndsIn conn files) → IsClean (view ends.last) → {X : Trees → Type 0}
-        → ((db : Trees) → recovers conn.store db → X db) → ((db : Trees) → X db → (schema : Schema) × IsSound schema db)
-        → (db : Trees) × X db × ∥ HoldsDatabase (image_of g files) db ∥₁
-    ends_cleanly files ends clean each sound =
-        holds_one ends.last clean stays files ends.numbered ends.left
-        (λ db allowed. each db (last_recovers ends.last ends.is_last db allowed)) sound
-
-  module _ (honest : IsHonest g) (stays : SeenMayStay g) (conn : Held (FileStore D g)) where
-    -- The files that a connection's process leaves hold one of the databases that a crash leaves of it.
-    pub ends_with_one : (files : Files D) → EndsIn conn files → {X : Trees → Type 0}
-        → ((db : Trees) → recovers conn.store db → X db) → ((db : Trees) → X db → (schema : Schema) × IsSound schema db)
-        → (db : Trees) × X db × ∥ HoldsDatabase (image_of g files) db ∥₁
-    ends_with_one files ends each sound =
-        ends_cleanly stays conn files ends (store_is_clean honest ends.last) each sound
-
-  abbrev given_ends : (conn : Held (FileStore D g)) (files : Files D) (given : IsGivenUp conn files)
-      → IsClean (view given.last) → EndsIn conn files
-  given_ends conn files given clean = record {
-    last = given.last;
-    is_last = inr given.closed;
-    numbered = given.numbered clean;
-    left = inl (record {
-      log = ap (λ (p : D × D). g.seen p.0) (sym given.same);
-      db = ap (λ (p : D × D). g.seen p.1) (sym given.same);
-    });
-  }
-
-  -- files that were clean as they were left were clean while they were open
-  pub given_up_clean : (conn : Held (FileStore D g)) (files : Files D) → IsGivenUp conn files
-      → AreClean g files.log files.db → HasCleanDisk (file_state conn)
-  given_up_clean conn files given clean =
-      was_clean conn given.last given.closed (last_is_clean given.last files given.same clean)
-
-  -- so were files that a close left which failed
-  pub was_closed_clean : (conn : Held (FileStore D g)) (files : Files D) (error : Error) → IsNotClosed conn files error
-      → AreClean g files.log files.db → HasCleanDisk (file_state conn)
-  was_closed_clean conn files error failed clean =
-      was_clean conn failed.last failed.closed (last_is_clean failed.last files failed.same clean)
+    given_ends : (files : Files D) → IsGivenUp conn files → EndsIn conn files
+    given_ends files given = record {
+      last = given.last;
+      is_last = inr given.closed;
+      numbered = given.numbered (store_is_clean honest given.last);
+      left = inl (record {
+        log = ap (λ (p : D × D). g.seen p.0) (sym given.same);
+        db = ap (λ (p : D × D). g.seen p.1) (sym given.same);
+      });
+    }
 
   -- A connection to a database, to which nothing was committed, leaves that database if it is given up.
-  pub given_up : SeenMayStay g → (old new : Held (FileStore D g)) (files : Files D) → IsOpened old
-      → CommitsNothing (file_state old) (file_state new) → IsGivenUp new files → AreClean g files.log files.db
+  pub given_up : IsHonest g → SeenMayStay g → (old new : Held (FileStore D g)) (files : Files D) → IsOpened old
+      → CommitsNothing (file_state old) (file_state new) → IsGivenUp new files
       → HoldWithLog g files (file_state old).now
-  given_up stays old new files opened nothing given clean =
+  given_up honest stays old new files opened nothing given =
       let db = (file_state old).now in
       let sound = (opened.1 opened.0.is_open).0 in
       let is_open = opened.0.is_open in
-      let last = last_is_clean given.last files given.same clean in
       let one =
-      ends_cleanly stays new files (given_ends new files given last) last {X = λ trees. trees ≡ db.trees}
-      (λ trees allowed. elim (nothing.crash (given_up_clean new files given clean) trees allowed)
-      [ inl was ↦ leaves_now stays old is_open (sym opened.0.clean) trees was | inr none ↦ absurd none ])
+      ends_with_one honest stays new files (given_ends honest stays new files given) {X = λ trees. trees ≡ db.trees}
+      (λ trees allowed. elim (nothing.crash (always_clean honest new) trees allowed)
+      [ inl was ↦ leaves_now honest stays old is_open (sym opened.0.clean) trees was | inr none ↦ absurd none ])
       (λ trees is. (db.schema, subst (IsSound db.schema) (sym is) sound)) in
       record {
         sound = sound;
@@ -205,11 +169,11 @@ module _ {D : Type 0} {g : Ghosts D} where
   closed_with_log files db it = record { sound = it.sound; held = it.held.both }
 
   -- So files that a connection was closed in hold what it had committed.
-  pub closed_leaves : (conn : Held (FileStore D g)) (files : Files D) → IsClosedIn g conn files
-      → AreClean g files.log files.db → {Is : Database → Type 0} → HasCommitted Is (file_state conn)
-      → ((db : Database) → Is db → IsDatabase db)
+  pub closed_leaves : IsHonest g → (conn : Held (FileStore D g)) (files : Files D) → IsClosedIn g conn files
+      → {Is : Database → Type 0} → HasCommitted Is (file_state conn) → ((db : Database) → Is db → IsDatabase db)
       → Is (file_state conn).now × HoldWithLog g files (file_state conn).now
-  closed_leaves conn files closed clean stands sound =
+  closed_leaves honest conn files closed stands sound =
+      let clean = are_clean g honest files.log files.db in
       let is_open = (closed.copied clean).was_open in
       let now = (file_state conn).now in
       let is = stands.now is_open in

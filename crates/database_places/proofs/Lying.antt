@@ -9,7 +9,6 @@ use Rattle.sqlite.specs.Effect.{Database}
 use Rattle.sqlite.specs.Held.{Held}
 use Rattle.sqlite.specs.Files.{file_state}
 use Rattle.table_rows.specs.Standing.{CommitsNothing}
-use Rattle.table_rows.proofs.CleanLemmas.{are_clean}
 use Rattle.command_line.specs.declared.fault.DatabaseFault.{DatabaseFault}
 use Rattle.command_line.specs.declared.fault.DatabaseFault.TheVariants.{Missing}
 use Rattle.database_places.specs.Closing.{IsGivenUp, LieGivenUp}
@@ -112,6 +111,5 @@ module _ {D : Type 0} {g : Ghosts D} where
       let left = subst (λ l. LieGivenUp l new back) lie.1 given in (
         left.0,
         left.1,
-        subst (HoldWithLog g left.0) found.1 (given_up stays conn back left.0 found.0 nothing left.2
-            (are_clean g honest left.0.log left.0.db)),
+        subst (HoldWithLog g left.0) found.1 (given_up honest stays conn back left.0 found.0 nothing left.2),
       )

@@ -60,7 +60,7 @@ empty_found image db nothing (inl some) =
 empty_found image db nothing (inr none) = none.1
 
 module _ {D : Type 0} {g : Ghosts D} where
-  pub nothing_there : (files : Files D) (conn : Held (FileStore D g)) → IsNothing (image_of g files)
+  nothing_there : (files : Files D) (conn : Held (FileStore D g)) → IsNothing (image_of g files)
       → Finds files conn → IsOpened conn → (file_state conn).now.schema ≡ no_schema
   nothing_there files conn nothing found opened =
       let now = (file_state conn).now in

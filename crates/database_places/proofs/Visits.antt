@@ -87,11 +87,11 @@ module _ {D : Type 0} (g : Ghosts D) where
   if_made Is X (Err it) not = λ is. absurd (true≢false (sym (not is).0))
 
   -- a file that has to be there is missing
-  pub is_missing : (lying new : Option (Option (Files D))) (told : Bool) → TellsMissing lying told → told ≡ true
-      → new ≡ lying → OpensPlace g true lying new (Err (untouched Missing))
-  is_missing lying new told tells is stays = record {
+  pub is_missing : (lying : Option (Option (Files D))) (told : Bool) → TellsMissing lying told → told ≡ true
+      → OpensPlace g true lying lying (Err (untouched Missing))
+  is_missing lying told tells is = record {
     comes = tt;
-    refused = subst (λ l. StaysIn g lying l Missing false) (sym stays) (same lying Missing);
+    refused = same lying Missing;
     absent = λ _ _. refl;
     missing = λ _. (refl, lacks_files lying told tells is);
     empty = λ e. cc;
@@ -104,12 +104,11 @@ module _ {D : Type 0} (g : Ghosts D) where
       true≢false (sym (both.1 refl) ∙ is)
 
   -- or empty
-  pub is_empty : (lying new : Option (Option (Files D))) (missing told : Bool) → TellsMissing lying missing
-      → missing ≡ false → TellsEmpty g lying told → told ≡ true → new ≡ lying
-      → OpensPlace g true lying new (Err (untouched Empty))
-  is_empty lying new missing told there none tells is stays = record {
+  pub is_empty : (lying : Option (Option (Files D))) (missing told : Bool) → TellsMissing lying missing
+      → missing ≡ false → TellsEmpty g lying told → told ≡ true → OpensPlace g true lying lying (Err (untouched Empty))
+  is_empty lying missing told there none tells is = record {
     comes = tt;
-    refused = subst (λ l. StaysIn g lying l Empty false) (sym stays) (same lying Empty);
+    refused = same lying Empty;
     absent = λ _ e. absurd (not_missing lying missing there none e);
     missing = λ e. cc;
     empty = λ _. (refl, lacks_bytes lying told tells is);

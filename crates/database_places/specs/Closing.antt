@@ -1,5 +1,5 @@
 -- What closing a database leaves in its files.
-use Rattle.std.specs.Prelude.{◌≡◌, Option, Some, None, Result, Ok, Err}
+use Rattle.std.specs.Prelude.{◌≡◌, Option, Some, None}
 use Rattle.sqlite_disk.specs.declared.Disk.{Ghosts}
 use Rattle.sqlite_disk.specs.declared.Files.{Files}
 use Rattle.sqlite_store.specs.declared.store.FileStore.{FileStore}
@@ -43,8 +43,3 @@ module _ {D : Type 0} {g : Ghosts D} where
   abbrev pub LieGivenUp : Option (Option (Files D)) → Option (Option (Files D)) → Held (FileStore D g) → Type 0
   LieGivenUp None new conn = Unit {0}
   LieGivenUp (Some there) new conn = (files : Files D) × (new ≡ Some (Some files)) × IsGivenUp conn files
-
--- closing the connection left these files, with all that was committed in the database file, unless this error came
-abbrev pub IsLeftBy : {D : Type 0} (g : Ghosts D) → Held (FileStore D g) → Files D → Result (Unit {0}) Error → Type 0
-IsLeftBy g conn files (Ok done) = IsClosedIn g conn files
-IsLeftBy g conn files (Err error) = IsNotClosed conn files error

@@ -7,35 +7,26 @@ use Rattle.sqlite_disk.specs.Disk.{MoreFaults}
 use Rattle.sqlite_store.specs.declared.store.FileStore.{FileStore}
 use Rattle.sqlite_store.specs.FileStore.{view}
 use Rattle.sqlite_store.specs.FileStore as store
-use Rattle.sqlite_wal.specs.Recovery.{Image}
 use Rattle.sqlite.specs.Effect.{Database, IsDatabase}
 use Rattle.sqlite.specs.Held.{Held}
-use Rattle.sqlite.specs.Files.{faults_of, faults_left, image_of, AreFoundIn, HoldsDatabase, IsFullLeft, IsClosed}
+use Rattle.sqlite.specs.Files.{faults_of, faults_left, image_of, AreFound, HoldsDatabase, IsFullLeft, IsClosed}
 use Rattle.sqlite.specs.declared.error.Error.{Error}
 use Rattle.sqlite.specs.declared.error.Error.TheVariants.{SqliteFailure}
 use Rattle.sqlite.specs.declared.error.ErrorCode.TheVariants.{OutOfMemory}
 use Rattle.sqlite.specs.declared.file.Leftover.{Leftover}
 
--- These bytes of a log and a database file together hold this database, which is sound: what was committed and is in
--- the log alone counts.
-pub record HoldInBytes (image : Image) (db : Database) : Type 0 where
+-- The log and the database file together hold this database, which is sound: what was committed and is in the log alone
+-- counts.
+pub record HoldWithLog {D : Type 0} (g : Ghosts D) (files : Files D) (db : Database) : Type 0 where
   pub sound : IsDatabase db
-  pub held : ∥ HoldsDatabase image db.trees ∥₁
+  pub held : ∥ HoldsDatabase (image_of g files) db.trees ∥₁
 
--- An opening reads this database in these bytes: the one that they hold, if they hold one. In damaged bytes, which hold
+-- An opening reads this database in these files: the one that they hold, if they hold one. In damaged files, which hold
 -- none, it may read one too.
-pub record IsReadInBytes (image : Image) (db : Database) : Type 0 where
+pub record IsReadIn {D : Type 0} (g : Ghosts D) (files : Files D) (db : Database) : Type 0 where
   pub sound : IsDatabase db
-  pub found : AreFoundIn image db.trees
-  pub only : (held : Database) → HoldInBytes image held → db ≡ held
-
--- the log and the database file hold it
-abbrev pub HoldWithLog : {D : Type 0} → Ghosts D → Files D → Database → Type 0
-HoldWithLog g files db = HoldInBytes (image_of g files) db
-
--- it is read in them
-abbrev pub IsReadIn : {D : Type 0} → Ghosts D → Files D → Database → Type 0
-IsReadIn g files db = IsReadInBytes (image_of g files) db
+  pub found : AreFound g files db.trees
+  pub only : (held : Database) → HoldWithLog g files held → db ≡ held
 
 module _ {D : Type 0} {g : Ghosts D} where
   -- The process was killed: a read of each file returns what it returned before. Nothing was copied, cut or synced

@@ -1,12 +1,9 @@
 pub mod Accesses
 pub mod Changes
 pub mod Closing
-pub mod DrawnOnce
 pub mod Faults
 pub mod Left
-pub mod Moves
 pub mod Opening
 pub mod Places
 pub mod ReadOnly
-pub mod Recorded
 pub mod Verdicts

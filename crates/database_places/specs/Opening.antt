@@ -1,5 +1,5 @@
 -- What opening the database that lies in a place does.
-use Rattle.std.specs.Prelude.{◌≡◌, ◌⊎◌, Bool, true, false, [], Option, Some, None, Result, Ok, Err, IfOk, IfErr, ⊤}
+use Rattle.std.specs.Prelude.{◌≡◌, Bool, true, false, [], Option, Some, None, Result, Err, IfOk, IfErr, ⊤}
 use Rattle.sqlite_disk.specs.declared.Disk.{Ghosts}
 use Rattle.sqlite_disk.specs.declared.Files.{Files}
 use Rattle.sqlite_store.specs.declared.store.FileStore.{FileStore}
@@ -15,8 +15,7 @@ use Rattle.command_line.specs.declared.fault.DatabaseFault.TheVariants.{Missing,
 use Rattle.database_places.specs.declared.opening.Opening.{Opening}
 use Rattle.database_places.specs.declared.opening.Opening.TheVariants.{Found, Made}
 use Rattle.database_places.specs.declared.opening.Unopened.{Unopened}
-use Rattle.database_places.specs.Faults.{database_fault, is_absence}
-use Rattle.database_places.specs.Recorded.{Recorded, given, left, told_missing, told_empty}
+use Rattle.database_places.specs.Faults.{database_fault}
 
 -- the database has to be there
 abbrev pub is_found : Opening → Bool
@@ -83,39 +82,3 @@ pub record OpensPlace {D : Type 0} (g : Ghosts D) (has_to_be_there : Bool) (old 
   pub absent : has_to_be_there ≡ true → old ≡ Some None → result ≡ Err (untouched Missing)
   pub missing : IfErr result (λ it. it.fault ≡ Missing → (has_to_be_there ≡ true) × LacksFiles old)
   pub empty : IfErr result (λ it. it.fault ≡ Empty → (has_to_be_there ≡ true) × LacksBytes g old)
-
--- ---- what the place gave and got
-
-module _ {D : Type 0} where
-  -- files were taken and left as they were, or nothing was moved
-  abbrev pub TriesAgain : Recorded D → Recorded D → Type 0
-  TriesAgain old new = (new ≡ old) ⊎ ((files : Files D) × (new ≡ left files (given files old)))
-
-module _ {D : Type 0} (g : Ghosts D) where
-  -- nothing was moved; or files were given, and what the refused opening left of them was left
-  abbrev pub RefusesFiles : Bool → DatabaseFault → Recorded D → Recorded D → Type 0
-  RefusesFiles false fault old new = new ≡ old
-  RefusesFiles true fault old new =
-      (files : Files D) × (there : Files D) × IsRefused g files there fault
-      × TriesAgain (left there (given files old)) new
-
-  -- The files that were given are open, with what they held if the disk gave back what was written; or it is refused.
-  abbrev pub OpensFiles : Recorded D → Recorded D → Result (Held (FileStore D g)) Unopened → Type 0
-  OpensFiles old new (Ok conn) = (files : Files D) × (new ≡ given files old) × IsFoundIn files conn
-  OpensFiles old new (Err it) = RefusesFiles it.was_taken it.fault old new × (is_absence it.fault ≡ false)
-
-  -- It was told that the database file is empty, and that is the fault; or that it is not, and the files were opened.
-  abbrev pub OpensFull : Recorded D → Recorded D → Result (Held (FileStore D g)) Unopened → Type 0
-  OpensFull old new result =
-      ((result ≡ Err (untouched Empty)) × (new ≡ told_empty true old)) ⊎ OpensFiles (told_empty false old) new result
-
-  -- The database has to be there. It was told that none is, and that is the fault; or that one is.
-  abbrev pub FindsFiles : Recorded D → Recorded D → Result (Held (FileStore D g)) Unopened → Type 0
-  FindsFiles old new result =
-      ((result ≡ Err (untouched Missing)) × (new ≡ told_missing true old))
-      ⊎ OpensFull (told_missing false old) new result
-
-  -- what opening the database of any place does, which has to be there or is made
-  abbrev pub OpensBy : Bool → Recorded D → Recorded D → Result (Held (FileStore D g)) Unopened → Type 0
-  OpensBy true old new result = FindsFiles old new result
-  OpensBy false old new result = OpensFiles old new result

@@ -1,10 +1,9 @@
 //! A database is closed, and its files are left in a place.
 
-ghost use Rattle.std.specs.Prelude.{◌≡◌, OnOk, IfErr};
+ghost use Rattle.std.specs.Prelude.{OnOk, IfErr};
 ghost use Rattle.sqlite_disk.specs.declared.Files.{Files as Pair};
-ghost use Rattle.database_places.specs.Closing.{IsClosedIn, IsNotClosed, IsGivenUp, IsLeftBy};
+ghost use Rattle.database_places.specs.Closing.{IsClosedIn, IsNotClosed, IsGivenUp};
 ghost use Rattle.database_places.specs.Places.{Leaves};
-ghost use Rattle.database_places.specs.Recorded.{left};
 
 use crate::place::Place;
 use sqlite::{Connection, Error, FileStore};
@@ -16,8 +15,6 @@ pub fn close<D: Disk + Drop, P: Place<D>>(
     place: &mut P,
     conn: Connection<FileStore<D>>,
 ) -> Result<(), Error>
-    ensures left { (files : Pair D) × (P.recorded place.new ≡ left files (P.recorded place.old))
-        × IsLeftBy D.Disk conn files result }
     ensures closed { OnOk result ((files : Pair D) × Leaves (P.lying place.old) (P.lying place.new) files
         × IsClosedIn D.Disk conn files) }
     ensures refused { IfErr result (λ error. (files : Pair D)
@@ -38,8 +35,7 @@ pub fn close<D: Disk + Drop, P: Place<D>>(
 /// Leaves the files of a connection in a place, and neither reads nor writes them: for a database that is damaged, or
 /// another program's. What is in the log stays there.
 pub fn give_up<D: Disk + Drop, P: Place<D>>(place: &mut P, conn: Connection<FileStore<D>>)
-    ensures { (files : Pair D) × Leaves (P.lying place.old) (P.lying place.new) files × IsGivenUp conn files
-        × (P.recorded place.new ≡ left files (P.recorded place.old)) }
+    ensures { (files : Pair D) × Leaves (P.lying place.old) (P.lying place.new) files × IsGivenUp conn files }
 {
     place.leave(conn.into_store().close());
 }

@@ -1,13 +1,9 @@
 //! A place in memory.
 
 ghost use Rattle.std.specs.Prelude.{◌≡◌, [], Some, None, IsTrue};
-ghost use Rattle.database_places.specs.Moves.{IsDrawn};
-ghost use Rattle.database_places.specs.DrawnOnce.{drawn_once};
 ghost use Rattle.database_places.specs.Places.{Leaves};
-ghost use Rattle.database_places.specs.Recorded.{shown, nothing, left};
 
 use crate::place::Place;
-use crate::record::Record;
 use command_line::DatabaseFault;
 use sqlite::Files;
 use sqlite_disk::{Disk, Memory};
@@ -30,31 +26,21 @@ impl Blank for Memory {
     }
 }
 
-/// The files of a database, if there are some. What it gives is what was left there.
+/// The files of a database, if there are some.
 #[derive(Drop)]
 pub struct Drawer<D: Blank> {
     alloc: Global,
     files: Option<Files<D>>,
-    noted: Record<D>,
-    ghost drawn: { IsDrawn D.Disk (shown noted) files } by { drawn_once D.Disk (shown noted) files },
 }
 
 impl<D: Blank> Drawer<D> {
     /// A place in which nothing lies.
-    pub fn new(alloc: Global) -> Drawer<D>
-        ensures { shown result.noted ≡ nothing }
-    {
-        Drawer {
-            alloc,
-            files: None,
-            noted: Record::new(),
-        }
+    pub fn new(alloc: Global) -> Drawer<D> {
+        Drawer { alloc, files: None }
     }
 }
 
 impl<D: Blank> Place<D> for Drawer<D> {
-    ghost recorded = { λ drawer. shown drawer.noted };
-
     ghost lying = { λ drawer. Some drawer.files };
 
     ghost file = { λ _. None };
@@ -63,15 +49,12 @@ impl<D: Blank> Place<D> for Drawer<D> {
         Some(SEED)
     }
 
-    fn is_missing(&mut self) -> bool {
-        let told = self.files.is_none();
-        self.noted.tell_missing(told);
-        told
+    fn is_missing(&self) -> bool {
+        self.files.is_none()
     }
 
     // An opening finds out whether files have a database.
-    fn is_empty(&mut self) -> bool {
-        self.noted.tell_empty(false);
+    fn is_empty(&self) -> bool {
         false
     }
 
@@ -91,28 +74,25 @@ impl<D: Blank> Place<D> for Drawer<D> {
     fn remove_empty_log(&self) {}
 
     fn take(&mut self) -> Result<Files<D>, DatabaseFault> {
-        let files = match self.files.take() {
+        match self.files.take() {
             Some(files) => {
-                if !files.may_be_used() {
+                if files.may_be_used() {
+                    Ok(files)
+                } else {
                     self.files = Some(files);
-                    return Err(DatabaseFault::Disk);
+                    Err(DatabaseFault::Disk)
                 }
-                files
             }
-            None => Files {
+            None => Ok(Files {
                 log: D::empty(self.alloc),
                 db: D::empty(self.alloc),
-            },
-        };
-        self.noted.give(&files);
-        Ok(files)
+            }),
+        }
     }
 
     fn leave(&mut self, files: Files<D>)
-        ensures got { shown self.new.noted ≡ left files (shown self.old.noted) }
         ensures left { Leaves (Some self.old.files) (Some self.new.files) files }
     {
-        self.noted.leave(&files);
         self.files = Some(files);
     }
 }

@@ -1,9 +1,9 @@
 //! The database that lies in a place is opened.
 
 ghost use Rattle.std.specs.Prelude.{◌≡◌, true, false, IfOk, IfErr};
+ghost use Rattle.database_places.specs.Opening.{untouched};
 ghost use Rattle.table_rows.specs.Standing.{IsAtRest};
-ghost use Rattle.database_places.specs.Opening.{OpensPlace, OpensBy, FindsFiles, OpensFiles, TriesAgain};
-ghost use Rattle.database_places.specs.Opening.{is_found, untouched};
+ghost use Rattle.database_places.specs.Opening.{OpensPlace, is_found};
 ghost use Rattle.database_places.specs.Places.{KeepsLying};
 
 use crate::fault::fault_of;
@@ -75,7 +75,6 @@ pub fn open<D: Disk + Drop, P: Place<D>>(
     opening: Opening,
 ) -> Result<Connection<FileStore<D>>, Unopened>
     ensures rest { IfOk result IsAtRest }
-    ensures moves { OpensBy D.Disk (is_found opening) (P.recorded place.old) (P.recorded place.new) result }
     ensures opens { OpensPlace D.Disk (is_found opening) (P.lying place.old) (P.lying place.new) result }
 {
     match opening {
@@ -91,7 +90,6 @@ fn find<D: Disk + Drop, P: Place<D>>(
     cache: PageCache,
 ) -> Result<Connection<FileStore<D>>, Unopened>
     ensures rest { IfOk result IsAtRest }
-    ensures moves { FindsFiles D.Disk (P.recorded place.old) (P.recorded place.new) result }
     ensures opens { OpensPlace D.Disk true (P.lying place.old) (P.lying place.new) result }
 {
     if place.is_missing() {
@@ -110,7 +108,6 @@ fn make<D: Disk + Drop, P: Place<D>>(
     cache: PageCache,
 ) -> Result<Connection<FileStore<D>>, Unopened>
     ensures rest { IfOk result IsAtRest }
-    ensures moves { OpensFiles D.Disk (P.recorded place.old) (P.recorded place.new) result }
     ensures opens { OpensPlace D.Disk false (P.lying place.old) (P.lying place.new) result }
 {
     let options = options(place.seed(), pages(cache, place.len()))?;
@@ -135,8 +132,7 @@ fn make<D: Disk + Drop, P: Place<D>>(
 /// Removes the empty log that an opening made beside a file that is not ours, unless there was a log before. The files
 /// are taken for that, so that no other program has them.
 pub fn remove_new_log<D: Disk + Drop, P: Place<D>>(place: &mut P, had_log: bool)
-    ensures again { TriesAgain (P.recorded place.old) (P.recorded place.new) }
-    ensures keeps { KeepsLying (P.lying place.old) (P.lying place.new) }
+    ensures { KeepsLying (P.lying place.old) (P.lying place.new) }
 {
     if had_log {
         return;

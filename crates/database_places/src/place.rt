@@ -1,10 +1,9 @@
 //! A place in which the files of a database lie.
 
-ghost use Rattle.std.specs.Prelude.{◌≡◌, ℕ, false, IsTrue, IfOk, IfErr, OnErr, List, Option};
+ghost use Rattle.std.specs.Prelude.{◌≡◌, ℕ, false, IsTrue, IfOk, IfErr, List, Option};
 ghost use Rattle.sqlite_disk.specs.declared.Files.{Files};
 ghost use Rattle.database_places.specs.Faults.{is_absence};
 ghost use Rattle.database_places.specs.Places.{TellsMissing, TellsEmpty, Takes, Leaves};
-ghost use Rattle.database_places.specs.Recorded.{Recorded, given, left, told_missing, told_empty};
 
 use command_line::DatabaseFault;
 use sqlite::Files;
@@ -14,9 +13,6 @@ use std::alloc::Global;
 /// A place in which the files of one database lie: the database file, and the log beside it. What opens and closes
 /// databases is written over any such place, so that it is proved once, and not for the files of the system.
 pub trait Place<D: Disk + Drop> {
-    // The files that it gave and those that were left in it, and what it told, in their order.
-    ghost recorded: { Self → Recorded D };
-
     // If it is known what lies there: the files, if there are some.
     ghost lying: { Self → Option (Option (Files D)) };
 
@@ -28,18 +24,12 @@ pub trait Place<D: Disk + Drop> {
     fn seed(&self) -> Option<u64>;
 
     /// Whether there is no database file.
-    fn is_missing(&mut self) -> bool
-        ensures told { recorded self.new ≡ told_missing result (recorded self.old) }
-        ensures tells { TellsMissing (lying self.old) result }
-        ensures lies { lying self.new ≡ lying self.old }
-        ensures named { file self.new ≡ file self.old };
+    fn is_missing(&self) -> bool
+        ensures { TellsMissing (lying self.now) result };
 
     /// Whether the database file is there and has no bytes, and no database is in the log beside it.
-    fn is_empty(&mut self) -> bool
-        ensures told { recorded self.new ≡ told_empty result (recorded self.old) }
-        ensures tells { TellsEmpty D.Disk (lying self.old) result }
-        ensures lies { lying self.new ≡ lying self.old }
-        ensures named { file self.new ≡ file self.old };
+    fn is_empty(&self) -> bool
+        ensures { TellsEmpty D.Disk (lying self.now) result };
 
     /// The first bytes of the database file, up to the page of a new file; none if they cannot be read. To be called
     /// while the files are not taken.
@@ -58,15 +48,12 @@ pub trait Place<D: Disk + Drop> {
     fn take(&mut self) -> Result<Files<D>, DatabaseFault>
         ensures log { IfOk result (λ files. IsTrue (D.Disk.is_usable files.log)) }
         ensures database { IfOk result (λ files. IsTrue (D.Disk.is_usable files.db)) }
-        ensures given { IfOk result (λ files. recorded self.new ≡ given files (recorded self.old)) }
-        ensures kept { OnErr result (recorded self.new ≡ recorded self.old) }
         ensures taken { Takes D.Disk (lying self.old) (lying self.new) result }
         ensures made { IfErr result (λ fault. is_absence fault ≡ false) }
         ensures named { file self.new ≡ file self.old };
 
     /// Puts files in, which may be taken again then, also by another program.
     fn leave(&mut self, files: Files<D>)
-        ensures got { recorded self.new ≡ left files (recorded self.old) }
         ensures left { Leaves (lying self.old) (lying self.new) files }
         ensures named { file self.new ≡ file self.old };
 }

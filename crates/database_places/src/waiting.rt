@@ -2,7 +2,6 @@
 
 ghost use Rattle.std.specs.Prelude.{◌≡◌};
 ghost use Rattle.database_places.specs.Places.{Leaves};
-ghost use Rattle.database_places.specs.Recorded.{left};
 
 use crate::place::Place;
 use command_line::{DatabaseFault, Deadline};
@@ -54,8 +53,6 @@ impl<'r, P, C: Clock> WaitingPlace<'r, P, C> {
 }
 
 impl<D: Disk + Drop, P: Place<D>, C: Clock> Place<D> for WaitingPlace<'_, P, C> {
-    ghost recorded = { λ waiting. P.recorded waiting.place };
-
     ghost lying = { λ waiting. P.lying waiting.place };
 
     ghost file = { λ waiting. P.file waiting.place };
@@ -64,11 +61,11 @@ impl<D: Disk + Drop, P: Place<D>, C: Clock> Place<D> for WaitingPlace<'_, P, C> 
         self.place.seed()
     }
 
-    fn is_missing(&mut self) -> bool {
+    fn is_missing(&self) -> bool {
         self.place.is_missing()
     }
 
-    fn is_empty(&mut self) -> bool {
+    fn is_empty(&self) -> bool {
         self.place.is_empty()
     }
 
@@ -103,7 +100,6 @@ impl<D: Disk + Drop, P: Place<D>, C: Clock> Place<D> for WaitingPlace<'_, P, C> 
     }
 
     fn leave(&mut self, files: Files<D>)
-        ensures got { P.recorded self.new.place ≡ left files (P.recorded self.old.place) }
         ensures left { Leaves (P.lying self.old.place) (P.lying self.new.place) files }
         ensures named { P.file self.new.place ≡ P.file self.old.place }
     {

@@ -1,7 +1,7 @@
 -- What was decided of what waits in a place, and told so.
 use Rattle.std.proofs.Common.{◌≡◌, ◌∙◌, ◌∷◌, [], ℕ, Bool, true, false, List, Option, Some, None, refl, sym, ap}
 use Rattle.std.proofs.Common.{IfOk, Result, Ok, Err, subst, true≢false}
-use Rattle.std.specs.Prelude.{IsSome, IfSome, MatchResult}
+use Rattle.std.specs.Prelude.{IsSome, IfSome}
 use Rattle.std.specs.Option.{ForSome}
 use Rattle.std.specs.declared.alloc.AllocError.{AllocError}
 use Rattle.sqlite.specs.Store.{Ghosts as Disk}
@@ -31,11 +31,9 @@ use Rattle.gateway_server.proofs.Grouped.{decides_one}
 use Rattle.intake_core.specs.declared.intake.Intake.{Intake}
 use Rattle.intake_core.specs.Answered.{IsAnswerTo as IsAnswered}
 use Rattle.intake_core.specs.Together.{LooksUp as Looks}
-use Rattle.intake_core.specs.Held.{ForBook, HoldsBook, IsTransition, KeepsSetting, limit_of, moment_of, old_style_in}
+use Rattle.intake_core.specs.Held.{ForRequests, HoldsRequests, IsTransition, KeepsSetting, limit_of, old_style_in}
 use Rattle.gateway_rounds.specs.declared.new.New.{New}
-use Rattle.gateway_rounds.specs.declared.verdict.Verdict.{Verdict}
 use Rattle.gateway_rounds.specs.Groups.{HadItsTurn, LooksUp}
-use Rattle.gateway_rounds.specs.Dated.{Dates}
 use Rattle.gateway_rounds.specs.Places.{Decides, IsAnswerBy, IsTextOf, TakesPlace, TellsPlace}
 use Rattle.gateway_rounds.specs.Ports.{KeepsPort, Port, Runs}
 use Rattle.gateway_rounds.specs.Turns.{DecidesTurns, IsAnswerTo, IsFree}
@@ -148,8 +146,8 @@ module _ {S N D : Type 0} (s : Ghosts S N) (g : Disk D) (place : ℕ) (old new :
         → TellsPlace s place old new (IsTextOf d close) false
         → IsTransition g intake intake' (λ old_style before after. ForSome (arrival_at old.hall place) (λ arrival.
         Decides (limit_of intake) old_style before after arrival d close))
-        → Dates g intake intake' → KeepsSetting g intake intake' → TakesPlace s g place old new intake intake'
-    place_taken d close waits told decided dates setting =
+        → KeepsSetting g intake intake' → TakesPlace s g place old new intake intake'
+    place_taken d close waits told decided setting =
         let waiting = found (arrival_at old.hall place) waits in
         record {
           turn = record {
@@ -170,15 +168,14 @@ module _ {S N D : Type 0} (s : Ghosts S N) (g : Disk D) (place : ℕ) (old new :
                 );
             setting = setting;
           };
-          dates = dates;
         }
 
     -- there was no memory to decide it
     pub place_lost : ((answers : List Answer) → Runs s answers old → Runs s answers new) → IsFree new.hall place
         → KeepsOtherPlaces place old.hall new.hall → KeepsPort old new
         → IsTransition g intake intake' (λ old_style before after. after ≡ before)
-        → Dates g intake intake' → KeepsSetting g intake intake' → TakesPlace s g place old new intake intake'
-    place_lost running free others port same dates setting = record {
+        → KeepsSetting g intake intake' → TakesPlace s g place old new intake intake'
+    place_lost running free others port same setting = record {
       turn = record { place = place; step = None; answer = None };
       there = refl;
       takes = record {
@@ -194,7 +191,6 @@ module _ {S N D : Type 0} (s : Ghosts S N) (g : Disk D) (place : ℕ) (old new :
             );
         setting = setting;
       };
-      dates = dates;
     }
 
     -- it was looked up, and told its answer
@@ -215,16 +211,14 @@ module _ {S N D : Type 0} (s : Ghosts S N) (g : Disk D) (place : ℕ) (old new :
           there = refl;
           takes = record {
             tells = told_turn s place old new (IsTextOf d close) false told waiting.0 d.mark waiting.1;
-            decided = λ clean book holds.
-                let before = book.requests in
-                let all = here.same clean book holds in (
+            decided = λ clean before holds.
+                let all = here.same clean before holds in (
                   all.0,
                   turn_decided old.hall place (limit_of intake) (old_style_in intake before) before before d close
                       waiting.0 told.answer waiting.1 all.1 told.is,
                 );
             setting = here.setting;
           };
-          next = here.next;
           group_is = same;
         }
 
@@ -242,13 +236,12 @@ module _ {S N D : Type 0} (s : Ghosts S N) (g : Disk D) (place : ℕ) (old new :
           there = refl;
           takes = record {
             tells = lost_turn s place old new running free others port;
-            decided = λ clean book holds. (
-              (here.same clean book holds).0,
-              nothing_was_decided (limit_of intake) (old_style_in intake book.requests) book.requests place,
+            decided = λ clean before holds. (
+              (here.same clean before holds).0,
+              nothing_was_decided (limit_of intake) (old_style_in intake before) before place,
             );
             setting = here.setting;
           };
-          next = here.next;
           group_is = same;
         }
 
@@ -271,44 +264,38 @@ module _ {D : Type 0} (g : Disk D) (m : Message) (d : Decided) (close : Bool) wh
   -- it is one that is held, and gets its answer
   pub repeat_looks : (r : Request) (given : Given) → route m ≡ FileReport r → close ≡ closes m.head
       → IsOfGiven (Ok given) d → (intake intake' : Intake D) → Looks g intake intake'
-      → ForBook g intake intake' (λ book. IsAnswered (old_style_in intake book.requests) book.requests r given
-      × (has_key book.requests r ≡ true))
+      → ForRequests g intake intake' (λ before. IsAnswered (old_style_in intake before) before r given
+      × (has_key before r ≡ true))
       → LooksUp g (λ old_style before. Decides (limit_of intake) old_style before before (Read m) d close) intake
       intake'
   repeat_looks r given asked closing is intake intake' looks tells = record {
-    same = λ clean book holds.
-        let before = book.requests in
-        let told = tells clean book holds in
+    same = λ clean before holds.
+        let told = tells clean before holds in
         let old_style = old_style_in intake before in
-        let decides = decides_one (limit_of intake) old_style book (r, 0) (Ok given) d (record {
+        let decides = decides_one (limit_of intake) old_style before r (Ok given) d (record {
           answer = told.0;
           full = λ k e. absurd (cc);
           room = λ new. absurd (true≢false (sym told.1 ∙ new));
         }) is in (
-          looks.same clean book holds,
+          looks.same clean before holds,
           decides_read (limit_of intake) old_style before before m (FileReport r) d close asked closing
               (subst (λ (after : List Request). DecidesRoute (limit_of intake) old_style before after (FileReport r) d)
               (firsts_repeat before r told.1 ∙ holds.firsts') decides),
         );
-    next = looks.next;
     setting = looks.setting;
   }
 
   -- it is no report
   pub plain_looks : ((r : Request) → route m ≡ FileReport r → ⊥) → (intake intake' : Intake D)
       → IsTransition g intake intake' (λ old_style before after.
-      Decides (limit_of intake) old_style before after (Read m) d close)
-      → ForBook g intake intake' (HoldsBook g intake') → moment_of intake' ≡ moment_of intake
-      → KeepsSetting g intake intake'
+      Decides (limit_of intake) old_style before after (Read m) d close) → KeepsSetting g intake intake'
       → LooksUp g (λ old_style before. Decides (limit_of intake) old_style before before (Read m) d close) intake
       intake'
-  plain_looks none intake intake' decided same next setting = record {
-    same = λ clean book holds.
-        let before = book.requests in
-        let all = decided clean before (record { moments = book.moments; book = holds }) in
+  plain_looks none intake intake' decided setting = record {
+    same = λ clean before holds.
+        let all = decided clean before holds in
         let nothing = keeps_nothing (limit_of intake) (old_style_in intake before) before all.0 m d close none all.3 in
-        (same clean book holds, nothing.1);
-    next = next;
+        (subst (HoldsRequests g intake') nothing.0 all.1, nothing.1);
     setting = setting;
   }
 
@@ -319,14 +306,13 @@ pub refused_looks : {D : Type 0} (g : Disk D) (slot : Option Arrival) (refusal :
     → ForSome slot (λ arrival. LooksUp g (λ old_style before.
     Decides (limit_of intake) old_style before before arrival d close) intake intake)
 refused_looks g slot refusal d close intake is decides = λ arrival waits. record {
-  same = λ clean book holds. let before = book.requests in (
+  same = λ clean before holds. (
     holds,
     subst (λ (a : Arrival).
         Decides (limit_of intake) (old_style_in intake before) before before a d close)
         (same_some slot (Refused refusal) arrival is waits)
         (decides (limit_of intake) (old_style_in intake before) before),
   );
-  next = refl;
   setting = same_setting g intake;
 }
 
@@ -337,14 +323,3 @@ pub refused_decided : (limit : ℕ) (old_style before : List Request) (slot : Op
 refused_decided limit old_style before slot refusal d close is decides = λ arrival waits.
     subst (λ (a : Arrival). Decides limit old_style before before a d close)
     (same_some slot (Refused refusal) arrival is waits) decides
-
--- what was decided of a request is that of what waits
-pub read_decided : (limit : ℕ) (old_style before after : List Request) (slot : Option Arrival) (m : Message)
-    (result : Result Verdict AllocError) → slot ≡ Some (Read m)
-    → MatchResult result (λ v. Decides limit old_style before after (Read m) v.decided v.closes) (λ _. after ≡ before)
-    → MatchResult result (λ v. ForSome slot (λ arrival.
-    Decides limit old_style before after arrival v.decided v.closes)) (λ _. after ≡ before)
-read_decided limit old_style before after slot m (Ok v) is decides = λ arrival waits.
-    subst (λ (a : Arrival). Decides limit old_style before after a v.decided v.closes)
-    (same_some slot (Read m) arrival is waits) decides
-read_decided limit old_style before after slot m (Err fault) is decides = decides

@@ -1,5 +1,4 @@
 mod Lists
-mod Dated
 mod Alike
 mod Turns
 mod Told

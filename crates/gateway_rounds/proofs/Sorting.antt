@@ -17,7 +17,7 @@ use Rattle.connection_hall.specs.Places.{arrival_in}
 use Rattle.connection_hall.specs.Running.{arrival_at}
 use Rattle.filing_model.specs.Request.{Request, has_key}
 use Rattle.intake_core.specs.declared.intake.Intake.{Intake}
-use Rattle.intake_core.specs.Held.{ForBook, HoldsBook, KeepsSetting}
+use Rattle.intake_core.specs.Held.{ForRequests, HoldsRequests, KeepsSetting}
 use Rattle.gateway_rounds.specs.declared.new.New.{New}
 use Rattle.gateway_rounds.specs.Groups.{places_of, places_in, asked_in, left_after, AreOther, HadItsTurn, HadNoRoom}
 use Rattle.gateway_rounds.specs.Groups.{InOrder, IsBehind, IsLeftAt, IsLeftOut, IsRound}
@@ -157,8 +157,7 @@ new_sorted s g place old new group group' intake intake' one false is looks same
       group_is = (full refl).0;
       full = subst (IsFull group) (is.1.asked.len ∙ ap body_len (sym waits)) (full refl).1;
       looks = record {
-        same = λ clean book holds. ((found.same clean book holds).0, tt);
-        next = found.next;
+        same = λ clean before holds. ((found.same clean before holds).0, tt);
         setting = found.setting;
       };
     }
@@ -167,12 +166,12 @@ new_sorted s g place old new group group' intake intake' one false is looks same
 module _ {S N D : Type 0} (s : Ghosts S N) (g : Disk D) where
   -- the intake was only asked since
   looked : (turns : List Turn) (old new : Port S) (intake mid intake' : Intake D)
-      → LooksUpTurns s g turns old new intake mid → ForBook g mid intake' (HoldsBook g intake')
+      → LooksUpTurns s g turns old new intake mid → ForRequests g mid intake' (HoldsRequests g intake')
       → KeepsSetting g mid intake' → LooksUpTurns s g turns old new intake intake'
   looked turns old new intake mid intake' first same setting = record {
     tells = first.tells;
-    decided = λ clean book holds.
-        let early = first.decided (setting.clean clean) book holds in (same clean book early.0, early.1);
+    decided = λ clean before holds.
+        let early = first.decided (setting.clean clean) before holds in (same clean before early.0, early.1);
     setting = setting-append g intake mid intake' first.setting setting;
   }
 
@@ -182,14 +181,13 @@ module _ {S N D : Type 0} (s : Ghosts S N) (g : Disk D) where
   none_sorted from port intake = record {
     turns = [];
     takes = nothing_looked_up s g port intake;
-    next = refl;
     turns_order = tt;
     turns_looked = tt;
     group_order = tt;
     group_looked = tt;
     waits = tt;
     apart = tt;
-    found = λ clean book holds. tt;
+    found = λ clean before holds. tt;
     each = λ i looked away other. absurd (let low = looked.0 in let high = looked.1 in omega (arith, low, high));
     within = (omega arith, omega arith);
     left_looked = tt;
@@ -252,7 +250,6 @@ module _ {S N D : Type 0} (s : Ghosts S N) (g : Disk D) where
           turns = turns ++ turn ∷ [];
           takes = looks-append s g turns (turn ∷ []) old mid new intake intake_mid intake' (elsewhere, tt) first.takes
               one.takes;
-          next = one.next ∙ first.next;
           turns_order = subst (InOrder (IsBefore from)) (sym there)
               (in_order_more (IsBefore from) (places_of turns) place first.turns_order
               (before_looked (places_of turns) first.turns_looked));
@@ -264,7 +261,7 @@ module _ {S N D : Type 0} (s : Ghosts S N) (g : Disk D) where
           waits = first.waits;
           apart = subst (λ (places : List ℕ). AllByRecursion (λ p. AreOther p places) (places_in group)) (sym there)
               (apart_more group first.group_looked first.apart);
-          found = λ clean book holds. first.found (one.takes.setting.clean clean) book holds;
+          found = λ clean before holds. first.found (one.takes.setting.clean clean) before holds;
           each = λ i looked away other.
               let parts = all_parts (λ (p : ℕ). p ≢ i) (places_of turns) (place ∷ [])
               (subst (AreOther i) there away) in
@@ -292,8 +289,7 @@ module _ {S N D : Type 0} (s : Ghosts S N) (g : Disk D) where
         let all : SortsUpTo s g from Looked' old mid (group ++ it ∷ []) left intake intake' = record {
           turns = turns;
           takes = looked turns old mid intake intake_mid intake' first.takes
-              (λ clean book holds. (one.found.same clean book holds).0) one.found.setting;
-          next = one.found.next ∙ first.next;
+              (λ clean before holds. (one.found.same clean before holds).0) one.found.setting;
           turns_order = first.turns_order;
           turns_looked = all_so Looked Looked' more (places_of turns) first.turns_looked;
           group_order = subst (InOrder (IsBefore from)) (sym there)
@@ -307,13 +303,12 @@ module _ {S N D : Type 0} (s : Ghosts S N) (g : Disk D) where
           apart = subst (AllByRecursion (λ p. AreOther p (places_of turns))) (sym there)
               (all_append (λ (p : ℕ). AreOther p (places_of turns)) (places_in group) (place ∷ []) first.apart
               (other_looked (places_of turns) first.turns_looked, tt));
-          found = λ clean book holds.
-              let before = book.requests in
+          found = λ clean before holds.
               let early = one.found.setting.clean clean in
               all_append (λ (new : New). new.is_new ≡ true → has_key before (asked_in old.hall new) ≡ false) group
-              (it ∷ []) (first.found early book holds) (
+              (it ∷ []) (first.found early before holds) (
                 found_before old.hall mid.hall it at_its before
-                    (one.found.same clean book (first.takes.decided early book holds).0).1,
+                    (one.found.same clean before (first.takes.decided early before holds).0).1,
                 tt,
               );
           each = λ i looked away other.
@@ -340,15 +335,14 @@ module _ {S N D : Type 0} (s : Ghosts S N) (g : Disk D) where
         let all : SortsUpTo s g from Looked' old mid group left' intake intake' = record {
           turns = turns;
           takes = looked turns old mid intake intake_mid intake' first.takes
-              (λ clean book holds. (one.looks.same clean book holds).0) one.looks.setting;
-          next = one.looks.next ∙ first.next;
+              (λ clean before holds. (one.looks.same clean before holds).0) one.looks.setting;
           turns_order = first.turns_order;
           turns_looked = all_so Looked Looked' more (places_of turns) first.turns_looked;
           group_order = first.group_order;
           group_looked = all_so Looked Looked' more (places_in group) first.group_looked;
           waits = first.waits;
           apart = first.apart;
-          found = λ clean book holds. first.found (one.looks.setting.clean clean) book holds;
+          found = λ clean before holds. first.found (one.looks.setting.clean clean) before holds;
           each = λ i looked away other. elim (eqb_tells i place) [
             | inl same ↦ inr (subst (IsLeftOut from old.hall group left') (sym same.1) (record {
               first = group;
@@ -396,7 +390,6 @@ module _ {S N D : Type 0} (s : Ghosts S N) (g : Disk D) where
   sorted_so from old new group left intake intake' Looked Looked' more only first = record {
     turns = first.turns;
     takes = first.takes;
-    next = first.next;
     turns_order = first.turns_order;
     turns_looked = all_so Looked Looked' more (places_of first.turns) first.turns_looked;
     group_order = first.group_order;

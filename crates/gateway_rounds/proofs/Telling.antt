@@ -4,7 +4,7 @@ use Rattle.std.proofs.Common.{Bool, refl, sym, ap, subst, length, map, take, dro
 use Rattle.std.proofs.lemmas.List.{map-append, take-append-drop, take_more}
 use Rattle.std.proofs.lemmas.List.Elements.{All-get_or, recursion_from_All}
 use Rattle.std.specs.Prelude.{IfOk, IfSome, IsSome, slice_index_or}
-use Rattle.std.specs.List.{All, AllByRecursion, zip}
+use Rattle.std.specs.List.{All, AllByRecursion}
 use Rattle.std.specs.declared.alloc.AllocError.{AllocError}
 use Rattle.std.specs.declared.alloc.Global.{Global}
 use Rattle.sqlite.specs.Store.{Ghosts as Disk}
@@ -22,12 +22,7 @@ use Rattle.gateway_server.specs.Decided.{Decides as DecidesRoute}
 use Rattle.gateway_server.specs.Group.{DecideInTurn}
 use Rattle.gateway_server.specs.declared.decide.Decided.{Decided}
 use Rattle.intake_core.specs.declared.intake.Intake.{Intake}
-use Rattle.intake_core.specs.Held.{IsTransitionIf, KeepsSetting, limit_of, moment_of}
-use Rattle.gateway_rounds.specs.Dated.{DatesAtIf}
-use Rattle.register_rows.specs.declared.moment.Moment.{Moment}
-use Rattle.intake_core.specs.Group.{after, asked_at}
-use Rattle.gateway_server.specs.Group.{AreSubmitted}
-use Rattle.gateway_rounds.proofs.Dated.{all_dated, came_at, dates_then, same_dates}
+use Rattle.intake_core.specs.Held.{IsTransitionIf, KeepsSetting, limit_of}
 use Rattle.intake_core.specs.Looked.{AreNewIf, AreNewTo}
 use Rattle.gateway_rounds.specs.declared.new.New.{New}
 use Rattle.gateway_rounds.specs.Groups.{places_of, places_in, asked_in, body_of, request_of, AreFound, AreOther}
@@ -240,9 +235,8 @@ module _ {S N D : Type 0} (s : Ghosts S N) (g : Disk D) (old new : Port S) (grou
   pub filed_together : (ds : List Decided) → TellsGroup s old new group ds
       → IsTransitionIf g (AreFound old.hall group) intake intake' (λ old_style before after.
       DecideInTurn (limit_of intake) old_style before after (map (asked_in old.hall) group) ds)
-      → DatesAtIf g (AreFound old.hall group) (moment_of intake) intake intake' → KeepsSetting g intake intake'
-      → FilesGroup s g old new group intake intake'
-  filed_together ds told decided dates setting = record {
+      → KeepsSetting g intake intake' → FilesGroup s g old new group intake intake'
+  filed_together ds told decided setting = record {
     turns = told.turns;
     tells = told.tells;
     there = places_there old.hall group ds told.turns told.are;
@@ -254,7 +248,6 @@ module _ {S N D : Type 0} (s : Ghosts S N) (g : Disk D) (old new : Port S) (grou
           all.2,
           group_decided old.hall (limit_of intake) _ before all.0 group ds told.turns told.are all.3,
         );
-    dates = dates;
     setting = setting;
   }
 
@@ -266,7 +259,6 @@ module _ {S N D : Type 0} (s : Ghosts S N) (g : Disk D) (old new : Port S) (grou
     there = first.there ∙ ap places_in whole;
     asks = first.asks;
     decided = λ clean before holds found. first.takes.decided clean before holds;
-    dates = λ clean book holds found. first.dates.each clean book holds tt;
     setting = first.takes.setting;
   }
 
@@ -296,7 +288,6 @@ module _ {S N D : Type 0} (s : Ghosts S N) (g : Disk D) (old mid new : Port S) (
         turns = first.turns ++ turn ∷ [];
         takes = takes-append s g first.turns (turn ∷ []) old mid new intake intake_mid intake'
             (subst (λ (p : ℕ). AreElsewhere p first.turns) (sym it.there) elsewhere, tt) first.takes it.takes;
-        dates = dates_then intake intake_mid intake' it.takes.setting first.dates it.dates;
         there = map-append (λ (turn : Turn). turn.place) first.turns (turn ∷ [])
             ∙ ap (λ (p : ℕ). places_of first.turns ++ p ∷ []) it.there
             ∙ ap (λ (ps : List ℕ). ps ++ one.place ∷ []) first.there
@@ -311,13 +302,7 @@ module _ {S N D : Type 0} (s : Ghosts S N) (g : Disk D) (old mid new : Port S) (
 pub none_filed : {S N D : Type 0} (s : Ghosts S N) (g : Disk D) (port : Port S) (group : List New) (intake : Intake D)
     → FiledUpTo s g 0 port port group intake intake
 none_filed s g port group intake =
-    record {
-      turns = [];
-      takes = nothing_taken s g port intake;
-      dates = same_dates intake;
-      there = refl;
-      asks = tt;
-    }
+    record { turns = []; takes = nothing_taken s g port intake; there = refl; asks = tt }
 
 -- ---- what was found to be new
 
@@ -335,29 +320,3 @@ new_decided g hall group requests are_new (Ok all) intake intake' same is decide
     clean before holds
     (λ yes. all_new hall before group (recursion_from_All (λ (new : New). new.is_new ≡ true) group (is yes)) found)
 new_decided g hall group requests are_new (Err fault) intake intake' same is decided = tt
-
--- each of them has the moment at which all came
-pub group_dates : {D : Type 0} {S : Type 0} (g : Disk D) (hall : Hall S) (group : List New) (requests : List Request)
-    (moments : List Moment) (are_new : Bool) (moment : Moment) (result : Result (Vec Decided Global) AllocError)
-    (intake intake' : Intake D) → requests ≡ map (asked_in hall) group
-    → (are_new ≡ true → All (λ new. new.is_new ≡ true) group) → AllByRecursion (λ it. it ≡ moment) moments
-    → IfOk result (λ all. AreSubmitted g are_new requests moments intake intake' all.items)
-    → IfOk result (λ _. DatesAtIf g (AreFound hall group) moment.milliseconds intake intake')
-group_dates g hall group requests moments are_new moment (Ok all) intake intake' same is at submitted =
-    λ clean book holds found.
-    let ds = zip (asked_at requests moments) submitted.given in
-    let new = subst (λ (rs : List Request). AreNewIf are_new rs book.requests) (sym same)
-    (λ yes. all_new hall book.requests group (recursion_from_All (λ (new : New). new.is_new ≡ true) group (is yes))
-    found) in (
-      after book ds,
-      (submitted.decides.answers clean book holds new).1,
-      all_dated moment.milliseconds book ds
-          (came_at moment.milliseconds requests (map (λ (t : Moment). t.milliseconds) moments) submitted.given
-          (all_map_so moments at)),
-    )
-  where
-    all_map_so : (ms : List Moment) → AllByRecursion (λ it. it ≡ moment) ms
-        → AllByRecursion (λ m. m ≡ moment.milliseconds) (map (λ (t : Moment). t.milliseconds) ms)
-    all_map_so [] h = tt
-    all_map_so (t ∷ ms) h = (ap (λ (t : Moment). t.milliseconds) h.0, all_map_so ms h.1)
-group_dates g hall group requests moments are_new moment (Err fault) intake intake' same is at submitted = tt

@@ -205,8 +205,7 @@ module _ {S N D : Type 0} (s : Ghosts S N) (g : Disk D) where
   pub nothing_looked_up : (port : Port S) (intake : Intake D) → LooksUpTurns s g [] port port intake intake
   nothing_looked_up port intake = record {
     tells = nothing_told s port;
-    decided = λ clean book holds.
-        (holds, nothing_decided (limit_of intake) (old_style_in intake book.requests) book.requests);
+    decided = λ clean before holds. (holds, nothing_decided (limit_of intake) (old_style_in intake before) before);
     setting = same_setting g intake;
   }
 
@@ -224,10 +223,9 @@ module _ {S N D : Type 0} (s : Ghosts S N) (g : Disk D) where
       → LooksUpTurns s g (turns ++ more) old new intake intake'
   looks-append turns more old mid new intake intake_mid intake' apart first next = record {
     tells = tells-append s turns more old mid new apart first.tells next.tells;
-    decided = λ clean book holds.
-        let before = book.requests in
-        let early = first.decided (next.setting.clean clean) book holds in
-        let late = next.decided clean book early.0 in (
+    decided = λ clean before holds.
+        let early = first.decided (next.setting.clean clean) before holds in
+        let late = next.decided clean before early.0 in (
           late.0,
           decides-append (limit_of intake) (old_style_in intake before) before before before turns more early.1
               (moved (limit_of intake_mid) (limit_of intake) (old_style_in intake_mid before)

@@ -12,14 +12,10 @@ use Rattle.connection_hall.specs.Places.{arrival_in}
 use Rattle.connection_hall.specs.Running.{arrival_at}
 use Rattle.filing_model.specs.Request.{Request, has_key}
 use Rattle.intake_core.specs.declared.intake.Intake.{Intake}
-use Rattle.register_tables.specs.Registers.{Book}
-use Rattle.intake_core.specs.Held.{HoldsBook, KeepsSetting, moment_of, limit_of, old_style_in}
+use Rattle.intake_core.specs.Held.{HoldsRequests, KeepsSetting, limit_of, old_style_in}
 use Rattle.gateway_rounds.specs.declared.new.New.{New}
-use Rattle.gateway_rounds.specs.Dated.{IsDatedAt}
 use Rattle.gateway_rounds.specs.Groups.{places_of, places_in, body_of, request_of, AreFound, AreOther, FilesGroup}
-use Rattle.gateway_rounds.specs.Dated.{IsDatedAt}
 use Rattle.gateway_rounds.specs.Groups.{InOrder, IsAskedIn, IsFull}
-use Rattle.gateway_rounds.specs.Dated.{IsDatedAt}
 use Rattle.gateway_rounds.specs.Groups.{IsLeftAt, IsLeftOut, IsWithin, SortsAll}
 use Rattle.gateway_rounds.specs.Ports.{Port}
 use Rattle.gateway_rounds.specs.Rounds.{AnswersRound, FoundNoRoom, IsFullFor, IsLeft, body_len, body_len_at}
@@ -192,15 +188,14 @@ module _ {S : Type 0} (hall : Hall S) (from : ℕ) (turns : List Turn) (group : 
         ]
 
 module _ {S N D : Type 0} (s : Ghosts S N) (g : Disk D) (old mid new : Port S) (group : List New)
-    (left : Option ℕ) (next moment : ℕ) (intake dated intake_mid intake' : Intake D) where
+    (left : Option ℕ) (next : ℕ) (intake dated intake_mid intake' : Intake D) where
   -- what was sorted was answered, and then the group
   pub round_done : KeepsSetting g intake dated
-      → ((book : Book) → HoldsBook g intake book → HoldsBook g dated book)
-      → moment_of dated ≡ moment
+      → ((requests : List Request) → HoldsRequests g intake requests → HoldsRequests g dated requests)
       → SortsAll s g old.next old mid group left dated intake_mid → FilesGroup s g mid new group intake_mid intake'
       → ((place : ℕ) → left ≡ Some place → next ≡ place)
-      → AnswersRound s g moment old (record new { next = next }) intake intake'
-  round_done setting held set sorts files is_next =
+      → AnswersRound s g old (record new { next = next }) intake intake'
+  round_done setting held sorts files is_next =
       let turns = sorts.turns in
       let at_once = setting-append g intake dated intake_mid setting sorts.takes.setting in
       record {
@@ -210,9 +205,8 @@ module _ {S N D : Type 0} (s : Ghosts S N) (g : Disk D) (old mid new : Port S) (
         intake_mid = intake_mid;
         first = record {
           tells = sorts.takes.tells;
-          decided = λ clean book holds.
-              let before = book.requests in
-              let all = sorts.takes.decided clean book (held book holds) in (
+          decided = λ clean before holds.
+              let all = sorts.takes.decided clean before (held before holds) in (
                 all.0,
                 moved (limit_of dated) (limit_of intake) (old_style_in dated before) (old_style_in intake before) before
                     before turns setting.limit (ap (λ (n : ℕ). take n before) setting.old_style) all.1,
@@ -227,13 +221,12 @@ module _ {S N D : Type 0} (s : Ghosts S N) (g : Disk D) (old mid new : Port S) (
           port = record { asked = files.tells.port.asked; bounds = files.tells.port.bounds };
         };
         files = λ clean before holds.
-            let book : Book = record { requests = before; moments = holds.moments } in
             let clean_mid = files.setting.clean clean in
-            let now = held book holds.book in
-            let found = sorts.found clean_mid book now in
-            let still = (sorts.takes.decided clean_mid book now).0 in
+            let now = held before holds in
+            let found = sorts.found clean_mid before now in
+            let still = (sorts.takes.decided clean_mid before now).0 in
             let style = ap (λ (n : ℕ). take n before) at_once.old_style in
-            let all = files.decided clean before (record { moments = holds.moments; book = still })
+            let all = files.decided clean before still
             (found_still s old mid turns sorts.takes.tells before group sorts.apart found) in (
               all.0,
               all.1,
@@ -242,14 +235,6 @@ module _ {S N D : Type 0} (s : Ghosts S N) (g : Disk D) (old mid new : Port S) (
                   (old_style_in intake before)
                   before all.0 files.turns at_once.limit style all.3,
             );
-        dates = λ clean book holds _.
-            let clean_mid = files.setting.clean clean in
-            let now = held book holds in
-            let found = sorts.found clean_mid book now in
-            let still = (sorts.takes.decided clean_mid book now).0 in
-            let all = files.dates clean book still
-            (found_still s old mid turns sorts.takes.tells book.requests group sorts.apart found) in
-            (all.0, all.1, subst (λ m. IsDatedAt m book all.0) (sorts.next ∙ set) all.2);
         setting = files.setting;
         asks = files.asks;
         in_order = (
@@ -270,14 +255,13 @@ module _ {S N D : Type 0} (s : Ghosts S N) (g : Disk D) (old mid new : Port S) (
 -- ---- all turns of a round, one after another
 
 pub round_takes : {S N D : Type 0} (s : Ghosts S N) (g : Disk D) (old new : Port S) (intake intake' : Intake D)
-    (moment : ℕ) (round : AnswersRound s g moment old new intake intake')
+    (round : AnswersRound s g old new intake intake')
     → TakesTurns s g (round.at_once ++ round.filed) old new intake intake'
-round_takes s g old new intake intake' moment round = record {
+round_takes s g old new intake intake' round = record {
   tells = tells-append s round.at_once round.filed old round.mid new round.apart round.first.tells round.second;
   decided = λ clean before holds.
-      let book : Book = record { requests = before; moments = holds.moments } in
       let late = round.files clean before holds in
-      let early = round.first.decided (round.setting.clean clean) book holds.book in (
+      let early = round.first.decided (round.setting.clean clean) before holds in (
         late.0,
         late.1,
         late.2,

@@ -18,8 +18,7 @@ use Rattle.filing_model.specs.Views.{the_request}
 use Rattle.gateway_server.specs.Decided.{IsPhrased}
 use Rattle.gateway_server.specs.declared.decide.Decided.{Decided}
 use Rattle.intake_core.specs.declared.intake.Intake.{Intake}
-use Rattle.intake_core.specs.Held.{ForBook, HoldsBook, IsTransitionIf, KeepsSetting, limit_of, moment_of, old_style_in}
-use Rattle.gateway_rounds.specs.Dated.{Dates, DatesAtIf}
+use Rattle.intake_core.specs.Held.{ForRequests, HoldsRequests, IsTransitionIf, KeepsSetting, limit_of, old_style_in}
 use Rattle.gateway_rounds.specs.declared.new.New.{New}
 use Rattle.gateway_rounds.specs.declared.sort.Sorted.{Sorted}
 use Rattle.gateway_rounds.specs.declared.sort.Sorted.TheVariants as sorted
@@ -100,12 +99,11 @@ IsSorted hall place (Ok (sorted.AtOnce verdict)) = IsPhrased verdict.decided
 IsSorted hall place (Ok (sorted.Filing new)) = (new.place ≡ place) × IsAskedIn hall new
 IsSorted hall place (Err e) = Unit {0}
 
--- Nothing is kept, and this holds of the requests that are held. The moment that was set stays.
+-- Nothing is kept, and this holds of the requests that are held.
 pub record LooksUp {D : Type 0} (g : Disk D) (Holds : List Request → List Request → Type 0) (intake intake' : Intake D)
     : Type 0 where
-  pub same : ForBook g intake intake' (λ book. HoldsBook g intake' book
-      × Holds (old_style_in intake book.requests) book.requests)
-  pub next : moment_of intake' ≡ moment_of intake
+  pub same : ForRequests g intake intake' (λ before. HoldsRequests g intake' before
+      × Holds (old_style_in intake before) before)
   pub setting : KeepsSetting g intake intake'
 
 -- ---- the first part of a round
@@ -128,7 +126,6 @@ pub record HadItsTurn {S N D : Type 0} (s : Ghosts S N) (g : Disk D) (place : �
   pub turn : Turn
   pub there : turn.place ≡ place
   pub takes : LooksUpTurns s g (turn ∷ []) old new intake intake'
-  pub next : moment_of intake' ≡ moment_of intake
   pub group_is : group' ≡ group
 
 -- What waits in a place joined the group.
@@ -186,14 +183,13 @@ pub record SortsUpTo {S N D : Type 0} (s : Ghosts S N) (g : Disk D) (from : ℕ)
     (group : List New) (left : Option ℕ) (intake intake' : Intake D) : Type 0 where
   pub turns : List Turn
   pub takes : LooksUpTurns s g turns old new intake intake'
-  pub next : moment_of intake' ≡ moment_of intake
   pub turns_order : InOrder (IsBefore from) (places_of turns)
   pub turns_looked : AllByRecursion Looked (places_of turns)
   pub group_order : InOrder (IsBefore from) (places_in group)
   pub group_looked : AllByRecursion Looked (places_in group)
   pub waits : AllByRecursion (IsAskedIn old.hall) group
   pub apart : AllByRecursion (λ place. AreOther place (places_of turns)) (places_in group)
-  pub found : ForBook g intake intake' (λ book. AreFound old.hall group book.requests)
+  pub found : ForRequests g intake intake' (AreFound old.hall group)
   pub each : (i : ℕ) → Looked i → AreOther i (places_of turns) → AreOther i (places_in group)
       → (arrival_at old.hall i ≡ None) ⊎ IsLeftOut from old.hall group left i
   pub within : IsWithin group
@@ -250,11 +246,10 @@ pub record FiledUpTo {S N D : Type 0} (s : Ghosts S N) (g : Disk D) (at : ℕ) (
     (intake intake' : Intake D) : Type 0 where
   pub turns : List Turn
   pub takes : TakesTurns s g turns old new intake intake'
-  pub dates : Dates g intake intake'
   pub there : places_of turns ≡ places_in (take at group)
   pub asks : AllByRecursion (λ turn. asks_to_file turn.step) turns
 
--- What is new was decided and told, one after another, and has the moment that was set.
+-- What is new was decided and told, one after another.
 pub record FilesGroup {S N D : Type 0} (s : Ghosts S N) (g : Disk D) (old new : Port S) (group : List New)
     (intake intake' : Intake D) : Type 0 where
   pub turns : List Turn
@@ -263,5 +258,4 @@ pub record FilesGroup {S N D : Type 0} (s : Ghosts S N) (g : Disk D) (old new : 
   pub asks : AllByRecursion (λ turn. asks_to_file turn.step) turns
   pub decided : IsTransitionIf g (AreFound old.hall group) intake intake' (λ old_style before after.
       DecidesTurns (limit_of intake) old_style before after turns)
-  pub dates : DatesAtIf g (AreFound old.hall group) (moment_of intake) intake intake'
   pub setting : KeepsSetting g intake intake'

@@ -1,5 +1,4 @@
 pub mod Ports
-pub mod Dated
 pub mod Turns
 pub mod Rounds
 pub mod Away

@@ -14,7 +14,6 @@ use Rattle.filing_model.specs.Serving.{kept_by}
 use Rattle.filing_model.specs.Text.{MarkFits, completed_at, reply_text_with}
 use Rattle.gateway_server.specs.declared.decide.Decided.{Decided}
 use Rattle.intake_core.specs.declared.intake.Intake.{Intake}
-use Rattle.gateway_rounds.specs.Dated.{Dates}
 use Rattle.gateway_rounds.specs.Ports.{KeepsPort, Port, Runs}
 use Rattle.gateway_rounds.specs.Turns.{Turn, IsFree, TakesTurns}
 
@@ -49,10 +48,9 @@ abbrev pub IsTextOf : Decided → Bool → List ℕ → Type 0
 IsTextOf decided closes text =
     (wanted : List ℕ) → IfOk decided.reply (λ r. render (reply_parts r) closes ≡ wanted) → text ≡ wanted
 
--- What waited in a place had its turn, and what is kept of it has the moment that was set.
+-- What waited in a place had its turn.
 pub record TakesPlace {S N D : Type 0} (s : Ghosts S N) (g : Disk D) (place : ℕ) (old new : Port S)
     (intake intake' : Intake D) : Type 0 where
   pub turn : Turn
   pub there : turn.place ≡ place
   pub takes : TakesTurns s g (turn ∷ []) old new intake intake'
-  pub dates : Dates g intake intake'

@@ -11,7 +11,6 @@ use Rattle.filing_model.specs.Steps.{Step}
 use Rattle.filing_model.specs.Text.{FileReport, route}
 use Rattle.intake_core.specs.declared.intake.Intake.{Intake}
 use Rattle.intake_core.specs.Held.{IsTransition, KeepsSetting, limit_of}
-use Rattle.gateway_rounds.specs.Dated.{DatesAtIf}
 use Rattle.gateway_rounds.specs.Ports.{Port}
 use Rattle.gateway_rounds.specs.Turns.{Turn, AreElsewhere, AreInOrder, DecidesTurns, IsBefore, LooksUpTurns, TellsTurns}
 
@@ -55,9 +54,9 @@ pub record IsLeft {S : Type 0} (hall : Hall S) (turns : List Turn) (place : ℕ)
 
 -- What a round does. It looks at the places in order, from where the round before said, and round. First it answers
 -- what needs no commit, and nothing is kept by then: in `mid` all of this is owed or written. Then it answers what asks
--- for a report to be filed, after the same requests that were held at first. Each that is kept has the round's moment.
-pub record AnswersRound {S N D : Type 0} (s : Ghosts S N) (g : Disk D) (moment : ℕ) (old new : Port S)
-    (intake intake' : Intake D) : Type 0 where
+-- for a report to be filed, after the same requests that were held at first.
+pub record AnswersRound {S N D : Type 0} (s : Ghosts S N) (g : Disk D) (old new : Port S) (intake intake' : Intake D)
+    : Type 0 where
   pub at_once : List Turn
   pub filed : List Turn
   pub mid : Port S
@@ -66,7 +65,6 @@ pub record AnswersRound {S N D : Type 0} (s : Ghosts S N) (g : Disk D) (moment :
   pub second : TellsTurns s filed mid new
   pub files : IsTransition g intake intake' (λ old_style before after.
       DecidesTurns (limit_of intake) old_style before after filed)
-  pub dates : DatesAtIf g (λ requests. Unit {0}) moment intake intake'
   pub setting : KeepsSetting g intake_mid intake'
   pub asks : AllByRecursion (λ turn. asks_to_file turn.step) filed
   pub in_order : AreInOrder old.next at_once × AreInOrder old.next filed

@@ -15,7 +15,7 @@ use Rattle.filing_model.specs.Steps.{Step, StepsFit, all_completed}
 use Rattle.filing_model.specs.Text.{completed_at, reply_text_with}
 use Rattle.gateway_server.specs.Steps.{BeginsArrival}
 use Rattle.intake_core.specs.declared.intake.Intake.{Intake}
-use Rattle.intake_core.specs.Held.{ForBook, HoldsBook, IsTransition, KeepsSetting, limit_of, old_style_in}
+use Rattle.intake_core.specs.Held.{ForRequests, HoldsRequests, IsTransition, KeepsSetting, limit_of, old_style_in}
 use Rattle.gateway_rounds.specs.Ports.{KeepsPort, Port, Runs}
 
 -- What became of what waited in a place: the step that it was, unless there was no memory to decide it, and its answer,
@@ -123,6 +123,6 @@ pub record TakesTurns {S N D : Type 0} (s : Ghosts S N) (g : Disk D) (turns : Li
 pub record LooksUpTurns {S N D : Type 0} (s : Ghosts S N) (g : Disk D) (turns : List Turn) (old new : Port S)
     (intake intake' : Intake D) : Type 0 where
   pub tells : TellsTurns s turns old new
-  pub decided : ForBook g intake intake' (λ book. HoldsBook g intake' book
-      × DecidesTurns (limit_of intake) (old_style_in intake book.requests) book.requests book.requests turns)
+  pub decided : ForRequests g intake intake' (λ before. HoldsRequests g intake' before
+      × DecidesTurns (limit_of intake) (old_style_in intake before) before before turns)
   pub setting : KeepsSetting g intake intake'

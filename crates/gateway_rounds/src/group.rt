@@ -2,10 +2,9 @@
 
 ghost use Rattle.std.specs.Prelude.{◌≡◌, All, length, map, true, vec_len, IfOk, OnErr};
 ghost use Rattle.intake_core.specs.Calls.{IsRequest};
-ghost use Rattle.intake_core.specs.Held.{limit_of, moment_of, KeepsSetting, IsTransitionIf};
+ghost use Rattle.intake_core.specs.Held.{limit_of, KeepsSetting, IsTransitionIf};
 ghost use Rattle.gateway_server.specs.Decided.{IsPhrased};
 ghost use Rattle.gateway_server.specs.Group.{DecideInTurn};
-ghost use Rattle.gateway_rounds.specs.Dated.{DatesAtIf};
 ghost use Rattle.gateway_rounds.specs.Groups.{asked_in, places_in, AreApart, AreFound, FilesGroup, IsAskedIn};
 ghost use Rattle.gateway_rounds.specs.Groups.{TellsGroup};
 ghost use Rattle.gateway_rounds.specs.Ports.{port as view_port};
@@ -30,7 +29,6 @@ pub(crate) fn file_group<T: Stream<Note = Note> + Drop, K: Sockets<Stream = T> +
 )
     requires waits { All (IsAskedIn port.old.hall) port.old.group.items }
     requires apart { AreApart (places_in port.old.group.items) }
-    requires moment { moment_of intake.old ≡ moment.milliseconds }
     ensures { FilesGroup T.Stream S.Store (view_port K.traffic port.old) (view_port K.traffic port.new)
         port.old.group.items intake.old intake.new }
 {
@@ -60,8 +58,6 @@ fn decide_group<T: Stream + Drop, S: Alter>(
     ensures decided { IfOk result (λ all. IsTransitionIf S.Store (AreFound hall.now group.now) intake.old intake.new
         (λ old_style before after. DecideInTurn (limit_of intake.old) old_style before after
         (map (asked_in hall.now) group.now) all.items)) }
-    ensures dates { IfOk result (λ _.
-        DatesAtIf S.Store (AreFound hall.now group.now) moment.milliseconds intake.old intake.new) }
     ensures refused { OnErr result (intake.new ≡ intake.old) }
     ensures setting { KeepsSetting S.Store intake.old intake.new }
 {
@@ -124,8 +120,7 @@ fn request_in<'a, T: Stream + Drop>(hall: &'a Hall<T>, new: &'a New) -> Request<
 
 /// The moment, so many times.
 fn moments_of(alloc: Global, moment: Moment, count: usize) -> Result<Vec<Moment>, AllocError>
-    ensures count { IfOk result (λ moments. vec_len moments ≡ count) }
-    ensures are { IfOk result (λ moments. All (λ it. it ≡ moment) moments.items) }
+    ensures { IfOk result (λ moments. vec_len moments ≡ count) }
 {
     let mut moments = Vec::new(alloc);
     for _ in 0..count {

@@ -9,8 +9,7 @@ ghost use Rattle.filing_model.specs.Request.{Request};
 ghost use Rattle.filing_model.specs.Text.{route, bare, is_head};
 ghost use Rattle.intake_core.specs.Held.{limit_of, KeepsSetting, IsTransition};
 ghost use Rattle.gateway_requests.specs.Route.{view_message, view_route, HasFiler};
-ghost use Rattle.gateway_server.specs.Decided.{IsPhrased, Leaves};
-ghost use Rattle.gateway_rounds.specs.Dated.{Dates};
+ghost use Rattle.gateway_server.specs.Decided.{IsPhrased};
 ghost use Rattle.gateway_rounds.specs.Places.{Decides};
 
 use connection_hall::{Arrived, Hall, Stream};
@@ -43,7 +42,6 @@ pub(crate) fn decide_at<T: Stream + Drop, S: Alter>(
         (λ verdict. ForSome (arrival_at hall.now place) (λ arrival.
         Decides (limit_of intake.old) old_style before after arrival verdict.decided verdict.closes))
         (λ _. after ≡ before)) }
-    ensures dates { Dates S.Store intake.old intake.new }
     ensures phrase { IfOk result (λ verdict. IsPhrased verdict.decided) }
     ensures setting { KeepsSetting S.Store intake.old intake.new }
 {
@@ -64,7 +62,6 @@ fn decide_request<S: Alter>(
     ensures decided { IsTransition S.Store intake.old intake.new (λ old_style before after. MatchResult result
         (λ verdict. Decides (limit_of intake.old) old_style before after (ReadArrival (view_message request.now))
         verdict.decided verdict.closes) (λ _. after ≡ before)) }
-    ensures dates { Dates S.Store intake.old intake.new }
     ensures phrase { IfOk result (λ verdict. IsPhrased verdict.decided) }
     ensures setting { KeepsSetting S.Store intake.old intake.new }
 {
@@ -86,7 +83,6 @@ pub(crate) fn decide_asked<S: Alter>(
     ensures decided { IsTransition S.Store intake.old intake.new (λ old_style before after.
         Decides (limit_of intake.old) old_style before after (ReadArrival (view_message request.now))
         result.decided result.closes) }
-    ensures leaves { Leaves S.Store (view_route asked.entry request.now.body.now) intake.old intake.new result.decided }
     ensures phrase { IsPhrased result.decided }
     ensures setting { KeepsSetting S.Store intake.old intake.new }
 {

@@ -51,19 +51,14 @@ pub bare_filing : (is_bare : Bool) (r : Request) → bare is_bare (FileReport r)
 bare_filing true r = refl
 bare_filing false r = refl
 
-pub bare_list : (is_bare : Bool) (filer : List ℕ) (number : Option ℕ)
-    → bare is_bare (ListFilings filer number) ≡ ListFilings filer number
-bare_list true filer number = refl
-bare_list false filer number = refl
-
 -- what only tells of requests decides nothing
 pub DecidesNothing-told : {S X : Type 0} {g : Ghosts S} {Tells : List Request → X → Type 0} (old new : Intake S) (x : X)
     (d : Decided) → d.mark ≡ NotFiled → TellsOfRequests g old new (Ok x) Tells → DecidesNothing g old new d
 DecidesNothing-told old new x d marked t = record {
   same = t.kept;
-  next = t.next;
+  moments = t.moments;
   crash = t.crash;
-  durable = λ clean book h _. t.durable clean book h;
+  durable = λ clean requests h _. t.durable clean requests h;
   down = λ stopped. absurd (let e = (t.down stopped).0 in cc);
   stops = λ stopped. absurd (elim (t.stops.0 stopped) [
     | inl was ↦ (let e = (t.down was).0 in cc)
@@ -76,9 +71,9 @@ pub DecidesNothing-refused : {S X : Type 0} {g : Ghosts S} {Tells : List Request
     → DecidesNothing g old new d
 DecidesNothing-refused old new e d marked t = record {
   same = t.kept;
-  next = t.next;
+  moments = t.moments;
   crash = t.crash;
-  durable = λ clean book h told. absurd (let same : Unavailable ≡ NotFiled = sym marked ∙ told in cc);
+  durable = λ clean requests h told. absurd (let same : Unavailable ≡ NotFiled = sym marked ∙ told in cc);
   down = λ stopped. (marked, (t.down stopped).1);
   stops = λ _. marked;
 }

@@ -15,9 +15,7 @@ use Rattle.filing_model.specs.declared.served.Mark.{Mark}
 use Rattle.filing_model.proofs.Firsts.{firsts_short}
 use Rattle.intake_core.specs.declared.intake.Intake.{Intake}
 use Rattle.intake_core.specs.Calls.{DecidesRequest}
-use Rattle.register_tables.specs.Registers.{Book}
-use Rattle.intake_core.specs.Held.{Asked, IsTransition, limit_of, old_style_in, with_request, with_request_at}
-use Rattle.intake_core.specs.Together.{requests_in}
+use Rattle.intake_core.specs.Held.{IsTransition, limit_of, old_style_in, with_request}
 use Rattle.intake_core.proofs.Deciding.{old_style_in-after}
 use Rattle.intake_core.specs.Group.{AreDecidedInTurn, Given, IsDecidedAfter, after, after_one}
 use Rattle.gateway_server.specs.Decided.{Decides, IsOfGiven, marked_reply}
@@ -26,10 +24,10 @@ use Rattle.gateway_server.specs.declared.decide.Decided.{Decided}
 use Rattle.gateway_server.proofs.Decisions.{Decides-filed_unavailable}
 
 -- what a request got is told
-pub decides_one : (limit : ℕ) (old_style : List Request) (book : Book) (asked : Asked) (result : Given) (d : Decided)
-    → IsDecidedAfter limit old_style book.requests asked.0 result → IsOfGiven result d
-    → Decides limit old_style book.requests (after_one book asked result).requests (FileReport asked.0) d
-decides_one limit old_style book asked (Ok a) d told by = let F = book.requests in let r = asked.0 in record {
+pub decides_one : (limit : ℕ) (old_style F : List Request) (r : Request) (result : Given) (d : Decided)
+    → IsDecidedAfter limit old_style F r result → IsOfGiven result d
+    → Decides limit old_style F (after_one F r result) (FileReport r) d
+decides_one limit old_style F r (Ok a) d told by = record {
   fit = subst (λ (m : Mark). RouteFits limit F (FileReport r) m) (sym by.0) (⊎_elim
       (λ (known : has_key F r ≡ true). inl known)
       (λ (new : has_key F r ≡ false). inr (let room = told.room new in omega (arith, room, firsts_short F)))
@@ -40,48 +38,42 @@ decides_one limit old_style book asked (Ok a) d told by = let F = book.requests 
       (subst (λ (x : Answer). IfOk d.reply (λ reply. reply_parts reply ≡ reply_as (style_of old_style r) x))
       told.answer.0 (by.1 (style_of old_style r) told.answer.1));
 }
-decides_one limit old_style book asked (Err e) d told by =
-    Decides-filed_unavailable limit old_style book.requests asked.0 d by
+decides_one limit old_style F r (Err e) d told by = Decides-filed_unavailable limit old_style F r d by
 
 -- one that was submitted by itself
-pub files : {S : Type 0} (g : Ghosts S) (r : Request) (moment : ℕ) (old new : Intake S) (given : Given) (d : Decided)
-    → DecidesRequest g r moment old new given → IsOfGiven given d
+pub files : {S : Type 0} (g : Ghosts S) (r : Request) (old new : Intake S) (given : Given) (d : Decided)
+    → DecidesRequest g r old new given → IsOfGiven given d
     → IsTransition g old new (λ old_style before after. Decides (limit_of old) old_style before after (FileReport r) d)
-files g r moment old new (Ok a) d told by = λ clean before h.
-    let book : Book = record { requests = before; moments = h.moments } in
-    let answer = told.answer clean book h.book in (
-      with_request before r,
-      record { moments = (with_request_at book (r, moment)).moments; book = answer.1 },
-      old_style_in-after book (r, moment) old new told.setting.old_style h.book,
-      decides_one (limit_of old) (old_style_in old before) book (r, moment) (Ok a) d (record {
-        answer = answer.0;
-        full = told.full clean book h.book;
-        room = told.room clean book h.book;
-      }) by,
-    )
-files g r moment old new (Err e) d told by = λ clean before h. (
+files g r old new (Ok a) d told by = λ clean before h. (
+  with_request before r,
+  (told.answer clean before h).1,
+  old_style_in-after before r old new told.setting.old_style h,
+  decides_one (limit_of old) (old_style_in old before) before r (Ok a) d (record {
+    answer = (told.answer clean before h).0;
+    full = told.full clean before h;
+    room = told.room clean before h;
+  }) by,
+)
+files g r old new (Err e) d told by = λ clean before h. (
   before,
-  record {
-    moments = h.moments;
-    book = told.err clean (record { requests = before; moments = h.moments }) h.book;
-  },
+  told.err clean before h,
   ap (λ n. take n before) told.setting.old_style,
   Decides-filed_unavailable (limit_of old) (old_style_in old before) before r d by,
 )
 
 -- ---- all of them
 
-pub decide_in_turn : (limit : ℕ) (old_style : List Request) (book : Book) (asked : List Asked) (given : List Given)
-    (ds : List Decided) → length given ≡ length asked → AllZip IsOfGiven given ds
-    → AreDecidedInTurn limit old_style book (zip asked given)
-    → DecideInTurn limit old_style book.requests (after book (zip asked given)).requests (requests_in asked) ds
-decide_in_turn limit old_style book [] [] [] each by told = refl
-decide_in_turn limit old_style book [] [] (d ∷ ds) each by told = absurd by
-decide_in_turn limit old_style book [] (x ∷ given) ds each by told = absurd (omega (arith, each))
-decide_in_turn limit old_style book (a ∷ asked) [] ds each by told = absurd (omega (arith, each))
-decide_in_turn limit old_style book (a ∷ asked) (x ∷ given) [] each by told = absurd by
-decide_in_turn limit old_style book (a ∷ asked) (x ∷ given) (d ∷ ds) each by told = (
-  (after_one book a x).requests,
-  decides_one limit old_style book a x d told.0 by.0,
-  decide_in_turn limit old_style (after_one book a x) asked given ds (omega (arith, each)) by.1 told.1,
+pub decide_in_turn : (limit : ℕ) (old_style F : List Request) (rs : List Request) (given : List Given)
+    (ds : List Decided) → length given ≡ length rs → AllZip IsOfGiven given ds
+    → AreDecidedInTurn limit old_style F (zip rs given)
+    → DecideInTurn limit old_style F (after F (zip rs given)) rs ds
+decide_in_turn limit old_style F [] [] [] each by told = refl
+decide_in_turn limit old_style F [] [] (d ∷ ds) each by told = absurd by
+decide_in_turn limit old_style F [] (x ∷ given) ds each by told = absurd (omega (arith, each))
+decide_in_turn limit old_style F (r ∷ rs) [] ds each by told = absurd (omega (arith, each))
+decide_in_turn limit old_style F (r ∷ rs) (x ∷ given) [] each by told = absurd by
+decide_in_turn limit old_style F (r ∷ rs) (x ∷ given) (d ∷ ds) each by told = (
+  after_one F r x,
+  decides_one limit old_style F r x d told.0 by.0,
+  decide_in_turn limit old_style (after_one F r x) rs given ds (omega (arith, each)) by.1 told.1,
 )

@@ -14,3 +14,4 @@ pub mod Written
 pub mod FirstBytes
 pub mod Steps
 pub mod Grouped
+pub mod Kept

@@ -17,7 +17,8 @@ use Rattle.table_rows.specs.Standing.{CommitsNothing}
 use Rattle.intake_core.specs.declared.intake.Intake.{Intake}
 use Rattle.intake_core.specs.Calls.{DecidesRequest}
 use Rattle.intake_core.specs.Group.{Given}
-use Rattle.intake_core.specs.Held.{ForBook, HoldsBook, IsDurableAs, has_stopped, moment_of, old_style_of, shows}
+use Rattle.intake_core.specs.Held.{ForRequests, HoldsRequests, IsDurableAs, has_stopped, old_style_of, shows}
+use Rattle.intake_core.specs.Moments.{DatesRequest, KeepsMoments, moment_of}
 use Rattle.gateway_server.specs.declared.decide.Decided.{Decided}
 use Rattle.gateway_requests.specs.declared.route.Rejection.{Rejection as Why}
 use Rattle.gateway_requests.specs.Route.{rejection_status, rejection_word}
@@ -62,15 +63,17 @@ pub record IsSubmitted {S : Type 0} (g : Ghosts S) (r : Request) (moment : ℕ) 
     : Type 0 where
   pub given : Given
   pub is : IsOfGiven given d
-  pub decides : DecidesRequest g r moment old new given
+  pub decides : DecidesRequest g r old new given
+  pub dates : DatesRequest g r moment old new given
 
--- Nothing is decided: what is held stays, and so does the moment for the next request.
+-- Nothing is decided: what is held stays, with its moments.
 pub record DecidesNothing {S : Type 0} (g : Ghosts S) (old new : Intake S) (d : Decided) : Type 0 where
-  pub same : ForBook g old new (HoldsBook g new)
-  pub next : moment_of new ≡ moment_of old
+  pub same : ForRequests g old new (HoldsRequests g new)
+  pub moments : KeepsMoments g old new
   -- A stop leaves what it could leave before, and after an answer what is held.
   pub crash : CommitsNothing (shows g old) (shows g new)
-  pub durable : ForBook g old new (λ book. d.mark ≡ NotFiled → IsDurableAs g new (old_style_of old) book)
+  pub durable : ForRequests g old new (λ requests. d.mark ≡ NotFiled
+      → IsDurableAs g new (old_style_of old) requests)
   -- After a refusal of the database nothing is asked of it.
   pub down : has_stopped old ≡ true → (d.mark ≡ Unavailable) × (new ≡ old)
   pub stops : has_stopped new ≡ true → d.mark ≡ Unavailable

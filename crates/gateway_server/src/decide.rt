@@ -10,7 +10,8 @@ ghost use Rattle.filing_model.specs.Text.{ListFilings as AsksList, FileReport as
 ghost use Rattle.filing_model.specs.Reply.{list_reply as listed_reply};
 ghost use Rattle.filing_model.specs.Views.{the_request, view_row};
 ghost use Rattle.gateway_requests.specs.Route.{view_route, HasFiler};
-ghost use Rattle.intake_core.specs.Held.{limit_of, moment_of, KeepsSetting, IsTransition};
+ghost use Rattle.intake_core.specs.Held.{limit_of, KeepsSetting, IsTransition};
+ghost use Rattle.intake_core.specs.Moments.{moment_of};
 ghost use Rattle.gateway_server.specs.Decided.{rejection_reply, Decides, IsOfGiven, IsUnavailable, IsPhrased};
 ghost use Rattle.gateway_server.specs.Decided.{DecidesNothing, IsSubmitted, Leaves};
 

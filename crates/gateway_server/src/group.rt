@@ -5,6 +5,7 @@ ghost use Rattle.std.specs.List.{AllZip};
 ghost use Rattle.intake_core.specs.Calls.{IsRequest};
 ghost use Rattle.intake_core.specs.Held.{limit_of, KeepsSetting, IsTransitionIf};
 ghost use Rattle.intake_core.specs.Looked.{AreNewIf};
+ghost use Rattle.intake_core.specs.Together.{in_milliseconds};
 ghost use Rattle.gateway_server.specs.Decided.{IsOfGiven, IsPhrased};
 ghost use Rattle.gateway_server.specs.Group.{AreSubmitted, DecideInTurn};
 
@@ -32,8 +33,8 @@ pub fn file_all<S: Alter>(
     ensures decided { IfOk result (λ all. IsTransitionIf S.Store (AreNewIf are_new requests.now) intake.old intake.new
         (λ old_style before after. DecideInTurn (limit_of intake.old) old_style before after requests.now all.items)) }
     ensures phrases { IfOk result (λ all. All IsPhrased all.items) }
-    ensures submitted { IfOk result (λ all. AreSubmitted S.Store are_new requests.now moments.now intake.old
-        intake.new all.items) }
+    ensures submitted { IfOk result (λ all. AreSubmitted S.Store are_new requests.now (in_milliseconds moments.now)
+        intake.old intake.new all.items) }
     ensures setting { KeepsSetting S.Store intake.old intake.new }
     ensures refused { OnErr result (intake.new ≡ intake.old) }
 {

@@ -4,7 +4,7 @@ use Rattle.std.proofs.Common.{drop, map, length}
 use Rattle.std.proofs.Common.{Ok, Err, Vec, vec_len, vec_capacity, get_or, refl, sym, ap, ◌∙◌, subst, arith}
 use Rattle.std.proofs.Common.{append_assoc, length-append, true≢false}
 use Rattle.std.proofs.Math.Seq.{take-length}
-use Rattle.std.proofs.lemmas.List.{length-map, take-append-le, take_more, drop_at}
+use Rattle.std.proofs.lemmas.List.{take-append-le, take_more, drop_at}
 use Rattle.std.proofs.lemmas.Slice.Zip.{AllZip-long, all_zipped_more}
 use Rattle.std.proofs.lemmas.List.Folds.{list_any-append}
 use Rattle.std.specs.List.{AllByRecursion, AllZip, zip}
@@ -26,11 +26,10 @@ use Rattle.intake_core.specs.Cache.{IsKeptIn}
 use Rattle.intake_core.proofs.CacheLemmas.{IsKeptIn-more}
 use Rattle.intake_core.specs.declared.intake.Intake.{Intake}
 use Rattle.intake_core.specs.Group.{AreDecidedInTurn, Given}
-use Rattle.register_tables.specs.Registers.{Book}
-use Rattle.intake_core.specs.Held.{Asked, ChangesOnlyCache, HoldsBook, limit_of, old_style_of, with_new}
+use Rattle.intake_core.specs.Held.{ChangesOnlyCache, HoldsRequests, limit_of, old_style_of, with_request}
 use Rattle.register_store.specs.Outcomes.{outcomes_behind}
-use Rattle.intake_core.specs.Together.{AnswersGroup, AreNewBehind, requests_in}
-use Rattle.intake_core.proofs.Deciding.{IsKeptIn-new, at_new, firsts-more, style_of-new}
+use Rattle.intake_core.specs.Together.{AnswersGroup, AreNewBehind}
+use Rattle.intake_core.proofs.Deciding.{IsKeptIn-new, firsts-more, style_of-new}
 
 -- what becomes of the first of them, and of the rest
 outcomes_cons : (F : List Request) (r : Request) (rs : List Request) → has_key F r ≡ false
@@ -116,37 +115,34 @@ told_ok (o ∷ os) [] h = absurd h
 told_ok (o ∷ os) (Ok a ∷ given) h = (refl, told_ok os given h.1)
 told_ok (o ∷ os) (Err e ∷ given) h = absurd h.0
 
-pub told_in_turn : (limit n : ℕ) (book : Book) (asked : List Asked) (os : List Became) (given : List Given)
-    → length os ≡ length asked → firsts book.requests ≡ book.requests → AreNewBehind book.requests (requests_in asked)
-    → map view_outcome os ≡ outcomes_behind book.requests (requests_in asked) → n ≤ length book.requests
-    → length book.requests + length asked ≤ limit → AllZip Tells os given
-    → AreDecidedInTurn limit (take n book.requests) book (zip asked given)
-told_in_turn limit n book [] os given long are new is few room told = tt
-told_in_turn limit n book (a ∷ bs) [] given long are new is few room told = absurd (omega (arith, long))
-told_in_turn limit n book (a ∷ bs) (o ∷ os) [] long are new is few room told = absurd told
-told_in_turn limit n book (a ∷ bs) (o ∷ os) (Err e ∷ given) long are new is few room told = absurd told.0
-told_in_turn limit n book (a ∷ bs) (o ∷ os) (Ok x ∷ given) long are new is few room told =
-    let F = book.requests in
-    let r = a.0 in
+pub told_in_turn : (limit n : ℕ) (F rs : List Request) (os : List Became) (given : List Given)
+    → length os ≡ length rs → firsts F ≡ F → AreNewBehind F rs → map view_outcome os ≡ outcomes_behind F rs
+    → n ≤ length F → length F + length rs ≤ limit → AllZip Tells os given
+    → AreDecidedInTurn limit (take n F) F (zip rs given)
+told_in_turn limit n F [] os given long firsts' new are few room told = tt
+told_in_turn limit n F (r ∷ rs) [] given long firsts' new are few room told = absurd (omega (arith, long))
+told_in_turn limit n F (r ∷ rs) (o ∷ os) [] long firsts' new are few room told = absurd told
+told_in_turn limit n F (r ∷ rs) (o ∷ os) (Err e ∷ given) long firsts' new are few room told = absurd told.0
+told_in_turn limit n F (r ∷ rs) (o ∷ os) (Ok a ∷ given) long firsts' new are few room told =
     let both : view_outcome o ∷ map view_outcome os
-    ≡ (judged (kept F) r).outcome ∷ outcomes_behind (F ++ r ∷ []) (requests_in bs) =
-    is ∙ outcomes_cons F r (requests_in bs) new.0 in
+    ≡ (judged (kept F) r).outcome ∷ outcomes_behind (F ++ r ∷ []) rs = are ∙ outcomes_cons F r rs new.0 in
     let first : view_outcome o ≡ (judged (kept F) r).outcome = cc in
-    let rest : map view_outcome os ≡ outcomes_behind (F ++ r ∷ []) (requests_in bs) = cc in
+    let rest : map view_outcome os ≡ outcomes_behind (F ++ r ∷ []) rs = cc in
+    let more : with_request F r ≡ F ++ r ∷ [] = firsts-more F r firsts' new.0 in
     let longer : length (F ++ r ∷ []) ≡ length F + 1 = length-append F (r ∷ []) in (
       record {
         answer = (
           told.0.0 ∙ ap (λ (o : Outcome). answer_by o false) first ∙ sym (answer_new F r new.0),
-          subst (λ (s : Style). HasStyle s x) (sym (style_of-new n F r new.0)) told.0.1,
+          subst (λ (s : Style). HasStyle s a) (sym (style_of-new n F r new.0)) told.0.1,
         );
         full = λ k is. absurd (cc);
         room = λ _. omega (arith, room);
       },
-      subst (λ b. AreDecidedInTurn limit (take n F) b (zip bs given)) (sym (at_new book a are new.0))
-          (subst (λ (old_style : List Request).
-          AreDecidedInTurn limit old_style (with_new book (a ∷ [])) (zip bs given)) (take-append-le n F (r ∷ []) few)
-          (told_in_turn limit n (with_new book (a ∷ [])) bs os given (omega (arith, long)) (firsts-more F r are new.0)
-          new.1 rest (omega (arith, few, longer)) (omega (arith, room, longer)) told.1)),
+      subst (λ (G : List Request). AreDecidedInTurn limit (take n F) G (zip rs given)) (sym more)
+          (subst (λ (old_style : List Request). AreDecidedInTurn limit old_style (F ++ r ∷ []) (zip rs given))
+          (take-append-le n F (r ∷ []) few)
+          (told_in_turn limit n (F ++ r ∷ []) rs os given (omega (arith, long)) (firsts-more F r firsts' new.0) new.1
+          rest (omega (arith, few, longer)) (omega (arith, room, longer)) told.1)),
     )
 
 -- ---- one behind another
@@ -158,8 +154,8 @@ pub record AnswersFirst {S : Type 0} (g : Ghosts S) (count : ℕ) (rs : List Req
   pub are : results'.items ≡ results.items ++ given
   pub len : vec_len results' ≡ vec_len results + count
   pub told : AllZip Tells (take count outcomes) given
-  pub held : (F : List Request) (book : Book) → book.requests ≡ F ++ rs → HoldsBook g old book
-      → AllZip (IsKeptNew F rs) rs outcomes → old_style_of old ≤ length F → HoldsBook g new book
+  pub held : (F : List Request) → HoldsRequests g old (F ++ rs) → AllZip (IsKeptNew F rs) rs outcomes
+      → old_style_of old ≤ length F → HoldsRequests g new (F ++ rs)
   pub rest : ChangesOnlyCache old new
   pub room : vec_capacity results' ≡ vec_capacity results
 
@@ -175,9 +171,9 @@ module _ {S : Type 0} {g : Ghosts S} (rs : List Request) (outcomes : List Became
     pub answers_more : (count : ℕ) (old mid new : Intake S) (a b c : Vec Given Global) (r : Request) (o : Became)
         (told : Told) → AnswersFirst g count rs outcomes old mid a b → count < length rs → r ≡ get_or rs count r
         → o ≡ get_or outcomes count o
-        → ((book : Book) → HoldsBook g mid book
-        → IsKeptIn book.requests (record { request = r; outcome = view_outcome o })
-        → Problem ≡ style_of (take (old_style_of mid) book.requests) r → HoldsBook g new book)
+        → ((requests : List Request) → HoldsRequests g mid requests
+        → IsKeptIn requests (record { request = r; outcome = view_outcome o })
+        → Problem ≡ style_of (take (old_style_of mid) requests) r → HoldsRequests g new requests)
         → ChangesOnlyCache mid new → Tells o (Ok told) → c.items ≡ b.items ++ Ok told ∷ [] → vec_len c ≡ vec_len b + 1
         → vec_capacity c ≡ vec_capacity b → AnswersFirst g (count + 1) rs outcomes old new a c
     answers_more count old mid new a b c r o told h within r_is o_is same rest tells are len room = record {
@@ -190,15 +186,13 @@ module _ {S : Type 0} {g : Ghosts S} (rs : List Request) (outcomes : List Became
           (sym (take_more outcomes count o (omega (arith, within, long))
           ∙ ap (λ (o : Became). take count outcomes ++ o ∷ []) (sym o_is)))
           (all_zipped_more Tells (take count outcomes) h.given o (Ok told) h.told tells);
-      held = λ F book book_is held kept few.
+      held = λ F held kept few.
           let this : IsKeptNew F rs r o =
           subst (λ (r : Request). IsKeptNew F rs r o) (sym r_is)
           (subst (λ (o : Became). IsKeptNew F rs (get_or rs count r) o) (sym o_is)
           (all_zip_at (IsKeptNew F rs) rs outcomes count r o kept within)) in
-          same book (h.held F book book_is held kept few)
-          (subst (λ G. IsKeptIn G (record { request = r; outcome = view_outcome o })) (sym book_is) this.is)
-          (sym (ap (λ (G : List Request). style_of (take (old_style_of mid) G) r) book_is
-          ∙ ap (λ n. style_of (take n (F ++ rs)) r) (ap (λ s. s.old_style) h.rest.store)
+          same (F ++ rs) (h.held F held kept few) this.is
+          (sym (ap (λ n. style_of (take n (F ++ rs)) r) (ap (λ s. s.old_style) h.rest.store)
           ∙ ap (λ (es : List Request). style_of es r) (take-append-le (old_style_of old) F rs few)
           ∙ style_of-new (old_style_of old) F r this.new));
       rest = record {
@@ -223,16 +217,11 @@ module _ {S : Type 0} {g : Ghosts S} (rs : List Request) (outcomes : List Became
           each = each ∙ long;
           len = omega (arith, h.len, end, each, long);
           all = told_ok outcomes h.given told;
-          answers = λ book asked same firsts' held new_ones are few room.
-              let F = book.requests in
-              let many : length asked ≡ length rs = sym (length-map asked (λ (a : Asked). a.0)) ∙ ap length same in (
-                told_in_turn (limit_of old) (old_style_of old) book asked outcomes h.given (long ∙ sym many) firsts'
-                    (subst (AreNewBehind F) (sym same) new_ones)
-                    (are ∙ ap (outcomes_behind F) (sym same)) few
-                    (omega (arith, room, many)) told,
-                h.held F (with_new book asked) (ap (λ (rs : List Request). F ++ rs) same) held
-                    (all_kept F rs outcomes long new_ones are) few,
-              );
+          answers = λ F firsts' held new_ones are few room. (
+            told_in_turn (limit_of old) (old_style_of old) F rs outcomes h.given long firsts' new_ones are few room
+                told,
+            h.held F held (all_kept F rs outcomes long new_ones are) few,
+          );
           rest = h.rest;
           room = h.room;
         }

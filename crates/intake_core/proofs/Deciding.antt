@@ -1,6 +1,6 @@
 -- What an intake holds after a new request, and after a repeat.
 use Rattle.std.proofs.Common.{◌≡◌, ◌⊎◌, ℕ, zero, suc, Bool, true, false, List, [], ◌∷◌, ◌++◌, take, inl, inr, Option}
-use Rattle.std.proofs.Common.{Some, None, Result, Ok, Err, IfOk, IfSome, map, refl, sym, ap, ◌∙◌, subst, ⊎_elim}
+use Rattle.std.proofs.Common.{Some, None, Result, Ok, Err, IfOk, IfSome, refl, sym, ap, ◌∙◌, subst, ⊎_elim}
 use Rattle.std.proofs.lemmas.Bool.{cases_Bool}
 use Rattle.std.proofs.lemmas.List.{take-append-le}
 use Rattle.std.proofs.lemmas.List.Folds.{find-append}
@@ -14,12 +14,11 @@ use Rattle.filing_model.specs.Style.{style_of}
 use Rattle.filing_model.specs.declared.served.Style.TheVariants.{Problem}
 use Rattle.filing_model.proofs.Firsts.{firsts_new, firsts_repeat, same_key-refl}
 use Rattle.filing_model.proofs.Keeping.{kept_new, kept_none, kept_found}
-use Rattle.register_tables.specs.Registers.{Book}
-use Rattle.register_store.specs.Store.{HasBook}
+use Rattle.register_store.specs.Store.{HasRequests}
 use Rattle.intake_core.specs.declared.cache.Cache.{Cache}
 use Rattle.intake_core.specs.declared.intake.Intake.{Intake}
 use Rattle.intake_core.specs.Cache.{IsKeptIn, RemembersIfAny}
-use Rattle.intake_core.specs.Held.{Asked, HoldsBook, old_style_of, old_style_in, with_new, with_request, with_request_at}
+use Rattle.intake_core.specs.Held.{HoldsRequests, old_style_of, old_style_in}
 use Rattle.intake_core.proofs.CacheLemmas.{IsKeptIn-more}
 
 -- what holds of a value that was made holds of it as an option
@@ -73,73 +72,59 @@ pub style_of-new : (n : ℕ) (requests : List Request) (r : Request) → has_key
     → style_of (take n requests) r ≡ Problem
 style_of-new n requests r new = rw (has_key-take n requests r new) refl
 
--- ---- a book after a request
+-- what is held after several new requests
+pub HoldsRequests-several : {S : Type 0} {g : Ghosts S} (requests rs : List Request) (old new : Intake S)
+    → firsts (requests ++ rs) ≡ requests ++ rs → HoldsRequests g old requests → new.cache ≡ old.cache
+    → old_style_of new ≡ old_style_of old → HasRequests g new.store (requests ++ rs)
+    → HoldsRequests g new (requests ++ rs)
+HoldsRequests-several requests rs old new are h same old_style rows = record {
+  firsts' = are;
+  rows = rows;
+  known = subst (λ es. RemembersIfAny es (requests ++ rs) new.cache)
+      (sym (ap (λ n. take n (requests ++ rs)) old_style
+      ∙ take-append-le (old_style_of old) requests rs h.rows.within))
+      (subst (RemembersIfAny (old_style_in old requests) (requests ++ rs)) (sym same)
+      (RemembersIfAny-more (old_style_in old requests) requests rs old.cache h.known));
+}
 
-pub at_repeat : (book : Book) (asked : Asked) → firsts book.requests ≡ book.requests
-    → has_key book.requests asked.0 ≡ true → with_request_at book asked ≡ book
-at_repeat book asked are known =
-    let same : with_request book.requests asked.0 ≡ book.requests =
-    firsts_repeat book.requests asked.0 known ∙ are in
-    rw (known, same) refl
-
-pub at_new : (book : Book) (asked : Asked) → firsts book.requests ≡ book.requests
-    → has_key book.requests asked.0 ≡ false → with_request_at book asked ≡ with_new book (asked ∷ [])
-at_new book asked are new =
-    let more : with_request book.requests asked.0 ≡ book.requests ++ asked.0 ∷ [] =
-    firsts-more book.requests asked.0 are new in
-    rw (new, more) refl
-
--- ---- what is held
-
-module _ {S : Type 0} {g : Ghosts S} (book : Book) where
-  -- after several new requests
-  pub HoldsBook-several : (asked : List Asked) (old new : Intake S)
-      → firsts (with_new book asked).requests ≡ (with_new book asked).requests → HoldsBook g old book
-      → new.cache ≡ old.cache → old_style_of new ≡ old_style_of old → HasBook g new.store (with_new book asked)
-      → HoldsBook g new (with_new book asked)
-  HoldsBook-several asked old new are h same old_style rows =
-      let rs = map (λ (a : Asked). a.0) asked in
-      record {
-        firsts' = are;
-        rows = rows;
-        known = subst (λ es. RemembersIfAny es (book.requests ++ rs) new.cache)
-            (sym (ap (λ n. take n (book.requests ++ rs)) old_style
-            ∙ take-append-le (old_style_of old) book.requests rs h.rows.requests.within))
-            (subst (RemembersIfAny (old_style_in old book.requests) (book.requests ++ rs)) (sym same)
-            (RemembersIfAny-more (old_style_in old book.requests) book.requests rs old.cache h.known));
-      }
-
-  -- after a repeat
-  pub HoldsBook-repeat : (asked : Asked) (new : Intake S) → has_key book.requests asked.0 ≡ true
-      → HoldsBook g new book → HoldsBook g new (with_request_at book asked)
-  HoldsBook-repeat asked new known h = subst (HoldsBook g new) (sym (at_repeat book asked h.firsts' known)) h
-
-  -- after a new request, in the words of a repeat
-  pub HoldsBook-new : (asked : Asked) (new : Intake S) → firsts book.requests ≡ book.requests
-      → has_key book.requests asked.0 ≡ false → HoldsBook g new (with_new book (asked ∷ []))
-      → HoldsBook g new (with_request_at book asked)
-  HoldsBook-new asked new are fresh h = subst (HoldsBook g new) (sym (at_new book asked are fresh)) h
-
-  -- the register was asked, and nothing else has changed
-  pub HoldsBook-asked : (old new : Intake S) → HoldsBook g old book → new.cache ≡ old.cache
-      → old_style_of new ≡ old_style_of old → HasBook g new.store book → HoldsBook g new book
-  HoldsBook-asked old new h same old_style rows = record {
-    firsts' = h.firsts';
-    rows = rows;
-    known = subst (λ n. RemembersIfAny (take n book.requests) book.requests new.cache) (sym old_style)
-        (subst (RemembersIfAny (old_style_in old book.requests) book.requests) (sym same) h.known);
-  }
-
+module _ {S : Type 0} {g : Ghosts S} (requests : List Request) (r : Request) where
   -- the requests that were kept in the old style stay these after another request
-  pub old_style_in-after : (asked : Asked) (old new : Intake S) → old_style_of new ≡ old_style_of old
-      → HoldsBook g old book
-      → old_style_in new (with_request_at book asked).requests ≡ old_style_in old book.requests
-  old_style_in-after asked old new same h =
-      ap (λ n. take n (with_request book.requests asked.0)) same ∙ by_key (cases_Bool (has_key book.requests asked.0))
+  pub old_style_in-after : (old new : Intake S) → old_style_of new ≡ old_style_of old → HoldsRequests g old requests
+      → old_style_in new (firsts (requests ++ r ∷ [])) ≡ old_style_in old requests
+  old_style_in-after old new same h =
+      ap (λ n. take n (firsts (requests ++ r ∷ []))) same ∙ by_key (cases_Bool (has_key requests r))
     where
-      by_key : (has_key book.requests asked.0 ≡ true) ⊎ (has_key book.requests asked.0 ≡ false)
-          → take (old_style_of old) (with_request book.requests asked.0) ≡ old_style_in old book.requests
-      by_key (inl known) = ap (take (old_style_of old)) (firsts_repeat book.requests asked.0 known ∙ h.firsts')
+      by_key : (has_key requests r ≡ true) ⊎ (has_key requests r ≡ false)
+          → take (old_style_of old) (firsts (requests ++ r ∷ [])) ≡ old_style_in old requests
+      by_key (inl known) = ap (take (old_style_of old)) (firsts_repeat requests r known ∙ h.firsts')
       by_key (inr fresh) =
-          ap (take (old_style_of old)) (firsts-more book.requests asked.0 h.firsts' fresh)
-          ∙ take-append-le (old_style_of old) book.requests (asked.0 ∷ []) h.rows.requests.within
+          ap (take (old_style_of old)) (firsts-more requests r h.firsts' fresh)
+          ∙ take-append-le (old_style_of old) requests (r ∷ []) h.rows.within
+
+  -- what is held after a new request
+  pub HoldsRequests-more : (old new : Intake S) → has_key requests r ≡ false → HoldsRequests g old requests
+      → new.cache ≡ old.cache → old_style_of new ≡ old_style_of old → HasRequests g new.store (requests ++ r ∷ [])
+      → HoldsRequests g new (requests ++ r ∷ [])
+  HoldsRequests-more old new fresh h =
+      HoldsRequests-several requests (r ∷ []) old new (firsts-more requests r h.firsts' fresh) h
+
+  -- what is held after a repeat
+  pub HoldsRequests-repeat : (new : Intake S) → has_key requests r ≡ true → HoldsRequests g new requests
+      → HoldsRequests g new (firsts (requests ++ r ∷ []))
+  HoldsRequests-repeat new known h = subst (HoldsRequests g new) (sym (firsts_repeat requests r known ∙ h.firsts')) h
+
+  -- what is held after a new request, in the words of a repeat
+  pub HoldsRequests-new : (new : Intake S) → firsts requests ≡ requests → has_key requests r ≡ false
+      → HoldsRequests g new (requests ++ r ∷ []) → HoldsRequests g new (firsts (requests ++ r ∷ []))
+  HoldsRequests-new new are fresh h = subst (HoldsRequests g new) (sym (firsts-more requests r are fresh)) h
+
+-- the register was asked, and nothing else has changed
+pub HoldsRequests-asked : {S : Type 0} {g : Ghosts S} (requests : List Request) (old new : Intake S)
+    → HoldsRequests g old requests → new.cache ≡ old.cache → old_style_of new ≡ old_style_of old
+    → HasRequests g new.store requests → HoldsRequests g new requests
+HoldsRequests-asked requests old new h same old_style rows = record {
+  firsts' = h.firsts';
+  rows = rows;
+  known = subst (λ n. RemembersIfAny (take n requests) requests new.cache) (sym old_style)
+      (subst (RemembersIfAny (old_style_in old requests) requests) (sym same) h.known);
+}

@@ -2,30 +2,31 @@
 use Rattle.std.proofs.Common.{◌≡◌, ◌⊎◌, ◌↔◌, ◌≤◌, ◌+◌, ℕ, true, false, List, [], ◌∷◌, ◌++◌, take, drop, map, length}
 use Rattle.std.proofs.Common.{zero, suc}
 use Rattle.std.proofs.Common.{Ok, Err, refl, sym, ap, ◌∙◌, subst, ⊎_elim, arith, length-append, Vec}
-use Rattle.std.proofs.Common.{append_assoc, inl, inr, IsTrue, vec_len, vec_capacity}
+use Rattle.std.proofs.Common.{append_assoc, inl, inr, vec_len, vec_capacity}
 use Rattle.std.proofs.lemmas.Bool.{cases_Bool}
 use Rattle.std.proofs.lemmas.List.{take-append-drop, take-append-le, length-take-le}
 use Rattle.std.specs.List.{AllByRecursion, zip}
 use Rattle.std.specs.Result.{IsErr, is_err}
 use Rattle.std.specs.declared.alloc.Global.{Global}
 use Rattle.sqlite.specs.Store.{Ghosts}
-use Rattle.sqlite.specs.Effect.{Database}
 use Rattle.sqlite.specs.Tree.{Trees}
 use Rattle.sqlite.proofs.StateLemmas.{survives_then, survives_weaker}
 use Rattle.table_rows.proofs.StepLemmas.{nothing_yet}
 use Rattle.filing_model.specs.Request.{Request, firsts, has_key}
-use Rattle.filing_model.proofs.Firsts.{firsts_repeat}
-use Rattle.register_tables.specs.Registers.{Book, LeavesBook, LeavesOnlyBook}
+use Rattle.filing_model.proofs.Firsts.{firsts_repeat, firsts-firsts}
+use Rattle.register_tables.specs.Registers.{LeavesRegister}
 use Rattle.intake_core.specs.declared.intake.Intake.{Intake}
 use Rattle.intake_core.specs.declared.intake.Unavailable.TheVariants.{Down}
 use Rattle.intake_core.specs.Calls.{DecidesRequest}
 use Rattle.intake_core.specs.Group.{after, after_one, AreDecidedInTurn, Decided, DecidesEach, DecidesEachIf}
 use Rattle.intake_core.specs.Group.{EndAtFailure}
 use Rattle.intake_core.specs.Group.{Given, HasFailed, LeavesHeld, LeavesSome}
-use Rattle.intake_core.specs.Held.{shows, limit_of, old_style_of, old_style_in, has_stopped, HoldsBook, SurvivesAs}
-use Rattle.intake_core.specs.Held.{Asked, with_all}
+use Rattle.intake_core.specs.Held.{shows, limit_of, old_style_of, old_style_in, has_stopped, HoldsRequests, SurvivesAs}
+use Rattle.intake_core.specs.Held.{with_request}
+use Rattle.intake_core.specs.Moments.{DatesAllIf, DatesRequest}
 use Rattle.intake_core.specs.Together.{AddsResults, AddsResultsIf}
-use Rattle.intake_core.proofs.Deciding.{at_repeat, firsts-more}
+use Rattle.intake_core.proofs.Dating.{after-append, append-three, dates_none, dates_one, dates_then}
+use Rattle.intake_core.proofs.Deciding.{firsts-more}
 
 -- ---- lists
 
@@ -72,25 +73,16 @@ take-both (suc n) m (x ∷ xs) =
     let same : suc (n + m) ≡ suc n + m = omega arith in
     ap (λ ys. x ∷ ys) (take-both n m xs) ∙ ap (λ k. take k (x ∷ xs)) same
 
-append-three : {X : Type 0} (xs before part rest : List X)
-    → xs ++ (before ++ part ++ rest) ≡ xs ++ before ++ part ++ rest
-append-three xs before part rest =
-    sym (append_assoc xs (before ++ part) rest) ∙ ap (λ ys. ys ++ rest) (sym (append_assoc xs before part))
-
 -- ---- what is held after them
-
-after-append : (book : Book) (xs ys : List Decided) → after book (xs ++ ys) ≡ after (after book xs) ys
-after-append book [] ys = refl
-after-append book (d ∷ xs) ys = after-append (after_one book d.0 d.1) xs ys
 
 -- each is still the first of its filer and key, and those that were there first are the same
 abbrev Keeps : ℕ → List Request → List Request → Type 0
 Keeps n F G = (take n G ≡ take n F) × (firsts G ≡ G) × (n ≤ length G)
 
-keeps_one : (n : ℕ) (book : Book) (asked : Asked) (result : Given) → n ≤ length book.requests
-    → firsts book.requests ≡ book.requests → Keeps n book.requests (after_one book asked result).requests
-keeps_one n book asked (Err e) few are = (refl, are, few)
-keeps_one n book asked (Ok a) few are = let F = book.requests in let r = asked.0 in ⊎_elim
+keeps_one : (n : ℕ) (F : List Request) (r : Request) (result : Given) → n ≤ length F → firsts F ≡ F
+    → Keeps n F (after_one F r result)
+keeps_one n F r (Err e) few are = (refl, are, few)
+keeps_one n F r (Ok a) few are = ⊎_elim
     (λ (h : has_key F r ≡ true). subst (Keeps n F) (sym (firsts_repeat F r h ∙ are)) (refl, are, few))
     (λ (h : has_key F r ≡ false). subst (Keeps n F) (sym (firsts-more F r are h)) (
       take-append-le n F (r ∷ []) few,
@@ -99,26 +91,24 @@ keeps_one n book asked (Ok a) few are = let F = book.requests in let r = asked.0
     ))
     (cases_Bool (has_key F r))
 
-pub keeps_after : (n : ℕ) (book : Book) (ds : List Decided) → n ≤ length book.requests
-    → firsts book.requests ≡ book.requests → Keeps n book.requests (after book ds).requests
-keeps_after n book [] few are = (refl, are, few)
-keeps_after n book (d ∷ ds) few are =
-    let one = keeps_one n book d.0 d.1 few are in
-    let rest = keeps_after n (after_one book d.0 d.1) ds one.2 one.1 in
+keeps_after : (n : ℕ) (F : List Request) (ds : List Decided) → n ≤ length F → firsts F ≡ F → Keeps n F (after F ds)
+keeps_after n F [] few are = (refl, are, few)
+keeps_after n F (d ∷ ds) few are =
+    let one = keeps_one n F d.0 d.1 few are in
+    let rest = keeps_after n (after_one F d.0 d.1) ds one.2 one.1 in
     (rest.0 ∙ one.0, rest.1, rest.2)
 
 -- ---- one part behind another
 
-pub turn-append : (limit : ℕ) (old_style : List Request) (book : Book) (xs ys : List Decided)
-    → AreDecidedInTurn limit old_style book xs → AreDecidedInTurn limit old_style (after book xs) ys
-    → AreDecidedInTurn limit old_style book (xs ++ ys)
-turn-append limit old_style book [] ys h k = k
-turn-append limit old_style book (d ∷ xs) ys h k =
-    (h.0, turn-append limit old_style (after_one book d.0 d.1) xs ys h.1 k)
+pub turn-append : (limit : ℕ) (old_style F : List Request) (xs ys : List Decided)
+    → AreDecidedInTurn limit old_style F xs → AreDecidedInTurn limit old_style (after F xs) ys
+    → AreDecidedInTurn limit old_style F (xs ++ ys)
+turn-append limit old_style F [] ys h k = k
+turn-append limit old_style F (d ∷ xs) ys h k = (h.0, turn-append limit old_style (after_one F d.0 d.1) xs ys h.1 k)
 
-leaves-first : (n : ℕ) (book : Book) (xs ys : List Decided) (trees : Trees) → LeavesSome n book xs trees
-    → LeavesSome n book (xs ++ ys) trees
-leaves-first n book xs ys trees h = record {
+leaves-first : (n : ℕ) (F : List Request) (xs ys : List Decided) (trees : Trees) → LeavesSome n F xs trees
+    → LeavesSome n F (xs ++ ys) trees
+leaves-first n F xs ys trees h = record {
   before = h.before;
   next = h.next;
   more = h.more;
@@ -129,22 +119,22 @@ leaves-first n book xs ys trees h = record {
   leaves = h.leaves;
 }
 
-leaves-second : (n : ℕ) (book : Book) (xs ys : List Decided) (trees : Trees) → LeavesSome n (after book xs) ys trees
-    → LeavesSome n book (xs ++ ys) trees
-leaves-second n book xs ys trees h = record {
+leaves-second : (n : ℕ) (F : List Request) (xs ys : List Decided) (trees : Trees) → LeavesSome n (after F xs) ys trees
+    → LeavesSome n F (xs ++ ys) trees
+leaves-second n F xs ys trees h = record {
   before = xs ++ h.before;
   next = h.next;
   more = h.more;
   rest = h.rest;
   are = ap (λ ds. xs ++ ds) h.are ∙ append-three xs h.before (h.next ∷ h.more) h.rest;
   leaves =
-      subst (λ b. LeavesBook n (with_all b (map (λ (d : Decided). d.0) (h.next ∷ h.more))) trees)
-      (sym (after-append book xs h.before)) h.leaves;
+      subst (λ G. LeavesRegister n (firsts (G ++ h.next.0 ∷ map (λ (d : Decided). d.0) h.more)) trees)
+      (sym (after-append F xs h.before)) h.leaves;
 }
 
-held-first : (n : ℕ) (book : Book) (xs ys : List Decided) (trees : Trees)
-    → after (after book xs) ys ≡ after book xs → LeavesHeld n book xs trees → LeavesHeld n book (xs ++ ys) trees
-held-first n book xs ys trees same h = record {
+held-first : (n : ℕ) (F : List Request) (xs ys : List Decided) (trees : Trees)
+    → after (after F xs) ys ≡ after F xs → LeavesHeld n F xs trees → LeavesHeld n F (xs ++ ys) trees
+held-first n F xs ys trees same h = record {
   before = h.before;
   part = h.part;
   rest = h.rest ++ ys;
@@ -152,26 +142,33 @@ held-first n book xs ys trees same h = record {
       ap (λ ds. ds ++ ys) h.are
       ∙ append_assoc (h.before ++ h.part) h.rest ys;
   leaves =
-      subst (λ b. LeavesBook n (with_all b (map (λ (d : Decided). d.0) h.part)) trees)
-      (sym (after-append book xs ys ∙ same)) h.leaves;
+      subst (λ G. LeavesRegister n (firsts (G ++ map (λ (d : Decided). d.0) h.part)) trees)
+      (sym (after-append F xs ys ∙ same)) h.leaves;
 }
 
-held-second : (n : ℕ) (book : Book) (xs ys : List Decided) (trees : Trees) → LeavesHeld n (after book xs) ys trees
-    → LeavesHeld n book (xs ++ ys) trees
-held-second n book xs ys trees h = record {
+held-second : (n : ℕ) (F : List Request) (xs ys : List Decided) (trees : Trees) → LeavesHeld n (after F xs) ys trees
+    → LeavesHeld n F (xs ++ ys) trees
+held-second n F xs ys trees h = record {
   before = xs ++ h.before;
   part = h.part;
   rest = h.rest;
   are = ap (λ ds. xs ++ ds) h.are ∙ append-three xs h.before h.part h.rest;
   leaves =
-      subst (λ b. LeavesBook n (with_all b (map (λ (d : Decided). d.0) h.part)) trees)
-      (sym (after-append book xs ys)) h.leaves;
+      subst (λ G. LeavesRegister n (firsts (G ++ map (λ (d : Decided). d.0) h.part)) trees)
+      (sym (after-append F xs ys)) h.leaves;
 }
 
 -- what is held, and no more
-pub held_exactly : (n : ℕ) (book : Book) (ds : List Decided) (trees : Trees) → LeavesBook n (after book ds) trees
-    → LeavesHeld n book ds trees
-held_exactly n book ds trees l = record { before = []; part = []; rest = ds; are = refl; leaves = l }
+pub held_exactly : (n : ℕ) (F : List Request) (ds : List Decided) (trees : Trees)
+    → firsts (after F ds) ≡ after F ds → LeavesRegister n (after F ds) trees → LeavesHeld n F ds trees
+held_exactly n F ds trees are l = record {
+  before = [];
+  part = [];
+  rest = ds;
+  are = refl;
+  leaves =
+      subst (λ (G : List Request). LeavesRegister n G trees) (sym (ap firsts (append_nil (after F ds)) ∙ are)) l;
+}
 
 failed-append : (xs ys : List Decided) → HasFailed (xs ++ ys) → HasFailed xs ⊎ HasFailed ys
 failed-append [] ys h = inr h
@@ -202,62 +199,44 @@ down_is_none : (d : Decided) → d.1 ≡ Err Down → IsErr d.1
 down_is_none d is = ap is_err is
 
 module _ {S : Type 0} {g : Ghosts S} where
-  -- what is held and committed lasts
-  pub lasts_open : (new : Intake S) (book : Book)
-      → ((trees : Trees) → IsTrue (shows g new).is_open → (shows g new).may_leave trees
-      → trees ≡ (shows g new).committed.trees) → HoldsBook g new book → IsTrue (shows g new).is_open
-      → LeavesOnlyBook (shows g new) (old_style_of new) book
-  lasts_open new book settled held alive trees left =
-      let stands = held.rows.requests.stands in
-      record {
-        db = (shows g new).now;
-        is = settled trees alive left ∙ ap (λ (d : Database). d.trees) (stands.committed alive);
-        holds = record {
-          register = stands.now alive;
-          one_each = held.rows.one_each ∙ held.rows.requests.kept_is;
-          received = held.rows.received.now alive;
-        };
-      }
-
   pub decides_then : (Open : Type 0) (Holds : List Request → Type 0) (xs ys : List Decided) (old mid new : Intake S)
       → DecidesEachIf g Open Holds xs old mid → DecidesEach g ys mid new
       → DecidesEachIf g Open Holds (xs ++ ys) old new
   decides_then Open Holds xs ys old mid new one two = record {
-    answers = λ clean book h is.
-        let first = one.answers (two.setting.clean clean) book h is in
-        let second = two.answers clean (after book xs) first.1 tt in
-        let style : old_style_in mid (after book xs).requests ≡ old_style_in old book.requests =
-        ap (λ n. take n (after book xs).requests) one.setting.old_style
-        ∙ (keeps_after (old_style_of old) book xs h.rows.requests.within h.firsts').0 in (
-          turn-append (limit_of old) (old_style_in old book.requests) book xs ys first.0
-              (subst (λ old_style. AreDecidedInTurn (limit_of old) old_style (after book xs) ys) style
-              (subst (λ n. AreDecidedInTurn n (old_style_in mid (after book xs).requests) (after book xs) ys)
-              one.setting.limit second.0)),
-          subst (HoldsBook g new) (sym (after-append book xs ys)) second.1,
+    answers = λ clean F h is.
+        let first = one.answers (two.setting.clean clean) F h is in
+        let second = two.answers clean (after F xs) first.1 tt in
+        let style : old_style_in mid (after F xs) ≡ old_style_in old F =
+        ap (λ n. take n (after F xs)) one.setting.old_style
+        ∙ (keeps_after (old_style_of old) F xs h.rows.within h.firsts').0 in (
+          turn-append (limit_of old) (old_style_in old F) F xs ys first.0
+              (subst (λ old_style. AreDecidedInTurn (limit_of old) old_style (after F xs) ys) style
+              (subst (λ n. AreDecidedInTurn n (old_style_in mid (after F xs)) (after F xs) ys) one.setting.limit
+              second.0)),
+          subst (HoldsRequests g new) (sym (after-append F xs ys)) second.1,
         );
     setting = record {
       clean = λ clean. one.setting.clean (two.setting.clean clean);
       limit = two.setting.limit ∙ one.setting.limit;
       old_style = two.setting.old_style ∙ one.setting.old_style;
     };
-    next = two.next ∙ one.next;
     crash = survives_then (shows g old) (shows g mid) (shows g new) _ _ _
-        (λ clean trees left book h alive is. leaves-first (old_style_of old) book xs ys trees (left book h alive is))
-        (λ clean trees left book h alive is.
-        leaves-second (old_style_of old) book xs ys trees
-        (subst (λ n. LeavesSome n (after book xs) ys trees) one.setting.old_style
-        (left (after book xs) (one.answers (two.setting.clean clean) book h is).1 tt tt)))
+        (λ clean trees left F h alive is. leaves-first (old_style_of old) F xs ys trees (left F h alive is))
+        (λ clean trees left F h alive is.
+        leaves-second (old_style_of old) F xs ys trees
+        (subst (λ n. LeavesSome n (after F xs) ys trees) one.setting.old_style
+        (left (after F xs) (one.answers (two.setting.clean clean) F h is).1 tt tt)))
         one.crash two.crash;
-    durable = λ clean book h alive is trees left.
+    durable = λ clean F h alive is trees left.
         let cleaned = two.setting.clean clean in
-        let first = one.answers cleaned book h is in
-        elim (two.durable clean (after book xs) first.1 tt tt trees left) [
-          | inl same ↦ elim (one.durable cleaned book h alive is trees same.0) [
-            | inl was ↦ inl (was.0, after-append book xs ys ∙ same.1 ∙ was.1)
-            | inr held ↦ inr (held-first (old_style_of old) book xs ys trees same.1 held)
+        let first = one.answers cleaned F h is in
+        elim (two.durable clean (after F xs) first.1 tt tt trees left) [
+          | inl same ↦ elim (one.durable cleaned F h alive is trees same.0) [
+            | inl was ↦ inl (was.0, after-append F xs ys ∙ same.1 ∙ was.1)
+            | inr held ↦ inr (held-first (old_style_of old) F xs ys trees same.1 held)
           ]
-          | inr held ↦ inr (held-second (old_style_of old) book xs ys trees
-              (subst (λ n. LeavesHeld n (after book xs) ys trees) one.setting.old_style held))
+          | inr held ↦ inr (held-second (old_style_of old) F xs ys trees
+              (subst (λ n. LeavesHeld n (after F xs) ys trees) one.setting.old_style held))
         ];
     ends = ends-append xs ys one.ends two.ends
         (λ failed. all-weaker (λ d. d.1 ≡ Err Down) (λ d. IsErr d.1) ys down_is_none
@@ -284,23 +263,22 @@ module _ {S : Type 0} {g : Ghosts S} where
         (λ d f is. two.stops.1 (inl (f is))) one.up) two.up;
   }
 
-  alone : {r : Request} {moment : ℕ} {old new : Intake S} (result : Given)
-      → DecidesRequest g r moment old new result → SurvivesAs g old new (λ book trees. Unit {0} → Unit {0}
-      → LeavesSome (old_style_of old) book (((r, moment), result) ∷ []) trees)
-  alone {r} {moment} {old} {new} result d =
+  alone : {r : Request} {old new : Intake S} (result : Given) → DecidesRequest g r old new result
+      → SurvivesAs g old new (λ F trees. Unit {0} → Unit {0}
+      → LeavesSome (old_style_of old) F ((r, result) ∷ []) trees)
+  alone {r} {old} {new} result d =
       survives_weaker (shows g old) (shows g new) _ _
-      (λ clean trees left book h _ _. record {
+      (λ clean trees left F h _ _. record {
         before = [];
-        next = ((r, moment), result);
+        next = (r, result);
         more = [];
         rest = [];
         are = refl;
-        leaves = left book h;
+        leaves = left F h;
       }) d.crash
 
-  one_stops : {r : Request} {moment : ℕ} {old new : Intake S} (result : Given)
-      → DecidesRequest g r moment old new result
-      → (has_stopped new ≡ true) ↔ ((has_stopped old ≡ true) ⊎ HasFailed (((r, moment), result) ∷ []))
+  one_stops : {r : Request} {old new : Intake S} (result : Given) → DecidesRequest g r old new result
+      → (has_stopped new ≡ true) ↔ ((has_stopped old ≡ true) ⊎ HasFailed ((r, result) ∷ []))
   one_stops result d = (
     λ stopped. elim (d.stops.0 stopped) [ inl was ↦ inl was | inr failed ↦ inr (inl failed) ],
     λ cause. elim cause [
@@ -310,43 +288,44 @@ module _ {S : Type 0} {g : Ghosts S} where
   )
 
   -- one request
-  pub decides_one : (asked : Asked) (result : Given) (old new : Intake S)
-      → DecidesRequest g asked.0 asked.1 old new result → DecidesEach g ((asked, result) ∷ []) old new
-  decides_one asked (Ok a) old new d = record {
-    answers = λ clean book h _.
-        let told = d.answer clean book h in
-        ((record { answer = told.0; full = d.full clean book h; room = d.room clean book h }, tt), told.1);
+  pub decides_one : (r : Request) (result : Given) (old new : Intake S) → DecidesRequest g r old new result
+      → DecidesEach g ((r, result) ∷ []) old new
+  decides_one r (Ok a) old new d = record {
+    answers = λ clean F h _.
+        let told = d.answer clean F h in
+        ((record { answer = told.0; full = d.full clean F h; room = d.room clean F h }, tt), told.1);
     setting = d.setting;
-    next = d.next;
     crash = alone (Ok a) d;
-    durable = λ clean book h _ _ trees left. ⊎_elim
-        (λ (known : has_key book.requests asked.0 ≡ true). elim (d.crash.crash clean trees left) [
-          | inl was ↦ inl (was, at_repeat book asked h.firsts' known)
-          | inr made ↦ inr (held_exactly (old_style_of old) book ((asked, Ok a) ∷ []) trees (made book h))
+    durable = λ clean F h _ _ trees left. ⊎_elim
+        (λ (known : has_key F r ≡ true). elim (d.crash.crash clean trees left) [
+          | inl was ↦ inl (was, firsts_repeat F r known ∙ h.firsts')
+          | inr made ↦ inr (exactly F trees (made F h))
         ])
-        (λ (fresh : has_key book.requests asked.0 ≡ false).
-        inr (held_exactly (old_style_of old) book ((asked, Ok a) ∷ []) trees
-        ((d.durable clean book h (inr fresh)).1 trees left)))
-        (cases_Bool (has_key book.requests asked.0));
+        (λ (fresh : has_key F r ≡ false). inr (exactly F trees ((d.durable clean F h (inr fresh)).1 trees left)))
+        (cases_Bool (has_key F r));
     ends = (λ failed. tt, tt);
     down = λ stopped. let both = d.down stopped in ((both.0, tt), both.1);
     stops = one_stops (Ok a) d;
     up = (λ is. d.stops.1 (inl (d.up is)), tt);
   }
-  decides_one asked (Err e) old new d = record {
-    answers = λ clean book h _.
-        ((record { answer = tt; full = d.full clean book h; room = tt }, tt), d.err clean book h);
+    where
+      exactly : (F : List Request) (trees : Trees) → LeavesRegister (old_style_of old) (with_request F r) trees
+          → LeavesHeld (old_style_of old) F ((r, Ok a) ∷ []) trees
+      exactly F trees l =
+          held_exactly (old_style_of old) F ((r, Ok a) ∷ []) trees (firsts-firsts (F ++ r ∷ [])) l
+  decides_one r (Err e) old new d = record {
+    answers = λ clean F h _.
+        ((record { answer = tt; full = d.full clean F h; room = tt }, tt), d.err clean F h);
     setting = d.setting;
-    next = d.next;
     crash = alone (Err e) d;
-    durable = λ clean book h _ _ trees left. elim (d.crash.crash clean trees left) [
+    durable = λ clean F h _ _ trees left. elim (d.crash.crash clean trees left) [
       | inl was ↦ inl (was, refl)
       | inr made ↦ inr (record {
         before = [];
-        part = (asked, Err e) ∷ [];
+        part = (r, Err e) ∷ [];
         rest = [];
         are = refl;
-        leaves = made book h;
+        leaves = made F h;
       })
     ];
     ends = (λ failed. tt, tt);
@@ -357,11 +336,10 @@ module _ {S : Type 0} {g : Ghosts S} where
 
   pub decides_none : (i : Intake S) → DecidesEach g [] i i
   decides_none i = record {
-    answers = λ clean book h _. (tt, h);
+    answers = λ clean F h _. (tt, h);
     setting = record { clean = λ clean. clean; limit = refl; old_style = refl };
-    next = refl;
     crash = survives_weaker (shows g i) (shows g i) _ _ (λ clean trees none. absurd none) (nothing_yet (shows g i));
-    durable = λ clean book h _ _ trees left. inl (left, refl);
+    durable = λ clean F h _ _ trees left. inl (left, refl);
     ends = tt;
     down = λ stopped. (tt, refl);
     stops = (λ stopped. inl stopped, λ cause. elim cause [ inl was ↦ was | inr none ↦ absurd none ]);
@@ -370,47 +348,57 @@ module _ {S : Type 0} {g : Ghosts S} where
 
   -- ---- the results
 
-  pub adds_none : (i : Intake S) (results : Vec Given Global) → AddsResults g [] i i results results
+  pub adds_none : (i : Intake S) (results : Vec Given Global) → AddsResults g [] [] i i results results
   adds_none i results = record {
     given = [];
     are = sym (append_nil results.items);
     each = refl;
     len = omega arith;
     decides = decides_none i;
+    dates = dates_none i;
     room = refl;
   }
 
-  pub adds_one : (asked : Asked) (result : Given) (old new : Intake S) (results results' : Vec Given Global)
-      → DecidesRequest g asked.0 asked.1 old new result → results'.items ≡ results.items ++ result ∷ []
+  pub adds_one : (r : Request) (m : ℕ) (result : Given) (old new : Intake S) (results results' : Vec Given Global)
+      → DecidesRequest g r old new result → DatesRequest g r m old new result
+      → results'.items ≡ results.items ++ result ∷ []
       → vec_len results' ≡ vec_len results + 1 → vec_capacity results' ≡ vec_capacity results
-      → AddsResults g (asked ∷ []) old new results results'
-  adds_one asked result old new results results' decides are len room = record {
+      → AddsResults g (r ∷ []) (m ∷ []) old new results results'
+  adds_one r m result old new results results' decides dates are len room = record {
     given = result ∷ [];
     are = are;
     each = refl;
     len = len;
-    decides = decides_one asked result old new decides;
+    decides = decides_one r result old new decides;
+    dates = dates_one r result m old new dates;
     room = room;
   }
 
-  pub adds_then : (Open : Type 0) (Holds : List Request → Type 0) (xs ys : List Asked) (old mid new : Intake S)
-      (a b c : Vec Given Global) → AddsResultsIf g Open Holds xs old mid a b → AddsResults g ys mid new b c
-      → AddsResultsIf g Open Holds (xs ++ ys) old new a c
-  adds_then Open Holds xs ys old mid new a b c one two = record {
+  pub adds_then : (Open : Type 0) (Holds : List Request → Type 0) (rs ss : List Request) (ms ms' : List ℕ)
+      (old mid new : Intake S) (a b c : Vec Given Global) → length ms ≡ length rs
+      → AddsResultsIf g Open Holds rs ms old mid a b → AddsResults g ss ms' mid new b c
+      → AddsResultsIf g Open Holds (rs ++ ss) (ms ++ ms') old new a c
+  adds_then Open Holds rs ss ms ms' old mid new a b c long one two = record {
     given = one.given ++ two.given;
     are = two.are ∙ ap (λ xs. xs ++ two.given) one.are ∙ append_assoc a.items one.given two.given;
-    each = omega (arith, length-append one.given two.given, length-append xs ys, one.each, two.each);
+    each = omega (arith, length-append one.given two.given, length-append rs ss, one.each, two.each);
     len = omega (arith, length-append one.given two.given, one.len, two.len);
     decides =
-        subst (λ ds. DecidesEachIf g Open Holds ds old new) (sym (zip-append xs ys one.given two.given one.each))
-        (decides_then Open Holds (zip xs one.given) (zip ys two.given) old mid new one.decides two.decides);
+        subst (λ ds. DecidesEachIf g Open Holds ds old new) (sym (zip-append rs ss one.given two.given one.each))
+        (decides_then Open Holds (zip rs one.given) (zip ss two.given) old mid new one.decides two.decides);
+    dates =
+        subst (λ ds. DatesAllIf g Open Holds ds (ms ++ ms') old new) (sym (zip-append rs ss one.given two.given
+        one.each))
+        (dates_then Open Holds (zip rs one.given) (zip ss two.given) ms ms' old mid new
+        (long ∙ sym (length_zipped rs one.given one.each))
+        one.decides two.decides one.dates two.dates);
     room = two.room ∙ one.room;
   }
 
   -- what is so if less is needed for it
-  pub adds_weaker : {Open Open' : Type 0} {Holds Holds' : List Request → Type 0} {asked : List Asked}
+  pub adds_weaker : {Open Open' : Type 0} {Holds Holds' : List Request → Type 0} {rs : List Request} {ms : List ℕ}
       {old new : Intake S} {a b : Vec Given Global} → (Open' → Open) → ((F : List Request) → Holds' F → Holds F)
-      → AddsResultsIf g Open Holds asked old new a b → AddsResultsIf g Open' Holds' asked old new a b
+      → AddsResultsIf g Open Holds rs ms old new a b → AddsResultsIf g Open' Holds' rs ms old new a b
   adds_weaker {old = old} {new = new} opened holds h = record {
     given = h.given;
     are = h.are;
@@ -418,43 +406,59 @@ module _ {S : Type 0} {g : Ghosts S} where
     len = h.len;
     room = h.room;
     decides = record {
-      answers = λ clean book held is. h.decides.answers clean book held (holds book.requests is);
+      answers = λ clean F held is. h.decides.answers clean F held (holds F is);
       setting = h.decides.setting;
-      next = h.decides.next;
       crash = survives_weaker (shows g old) (shows g new) _ _
-          (λ clean trees left book held alive is. left book held (opened alive) (holds book.requests is))
-          h.decides.crash;
-      durable = λ clean book held alive is. h.decides.durable clean book held (opened alive) (holds book.requests is);
+          (λ clean trees left F held alive is. left F held (opened alive) (holds F is)) h.decides.crash;
+      durable = λ clean F held alive is. h.decides.durable clean F held (opened alive) (holds F is);
       ends = h.decides.ends;
       down = h.decides.down;
       stops = h.decides.stops;
       up = h.decides.up;
     };
+    dates = record {
+      dated = λ clean F held moments had is. h.dates.dated clean F held moments had (holds F is);
+      crash = survives_weaker (shows g old) (shows g new) _ _
+          (λ clean trees left F moments held had alive is. left F moments held had (opened alive) (holds F is))
+          h.dates.crash;
+      next = h.dates.next;
+    };
   }
 
   -- what is so in any case
-  pub adds_if : (Open : Type 0) (Holds : List Request → Type 0) {asked : List Asked} {old new : Intake S}
-      {a b : Vec Given Global} → AddsResults g asked old new a b → AddsResultsIf g Open Holds asked old new a b
+  pub adds_if : (Open : Type 0) (Holds : List Request → Type 0) {rs : List Request} {ms : List ℕ} {old new : Intake S}
+      {a b : Vec Given Global} → AddsResults g rs ms old new a b → AddsResultsIf g Open Holds rs ms old new a b
   adds_if Open Holds = adds_weaker (λ _. tt) (λ F _. tt)
 
   -- those that come next
-  pub adds_next : (asked : List Asked) {rest : List Asked} (at count : ℕ) (old mid new : Intake S)
-      (a b c : Vec Given Global) → AddsResults g (take at asked) old mid a b
-      → AddsResults g (take count rest) mid new b c → count ≤ length rest → rest ≡ drop at asked
-      → (vec_len c ≡ vec_len b + count) × AddsResults g (take (at + count) asked) old new a c
-  adds_next asked {rest} at count old mid new a b c one two few is = (
+  pub adds_next : (requests : List Request) (ms : List ℕ) {rest : List Request} {ms' : List ℕ} (at count : ℕ)
+      (old mid new : Intake S) (a b c : Vec Given Global) → length ms ≡ length requests
+      → AddsResults g (take at requests) (take at ms) old mid a b
+      → AddsResults g (take count rest) (take count ms') mid new b c → count ≤ length rest → rest ≡ drop at requests
+      → ms' ≡ drop at ms → at ≤ length requests
+      → (vec_len c ≡ vec_len b + count) × AddsResults g (take (at + count) requests) (take (at + count) ms) old new a c
+  adds_next requests ms {rest} {ms'} at count old mid new a b c long_ms one two few is ms_is within = (
     omega (arith, two.len, two.each, length-take-le count rest few),
-    subst (λ xs. AddsResults g xs old new a c)
-        (ap (λ (rest : List Asked). take at asked ++ take count rest) is ∙ take-both at count asked)
-        (adds_then (Unit {0}) (λ F. Unit {0}) (take at asked) (take count rest) old mid new a b c one two),
+    subst (λ ms. AddsResults g (take (at + count) requests) ms old new a c)
+        (ap (λ (rest : List ℕ). take at ms ++ take count rest) ms_is ∙ take-both at count ms)
+        (subst (λ rs. AddsResults g rs (take at ms ++ take count ms') old new a c)
+        (ap (λ (rest : List Request). take at requests ++ take count rest) is ∙ take-both at count requests)
+        (adds_then (Unit {0}) (λ F. Unit {0}) (take at requests) (take count rest) (take at ms) (take count ms') old mid
+        new a b c
+        (length-take-le at ms (omega (arith, long_ms, within)) ∙ sym (length-take-le at requests within)) one two)),
   )
 
   -- the first of them, and the others
-  pub adds_rest : (Open : Type 0) (Holds : List Request → Type 0) (asked : List Asked) {rest : List Asked} (count : ℕ)
-      (old mid new : Intake S) (a b c : Vec Given Global)
-      → AddsResultsIf g Open Holds (take count asked) old mid a b → AddsResults g rest mid new b c
-      → rest ≡ drop count asked → AddsResultsIf g Open Holds asked old new a c
-  adds_rest Open Holds asked {rest} count old mid new a b c one two is =
-      subst (λ xs. AddsResultsIf g Open Holds xs old new a c)
-      (ap (λ (rest : List Asked). take count asked ++ rest) is ∙ take-append-drop count asked)
-      (adds_then Open Holds (take count asked) rest old mid new a b c one two)
+  pub adds_rest : (Open : Type 0) (Holds : List Request → Type 0) (requests : List Request) (ms : List ℕ)
+      {rest : List Request} {ms' : List ℕ} (count : ℕ) (old mid new : Intake S) (a b c : Vec Given Global)
+      → length ms ≡ length requests
+      → AddsResultsIf g Open Holds (take count requests) (take count ms) old mid a b
+      → AddsResults g rest ms' mid new b c → rest ≡ drop count requests → ms' ≡ drop count ms
+      → count ≤ length requests → AddsResultsIf g Open Holds requests ms old new a c
+  adds_rest Open Holds requests ms {rest} {ms'} count old mid new a b c long_ms one two is ms_is within =
+      subst (λ ms. AddsResultsIf g Open Holds requests ms old new a c)
+      (ap (λ (rest : List ℕ). take count ms ++ rest) ms_is ∙ take-append-drop count ms)
+      (subst (λ rs. AddsResultsIf g Open Holds rs (take count ms ++ ms') old new a c)
+      (ap (λ (rest : List Request). take count requests ++ rest) is ∙ take-append-drop count requests)
+      (adds_then Open Holds (take count requests) rest (take count ms) ms' old mid new a b c
+      (length-take-le count ms (omega (arith, long_ms, within)) ∙ sym (length-take-le count requests within)) one two))

@@ -1,4 +1,5 @@
 pub mod Answering
+pub mod Dating
 pub mod Deciding
 pub mod Group
 pub mod Together

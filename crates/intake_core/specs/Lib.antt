@@ -1,6 +1,7 @@
 pub mod Calls
 pub mod Group
 pub mod Held
+pub mod Moments
 pub mod Together
 pub mod Answered
 pub mod Cache

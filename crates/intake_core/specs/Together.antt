@@ -1,6 +1,6 @@
 -- What an intake does with new requests, which it keeps together.
 use Rattle.std.specs.Prelude.{◌≡◌, ◌<◌, ◌≤◌, ◌+◌, ◌∷◌, ◌++◌, [], ℕ, List, length, map, take, true, false, Result}
-use Rattle.std.specs.Prelude.{Err, None, IsTrue, IfOk, OnOk, OnErr, Vec, vec_len, vec_capacity}
+use Rattle.std.specs.Prelude.{Err, None, Some, IsTrue, IfOk, OnOk, OnErr, Vec, vec_len, vec_capacity}
 use Rattle.std.specs.List.{AllByRecursion, zip}
 use Rattle.std.specs.Result.{IsOk}
 use Rattle.std.specs.declared.alloc.Global.{Global}
@@ -16,40 +16,38 @@ use Rattle.register_store.specs.declared.outcome.NewRow.{NewRow}
 use Rattle.register_store.specs.NewRows.{request_of}
 use Rattle.register_store.specs.Outcomes.{outcomes_behind}
 use Rattle.filing_model.specs.Request.{Request, firsts, has_key}
-use Rattle.register_tables.specs.Registers.{Book, LeavesBook}
+use Rattle.register_tables.specs.Registers.{LeavesReceived, LeavesRegister}
 use Rattle.intake_core.specs.declared.intake.Intake.{Intake}
 use Rattle.intake_core.specs.declared.intake.Unavailable.TheVariants.{Store as StoreFailed}
-use Rattle.intake_core.specs.Held.{store_of, shows, limit_of, moment_of, old_style_of, old_style_in, has_stopped}
-use Rattle.intake_core.specs.Held.{HoldsBook, ChangesOnlyCache, ForBook, IsDurableAs, KeepsSetting, SurvivesAs}
-use Rattle.intake_core.specs.Held.{Asked, with_all, with_new}
+use Rattle.intake_core.specs.Held.{store_of, shows, limit_of, old_style_of, old_style_in, has_stopped, HoldsRequests}
+use Rattle.intake_core.specs.Held.{ChangesOnlyCache, ForRequests, IsDurableAs, KeepsSetting, SurvivesAs}
 use Rattle.intake_core.specs.declared.intake.group.Together.{Together}
 use Rattle.intake_core.specs.declared.intake.group.Together.TheVariants.{Kept, Alone, Failed}
 use Rattle.intake_core.specs.Group.{AreDecidedInTurn, DecidesEachIf, Given}
+use Rattle.intake_core.specs.Moments.{DatesAllIf, ForMoments, HoldsMoments, KeepsMoments, SurvivesWith, moment_of}
+use Rattle.intake_core.specs.Moments.{with_moments}
 
--- the requests without their moments
-abbrev pub requests_in : List Asked → List Request
-requests_in asked = map (λ a. a.0) asked
-
--- The results gain one for each of these requests, in the room that was there. What is said of rows holds if this holds
--- of those that the intake held before.
+-- The results gain one for each of these requests, which came at these moments, in the room that was there. What is
+-- said of rows holds if this holds of those that the intake held before.
 pub record AddsResultsIf {S : Type 0} (g : Ghosts S) (Open : Type 0) (Holds : List Request → Type 0)
-    (asked : List Asked) (old new : Intake S) (results results' : Vec Given Global) : Type 0 where
+    (requests : List Request) (ms : List ℕ) (old new : Intake S) (results results' : Vec Given Global) : Type 0 where
   pub given : List Given
   pub are : results'.items ≡ results.items ++ given
-  pub each : length given ≡ length asked
+  pub each : length given ≡ length requests
   pub len : vec_len results' ≡ vec_len results + length given
-  pub decides : DecidesEachIf g Open Holds (zip asked given) old new
+  pub decides : DecidesEachIf g Open Holds (zip requests given) old new
+  pub dates : DatesAllIf g Open Holds (zip requests given) ms old new
   pub room : vec_capacity results' ≡ vec_capacity results
 
-abbrev pub AddsResults : {S : Type 0} → Ghosts S → List Asked → Intake S → Intake S → Vec Given Global
+abbrev pub AddsResults : {S : Type 0} → Ghosts S → List Request → List ℕ → Intake S → Intake S → Vec Given Global
     → Vec Given Global → Type 0
-AddsResults g asked old new results results' =
-    AddsResultsIf g (Unit {0}) (λ requests. Unit {0}) asked old new results results'
+AddsResults g requests ms old new results results' =
+    AddsResultsIf g (Unit {0}) (λ F. Unit {0}) requests ms old new results results'
 
 -- A look-up writes nothing, and what is held stays.
 pub record LooksUp {S : Type 0} (g : Ghosts S) (old new : Intake S) : Type 0 where
-  pub same : ForBook g old new (HoldsBook g new)
-  pub next : moment_of new ≡ moment_of old
+  pub same : ForRequests g old new (HoldsRequests g new)
+  pub moments : KeepsMoments g old new
   pub setting : KeepsSetting g old new
   pub stopped : has_stopped new ≡ has_stopped old
   pub count : (store_of new).kept ≡ (store_of old).kept
@@ -66,6 +64,10 @@ abbrev pub AreNewBehind : List Request → List Request → Type 0
 AreNewBehind F [] = Unit {0}
 AreNewBehind F (r ∷ rs) = (has_key F r ≡ false) × AreNewBehind (F ++ r ∷ []) rs
 
+-- the moments in milliseconds
+abbrev pub in_milliseconds : List Moment → List ℕ
+in_milliseconds moments = map (λ moment. moment.milliseconds) moments
+
 -- the rows of these requests, which came at these moments and were judged so
 pub record AreRowsOf (rs : List Request) (moments : List Moment) (judged : List Judged) (rows : List NewRow) : Type 0
   where
@@ -73,22 +75,25 @@ pub record AreRowsOf (rs : List Request) (moments : List Moment) (judged : List 
     pub moments' : map (λ row. row.moment) rows ≡ moments
     pub judgements : map (λ row. row.judged.now) rows ≡ judged
 
--- What keeping new requests with one commit does: all are kept, in order and each with its moment, or none.
-pub record AddsGroup {S : Type 0} (g : Ghosts S) (asked : List Asked) (old new : Intake S)
+-- What keeping new requests with one commit does: all are kept, in order, or none.
+pub record AddsGroup {S : Type 0} (g : Ghosts S) (rs : List Request) (ms : List ℕ) (old new : Intake S)
     (result : Result (Vec Outcome Global) StoreFault) : Type 0 where
-  pub added : ForBook g old new (λ book. AreNewBehind book.requests (requests_in asked) → IfOk result (λ outcomes.
-      (map view_outcome outcomes.items ≡ outcomes_behind book.requests (requests_in asked))
-      × HoldsBook g new (with_new book asked)))
-  pub same : ForBook g old new (λ book. OnErr result (HoldsBook g new book))
+  pub added : ForRequests g old new (λ F. AreNewBehind F rs → IfOk result (λ outcomes.
+      (map view_outcome outcomes.items ≡ outcomes_behind F rs) × HoldsRequests g new (F ++ rs)))
+  pub same : ForRequests g old new (λ F. OnErr result (HoldsRequests g new F))
+  pub dated : ForMoments g old new (λ _ moments. OnOk result (HoldsMoments g new (moments ++ map Some ms)))
+  pub undated : ForMoments g old new (λ _ moments. OnErr result (HoldsMoments g new moments))
+  pub received : SurvivesWith g old new (λ F moments trees. IsTrue (shows g old).is_open → AreNewBehind F rs
+      → LeavesReceived (old_style_of old) (F ++ rs) (moments ++ map Some ms) trees)
   pub next : moment_of new ≡ moment_of old
-  pub each : IfOk result (λ outcomes. length outcomes.items ≡ length asked)
+  pub each : IfOk result (λ outcomes. length outcomes.items ≡ length rs)
   pub setting : KeepsSetting g old new
   pub stopped : has_stopped new ≡ has_stopped old
   -- A crash in the call leaves what one before it could leave, or all of them, and never some.
-  pub crash : SurvivesAs g old new (λ book trees. IsTrue (shows g old).is_open
-      → AreNewBehind book.requests (requests_in asked) → LeavesBook (old_style_of old) (with_new book asked) trees)
-  pub durable : ForBook g old new (λ book. AreNewBehind book.requests (requests_in asked)
-      → OnOk result (IsDurableAs g new (old_style_of old) (with_new book asked)))
+  pub crash : SurvivesAs g old new (λ F trees. IsTrue (shows g old).is_open → AreNewBehind F rs
+      → LeavesRegister (old_style_of old) (F ++ rs) trees)
+  pub durable : ForRequests g old new (λ F. AreNewBehind F rs
+      → OnOk result (IsDurableAs g new (old_style_of old) (F ++ rs)))
 
 -- What answering requests does that were kept with these outcomes, if each was new: each gets its answer, in turn.
 pub record AnswersGroup {S : Type 0} (g : Ghosts S) (rs : List Request) (outcomes : List Outcome) (old new : Intake S)
@@ -98,12 +103,10 @@ pub record AnswersGroup {S : Type 0} (g : Ghosts S) (rs : List Request) (outcome
   pub each : length given ≡ length rs
   pub len : vec_len results' ≡ vec_len results + length given
   pub all : AllByRecursion IsOk given
-  pub answers : (book : Book) (asked : List Asked) → requests_in asked ≡ rs → firsts book.requests ≡ book.requests
-      → HoldsBook g old (with_new book asked) → AreNewBehind book.requests rs
-      → map view_outcome outcomes ≡ outcomes_behind book.requests rs → old_style_of old ≤ length book.requests
-      → length book.requests + length rs ≤ limit_of old
-      → AreDecidedInTurn (limit_of old) (old_style_in old book.requests) book (zip asked given)
-      × HoldsBook g new (with_new book asked)
+  pub answers : (F : List Request) → firsts F ≡ F → HoldsRequests g old (F ++ rs) → AreNewBehind F rs
+      → map view_outcome outcomes ≡ outcomes_behind F rs → old_style_of old ≤ length F
+      → length F + length rs ≤ limit_of old
+      → AreDecidedInTurn (limit_of old) (old_style_in old F) F (zip rs given) × HoldsRequests g new (F ++ rs)
   pub rest : ChangesOnlyCache old new
   pub room : vec_capacity results' ≡ vec_capacity results
 
@@ -134,21 +137,27 @@ UnlessKept (Alone count) P = P
 UnlessKept (Failed count) P = P
 
 -- What keeping the first of these requests together does, if this holds of those that the intake held before: all are
--- kept, in order and each with its moment, or none.
+-- kept, in order, or none.
 pub record KeepsFirst {S : Type 0} (g : Ghosts S) (Open : Type 0) (Holds : List Request → Type 0)
-    (asked : List Asked) (old new : Intake S) (result : Together) : Type 0 where
-  pub some : (0 < count_of result) × (count_of result ≤ length asked)
-  pub kept : ForBook g old new (λ book. Holds book.requests → IfKept result (λ outcomes.
-      AreNewBehind book.requests (requests_in (take (count_of result) asked))
-      × (map view_outcome outcomes ≡ outcomes_behind book.requests (requests_in (take (count_of result) asked)))
-      × HoldsBook g new (with_new book (take (count_of result) asked))
-      × (length book.requests + count_of result ≤ limit_of old)))
-  pub none : ForBook g old new (λ book. UnlessKept result (HoldsBook g new book))
+    (requests : List Request) (ms : List ℕ) (old new : Intake S) (result : Together) : Type 0 where
+  pub some : (0 < count_of result) × (count_of result ≤ length requests)
+  pub kept : ForRequests g old new (λ F. Holds F → IfKept result (λ outcomes.
+      AreNewBehind F (take (count_of result) requests)
+      × (map view_outcome outcomes ≡ outcomes_behind F (take (count_of result) requests))
+      × HoldsRequests g new (F ++ take (count_of result) requests)
+      × (length F + count_of result ≤ limit_of old)))
+  pub none : ForRequests g old new (λ F. UnlessKept result (HoldsRequests g new F))
+  pub dated : ForMoments g old new (λ _ moments.
+      IfKept result (λ _. HoldsMoments g new (moments ++ map Some (take (count_of result) ms))))
+  pub undated : ForMoments g old new (λ _ moments. UnlessKept result (HoldsMoments g new moments))
+  pub received : SurvivesWith g old new (λ F moments trees. Open → Holds F
+      → LeavesReceived (old_style_of old) (firsts (F ++ take (count_of result) requests))
+      (with_moments F (take (count_of result) requests) (take (count_of result) ms) moments) trees)
   pub next : moment_of new ≡ moment_of old
   pub setting : KeepsSetting g old new
   pub stopped : has_stopped new ≡ has_stopped old
   -- A crash in the call leaves what one before it could leave, or all of them, and never some; one after it, all.
-  pub crash : SurvivesAs g old new (λ book trees. Open → Holds book.requests
-      → LeavesBook (old_style_of old) (with_all book (take (count_of result) asked)) trees)
-  pub durable : ForBook g old new (λ book. Holds book.requests → IfKept result (λ _.
-      IsDurableAs g new (old_style_of old) (with_new book (take (count_of result) asked))))
+  pub crash : SurvivesAs g old new (λ F trees. Open → Holds F
+      → LeavesRegister (old_style_of old) (firsts (F ++ take (count_of result) requests)) trees)
+  pub durable : ForRequests g old new (λ F. Holds F → IfKept result (λ _.
+      IsDurableAs g new (old_style_of old) (F ++ take (count_of result) requests)))

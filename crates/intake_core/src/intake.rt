@@ -14,9 +14,8 @@ ghost use Rattle.filing_model.specs.Answer.{answer_from};
 ghost use Rattle.filing_model.specs.Style.{style_of, HasStyle};
 ghost use Rattle.filing_model.specs.Views.{view_answer, view_outcome, view_row, the_request};
 ghost use Rattle.register_store.specs.Outcomes.{kept_as};
-ghost use Rattle.register_tables.specs.Registers.{Book};
-ghost use Rattle.register_store.specs.Store.{HasBook};
-ghost use Rattle.register_store.specs.Calls.{AddsRequest};
+ghost use Rattle.register_store.specs.Store.{HasRequests};
+ghost use Rattle.register_store.specs.Calls.{AddsMoments, AddsRequest};
 ghost use Rattle.intake_core.specs.declared.intake.Unavailable.TheVariants.{Down, Full, Memory, Store as StoreFailed};
 
 mod group;
@@ -112,7 +111,8 @@ impl<S: Alter + Drop> Drop for Intake<S> {
 
 impl<S: Alter> Intake<S> {
     ghost use Rattle.intake_core.specs.Calls.{DecidesRequest, IsRequest};
-    ghost use Rattle.intake_core.specs.Held.{store_of, limit_of, moment_of, has_stopped, HoldsBook};
+    ghost use Rattle.intake_core.specs.Held.{store_of, limit_of, has_stopped, HoldsRequests};
+    ghost use Rattle.intake_core.specs.Moments.{DatesRequest, moment_of};
 
     /// An intake over this register, which keeps at most `limit` keys. A request came at the beginning of 1970, until
     /// `date` says another moment.
@@ -120,8 +120,8 @@ impl<S: Alter> Intake<S> {
         requires { limit ≤ 2 ^ 62 }
         ensures limit { limit_of result ≡ limit }
         ensures store { store_of result ≡ store }
-        ensures holds { (book : Book) → firsts book.requests ≡ book.requests → HasBook S.Store store book
-            → HoldsBook S.Store result book }
+        ensures holds { (requests : List Request) → firsts requests ≡ requests → HasRequests S.Store store requests
+            → HoldsRequests S.Store result requests }
         ensures moment { moment_of result ≡ 0 }
         ensures up { has_stopped result ≡ false }
     {
@@ -169,7 +169,8 @@ impl<S: Alter> Intake<S> {
     /// that it goes forward.
     pub fn date(&mut self, moment: Moment)
         ensures dated { moment_of self.new ≡ moment.milliseconds }
-        ensures holds { (book : Book) → HoldsBook S.Store self.old book → HoldsBook S.Store self.new book }
+        ensures holds { (requests : List Request) → HoldsRequests S.Store self.old requests
+            → HoldsRequests S.Store self.new requests }
         ensures rest { self.new ≡ record self.old { moment = moment } }
     {
         self.moment = moment;
@@ -190,8 +191,10 @@ impl<S: Alter> Intake<S> {
         requires filer { is_filer filer.now ≡ true }
         requires target { IsTarget target }
         requires body { length body.now ≤ max_body_len }
-        ensures { DecidesRequest S.Store (the_request filer.now key.now target body.now) (moment_of self.old) self.old
-            self.new result }
+        ensures decides { DecidesRequest S.Store (the_request filer.now key.now target body.now) self.old self.new
+            result }
+        ensures dates { DatesRequest S.Store (the_request filer.now key.now target body.now) (moment_of self.old)
+            self.old self.new result }
     {
         let request = Request {
             filer,
@@ -209,7 +212,8 @@ impl<S: Alter> Intake<S> {
         moment: Moment,
     ) -> Result<Answer, Unavailable>
         requires { IsRequest request.now }
-        ensures { DecidesRequest S.Store request.now moment.milliseconds self.old self.new result }
+        ensures decides { DecidesRequest S.Store request.now self.old self.new result }
+        ensures dates { DatesRequest S.Store request.now moment.milliseconds self.old self.new result }
     {
         if self.is_down {
             return Err(Unavailable::Down);
@@ -269,16 +273,19 @@ impl<S: Alter> Intake<S> {
     ghost use Rattle.intake_core.specs.Cache.{IsKeptIn, IsNameIfAny};
     ghost use Rattle.intake_core.specs.Calls.{AnswersIf, IsRequest, TellsIfFree};
     ghost use Rattle.intake_core.specs.Held.{store_of, limit_of, old_style_in, has_stopped, shows};
-    ghost use Rattle.intake_core.specs.Held.{HoldsBook, ForBook, ChangesOnlyCache};
+    ghost use Rattle.intake_core.specs.Held.{HoldsRequests, ForRequests, ChangesOnlyCache};
+    ghost use Rattle.intake_core.specs.Moments.{DatesIf, KeepsMoments};
     ghost use Rattle.intake_core.specs.Together.{LooksUp};
 
     /// The answer to a request whose filer and key have this name, if the cache remembers it. The cache is made here,
     /// if there is memory for it.
     fn recall(&mut self, request: &Request<'_>, name: &Option<String>) -> Option<Answer>
-        ensures answer { (book : Book) → HoldsBook S.Store self.old book → IsNameIfAny request.now name.now
-            → IfSome result (λ a. IsAnswerTo (old_style_in self.old book.requests) book.requests request.now a
-            × (has_key book.requests request.now ≡ true)) }
-        ensures same { (book : Book) → HoldsBook S.Store self.old book → HoldsBook S.Store self.new book }
+        ensures answer { (requests : List Request) → HoldsRequests S.Store self.old requests
+            → IsNameIfAny request.now name.now
+            → IfSome result (λ a. IsAnswerTo (old_style_in self.old requests) requests request.now a
+            × (has_key requests request.now ≡ true)) }
+        ensures same { (requests : List Request) → HoldsRequests S.Store self.old requests
+            → HoldsRequests S.Store self.new requests }
         ensures rest { ChangesOnlyCache self.old self.new }
     {
         match (&mut self.cache, name) {
@@ -299,9 +306,11 @@ impl<S: Alter> Intake<S> {
         outcome: &Outcome,
         style: Style,
     )
-        ensures same { (book : Book) → HoldsBook S.Store self.old book → IsNameIfAny request.now name
-            → IsKeptIn book.requests (record { request = request.now; outcome = view_outcome outcome.now })
-            → style ≡ style_of (old_style_in self.old book.requests) request.now → HoldsBook S.Store self.new book }
+        ensures same { (requests : List Request) → HoldsRequests S.Store self.old requests
+            → IsNameIfAny request.now name
+            → IsKeptIn requests (record { request = request.now; outcome = view_outcome outcome.now })
+            → style ≡ style_of (old_style_in self.old requests) request.now
+            → HoldsRequests S.Store self.new requests }
         ensures rest { ChangesOnlyCache self.old self.new }
     {
         if let (Some(cache), Some(name)) = (&mut self.cache, name) {
@@ -312,15 +321,16 @@ impl<S: Alter> Intake<S> {
     /// Decides a request that came at this moment.
     fn decide(&mut self, request: &Request<'_>, moment: Moment) -> Result<Answer, Unavailable>
         requires { IsRequest request.now }
-        ensures decided { AnswersIf S.Store request.now moment.milliseconds (Unit {0}) (λ _. Unit {0}) self.old self.new
+        ensures decided { AnswersIf S.Store request.now (Unit {0}) (λ _. Unit {0}) self.old self.new result }
+        ensures dated { DatesIf S.Store request.now moment.milliseconds (Unit {0}) (λ _. Unit {0}) self.old self.new
             result }
-        ensures is_open { ForBook S.Store self.old self.new (λ book.
-            IsTrue (shows S.Store self.old).is_open ⊎ (has_key book.requests request.now ≡ false)
+        ensures is_open { ForRequests S.Store self.old self.new (λ requests.
+            IsTrue (shows S.Store self.old).is_open ⊎ (has_key requests request.now ≡ false)
             → OnOk result (IsTrue (shows S.Store self.new).is_open)) }
-        ensures full { ForBook S.Store self.old self.new (λ book. (k : ℕ) → result ≡ Err (Full k)
-            → (has_key book.requests request.now ≡ false) × (limit_of self.old ≤ k) × (k ≡ length book.requests)) }
-        ensures room { ForBook S.Store self.old self.new (λ book.
-            OnOk result (has_key book.requests request.now ≡ false → length book.requests < limit_of self.old)) }
+        ensures full { ForRequests S.Store self.old self.new (λ requests. (k : ℕ) → result ≡ Err (Full k)
+            → (has_key requests request.now ≡ false) × (limit_of self.old ≤ k) × (k ≡ length requests)) }
+        ensures room { ForRequests S.Store self.old self.new (λ requests.
+            OnOk result (has_key requests request.now ≡ false → length requests < limit_of self.old)) }
     {
         match self.answer_repeat(request)? {
             Some(answer) => Ok(answer),
@@ -330,12 +340,12 @@ impl<S: Alter> Intake<S> {
 
     /// What a request gets if one of its filer and key is kept, by the cache or else by the register.
     fn answer_repeat(&mut self, request: &Request<'_>) -> Result<Option<Answer>, StoreFault>
-        ensures new { ForBook S.Store self.old self.new (λ book. IfOk result (λ found. found ≡ None
-            → (has_key book.requests request.now ≡ false) × IsTrue (shows S.Store self.new).is_open)) }
-        ensures repeat { ForBook S.Store self.old self.new (λ book. IfOk result (λ found. IfSome found
-            (λ answer. IsAnswerTo (old_style_in self.old book.requests) book.requests request.now answer
-            × (has_key book.requests request.now ≡ true)))) }
-        ensures is_open { ForBook S.Store self.old self.new (λ _. IsTrue (shows S.Store self.old).is_open
+        ensures new { ForRequests S.Store self.old self.new (λ requests. IfOk result (λ found. found ≡ None
+            → (has_key requests request.now ≡ false) × IsTrue (shows S.Store self.new).is_open)) }
+        ensures repeat { ForRequests S.Store self.old self.new (λ requests. IfOk result (λ found. IfSome found
+            (λ answer. IsAnswerTo (old_style_in self.old requests) requests request.now answer
+            × (has_key requests request.now ≡ true)))) }
+        ensures is_open { ForRequests S.Store self.old self.new (λ requests. IsTrue (shows S.Store self.old).is_open
             → OnOk result (IsTrue (shows S.Store self.new).is_open)) }
         ensures looks { LooksUp S.Store self.old self.new }
     {
@@ -353,12 +363,12 @@ impl<S: Alter> Intake<S> {
         name: Option<String>,
     ) -> Result<Option<Answer>, StoreFault>
         requires { IsNameIfAny request.now name }
-        ensures new { ForBook S.Store self.old self.new (λ book. IfOk result (λ found. found ≡ None
-            → has_key book.requests request.now ≡ false)) }
-        ensures repeat { ForBook S.Store self.old self.new (λ book. IfOk result (λ found. IfSome found
-            (λ answer. IsAnswerTo (old_style_in self.old book.requests) book.requests request.now answer
-            × (has_key book.requests request.now ≡ true)))) }
-        ensures is_open { ForBook S.Store self.old self.new (λ _.
+        ensures new { ForRequests S.Store self.old self.new (λ requests. IfOk result (λ found. found ≡ None
+            → has_key requests request.now ≡ false)) }
+        ensures repeat { ForRequests S.Store self.old self.new (λ requests. IfOk result (λ found. IfSome found
+            (λ answer. IsAnswerTo (old_style_in self.old requests) requests request.now answer
+            × (has_key requests request.now ≡ true)))) }
+        ensures is_open { ForRequests S.Store self.old self.new (λ _.
             OnOk result (IsTrue (shows S.Store self.new).is_open)) }
         ensures looks { LooksUp S.Store self.old self.new }
     {
@@ -373,10 +383,10 @@ impl<S: Alter> Intake<S> {
         ensures answer { (view_answer result
             ≡ answer_from (Some (kept_as request.now.filer request.now.key row)) request.now true)
             × HasStyle row.style result }
-        ensures same { (book : Book) → HoldsBook S.Store self.old book
-            → IsNameIfAny request.now name → IsKeptIn book.requests (kept_as request.now.filer request.now.key row)
-            → row.style ≡ style_of (old_style_in self.old book.requests) request.now
-            → HoldsBook S.Store self.new book }
+        ensures same { (requests : List Request) → HoldsRequests S.Store self.old requests
+            → IsNameIfAny request.now name → IsKeptIn requests (kept_as request.now.filer request.now.key row)
+            → row.style ≡ style_of (old_style_in self.old requests) request.now
+            → HoldsRequests S.Store self.new requests }
         ensures rest { ChangesOnlyCache self.old self.new }
     {
         let first = Request {
@@ -394,7 +404,8 @@ impl<S: Alter> Intake<S> {
 
     /// Whether the filing that a request names may be replaced. A request that names none is free.
     fn is_free(&mut self, request: &Request<'_>) -> Result<bool, Unavailable>
-        ensures { TellsIfFree S.Store request.now self.old self.new result }
+        ensures tells { TellsIfFree S.Store request.now self.old self.new result }
+        ensures moments { KeepsMoments S.Store self.old self.new }
     {
         match request.target {
             None => Ok(true),
@@ -410,6 +421,7 @@ impl<S: Alter> Intake<S> {
         requires facts { HasFacts row.now.body.now row.now.judged.now }
         requires room { (store_of self.old).kept < 2 ^ 62 }
         ensures added { AddsRequest S.Store row.now (store_of self.old) (store_of self.new) result }
+        ensures moments { AddsMoments S.Store (row.now ∷ []) (store_of self.old) (store_of self.new) result }
         ensures rest { (self.new.cache ≡ self.old.cache) × (limit_of self.new ≡ limit_of self.old)
             × (has_stopped self.new ≡ has_stopped self.old) × (self.new.moment ≡ self.old.moment) }
     {
@@ -425,11 +437,14 @@ impl<S: Alter> Intake<S> {
     ) -> Result<Answer, Unavailable>
         requires request { IsRequest request.now }
         requires room { (store_of self.old).kept < 2 ^ 62 }
-        ensures kept { AnswersIf S.Store request.now moment.milliseconds (IsTrue (shows S.Store self.old).is_open)
+        ensures kept { AnswersIf S.Store request.now (IsTrue (shows S.Store self.old).is_open) (λ requests.
+            (has_key requests request.now ≡ false)
+            × (free ≡ is_free (register requests) request.now.filer request.now.target)) self.old self.new result }
+        ensures dated { DatesIf S.Store request.now moment.milliseconds (IsTrue (shows S.Store self.old).is_open)
             (λ requests. (has_key requests request.now ≡ false)
             × (free ≡ is_free (register requests) request.now.filer request.now.target)) self.old self.new result }
-        ensures is_open { ForBook S.Store self.old self.new (λ book. (has_key book.requests request.now ≡ false)
-            → (free ≡ is_free (register book.requests) request.now.filer request.now.target)
+        ensures is_open { ForRequests S.Store self.old self.new (λ requests. (has_key requests request.now ≡ false)
+            → (free ≡ is_free (register requests) request.now.filer request.now.target)
             → OnOk result (IsTrue (shows S.Store self.new).is_open)) }
         ensures full { (k : ℕ) → result ≢ Err (Full k) }
     {
@@ -450,14 +465,16 @@ impl<S: Alter> Intake<S> {
     /// Judges and keeps the first request under a key, if there is room.
     fn keep(&mut self, request: &Request<'_>, moment: Moment) -> Result<Answer, Unavailable>
         requires { IsRequest request.now }
-        ensures kept { AnswersIf S.Store request.now moment.milliseconds (IsTrue (shows S.Store self.old).is_open)
+        ensures kept { AnswersIf S.Store request.now (IsTrue (shows S.Store self.old).is_open)
             (λ requests. has_key requests request.now ≡ false) self.old self.new result }
-        ensures is_open { ForBook S.Store self.old self.new (λ book. has_key book.requests request.now ≡ false
+        ensures dated { DatesIf S.Store request.now moment.milliseconds (IsTrue (shows S.Store self.old).is_open)
+            (λ requests. has_key requests request.now ≡ false) self.old self.new result }
+        ensures is_open { ForRequests S.Store self.old self.new (λ requests. has_key requests request.now ≡ false
             → OnOk result (IsTrue (shows S.Store self.new).is_open)) }
-        ensures full { (book : Book) → HoldsBook S.Store self.old book → (k : ℕ) → result ≡ Err (Full k)
-            → (limit_of self.old ≤ k) × (k ≡ length book.requests) }
-        ensures room { (book : Book) → HoldsBook S.Store self.old book
-            → OnOk result (length book.requests < limit_of self.old) }
+        ensures full { (requests : List Request) → HoldsRequests S.Store self.old requests → (k : ℕ)
+            → result ≡ Err (Full k) → (limit_of self.old ≤ k) × (k ≡ length requests) }
+        ensures room { (requests : List Request) → HoldsRequests S.Store self.old requests
+            → OnOk result (length requests < limit_of self.old) }
     {
         let kept = self.store.kept_count()?;
         if kept >= self.limit.keys {

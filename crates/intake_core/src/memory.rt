@@ -2,8 +2,7 @@
 
 ghost use Rattle.std.specs.Prelude.{◌≡◌, ◌≢◌, ◌≤◌, ◌^◌, [], false, Err, IfOk};
 ghost use Rattle.sqlite.specs.Steps.{over_memory};
-ghost use Rattle.register_tables.specs.Registers.{without_moments};
-ghost use Rattle.intake_core.specs.Held.{limit_of, old_style_of, has_stopped, HoldsBook};
+ghost use Rattle.intake_core.specs.Held.{limit_of, old_style_of, has_stopped, HoldsRequests};
 
 use crate::intake::Intake;
 use register_store::{CreateFault, Store};
@@ -15,7 +14,7 @@ impl Intake<MemStore> {
     pub fn in_memory(alloc: Global, limit: u64) -> Result<Intake<MemStore>, CreateFault>
         requires { limit ≤ 2 ^ 62 }
         ensures limit { IfOk result (λ intake. limit_of intake ≡ limit) }
-        ensures empty { IfOk result (λ intake. HoldsBook over_memory intake (without_moments [])) }
+        ensures empty { IfOk result (λ intake. HoldsRequests over_memory intake []) }
         ensures problem { IfOk result (λ intake. old_style_of intake ≡ 0) }
         ensures up { IfOk result (λ intake. has_stopped intake ≡ false) }
         ensures free { result ≢ Err CreateFault.Taken }

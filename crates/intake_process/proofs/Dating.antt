@@ -18,12 +18,11 @@ use Rattle.filing_model.specs.declared.listing.FilingRow.{FilingRow}
 use Rattle.register_rows.specs.Catalogue.{Entry, catalogue_of, entry_numbered}
 use Rattle.register_rows.specs.Register.{number_of}
 use Rattle.register_rows.proofs.Filings.{other_number}
-use Rattle.register_tables.specs.Registers.{Book}
 use Rattle.register_store.specs.Calls.{KeepsStore}
 use Rattle.register_store.specs.Found.{IsPlaced}
-use Rattle.register_store.specs.Moments.{moment_in}
+use Rattle.register_store.specs.Moments.{ForMoments, moment_in}
 use Rattle.register_store.specs.Numbered.{facts_numbered}
-use Rattle.register_store.specs.Store.{ForBook, StoreParts, shows}
+use Rattle.register_store.specs.Store.{ForRequests, StoreParts, shows}
 use Rattle.register_store.proofs.CatalogueLemmas.{line_told}
 use Rattle.register_extracts.specs.Moments.{moment_of}
 use Rattle.register_extracts.proofs.Numbers.{its_moment}
@@ -84,7 +83,8 @@ module _ {S : Type 0} (g : Ghosts S) where
 
   pub keeps_same : {store : StoreParts S} → KeepsStore g store store
   keeps_same {store} = record {
-    same = λ clean book has. has;
+    same = λ clean F has. has;
+    moments = λ clean F has moments dated. dated;
     counts = (refl, refl, refl);
     old_style = refl;
     crash = nothing_yet (shows g store);
@@ -92,16 +92,26 @@ module _ {S : Type 0} (g : Ghosts S) where
 
   pub keeps_then : {old mid new : StoreParts S} → KeepsStore g old mid → KeepsStore g mid new → KeepsStore g old new
   keeps_then {old} {mid} {new} p q = record {
-    same = λ clean book has. q.same clean book (p.same (clean_mid q clean) book has);
+    same = λ clean F has. q.same clean F (p.same (clean_mid q clean) F has);
+    moments = λ clean F has moments dated.
+        let was : HasCleanDisk (shows g mid) = clean_mid q clean in
+        q.moments clean F (p.same was F has) moments (p.moments was F has moments dated);
     counts = (q.counts.0 ∙ p.counts.0, q.counts.1 ∙ p.counts.1, q.counts.2 ∙ p.counts.2);
     old_style = q.old_style ∙ p.old_style;
     crash = nothing_left (shows g old) (shows g mid) (shows g new) p.crash q.crash;
   }
 
-  -- what the second says of the book holds of the one before the first
-  pub book_then : {old mid new : StoreParts S} {Holds : Book → Type 0} → KeepsStore g old mid → KeepsStore g mid new
-      → ForBook g mid new Holds → ForBook g old new Holds
-  book_then p q holds clean book has = holds clean book (p.same (clean_mid q clean) book has)
+  -- what the second says of the requests and their moments holds of those before the first
+  pub moments_then : {old mid new : StoreParts S} {Holds : List Request → List (Option ℕ) → Type 0}
+      → KeepsStore g old mid → KeepsStore g mid new → ForMoments g mid new Holds → ForMoments g old new Holds
+  moments_then {old} {mid} {new} {Holds} p q holds clean F has moments dated =
+      let was : HasCleanDisk (shows g mid) = clean_mid q clean in
+      holds clean F (p.same was F has) moments (p.moments was F has moments dated)
+
+  -- what the first says still holds
+  pub moments_before : {old mid new : StoreParts S} {Holds : List Request → List (Option ℕ) → Type 0}
+      → KeepsStore g mid new → ForMoments g old mid Holds → ForMoments g old new Holds
+  moments_before q holds clean F has moments dated = holds (clean_mid q clean) F has moments dated
 
 -- ---- the lines of a filer's filings
 
@@ -126,18 +136,20 @@ lines_more ks moments rows at d low text line received before its line_is =
 
 -- the text of a filing whose facts were found, by what its lines are
 module _ {S : Type 0} (g : Ghosts S) (number : ℕ) (dated : Bool) (old mid new : StoreParts S) (facts : List FactRecord)
-    (found : ForBook g old mid (λ book. Some facts ≡ facts_numbered number (register book.requests)))
+    (found : ForRequests g old mid (λ F. Some facts ≡ facts_numbered number (register F)))
     (keeps : KeepsStore g old mid) (later : KeepsStore g mid new) where
-  pub shown_as : ForBook g old new (λ book.
-      (meaning (Ask (Show number dated))).text book.requests book.moments
-      ≡ Some (shown_lines dated number (moment_of (kept book.requests) book.moments number) facts))
-  shown_as clean book has =
-      ap (option_map (shown_lines dated number (moment_of (kept book.requests) book.moments number)))
-      (sym (found (clean_mid g later clean) book has))
+  pub shown_as : ForMoments g old new (λ requests moments.
+      (meaning (Ask (Show number dated))).text requests moments
+      ≡ Some (shown_lines dated number (moment_of (kept requests) moments number) facts))
+  shown_as clean F has moments dates =
+      ap (option_map (shown_lines dated number (moment_of (kept F) moments number)))
+      (sym (found (clean_mid g later clean) F has))
 
   pub shown_text : (text : List ℕ)
-      → ForBook g mid new (λ book.
-      text ≡ shown_lines dated number (moment_of (kept book.requests) book.moments number) facts)
-      → ForBook g old new (λ book. (meaning (Ask (Show number dated))).text book.requests book.moments ≡ Some text)
-  shown_text text lines clean book has =
-      shown_as clean book has ∙ ap Some (sym (book_then g keeps later lines clean book has))
+      → ForMoments g mid new (λ requests moments.
+      text ≡ shown_lines dated number (moment_of (kept requests) moments number) facts)
+      → ForMoments g old new (λ requests moments. (meaning (Ask (Show number dated))).text requests moments ≡ Some text)
+  shown_text text lines clean F has moments dates =
+      let was : HasCleanDisk (shows g mid) = clean_mid g later clean in
+      shown_as clean F has moments dates
+      ∙ ap Some (sym (lines clean F (keeps.same was F has) moments (keeps.moments was F has moments dates)))

@@ -4,7 +4,6 @@ use Rattle.std.proofs.Common.{None, Result, Ok, Err, IsSome, IfErr, OnOk, refl, 
 use Rattle.std.specs.Prelude.{IfSome, is_some, option_map}
 use Rattle.std.specs.Borrow.{Bor}
 use Rattle.std.specs.Io.KnownBytes.{Appends}
-use Rattle.sqlite.specs.Effect.{Database}
 use Rattle.sqlite.specs.Store.{Ghosts}
 use Rattle.sqlite.specs.Held.{Held, state}
 use Rattle.sqlite.specs.State.{State, HasCleanDisk, Survives}
@@ -25,9 +24,10 @@ use Rattle.register_tables.specs.Earlier.{IsAlone, is_blocked}
 use Rattle.register_tables.specs.Migrating as tables
 use Rattle.register_tables.specs.Opening.{IsReadAsRegister}
 use Rattle.register_tables.specs.Refusals.{GivesBackOpening}
-use Rattle.register_tables.specs.Registers.{Book, ForRows, IsBookOf, IsRegisterOf}
+use Rattle.register_tables.specs.Registers.{ForRows, IsRegisterOf}
 use Rattle.register_store.specs.Calls.{KeepsStore, OpensOrGivesBack}
-use Rattle.register_store.specs.Store.{StoreParts, HasBook, shows}
+use Rattle.register_store.specs.Moments.{HasMoments}
+use Rattle.register_store.specs.Store.{StoreParts, HasRequests, shows}
 use Rattle.register_extracts.specs.Dated.{ForDatedRows}
 use Rattle.register_extracts.specs.declared.digest.Digest.{Digest}
 use Rattle.register_extracts.specs.declared.facts.record.FactForm.{FactForm}
@@ -245,41 +245,44 @@ asks_no_pages other = refl
 pub kept_store : {S : Type 0} (g : Ghosts S) (old new : StoreParts S) → KeepsStore g old new
     → KeepsRegister g old new.conn
 kept_store g old new keeps = record {
-  kept = λ clean book has.
-      subst (λ n. HasCommitted (IsRegisterOf n book.requests) (shows g new)) keeps.old_style
-      (keeps.same clean book has).requests.stands;
+  kept = λ clean requests has.
+      subst (λ n. HasCommitted (IsRegisterOf n requests) (shows g new)) keeps.old_style
+      (keeps.same clean requests has).stands;
   survives = keeps.crash;
 }
 
 module _ {S X : Type 0} (g : Ghosts S) (q : Question) (out out' : Option (List ℕ)) (old : StoreParts S) (new : Held S)
     (keeps : KeepsRegister g old new) where
   pub answers_not : (it : Why) → is_refusal it ≡ false → (meaning (asked.Ask q)).may it
-      → (HasCleanDisk (state g new) → (book : Book) → HasBook g old book
-      → IsTrueOf (meaning (asked.Ask q)) book.requests book.moments it)
+      → (HasCleanDisk (state g new) → (requests : List Request) → HasRequests g old requests
+      → (moments : List (Option ℕ)) → HasMoments g old moments
+      → IsTrueOf (meaning (asked.Ask q)) requests moments it)
       → PrintsNothing out out' it → AnswersQuestion {S = S} {X = X} g q out out' old new (Err it)
   answers_not it ends may is quiet = record {
-    told = λ clean book has.
-        tells_ended (asked.Ask q) (asks_whole q) out out' X book.requests book.moments it ends may (is clean book has)
-        quiet;
+    told = λ clean requests has moments dated.
+        tells_ended (asked.Ask q) (asks_whole q) out out' X requests moments it ends may
+        (is clean requests has moments dated) quiet;
     may = (ends, may);
     quiet = quiet;
     keeps = keeps;
   }
 
   pub answers : (text : List ℕ)
-      → (HasCleanDisk (state g new) → (book : Book) → HasBook g old book
-      → (meaning (asked.Ask q)).text book.requests book.moments ≡ Some text)
+      → (HasCleanDisk (state g new) → (requests : List Request) → HasRequests g old requests
+      → (moments : List (Option ℕ)) → HasMoments g old moments
+      → (meaning (asked.Ask q)).text requests moments ≡ Some text)
       → (meaning (asked.Ask q)).may why.Output → (r : Result X Why) → OnOk r (Appends out out' text)
       → IfErr r (λ it. it ≡ why.Output) → AnswersQuestion g q out out' old new r
   answers text is may (Ok x) printed failed = record {
-    told = λ clean book has. (text, is clean book has, printed);
+    told = λ clean requests has moments dated. (text, is clean requests has moments dated, printed);
     may = tt;
     quiet = tt;
     keeps = keeps;
   }
   answers text is may (Err it) printed failed =
       subst (λ it. AnswersQuestion {S = S} {X = X} g q out out' old new (Err it)) (sym failed)
-      (answers_not why.Output refl may (λ clean book has. ap is_some (is clean book has)) (inl refl))
+      (answers_not why.Output refl may
+      (λ clean requests has moments dated. ap is_some (is clean requests has moments dated)) (inl refl))
 
 -- what is read may fail by memory, and so may what is printed
 pub reading_prints : (it : Why) → IsReadingWhy it → IsPrintingWhy it
@@ -291,31 +294,41 @@ module _ {S X : Type 0} (g : Ghosts S) (q : Question) (out out' : Option (List �
     (keeps : KeepsRegister g old new) where
   pub answers_failed : ((fault : StoreFault) → (meaning (asked.Ask q)).may (why.Store fault))
       → (meaning (asked.Ask q)).may why.Memory → (meaning (asked.Ask q)).may why.Output
-      → (HasCleanDisk (state g new) → (book : Book) → HasBook g old book
-      → IsSome ((meaning (asked.Ask q)).text book.requests book.moments))
+      → (HasCleanDisk (state g new) → (requests : List Request) → HasRequests g old requests
+      → (moments : List (Option ℕ)) → HasMoments g old moments
+      → IsSome ((meaning (asked.Ask q)).text requests moments))
       → (it : Why) → IsPrintingWhy it → PrintsNothing out out' it
       → AnswersQuestion {S = S} {X = X} g q out out' old new (Err it)
   answers_failed store memory output some (why.Store fault) fails quiet =
       answers_not {X = X} g q out out' old new keeps (why.Store fault) refl (store fault)
-      (λ clean book has. tt) quiet
+      (λ clean requests has moments dated. tt) quiet
   answers_failed store memory output some why.Memory fails quiet =
       answers_not {X = X} g q out out' old new keeps why.Memory refl memory some quiet
   answers_failed store memory output some why.Output fails quiet =
       answers_not {X = X} g q out out' old new keeps why.Output refl output some quiet
   answers_failed store memory output some other fails quiet = absurd fails
 
--- the book of a register's rows
-pub book_of : {old_style : ℕ} {F : List Request} {db : Database} (is : IsRegisterOf old_style F db)
-    → IsBookOf old_style (record { requests = F; moments = is.rows.moments }) db
-book_of is = record { register = is; one_each = is.rows.one_each; received = is.rows.received }
-
 -- an opened store was read as a register
 pub as_register : {S : Type 0} (g : Ghosts S) (conn : Held S) (store : StoreParts S)
     → OpensOrGivesBack g conn (Ok store) → HasCleanDisk (shows g store) → IsReadAsRegister g conn
 as_register g conn store opened clean = (
   opened.outcome.says clean,
-  λ declared. let found = opened.outcome.opened clean declared in (store.old_style, found.0.requests, found.1.register),
+  λ declared. let found = opened.outcome.opened clean declared in (store.old_style, found.0, found.1),
 )
+
+-- it has the moments of the rows
+has_moments : {S : Type 0} (g : Ghosts S) (conn : Held S) (store : StoreParts S) → OpensOrGivesBack g conn (Ok store)
+    → HasCleanDisk (shows g store) → (requests : List Request) → HasRequests g store requests
+    → (moments : List (Option ℕ)) → length moments ≡ length requests → Received (state g conn).now moments
+    → HasMoments g store moments
+has_moments g conn store opened clean requests has moments one_each received = record {
+  stands = record {
+    autocommit = has.stands.autocommit;
+    now = λ alive. subst (λ db. Received db moments) (sym (opened.outcome.same clean).0.now_is) received;
+    committed = has.stands.committed;
+  };
+  one_each = one_each ∙ sym has.kept_is;
+}
 
 module _ {S X : Type 0} (g : Ghosts S) (q : Question) (out out' : Option (List ℕ)) (conn : Held S)
     (store : StoreParts S) (new : Held S) where
@@ -335,15 +348,14 @@ module _ {S X : Type 0} (g : Ghosts S) (q : Question) (out out' : Option (List �
       clean_before (shows g store) (state g new) does.keeps.survives in
       runs g (asked.Ask q) (asks_this q) out out' conn new r
       (λ clean old_style requests rows moments one_each received.
-      let book : Book = record { requests = requests; moments = moments } in
-      let is : IsBookOf old_style book (state g conn).now =
-      record { register = rows; one_each = one_each; received = received } in
-      does.told clean book (opened.outcome.only (was clean) old_style book is).1)
+      let has = (opened.outcome.only (was clean) old_style requests rows).1 in
+      does.told clean requests has moments
+      (has_moments g conn store opened (was clean) requests has moments one_each received))
       (λ clean _. as_register g conn store opened (was clean))
       (λ clean _ old_style requests rows.
-      let book : Book = record { requests = requests; moments = rows.rows.moments } in
-      let only = opened.outcome.only (was clean) old_style book (book_of rows) in
-      subst (λ n. HasCommitted (IsRegisterOf n requests) (state g new)) only.0 (does.keeps.kept clean book only.1))
+      let only = opened.outcome.only (was clean) old_style requests rows in
+      subst (λ n. HasCommitted (IsRegisterOf n requests) (state g new)) only.0
+      (does.keeps.kept clean requests only.1))
       (nothing_left (state g conn) (shows g store) (state g new) opened.outcome.crash does.keeps.survives)
       (ended_says r does.may) (ended_quiet r does.quiet)
 

@@ -71,7 +71,6 @@ module _ {S N D : Type 0} (s : Streams S N) {g : Ghosts D} (limit : ℕ) where
       asked = None;
       ready = process;
       by = None;
-      moment = 0;
       to = from;
       last = process;
       after = process;
@@ -82,17 +81,16 @@ module _ {S N D : Type 0} (s : Streams S N) {g : Ghosts D} (limit : ℕ) where
   }
 
   -- what waited was answered
-  pub one : (moment : ℕ) (port port' : Port S) (old ready last new : Parts g) (noted noted' : Option (List Bool))
+  pub one : (port port' : Port S) (old ready last new : Parts g) (noted noted' : Option (List Bool))
       (asked : Option Bool) (by : AnsweredBy) → IsReady limit asked old ready
-      → AnswersPort s moment port port' ready last by → IsOver by last new → Notes noted noted' (said_of asked)
+      → AnswersPort s port port' ready last by → IsOver by last new → Notes noted noted' (said_of asked)
       → Passes s limit port port' old new noted noted' (Some 1)
-  one moment port port' old ready last new noted noted' asked by readied answers over notes = record {
+  one port port' old ready last new noted noted' asked by readied answers over notes = record {
     rounds = record {
       from = port;
       asked = asked;
       ready = ready;
       by = Some by;
-      moment = moment;
       to = port';
       last = last;
       after = new;

@@ -12,7 +12,7 @@ use Rattle.filing_model.specs.Request.{Request}
 use Rattle.register_tables.specs.Registers.{IsRegisterOf}
 use Rattle.intake_core.specs.declared.intake.Intake.{Intake}
 use Rattle.intake_core.specs.Held.{limit_of, has_stopped}
-use Rattle.table_rows.proofs.CleanLemmas.{always_clean, are_clean}
+use Rattle.table_rows.proofs.CleanLemmas.{always_clean}
 use Rattle.table_rows.specs.Standing.{HasCommitted}
 use Rattle.sqlite_wal.proofs.LogLemmas.{SeenMayStay}
 use Rattle.command_line.specs.declared.fault.DatabaseFault.TheVariants.{Missing}
@@ -106,7 +106,7 @@ module _ {D : Type 0} {g : Ghosts D} where
       λ is lies. ap (λ (r : Refusal). r.why) (absent is lies).0 in
       let sure = sure_after (leaves_doubt was_taken it) old.is_certain new.is_certain certain in
       let left = λ (honest : IsHonest g) (is : new.is_certain ≡ true).
-      unopened_leaves g honest stays has old.lying new.lying was_taken it unopened (sure is).0 in
+      unopened_leaves honest stays has old.lying new.lying was_taken it unopened (sure is).0 in
       let leaves : IsHonest g → Leaves limit old new =
       λ honest. record {
         kept = λ old_style F keeps is.
@@ -255,8 +255,7 @@ module _ {D : Type 0} {g : Ghosts D} where
       → HoldRegisterWithLog g files old_style requests
   copied conn files honest closed old_style requests stands =
       let left =
-      closed_leaves conn files closed (are_clean g honest files.log files.db) stands
-      (λ db (it : IsRegisterOf old_style requests db). it.sound) in
+      closed_leaves honest conn files closed stands (λ db (it : IsRegisterOf old_style requests db). it.sound) in
       record { db = (file_state conn).now; register = left.0; held = left.1 }
 
   kept_closed : (intake : Intake (FileStore D g)) (files : Files D) (lying lying' : Option (Option (Files D)))
@@ -266,9 +265,8 @@ module _ {D : Type 0} {g : Ghosts D} where
   kept_closed intake files lying lying' honest closed leaves limit old_style F keeps =
       let conn = intake.store.conn in
       let stands =
-      subst (λ n. HasCommitted (IsRegisterOf n F) (file_state conn)) keeps.0.old_style_is
-      keeps.0.holds.book.rows.requests.stands in (
-        keeps.0.holds.book.firsts',
+      subst (λ n. HasCommitted (IsRegisterOf n F) (file_state conn)) keeps.0.old_style_is keeps.0.holds.rows.stands in (
+        keeps.0.holds.firsts',
         (
           files,
           subst (λ l. place.Leaves l lying' files) keeps.1 leaves,
@@ -280,7 +278,7 @@ module _ {D : Type 0} {g : Ghosts D} where
       → (limit old_style : ℕ) (F : List Request) → KeepsBy old.intake old.lying limit old_style F
       → intake.store.kept ≡ length F
   counts intake old up limit old_style F keeps =
-      (subst (λ i. KeepsBy i old.lying limit old_style F) up keeps).0.holds.book.rows.requests.kept_is
+      (subst (λ i. KeepsBy i old.lying limit old_style F) up keeps).0.holds.rows.kept_is
 
   abbrev Left : Intake (FileStore D g) → Parts g → Parts g → Closed → Type 0
   Left intake old new closed =
@@ -368,13 +366,12 @@ module _ {D : Type 0} {g : Ghosts D} where
       (not_true (has_stopped intake) (λ stopped. other (stops.1 stopped)))
 
   -- it is closed after that
-  pub awake : {S N : Type 0} (s : Streams S N) (moment : ℕ) (port port' : Port S)
-      (first last new : Option (Intake (FileStore D g))) (by : AnsweredBy)
-      → AnswersPortBy s moment port port' first last by → (by ≡ outcome.Failed → new ≡ None)
+  pub awake : {S N : Type 0} (s : Streams S N) (port port' : Port S) (first last new : Option (Intake (FileStore D g)))
+      (by : AnsweredBy) → AnswersPortBy s port port' first last by → (by ≡ outcome.Failed → new ≡ None)
       → ((by ≡ outcome.Failed → ⊥) → new ≡ last) → IsAwake new
-  awake s moment port port' (Some intake) last new by answered closed others =
+  awake s port port' (Some intake) last new by answered closed others =
       awake_by by answered.0 last new answered.1 answered.3 closed others
-  awake s moment port port' None last new by answered closed others =
+  awake s port port' None last new by answered closed others =
       let other : by ≡ outcome.Failed → ⊥ =
       λ failed. (let no : outcome.TurnedAway ≡ outcome.Failed = sym answered.2 ∙ failed in cc) in
       subst (λ i. IsAwake i) (sym (others other ∙ answered.0)) tt

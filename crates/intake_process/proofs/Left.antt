@@ -29,7 +29,6 @@ module _ {D : Type 0} {g : Ghosts D} where
         (there.0, there.1, record { db = hold.db; register = hold.register; held = there.2 }),
       )
 
-module _ {D : Type 0} (g : Ghosts D) where
   -- an opening that was refused, and left no doubt
   pub unopened_leaves : IsHonest g → SeenMayStay g → (has : Bool) (old new : Option (Option (Files D)))
       (was_taken : Bool) (it : Why) → IsNotOpened g has old new was_taken it

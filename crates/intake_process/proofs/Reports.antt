@@ -60,10 +60,10 @@ module _ {S X : Type 0} (g : Ghosts S) (number : ℕ) (out out' : Option (List �
       → AnswersQuestion {S = S} {X = X} g (FilingBody number) out out old old.conn (Err (why.NoFiling number))
   filed_missing is =
       answers_not {X = X} g (FilingBody number) out out old old.conn
-      (record { kept = λ clean book has. has.requests.stands; survives = nothing_yet (shows g old) })
-      (why.NoFiling number) refl refl
-      (λ clean book has. body_unplaced book.requests number
-      (is ∙ ap (λ es. option_map (λ e. e.seq) (entry_numbered es number)) has.requests.catalogue_is))
+      (record { kept = λ clean requests has. has.stands; survives = nothing_yet (shows g old) }) (why.NoFiling number)
+      refl refl
+      (λ clean F has moments dated.
+      body_unplaced F number (is ∙ ap (λ es. option_map (λ e. e.seq) (entry_numbered es number)) has.catalogue_is))
       (inr refl)
 
   pub filed_placed : (place : ℕ)
@@ -82,20 +82,20 @@ module _ {S X : Type 0} (g : Ghosts S) (number : ℕ) (out out' : Option (List �
           (is ∙ ap (λ es. option_map (λ e. e.seq) (entry_numbered es number)) has.catalogue_is)
 
       keeps : KeepsRegister g old new
-      keeps = record { kept = λ clean book has. stands leaves clean has.requests.stands; survives = leaves.survives }
+      keeps = record { kept = λ clean F has. stands leaves clean has.stands; survives = leaves.survives }
 
       go : (r : Result X Why) → ForRegister g old.conn new (λ _ requests. (k : Kept)
           → IsPlaced 1 place (kept requests) k → OnOk r (Appends out out' k.request.body))
           → IfErr r IsPrintingWhy → IfErr r (PrintsNothing out out')
           → AnswersQuestion {S = S} {X = X} g (FilingBody number) out out' old new r
       go (Ok x) printed fails quiet = record {
-        told = λ clean book has.
-            let at = there book.requests has.requests in
-            (at.0.request.body, at.2, printed clean old.old_style book.requests has.requests.stands at.0 at.1);
+        told = λ clean F has moments dated.
+            let at = there F has in
+            (at.0.request.body, at.2, printed clean old.old_style F has.stands at.0 at.1);
         may = tt;
         quiet = tt;
         keeps = keeps;
       }
       go (Err it) printed fails quiet =
           answers_failed {X = X} g (FilingBody number) out out' old new keeps (λ _. tt) tt tt
-          (λ clean book has. ap is_some (there book.requests has.requests).2) it fails quiet
+          (λ clean F has moments dated. ap is_some (there F has).2) it fails quiet

@@ -391,13 +391,13 @@ module _ {S N D : Type 0} (s : Streams S N) {g : Ghosts D} (limit : ℕ) where
     pub runs : (told : List Answer) → Runs s told port → (more : List Answer) × Runs s (told ++ more) port'
     pub certain : new.is_certain ≡ true → old.is_certain ≡ true
 
-  one_by : IsHonest g → (moment : ℕ) (port port' : Port S) (old new : Option (Intake (FileStore D g)))
+  one_by : IsHonest g → (port port' : Port S) (old new : Option (Intake (FileStore D g)))
       (lying lying' : Option (Option (Files D))) (is was : Bool) (calls calls' : ℕ) (by : AnsweredBy)
-      → AnswersPortBy s moment port port' old new by → lying' ≡ lying → is ≡ was
+      → AnswersPortBy s port port' old new by → lying' ≡ lying → is ≡ was
       → AnswersIf port port' (record { intake = old; lying = lying; is_certain = was; refused_calls = calls })
       (record { intake = new; lying = lying'; is_certain = is; refused_calls = calls' }) (IsSome old)
-  one_by honest moment port port' (Some intake) new lying lying' is was calls calls' by answered there sure =
-      let it = round_takes s over_files port port' intake answered.0 moment answered.2 in
+  one_by honest port port' (Some intake) new lying lying' is was calls calls' by answered there sure =
+      let it = round_takes s over_files port port' intake answered.0 answered.2 in
       let turns = answered.2.at_once ++ answered.2.filed in
       record {
         answers = λ was_clean before keeps certain told running.
@@ -429,7 +429,7 @@ module _ {S N D : Type 0} (s : Streams S N) {g : Ghosts D} (limit : ℕ) where
         runs = λ told running. (answers_of turns, (it.tells.running told running).0);
         certain = λ certain. sym sure ∙ certain;
       }
-  one_by honest moment port port' None new lying lying' is was calls calls' by answered there sure =
+  one_by honest port port' None new lying lying' is was calls calls' by answered there sure =
       let away = answered.1 in
       record {
         answers = λ was_clean before keeps certain told running.
@@ -452,11 +452,11 @@ module _ {S N D : Type 0} (s : Streams S N) {g : Ghosts D} (limit : ℕ) where
       }
 
   -- what waited was answered
-  pub one : IsHonest g → (moment : ℕ) (port port' : Port S) (old new : Parts g) (by : AnsweredBy)
-      → AnswersPort s moment port port' old new by → AnswersSome s limit port port' old new
-  one honest moment port port' old new by answered =
+  pub one : IsHonest g → (port port' : Port S) (old new : Parts g) (by : AnsweredBy)
+      → AnswersPort s port port' old new by → AnswersSome s limit port port' old new
+  one honest port port' old new by answered =
       let all =
-      one_by honest moment port port' old.intake new.intake old.lying new.lying new.is_certain old.is_certain
+      one_by honest port port' old.intake new.intake old.lying new.lying new.is_certain old.is_certain
       old.refused_calls new.refused_calls by answered.0 answered.1 answered.2 in
       record {
         answers = λ old_style before keeps certain told running.

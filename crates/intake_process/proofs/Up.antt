@@ -73,9 +73,8 @@ module _ {D : Type 0} {g : Ghosts D} where
 
   -- ---- what waits on a port
 
-  module _ {S N : Type 0} (s : Streams S N) (moment : ℕ) (port port' : Port S) where
-    up_after : (old new : Option (Intake (FileStore D g))) (by : AnsweredBy)
-        → AnswersPortBy s moment port port' old new by
+  module _ {S N : Type 0} (s : Streams S N) (port port' : Port S) where
+    up_after : (old new : Option (Intake (FileStore D g))) (by : AnsweredBy) → AnswersPortBy s port port' old new by
         → IsSome old → (by ≡ outcome.Failed → ⊥) → IsUp new
     up_after (Some old) new by answered is other =
         subst (λ i. IsUp i) (sym answered.1)
@@ -83,15 +82,14 @@ module _ {D : Type 0} {g : Ghosts D} where
     up_after None new by answered is other = absurd (let h : false ≡ true = is in cc)
 
     pub keeps_port : (old new : Option (Intake (FileStore D g))) (by : AnsweredBy)
-        → AnswersPortBy s moment port port' old new by → KeepsPort port port'
+        → AnswersPortBy s port port' old new by → KeepsPort port port'
     keeps_port (Some old) new by answered = record {
       asked = answered.2.second.port.asked ∙ answered.2.first.tells.port.asked;
       bounds = answered.2.second.port.bounds ∙ answered.2.first.tells.port.bounds;
     }
     keeps_port None new by answered = answered.1.tells.port
 
-    pub answered : (old last : Parts g) (by : AnsweredBy) → AnswersPort s moment port port' old last by
-        → StaysUp old last
+    pub answered : (old last : Parts g) (by : AnsweredBy) → AnswersPort s port port' old last by → StaysUp old last
     answered old last by it = record {
       grows = grows_by by old.refused_calls last.refused_calls it.3;
       up = λ u. up_after old.intake last.intake by it.0 (is_some_up old.intake u.up)
@@ -100,7 +98,7 @@ module _ {D : Type 0} {g : Ghosts D} where
     }
 
     -- after which the register was closed, if the database refused a call
-    pub went : (old last new : Parts g) (by : AnsweredBy) → AnswersPort s moment port port' old last by
+    pub went : (old last new : Parts g) (by : AnsweredBy) → AnswersPort s port port' old last by
         → ((by ≡ outcome.Failed → ⊥) → new ≡ last) → new.refused_calls ≡ last.refused_calls → StaysUp old new
     went old last new by it others calls =
         let stays = answered old last by it in

@@ -17,13 +17,12 @@ use Rattle.intake_process.specs.Observing.{Notes}
 
 -- What became of a port and of a process as the port was asked once. `from` is the port then, and `to` once what waited
 -- was answered. `asked` is what the observer answered; `None` if the register was open, or nothing waited, so that it
--- was not asked. `by` is who answered, if something waited, and `moment` the moment that what is kept then has.
+-- was not asked. `by` is who answered, if something waited.
 pub record Round {D : Type 0} (g : Ghosts D) (S : Type 0) : Type 0 where
   pub from : Port S
   pub asked : Option Bool
   pub ready : Parts g
   pub by : Option AnsweredBy
-  pub moment : ℕ
   pub to : Port S
   pub last : Parts g
   pub after : Parts g
@@ -58,7 +57,7 @@ IsAnswered s limit old round None =
     ((place : ℕ) → arrival_at round.from.hall place ≡ None) × (round.to ≡ round.from) × (round.asked ≡ None)
     × (round.after ≡ old)
 IsAnswered s limit old round (Some by) =
-    IsReady limit round.asked old round.ready × AnswersPort s round.moment round.from round.to round.ready round.last by
+    IsReady limit round.asked old round.ready × AnswersPort s round.from round.to round.ready round.last by
     × IsOver by round.last round.after
 
 -- these rounds were made, one after another, and nothing else was answered

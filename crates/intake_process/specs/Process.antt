@@ -218,21 +218,22 @@ AnswersWire from to old new answered =
 
 -- ---- it answers what waits on a port
 
--- while the process is open the intake answers it, and says whether the database refused a call, and what is kept has
--- this moment; otherwise it is turned away
-abbrev pub AnswersPortBy : {D S N : Type 0} {g : Ghosts D} → Streams S N → ℕ → Port S → Port S
+-- while the process is open the intake answers it, and says whether the database refused a call; otherwise it is turned
+-- away
+abbrev pub AnswersPortBy : {D S N : Type 0} {g : Ghosts D} → Streams S N → Port S → Port S
     → Option (Intake (FileStore D g)) → Option (Intake (FileStore D g)) → AnsweredBy → Type 0
-AnswersPortBy s moment port port' (Some old) new by =
-    (intake : Intake _) × (new ≡ Some intake) × AnswersRound s over_files moment port port' old intake
+AnswersPortBy s port port' (Some old) new by =
+    (intake : Intake _) × (new ≡ Some intake) × AnswersRound s over_files port port' old intake
     × ((by ≡ outcome.Failed) ↔ (has_stopped intake ≡ true)) × (by ≢ outcome.TurnedAway)
-AnswersPortBy s moment port port' None new by =
+AnswersPortBy s port port' None new by =
     (new ≡ None) × AnswersAway s port port' × (by ≡ outcome.TurnedAway)
 
 -- what answering what waits on a port does; a refusal of the database is counted, and nothing else changes
-abbrev pub AnswersPort : {D S N : Type 0} {g : Ghosts D} → Streams S N → ℕ → Port S → Port S → Parts g → Parts g
-    → AnsweredBy → Type 0
-AnswersPort s moment port port' old new by =
-    AnswersPortBy s moment port port' old.intake new.intake by × (new.lying ≡ old.lying)
+abbrev pub AnswersPort : {D S N : Type 0} {g : Ghosts D} → Streams S N → Port S → Port S → Parts g → Parts g
+    → AnsweredBy
+    → Type 0
+AnswersPort s port port' old new by =
+    AnswersPortBy s port port' old.intake new.intake by × (new.lying ≡ old.lying)
     × (new.is_certain ≡ old.is_certain) × CountsRefusal by old.refused_calls new.refused_calls
 
 -- ---- it is closed

@@ -14,8 +14,9 @@ use Rattle.filing_model.specs.Register.{register}
 use Rattle.filing_model.specs.Serving.{keeping}
 use Rattle.register_tables.specs.declared.opening.Counts.{Counts}
 use Rattle.register_tables.specs.Opening.{IsReadAsRegister}
-use Rattle.register_tables.specs.Registers.{Book, ForRows, IsRegisterOf}
-use Rattle.register_store.specs.Store.{HasBook, StoreParts, shows}
+use Rattle.register_tables.specs.Registers.{ForRows, IsRegisterOf}
+use Rattle.register_store.specs.Moments.{HasMoments}
+use Rattle.register_store.specs.Store.{HasRequests, StoreParts, shows}
 use Rattle.register_extracts.specs.Dated.{ForDated, ForDatedRows}
 use Rattle.register_extracts.specs.declared.fault.Why.{Why}
 use Rattle.register_extracts.specs.declared.fault.Why.TheVariants.{Output}
@@ -36,15 +37,16 @@ PrintsNothing out out' why = (why ≡ Output) ⊎ (out' ≡ out)
 
 -- The register stays, and nothing is written to it.
 pub record KeepsRegister {S : Type 0} (g : Ghosts S) (old : StoreParts S) (new : Held S) : Type 0 where
-  pub kept : HasCleanDisk (state g new) → (book : Book) → HasBook g old book
-      → HasCommitted (IsRegisterOf old.old_style book.requests) (state g new)
+  pub kept : HasCleanDisk (state g new) → (requests : List Request) → HasRequests g old requests
+      → HasCommitted (IsRegisterOf old.old_style requests) (state g new)
   pub survives : CommitsNothing (shows g old) (state g new)
 
 -- What answering a question from an open register does, whose connection is left as `new`.
 pub record AnswersQuestion {S X : Type 0} (g : Ghosts S) (question : Question) (out out' : Option (List ℕ))
     (old : StoreParts S) (new : Held S) (result : Result X Why) : Type 0 where
-  pub told : HasCleanDisk (state g new) → (book : Book) → HasBook g old book
-      → Tells (Ask question) book.requests book.moments out out' result
+  pub told : HasCleanDisk (state g new) → (requests : List Request) → HasRequests g old requests
+      → (moments : List (Option ℕ)) → HasMoments g old moments
+      → Tells (Ask question) requests moments out out' result
   pub may : IfErr result (λ why. (is_refusal why ≡ false) × (meaning (Ask question)).may why)
   pub quiet : IfErr result (PrintsNothing out out')
   pub keeps : KeepsRegister g old new

@@ -77,8 +77,9 @@ fn answer_by<T: Stream<Note = Note> + Drop, K: Sockets<Stream = T> + Drop, S: Al
     intake: &mut Intake<S>,
     moment: Moment,
 ) -> AnsweredBy
-    ensures answers { AnswersRound T.Stream S.Store moment.milliseconds (view_port K.traffic port.old)
-        (view_port K.traffic port.new) intake.old intake.new }
+    ensures answers { AnswersRound T.Stream S.Store (view_port K.traffic port.old) (view_port K.traffic port.new)
+        intake.old
+        intake.new }
     ensures failed { (result ≡ AnsweredBy.Failed) ↔ (has_stopped intake.new ≡ true) }
     ensures other { result ≢ AnsweredBy.TurnedAway }
 {
@@ -237,8 +238,9 @@ impl<D: Disk + Drop, P: Place<D> + Drop> IntakeProcess<D, P> {
         port: &mut Port<T, K>,
         moment: Moment,
     ) -> AnsweredBy
-        ensures { AnswersPort T.Stream moment.milliseconds (view_port K.traffic port.old)
-            (view_port K.traffic port.new) (parts P.lying self.old) (parts P.lying self.new) result }
+        ensures { AnswersPort T.Stream (view_port K.traffic port.old) (view_port K.traffic port.new)
+            (parts P.lying self.old)
+            (parts P.lying self.new) result }
     {
         match &mut self.intake {
             Some(intake) => {

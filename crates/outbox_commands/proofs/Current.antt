@@ -19,7 +19,7 @@ module _ {D : Type 0} {g : Ghosts D} (old new : Parts g) (closed : old.outbox �
     pub refusal : NotOpened
     pub opens : OpensProcess g Migrated old new (Err refusal)
     pub told_as : IsToldAs refusal.why told
-    pub current : IfCurrent old new told
+    pub current : IfCurrent old told
 
   not_migrated_by : (came : Result (Unit {0}) NotOpened) (told : NotOpened) → OpensProcess g Migrated old new came
       → IsTold came (Err told) → IsNotMigrated told.why
@@ -32,8 +32,8 @@ module _ {D : Type 0} {g : Ghosts D} (old new : Parts g) (closed : old.outbox �
         opens = opens;
         told_as = kept;
         current =
-            λ start faithful certain it keeps.
-            told_too refusal.why told.why kept (opens.current start faithful refl closed certain it keeps).1;
+            λ honest certain it keeps.
+            told_too refusal.why told.why kept (opens.current honest refl closed certain it keeps).1;
       }
 
   pub not_migrated : (told : NotOpened) → OpensTold g Migrated old new (Err told) → IsNotMigrated told.why

@@ -2,10 +2,10 @@
 use Rattle.std.proofs.Common.{◌≡◌, ◌∙◌, ℕ, Bool, true, false, List, Option, Some, None, Result, Ok, sym, ap, subst}
 use Rattle.std.proofs.Common.{inl, inr}
 use Rattle.sqlite_disk.specs.declared.Disk.{Ghosts}
+use Rattle.sqlite_disk.specs.declared.Files.{Files}
 use Rattle.clap.specs.Words.{Text}
 use Rattle.command_line.specs.Words.{IsRead}
 use Rattle.database_places.specs.Accesses.{OpensBy}
-use Rattle.database_places.specs.Recorded.{Recorded, nothing}
 use Rattle.database_places.specs.declared.access.Access.{Access}
 use Rattle.database_places.proofs.Accesses.{opened_for_writing, opened_for_reading}
 use Rattle.outbox_process.specs.Process.{Parts}
@@ -23,11 +23,11 @@ use Rattle.outbox_commands.specs.Words.{Calls, IsAsked}
 
 -- the task is done, but for receipts that are missing
 pub as_done : {D : Type 0} {g : Ghosts D} {out out' : Option (List ℕ)} {status : ℕ} (task : Task) (peer : Peer)
-    (before after : PeerDial) (place : Recorded D) (old new : Parts g) (done : Result (Unit {0}) NotDone) (lost : ℕ)
-    → Calls task peer → IsNetworkTo peer before → old ≡ closed place
+    (before after : PeerDial) (lying : Option (Option (Files D))) (old new : Parts g) (done : Result (Unit {0}) NotDone)
+    (lost : ℕ) → Calls task peer → IsNetworkTo peer before → old ≡ closed lying
     → Does g task (traffic_of before) (traffic_of after) out out' old new done → done ≡ Ok tt
-    → lost ≡ after.lost_receipts → status ≡ ended_without lost (Ok tt) → PerformsOver g task place out out' status
-as_done {g} {out} {out'} task peer before after place old new done lost calls is was does told lost_is is_status = (
+    → lost ≡ after.lost_receipts → status ≡ ended_without lost (Ok tt) → PerformsOver g task lying out out' status
+as_done {g} {out} {out'} task peer before after lying old new done lost calls is was does told lost_is is_status = (
   peer,
   calls,
   inr (
@@ -64,23 +64,17 @@ module _ {D R : Type 0} {written : Ghosts D} {read : Ghosts R} {out out' : Optio
   module _ (asked : Asked) (task : Task) (wait : ℕ) (access : Access) (reading : Bool) (is : came ≡ Some asked)
       (that : asked ≡ Outbox task wait) (access_is : access ≡ access_of task)
       (opens : OpensBy access (reading ≡ false) (reading ≡ true)) where
-    by_access : OpensBy access (PerformsOver written task nothing out out' status)
-        (PerformsOver read task nothing out out' status) → Performs written read words out out' status
+    by_access : OpensBy access (PerformsOver written task None out out' status)
+        (PerformsOver read task None out out' status) → Performs written read words out out' status
     by_access performs =
         as_asked asked (Outbox task wait) is that
-        (subst (λ access. OpensBy access (PerformsOver written task nothing out out' status)
-        (PerformsOver read task nothing out out' status)) access_is performs)
+        (subst (λ access. OpensBy access (PerformsOver written task None out out' status)
+        (PerformsOver read task None out out' status)) access_is performs)
 
-    -- in a place that had moved nothing
-    pub as_reading : reading ≡ true → (place : Recorded R) → place ≡ nothing
-        → PerformsOver read task place out out' status
+    pub as_reading : reading ≡ true → PerformsOver read task None out out' status
         → Performs written read words out out' status
-    as_reading does place unmoved over =
-        by_access (opened_for_reading access reading _ _ opens does
-        (subst (λ p. PerformsOver read task p out out' status) unmoved over))
+    as_reading does over = by_access (opened_for_reading access reading _ _ opens does over)
 
-    pub as_writing : reading ≡ false → (place : Recorded D) → place ≡ nothing
-        → PerformsOver written task place out out' status → Performs written read words out out' status
-    as_writing does place unmoved over =
-        by_access (opened_for_writing access reading _ _ opens does
-        (subst (λ p. PerformsOver written task p out out' status) unmoved over))
+    pub as_writing : reading ≡ false → PerformsOver written task None out out' status
+        → Performs written read words out out' status
+    as_writing does over = by_access (opened_for_writing access reading _ _ opens does over)

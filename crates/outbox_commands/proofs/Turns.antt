@@ -6,6 +6,7 @@ use Rattle.std.proofs.lemmas.List.{map-append, take-append-drop, map-id}
 use Rattle.sqlite_disk.specs.declared.Disk.{Ghosts}
 use Rattle.outbox_process.specs.Dials.{Traffic}
 use Rattle.outbox_process.specs.declared.fault.Why.{Why}
+use Rattle.database_places.specs.Places.{IsHonest}
 use Rattle.outbox_process.specs.declared.errand.Done.{Done}
 use Rattle.outbox_process.specs.declared.errand.Errand.{Errand}
 use Rattle.outbox_process.specs.declared.errand.Errand.TheVariants.{Put}
@@ -20,12 +21,12 @@ some_open o x is = subst IsSome (sym is) refl
 
 module _ {D : Type 0} {g : Ghosts D} where
   pub stays : (process : Parts g) → Leaves process process
-  stays process = record { kept = λ start it keeps. keeps; faithful = λ start is. is; certain = λ sure. sure }
+  stays process = record { kept = λ it keeps. keeps; certain = λ sure. sure }
 
   -- nothing goes over the network
   pub puts_one : (key : List ℕ) (target : Target) (body : _) (net net' : Traffic) (out out' : Option (List ℕ))
       (old done new : Parts g) (came : Result Done Why) (ended : Result (Unit {0}) Why)
-      → PerformsErrand (Put key target body) net net' out out' old done came → Leaves done new
+      → PerformsErrand (Put key target body) net net' out out' old done came → (IsHonest g → Leaves done new)
       → ended ≡ ended_as came → PutsOne (Put key target body) net out out' old new ended
   puts_one key target body net net' out out' old done new came ended performs looks ends = record {
     done = done;

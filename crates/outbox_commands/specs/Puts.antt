@@ -10,6 +10,7 @@ use Rattle.key_string.specs.Key.{IsTextFault}
 use Rattle.xbrl_report.specs.Findings.{tree}
 use Rattle.command_line.specs.declared.bytes.ReadFault.{ReadFault}
 use Rattle.command_line.specs.declared.fault.CommandFault.TheVariants as command
+use Rattle.database_places.specs.Places.{IsHonest}
 use Rattle.outbox_process.specs.Dials.{Traffic}
 use Rattle.outbox_process.specs.declared.fault.Why.{Why}
 use Rattle.outbox_process.specs.declared.beginning.Beginning.TheVariants.{Found}
@@ -91,7 +92,7 @@ pub record PutsOne {D : Type 0} {g : Ghosts D} (put : Errand) (net : Traffic) (o
   pub done : Parts g
   pub came : Result Done Why
   pub performs : PerformsErrand put net net out out' old done came
-  pub looks : Leaves done new
+  pub looks : IsHonest g → Leaves done new
   pub ends : ended ≡ ended_as came
 
 -- Each was put in, one after another; or the first ones were, the next one failed, and nothing was done with those

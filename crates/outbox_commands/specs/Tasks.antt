@@ -5,10 +5,10 @@ use Rattle.std.specs.Prelude.{MatchBool}
 use Rattle.std.specs.Borrow.{Bor}
 use Rattle.std.specs.Io.KnownBytes.{Appends}
 use Rattle.sqlite_disk.specs.declared.Disk.{Ghosts}
-use Rattle.sqlite_wal.specs.Recovery.{Image}
 use Rattle.sqlite.specs.declared.error.Error.{Error}
 use Rattle.key_string.specs.Filer.{is_filer}
 use Rattle.outbox_tables.specs.Entries.{Contents}
+use Rattle.database_places.specs.Places.{IsHonest}
 use Rattle.database_places.specs.declared.flaw.DatabaseFlaw.{DatabaseFlaw}
 use Rattle.database_places.specs.Verdicts.{verdict_text}
 use Rattle.outbox_process.specs.Dials.{Traffic}
@@ -17,7 +17,7 @@ use Rattle.outbox_process.specs.declared.errand.Errand.TheVariants as errand
 use Rattle.outbox_process.specs.declared.fault.NotOpened.{NotOpened}
 use Rattle.outbox_process.specs.declared.fault.Why.{Why}
 use Rattle.outbox_process.specs.declared.fault.Why.TheVariants as why
-use Rattle.outbox_process.specs.Process.{Parts, IsFaithful, Keeps, IsOfCurrent, OpensProcess, ClosesProcess}
+use Rattle.outbox_process.specs.Process.{Parts, Keeps, IsOfCurrent, OpensProcess, ClosesProcess}
 use Rattle.outbox_commands.specs.declared.fault.NotDone.{NotDone}
 use Rattle.outbox_commands.specs.declared.options.Task.{Task}
 use Rattle.outbox_commands.specs.declared.options.Task.TheVariants.{Init, Put, Migrate, Send, Ask, Status, Show, Body}
@@ -58,10 +58,9 @@ IsJudged (Some verdict) out out' done status = IsPrinted out out' (verdict_text 
 IsJudged None out out' done status = (status ≡ done) × (out' ≡ out)
 
 -- The cause is that of an outbox of this version, if one is kept there. Nothing is committed to it then.
-abbrev pub IfCurrent : {D : Type 0} {g : Ghosts D} → Parts g → Parts g → Why → Type 0
-IfCurrent old new told =
-    (start : Option Image) → IsFaithful start new → old.is_certain ≡ true → (it : Contents) → Keeps start old it
-    → IsOfCurrent told
+abbrev pub IfCurrent : {D : Type 0} {g : Ghosts D} → Parts g → Why → Type 0
+IfCurrent {D} {g} old told =
+    IsHonest g → old.is_certain ≡ true → (it : Contents) → Keeps old it → IsOfCurrent told
 
 -- An outbox of the version before was upgraded to this one, that was printed, and the outbox was closed; or it was
 -- refused: it has this version already, and that was printed, or the verdict on it was.
@@ -72,7 +71,7 @@ MigratesOutbox g out out' old new status =
     × ClosesProcess g migrated new closed
     × IsPrinted out out' migrated_line 0 status)
     ⊎ ((refusal : NotOpened) × (told : Why) × OpensProcess g beginning.Migrated old new (Err refusal)
-    × IsToldAs refusal.why told × IfCurrent old new told
+    × IsToldAs refusal.why told × IfCurrent old told
     × MatchBool (is_current told) (IsPrinted out out' current_line 0 status)
     (IsJudged (why_verdict told) out out' (why_status told) status))
 

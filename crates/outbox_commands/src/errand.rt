@@ -1,6 +1,7 @@
 //! Opens the outbox of a task, does an errand on it, and closes it.
 
 ghost use Rattle.std.specs.Prelude.{◌≡◌, None, IsSome};
+ghost use Rattle.database_places.specs.Places.{IsHonest};
 ghost use Rattle.outbox_process.specs.Process.{parts, Leaves, ClosesProcess};
 ghost use Rattle.outbox_commands.specs.Looking.{KeepsEntries};
 ghost use Rattle.outbox_commands.specs.Status.{status_of, status_by, why_status, failed_status, strict_status};
@@ -38,7 +39,7 @@ pub(crate) fn open<D: Disk + Drop, P: Place<D> + Drop>(
     process: &mut OutboxProcess<D, P>,
     beginning: Beginning<'_>,
 ) -> Result<(), NotOpened>
-    ensures { OpensTold D.Disk beginning.entry (parts P.recorded process.old) (parts P.recorded process.new) result }
+    ensures { OpensTold D.Disk beginning.entry (parts P.lying process.old) (parts P.lying process.new) result }
 {
     match process.open(alloc, beginning) {
         Ok(()) => Ok(()),
@@ -56,7 +57,7 @@ pub(crate) fn close<D: Disk + Drop, P: Place<D> + Drop, E: Write>(
     name: &str,
     errors: &mut E,
 )
-    ensures { (closed : _) × ClosesProcess D.Disk (parts P.recorded process.old) (parts P.recorded process.new) closed }
+    ensures { (closed : _) × ClosesProcess D.Disk (parts P.lying process.old) (parts P.lying process.new) closed }
 {
     let closed = process.close();
     // A close that failed only warns: after a fault somebody might put a report in twice.
@@ -79,7 +80,7 @@ pub(crate) fn run_errand<'a, D: Disk + Drop, P: Place<D> + Drop, N: Network, O: 
 ) -> Result<(), NotDone<'a>>
     requires { process.old.outbox ≡ None }
     ensures { VisitsOutbox D.Disk is_strict errand (N.traffic network.old) (N.traffic network.new)
-        (O.contents output.old) (O.contents output.new) (parts P.recorded process.old) (parts P.recorded process.new)
+        (O.contents output.old) (O.contents output.new) (parts P.lying process.old) (parts P.lying process.new)
         (status_by result) }
 {
     if let Err(refusal) = open(alloc, process, Beginning::Found) {
@@ -227,7 +228,7 @@ pub(crate) fn tell_same<D: Disk + Drop, P: Place<D> + Drop, E: Write>(
     named: Option<&str>,
     errors: &mut E,
 )
-    ensures kept { Leaves (parts P.recorded process.old) (parts P.recorded process.new) }
+    ensures kept { IsHonest D.Disk → Leaves (parts P.lying process.old) (parts P.lying process.new) }
     ensures stays_open { IsSome process.old.outbox → IsSome process.new.outbox }
 {
     let Ok(Done::Put { id }) = came else {

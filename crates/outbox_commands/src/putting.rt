@@ -162,7 +162,7 @@ fn put_one<'a, D: Disk + Drop, P: Place<D> + Drop, N: Network, O: Write, E: Writ
 ) -> Result<(), Why>
     requires { IsSome process.old.outbox }
     ensures puts { PutsOne (put_of target report.entry) (N.traffic network.old) (O.contents output.old)
-        (O.contents output.new) (parts P.recorded process.old) (parts P.recorded process.new) result }
+        (O.contents output.new) (parts P.lying process.old) (parts P.lying process.new) result }
     ensures traffic { N.traffic network.new ≡ N.traffic network.old }
     ensures stays_open { IsSome process.new.outbox }
 {
@@ -203,7 +203,7 @@ fn put_each<'a, D: Disk + Drop, P: Place<D> + Drop, N: Network, O: Write, E: Wri
 ) -> Result<(), NotDone<'a>>
     requires { IsSome process.old.outbox }
     ensures puts { EndsTurns (map (put_of target) reports.entry.items) (N.traffic network.old)
-        (O.contents output.old) (O.contents output.new) (parts P.recorded process.old) (parts P.recorded process.new)
+        (O.contents output.old) (O.contents output.new) (parts P.lying process.old) (parts P.lying process.new)
         (status_by result) }
     ensures traffic { N.traffic network.new ≡ N.traffic network.old }
 {
@@ -243,8 +243,8 @@ pub(crate) fn put<'a, D: Disk + Drop, P: Place<D> + Drop, N: Network, O: Write, 
 ) -> Result<(), NotDone<'a>>
     requires { process.old.outbox ≡ None }
     ensures { PutsReports D.Disk is_strict files.now key_text.entry target (N.traffic network.old)
-        (N.traffic network.new) (O.contents output.old) (O.contents output.new) (parts P.recorded process.old)
-        (parts P.recorded process.new) result }
+        (N.traffic network.new) (O.contents output.old) (O.contents output.new) (parts P.lying process.old)
+        (parts P.lying process.new) result }
 {
     if !is_for_one(files.len(), key_text, target) {
         return Err(NotDone::ForOne);

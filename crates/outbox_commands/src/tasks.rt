@@ -33,7 +33,7 @@ fn init<'a, D: Disk + Drop, P: Place<D> + Drop, E: Write>(
     errors: &mut E,
 ) -> Result<(), NotDone<'a>>
     requires { process.old.outbox ≡ None }
-    ensures { MakesOutbox D.Disk filer.entry (parts P.recorded process.old) (parts P.recorded process.new)
+    ensures { MakesOutbox D.Disk filer.entry (parts P.lying process.old) (parts P.lying process.new)
         (status_by result) }
 {
     if !is_filer(filer) {
@@ -82,8 +82,8 @@ fn migrate<'a, D: Disk + Drop, P: Place<D> + Drop, O: Write, E: Write>(
     errors: &mut E,
 ) -> Result<(), NotDone<'a>>
     requires { process.old.outbox ≡ None }
-    ensures { MigratesOutbox D.Disk (O.contents output.old) (O.contents output.new) (parts P.recorded process.old)
-        (parts P.recorded process.new) (status_by result) }
+    ensures { MigratesOutbox D.Disk (O.contents output.old) (O.contents output.new) (parts P.lying process.old)
+        (parts P.lying process.new) (status_by result) }
 {
     if let Err(refusal) = open(alloc, process, Beginning::Migrated) {
         if is_current(&refusal.why) {
@@ -119,7 +119,7 @@ pub(crate) fn perform_task<'a, D: Disk + Drop, P: Place<D> + Drop, N: Network, O
 ) -> Result<(), NotDone<'a>>
     requires { process.old.outbox ≡ None }
     ensures { Does D.Disk task.entry (N.traffic network.old) (N.traffic network.new) (O.contents output.old)
-        (O.contents output.new) (parts P.recorded process.old) (parts P.recorded process.new) result }
+        (O.contents output.new) (parts P.lying process.old) (parts P.lying process.new) result }
 {
     let alloc = rt.alloc();
     let name = task.database();
@@ -187,7 +187,7 @@ fn perform_in<D: Disk + Drop, P: Place<D> + Drop, O: Write, E: Write>(
     errors: &mut E,
 ) -> u8
     requires { P.file place ≡ Some (database_of task).now }
-    ensures { PerformsOver D.Disk task.entry (P.recorded place) (O.contents output.old) (O.contents output.new) result }
+    ensures { PerformsOver D.Disk task.entry (P.lying place) (O.contents output.old) (O.contents output.new) result }
 {
     let mut network = match PeerDial::new(rt, task.peer()) {
         Ok(network) => network,

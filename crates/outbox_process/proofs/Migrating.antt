@@ -26,7 +26,6 @@ use Rattle.outbox_process.specs.Refusals.{RefusesMigrating}
 use Rattle.outbox_process.specs.declared.fault.Why.{Why}
 use Rattle.outbox_process.specs.declared.fault.Why.TheVariants.{Migrate}
 use Rattle.outbox_tables.proofs.Texts.{meta_reads}
-use Rattle.outbox_process.proofs.Refusing.{clean_before}
 
 -- if it failed for another cause than memory and the disk, nothing was written
 unchanged_other : (old new : State) (e : Error) → cause_of e ≡ Other → IsStopped old new e → IsUnchanged old new
@@ -72,7 +71,6 @@ module _ {S : Type 0} (g : Ghosts S) (conn back : Held S) (given : GivesBackOpen
   migrated outbox earlier clean =
       let was = earlier clean in
       let same = (no_outbox_kept 2 (state g conn) (state g back) (given.why was.0)).0.now_is in (
-        clean_before (state g conn) (state g back) given.crash was.0,
         (
           λ alone.
               let one = was.1.0 (subst (λ (db : Database). IsAlone db.schema) (sym same) alone) in

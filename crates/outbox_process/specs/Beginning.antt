@@ -19,8 +19,6 @@ HasContents g outbox it = HasEntries g outbox it.entries × (outbox.filer ≡ it
 
 -- What an outbox has that was found in a database, if the disk is clean.
 pub record FindsOutbox {S : Type 0} (g : Ghosts S) (conn : Held S) (outbox : OutboxParts S) : Type 0 where
-  -- it was clean before
-  pub clean : HasCleanDisk (shows g outbox) → HasCleanDisk (state g conn)
   -- the database says that it is an outbox of this filer, and if its tables are declared as those of one, its rows are
   -- those of one
   pub is_one : HasCleanDisk (shows g outbox) → SaysOutbox g outbox.filer conn
@@ -33,8 +31,7 @@ pub record FindsOutbox {S : Type 0} (g : Ghosts S) (conn : Held S) (outbox : Out
 -- nothing was declared in the database, and the outbox is this filer's, and has no entry yet
 abbrev pub MakesOutbox : {S : Type 0} → Ghosts S → List ℕ → Held S → OutboxParts S → Type 0
 MakesOutbox g filer conn outbox =
-    (conn.schema ≡ no_schema)
-    × (HasCleanDisk (shows g outbox) → HasCleanDisk (state g conn) × HasContents g outbox (empty filer))
+    (conn.schema ≡ no_schema) × (HasCleanDisk (shows g outbox) → HasContents g outbox (empty filer))
 
 -- the rows of a database in which the tables of the version before stand alone are those of an outbox of that version,
 -- and this outbox has what they had
@@ -51,8 +48,7 @@ MigratesEarlier g conn outbox =
 -- the outbox has what the rows of the version before had, and the rows were no outbox of this version
 abbrev pub MigratesOutbox : {S : Type 0} → Ghosts S → Held S → OutboxParts S → Type 0
 MigratesOutbox g conn outbox =
-    HasCleanDisk (shows g outbox) → HasCleanDisk (state g conn) × HasEarlier g conn outbox
-    × ((it : Contents) → ¬ IsOutboxOf it (state g conn).now)
+    HasCleanDisk (shows g outbox) → HasEarlier g conn outbox × ((it : Contents) → ¬ IsOutboxOf it (state g conn).now)
 
 abbrev pub BeginsOutbox : {S : Type 0} → Ghosts S → Beginning → Held S → OutboxParts S → Type 0
 BeginsOutbox g Found conn outbox = FindsOutbox g conn outbox

@@ -1,12 +1,10 @@
 -- What the process keeps that an outbox runs in, and what its calls do.
 use Rattle.std.specs.Prelude.{◌≡◌, ◌⊎◌, ℕ, Bool, true, false, List, Option, Some, None, Result, Ok, Err, IsSome, IfSome}
-use Rattle.std.specs.Prelude.{IfErr, OnOk, OnErr, if◌then◌else◌, ⊤}
+use Rattle.std.specs.Prelude.{IfErr, OnOk, OnErr, if◌then◌else◌}
 use Rattle.sqlite_disk.specs.declared.Disk.{Ghosts}
 use Rattle.sqlite_disk.specs.declared.Files.{Files}
 use Rattle.sqlite_store.specs.declared.store.FileStore.{FileStore}
-use Rattle.sqlite_wal.specs.Recovery.{Image}
-use Rattle.sqlite.specs.Files.{file_state, image_of, over_files}
-use Rattle.sqlite.specs.State.{HasCleanDisk}
+use Rattle.sqlite.specs.Files.{file_state, over_files}
 use Rattle.sqlite.specs.Held.{Held}
 use Rattle.sqlite.specs.declared.error.Error.{Error}
 use Rattle.command_line.specs.declared.fault.DatabaseFault.{DatabaseFault}
@@ -20,13 +18,13 @@ use Rattle.outbox_tables.specs.declared.fault.OutboxFault.{OutboxFault}
 use Rattle.outbox_tables.specs.Rows.{IsOutboxOf}
 use Rattle.outbox_tables.specs.Schema.{IsDeclared}
 use Rattle.outbox_tables.specs.Audit.{SaysOutbox}
-use Rattle.outbox_core.specs.OutboxParts.{OutboxParts, shows}
-use Rattle.database_places.specs.Closing.{IsGivenUp, IsLeftBy}
-use Rattle.database_places.specs.Left.{HoldInBytes, IsReadInBytes}
-use Rattle.database_places.specs.Moves.{IsRight, LieBytes, lies_after}
-use Rattle.database_places.specs.Recorded.{Recorded, left}
+use Rattle.outbox_core.specs.OutboxParts.{OutboxParts}
+use Rattle.database_places.specs.Closing.{IsClosedIn, IsNotClosed, LieGivenUp}
+use Rattle.database_places.specs.Left.{HoldWithLog, IsReadIn}
 use Rattle.database_places.specs.declared.holding.Holding.TheVariants.{Nothing}
-use Rattle.database_places.specs.Opening.{OpensBy, TriesAgain}
+use Rattle.database_places.specs.Opening.{ComesFrom, OpensPlace}
+use Rattle.database_places.specs.Places.{Lie, IsHonest}
+use Rattle.database_places.specs.Places as place
 use Rattle.outbox_process.specs.Dials.{Traffic}
 use Rattle.outbox_process.specs.declared.beginning.Beginning.{Beginning}
 use Rattle.outbox_process.specs.declared.beginning.Beginning.TheVariants.{Found, Made, Migrated}
@@ -36,70 +34,46 @@ use Rattle.outbox_process.specs.declared.fault.NotOpened.{NotOpened}
 use Rattle.outbox_process.specs.declared.fault.Why.{Why}
 use Rattle.outbox_process.specs.declared.fault.Why.TheVariants.{Files as Unopened, IsCurrent, Migrate}
 use Rattle.outbox_process.specs.declared.process.OutboxProcess.{OutboxProcess}
-use Rattle.outbox_process.specs.Beginning.{HasContents, BeginsOutbox}
+use Rattle.outbox_process.specs.Beginning.{HasContents}
 use Rattle.outbox_process.specs.Errands.{DoesErrand}
 use Rattle.outbox_process.specs.Faults.{leaves_doubt}
 use Rattle.outbox_process.specs.Refusals.{RefusesOutbox}
 
--- What contracts see of it: the outbox, if it is open; what its place gave, got and told; and whether what is kept is
--- certain: no close and no making failed, and no opening took the files and got no database.
+-- What contracts see of it: the outbox, if it is open; if that is known, the files that lie in its place, if there are
+-- some; and whether what is kept is certain: no close and no making failed, and no opening took the files and got no
+-- database.
 pub record Parts {D : Type 0} (g : Ghosts D) : Type 0 where
   pub outbox : Option (OutboxParts (FileStore D g))
-  pub place : Recorded D
+  pub lying : Option (Option (Files D))
   pub is_certain : Bool
 
-abbrev pub parts : {D P : Type 0} {g : Ghosts D} → (P → Recorded D) → OutboxProcess D P g → Parts g
-parts recorded process =
-    record { outbox = process.outbox; place = recorded process.place; is_certain = process.is_certain }
+abbrev pub parts : {D P : Type 0} {g : Ghosts D} → (P → Option (Option (Files D))) → OutboxProcess D P g → Parts g
+parts lying process = record { outbox = process.outbox; lying = lying process.place; is_certain = process.is_certain }
 
 -- ---- what it keeps
 
--- These bytes of a log and a database file together hold the outbox of these contents: what was committed and is in the
--- log alone counts.
-pub record HoldOutbox (image : Image) (it : Contents) : Type 0 where
+-- The log and the database file together hold the outbox of these contents: what was committed and is in the log alone
+-- counts.
+pub record HoldOutboxWithLog {D : Type 0} (g : Ghosts D) (files : Files D) (it : Contents) : Type 0 where
   pub db : Database
   pub outbox : IsOutboxOf it db
-  pub held : HoldInBytes image db
+  pub held : HoldWithLog g files db
 
--- so do these files
-abbrev pub HoldOutboxWithLog : {D : Type 0} → Ghosts D → Files D → Contents → Type 0
-HoldOutboxWithLog g files it = HoldOutbox (image_of g files) it
+-- The outbox is open, and this filer's with these entries; or it is closed, and the files in the place hold it, by the
+-- log and the database file together.
+abbrev pub KeepsBy : {D : Type 0} {g : Ghosts D} → Option (OutboxParts (FileStore D g)) → Option (Option (Files D))
+    → Contents → Type 0
+KeepsBy (Some outbox) lying it = HasContents over_files outbox it × (lying ≡ Some None)
+KeepsBy {D} {g} None lying it = Lie lying (λ files. HoldOutboxWithLog g files it)
 
--- The outbox is open, and this filer's with these entries; or it is closed, and the bytes that lie in the place hold
--- it.
-abbrev pub KeepsBy : {D : Type 0} {g : Ghosts D} → Option (OutboxParts (FileStore D g)) → Option Image → Contents
-    → Type 0
-KeepsBy (Some outbox) lying it = HasContents over_files outbox it × (lying ≡ None)
-KeepsBy None lying it = LieBytes lying (λ image. HoldOutbox image it)
+-- The process keeps the outbox of these contents, as long as that is certain.
+abbrev pub Keeps : {D : Type 0} {g : Ghosts D} → Parts g → Contents → Type 0
+Keeps process it = process.is_certain ≡ true → KeepsBy process.outbox process.lying it
 
--- the disk of an outbox that is open gave back what was written
-abbrev pub IsClean : {D : Type 0} {g : Ghosts D} → Option (OutboxParts (FileStore D g)) → Type 0
-IsClean (Some outbox) = HasCleanDisk (shows over_files outbox)
-IsClean None = ⊤
-
-module _ {D : Type 0} {g : Ghosts D} (start : Option Image) where
-  -- Up to here the place told rightly, nobody else wrote its files, and they gave back what was written. `start` lay
-  -- there before its first move.
-  abbrev pub IsFaithful : Parts g → Type 0
-  IsFaithful process = IsRight g start process.place × IsClean process.outbox
-
-  -- so it is sure what is kept
-  abbrev pub IsSure : Parts g → Type 0
-  IsSure process = IsFaithful process × (process.is_certain ≡ true)
-
-  -- the bytes that lie in its place now
-  abbrev pub lying : Parts g → Option Image
-  lying process = lies_after g start process.place.moves
-
-  -- The process keeps the outbox of these contents, if that is sure.
-  abbrev pub Keeps : Parts g → Contents → Type 0
-  Keeps process it = IsSure process → KeepsBy process.outbox (lying process) it
-
--- What a call leaves that changes no entry, whatever lay in the place at first: the outbox as it was. What is sure
--- after the call was sure before.
+-- What a call leaves that changes no entry: the outbox as it was. If the process is certain after the call, it was
+-- certain before.
 pub record Leaves {D : Type 0} {g : Ghosts D} (old new : Parts g) : Type 0 where
-  pub kept : (start : Option Image) (it : Contents) → Keeps start old it → Keeps start new it
-  pub faithful : (start : Option Image) → IsFaithful start new → IsFaithful start old
+  pub kept : (it : Contents) → Keeps old it → Keeps new it
   pub certain : new.is_certain ≡ true → old.is_certain ≡ true
 
 -- ---- it is opened
@@ -110,49 +84,30 @@ has_to_be_there Found = true
 has_to_be_there (Made filer) = false
 has_to_be_there Migrated = true
 
--- These bytes hold the outbox of these contents in the version before, and its tables alone, by the log and the
+-- These files hold the outbox of these contents in the version before, and its tables alone, by the log and the
 -- database file together.
-pub record HoldEarlier (image : Image) (it : Contents) : Type 0 where
+pub record HoldEarlier {D : Type 0} (g : Ghosts D) (files : Files D) (it : Contents) : Type 0 where
   pub db : Database
   pub earlier : IsEarlierOf it db
   pub alone : IsAlone db.schema
-  pub held : HoldInBytes image db
+  pub held : HoldWithLog g files db
 
 -- The contents with which an outbox begins: those that are kept; no entries of the filer for which it is made, if the
 -- process is closed; or those that it had in the version before.
-abbrev pub BeginsWith : {D : Type 0} {g : Ghosts D} → Option Image → Beginning → Parts g → Contents → Type 0
-BeginsWith start Found old it = Keeps start old it
-BeginsWith start (Made filer) old it = (old.outbox ≡ None) × (it ≡ empty filer.now)
-BeginsWith start Migrated old it =
-    (old.outbox ≡ None) × LieBytes (lying start old) (λ image. HoldEarlier image it)
+abbrev pub BeginsWith : {D : Type 0} {g : Ghosts D} → Beginning → Parts g → Contents → Type 0
+BeginsWith Found old it = Keeps old it
+BeginsWith (Made filer) old it = (old.outbox ≡ None) × IsSome old.lying × (it ≡ empty filer.now)
+BeginsWith {D} {g} Migrated old it = (old.outbox ≡ None) × Lie old.lying (λ files. HoldEarlier g files it)
 
--- The place gave files, this connection to them is open, and this outbox began over it.
-pub record IsBegun {D : Type 0} (g : Ghosts D) (beginning : Beginning) (old new : Parts g) : Type 0 where
-  pub conn : Held (FileStore D g)
-  pub opens : OpensBy g (has_to_be_there beginning) old.place new.place (Ok conn)
-  pub outbox : OutboxParts (FileStore D g)
-  pub begins : BeginsOutbox over_files beginning conn outbox
-  pub is : new.outbox ≡ Some outbox
-
--- This connection to the files that the place gave had no outbox, it was given up, and its files were left.
-pub record IsHandedBack {D : Type 0} (g : Ghosts D) (beginning : Beginning) (old new : Recorded D) (why : Why)
-    : Type 0 where
-  pub between : Recorded D
-  pub conn : Held (FileStore D g)
-  pub opens : OpensBy g (has_to_be_there beginning) old between (Ok conn)
-  pub back : Held (FileStore D g)
-  pub refuses : RefusesOutbox over_files beginning conn back why
-  pub files : Files D
-  pub given_up : IsGivenUp back files
-  pub again : TriesAgain (left files between) new
-
--- Why the process was not opened: the files, which were taken or not, gave no database; or a connection to them gave no
--- outbox, and was given up.
-abbrev pub IsNotOpened : {D : Type 0} → Ghosts D → Beginning → Recorded D → Recorded D → Bool → Why → Type 0
-IsNotOpened g beginning old new was_taken why =
+-- Why the process was not opened: the files, which were taken or not, gave no database; or this connection to them gave
+-- no outbox, and was given up.
+abbrev pub IsNotOpened : {D : Type 0} → Ghosts D → Beginning → Option (Option (Files D)) → Option (Option (Files D))
+    → Bool → Why → Type 0
+IsNotOpened {D} g beginning old new was_taken why =
     ((fault : DatabaseFault) × (why ≡ Unopened fault)
-    × OpensBy g (has_to_be_there beginning) old new (Err (record { fault = fault; was_taken = was_taken })))
-    ⊎ IsHandedBack g beginning old new why
+    × OpensPlace g (has_to_be_there beginning) old new (Err (record { fault = fault; was_taken = was_taken })))
+    ⊎ ((conn : Held (FileStore D g)) × (back : Held (FileStore D g)) × ComesFrom old (Some None) conn
+    × RefusesOutbox over_files beginning conn back why × LieGivenUp old new back)
 
 -- the files gave no database, for this cause
 abbrev pub without_files : DatabaseFault → NotOpened
@@ -173,32 +128,28 @@ IsUp None = ⊥
 -- What an opening finds in this database: it says that it is an outbox, and if its tables are declared as those of one,
 -- or are those of the version before and alone, it is one of some contents, which are kept. An outbox is made only in a
 -- database in which nothing is declared.
-abbrev pub OpensOver : {D : Type 0} {g : Ghosts D} → Option Image → Beginning → Held (FileStore D g) → Parts g → Type 0
-OpensOver start Found conn new = ((filer : List ℕ) × SaysOutbox over_files filer conn)
+abbrev pub OpensOver : {D : Type 0} {g : Ghosts D} → Beginning → Held (FileStore D g) → Parts g → Type 0
+OpensOver Found conn new = ((filer : List ℕ) × SaysOutbox over_files filer conn)
     × (IsDeclared (file_state conn).now.schema
-    → (it : Contents) × IsOutboxOf it (file_state conn).now × KeepsBy new.outbox (lying start new) it)
-OpensOver start (Made filer) conn new = (file_state conn).now.schema ≡ no_schema
-OpensOver start Migrated conn new = IsAlone (file_state conn).now.schema
-    → (it : Contents) × IsEarlierOf it (file_state conn).now × KeepsBy new.outbox (lying start new) it
+    → (it : Contents) × IsOutboxOf it (file_state conn).now × KeepsBy new.outbox new.lying it)
+OpensOver (Made filer) conn new = (file_state conn).now.schema ≡ no_schema
+OpensOver Migrated conn new = IsAlone (file_state conn).now.schema
+    → (it : Contents) × IsEarlierOf it (file_state conn).now × KeepsBy new.outbox new.lying it
 
--- What opening the process does. What it finds is said of the files that its place gave; `start` is whatever lay there
--- at first.
+-- What opening the process does.
 pub record OpensProcess {D : Type 0} (g : Ghosts D) (beginning : Beginning) (old new : Parts g)
     (result : Result (Unit {0}) NotOpened) : Type 0 where
-  pub begun : old.outbox ≡ None → OnOk result (IsBegun g beginning old new)
-  pub keeps : (start : Option Image) (it : Contents) → BeginsWith start beginning old it
-      → OnOk result (Keeps start new it)
+  pub keeps : IsHonest g → (it : Contents) → BeginsWith beginning old it → OnOk result (Keeps new it)
   -- if it has to be there, and no files lie there, the fault is Missing
-  pub absent : (start : Option Image) → IsFaithful start new → old.outbox ≡ None → has_to_be_there beginning ≡ true
-      → lying start old ≡ None → result ≡ Err (without_files Missing)
-  -- whatever bytes lie there, they are read
-  pub read : (start : Option Image) → IsFaithful start new → old.outbox ≡ None → (image : Image)
-      → lying start old ≡ Some image → OnOk result ((conn : Held (FileStore D g))
-      × IsReadInBytes image (file_state conn).now × OpensOver start beginning conn new)
+  pub absent : old.outbox ≡ None → has_to_be_there beginning ≡ true → old.lying ≡ Some None
+      → result ≡ Err (without_files Missing)
+  -- whatever files lie there, it is opened over a connection to them, and the database that is read in them
+  pub read : IsHonest g → old.outbox ≡ None → (files : Files D) → old.lying ≡ Some (Some files)
+      → OnOk result ((conn : Held (FileStore D g)) × ComesFrom old.lying (Some None) conn
+      × IsReadIn g files (file_state conn).now × OpensOver beginning conn new)
   -- an outbox of this version is not migrated, and the fault says so, or that the opening failed
-  pub current : (start : Option Image) → IsFaithful start new → beginning ≡ Migrated → old.outbox ≡ None
-      → old.is_certain ≡ true → (it : Contents) → Keeps start old it
-      → OnOk result ⊥ × IfErr result (λ refusal. IsOfCurrent refusal.why)
+  pub current : IsHonest g → beginning ≡ Migrated → old.outbox ≡ None → old.is_certain ≡ true → (it : Contents)
+      → Keeps old it → OnOk result ⊥ × IfErr result (λ refusal. IsOfCurrent refusal.why)
   pub certain : OnOk result (new.is_certain ≡ old.is_certain)
   pub is_open : OnOk result (IsSome new.outbox)
   pub up : old.outbox ≡ None → OnOk result (IsUp new.outbox)
@@ -207,15 +158,15 @@ pub record OpensProcess {D : Type 0} (g : Ghosts D) (beginning : Beginning) (old
   -- after a refusal the process is closed, the fault says why, and the process is as certain as before, unless the
   -- opening may have changed what lies there
   pub refused : IfErr result (λ refusal. (was_taken : Bool)
-      × IsNotOpened g beginning old.place new.place was_taken refusal.why × (new.outbox ≡ None)
+      × IsNotOpened g beginning old.lying new.lying was_taken refusal.why × (new.outbox ≡ None)
       × (new.is_certain ≡ (if leaves_doubt was_taken refusal.why then false else old.is_certain)))
   -- then it keeps what it kept
-  pub unharmed : OnErr result (Leaves old new)
-  pub faithful : (start : Option Image) → IsFaithful start new → IsFaithful start old
-  -- what lay in the place is not gone then; where nothing lay, nothing lies
-  pub back : (start : Option Image) → OnErr result (lying start new ≡ None → lying start old ≡ None)
-  pub vacant : (start : Option Image) → IsSure start new → old.outbox ≡ None → lying start old ≡ None
-      → OnErr result (lying start new ≡ None)
+  pub unharmed : IsHonest g → OnErr result (Leaves old new)
+  -- the files that lay in the place still lie there, as the opening left them; where none lay, none lie
+  pub back : IfErr result (λ _. (there : Files D) → old.lying ≡ Some (Some there)
+      → (files : Files D) × (new.lying ≡ Some (Some files)))
+  pub vacant : IsHonest g → old.outbox ≡ None → old.lying ≡ Some None
+      → OnErr result (new.is_certain ≡ true → new.lying ≡ Some None)
 
 -- ---- an errand is done
 
@@ -227,18 +178,23 @@ pub record PerformsErrand {D : Type 0} {g : Ghosts D} (errand : Errand) (net net
   pub was : old.outbox ≡ Some before
   pub is : new.outbox ≡ Some after
   pub does : DoesErrand over_files errand net net' before after out out' result
-  pub place : new.place ≡ old.place
+  pub lying : new.lying ≡ old.lying
   pub certain : new.is_certain ≡ old.is_certain
 
 -- ---- it is closed
 
+-- closing the connection left these files, with all that was committed in the database file, unless this error came
+abbrev pub IsLeftBy : {D : Type 0} (g : Ghosts D) → Held (FileStore D g) → Files D → Result (Unit {0}) Error → Type 0
+IsLeftBy g conn files (Ok done) = IsClosedIn g conn files
+IsLeftBy g conn files (Err error) = IsNotClosed conn files error
+
 -- What closing the process does.
 pub record ClosesProcess {D : Type 0} (g : Ghosts D) (old new : Parts g) (result : Result (Unit {0}) Error)
     : Type 0 where
-  pub leaves : Leaves old new
+  pub leaves : IsHonest g → Leaves old new
   pub certain : OnOk result (new.is_certain ≡ old.is_certain)
   pub unsure : OnErr result (new.is_certain ≡ false)
-  pub files : IfSome old.outbox (λ outbox. (files : Files D) × (new.place ≡ left files old.place)
+  pub files : IfSome old.outbox (λ outbox. (files : Files D) × place.Leaves old.lying new.lying files
       × IsLeftBy g outbox.conn files result)
   pub is_closed : new.outbox ≡ None
   pub already : old.outbox ≡ None → (new ≡ old) × (result ≡ Ok tt)

@@ -44,7 +44,7 @@ impl<D: Disk + Drop, P: Place<D> + Drop> OutboxProcess<D, P> {
 
     /// The outbox that lies in this place, or will be made there. It is closed.
     pub fn new(place: P) -> OutboxProcess<D, P>
-        ensures { parts P.recorded result ≡ record { outbox = None; place = P.recorded place; is_certain = true } }
+        ensures { parts P.lying result ≡ record { outbox = None; lying = P.lying place; is_certain = true } }
     {
         OutboxProcess {
             place,
@@ -55,7 +55,7 @@ impl<D: Disk + Drop, P: Place<D> + Drop> OutboxProcess<D, P> {
 
     /// The place.
     pub fn place(&self) -> &P
-        ensures { P.recorded result.now ≡ P.recorded self.now.place }
+        ensures { P.lying result.now ≡ P.lying self.now.place }
     {
         &self.place
     }
@@ -84,7 +84,7 @@ impl<D: Disk + Drop, P: Place<D> + Drop> OutboxProcess<D, P> {
     /// Opens it, if it is closed. A refusal leaves the files in the place, and leaves a database that is damaged or no
     /// outbox as it was.
     pub fn open(&mut self, alloc: Global, beginning: Beginning<'_>) -> Result<(), NotOpened>
-        ensures { OpensProcess D.Disk beginning.entry (parts P.recorded self.old) (parts P.recorded self.new) result }
+        ensures { OpensProcess D.Disk beginning.entry (parts P.lying self.old) (parts P.lying self.new) result }
     {
         if self.outbox.is_some() {
             return Ok(());
@@ -126,7 +126,7 @@ impl<D: Disk + Drop, P: Place<D> + Drop> OutboxProcess<D, P> {
     ) -> Result<Done, Why>
         requires { IsSome self.old.outbox }
         ensures { PerformsErrand errand (N.traffic network.old) (N.traffic network.new) (O.contents output.old)
-            (O.contents output.new) (parts P.recorded self.old) (parts P.recorded self.new) result }
+            (O.contents output.new) (parts P.lying self.old) (parts P.lying self.new) result }
     {
         match &mut self.outbox {
             Some(outbox) => do_errand(alloc, network, outbox, errand, output),
@@ -137,7 +137,7 @@ impl<D: Disk + Drop, P: Place<D> + Drop> OutboxProcess<D, P> {
     /// Closes it, if it is open, and leaves the files in the place in any case. A fault says why what was committed is
     /// not all in the database file, but in the log still.
     pub fn close(&mut self) -> Result<(), Error>
-        ensures { ClosesProcess D.Disk (parts P.recorded self.old) (parts P.recorded self.new) result }
+        ensures { ClosesProcess D.Disk (parts P.lying self.old) (parts P.lying self.new) result }
     {
         let Some(outbox) = self.outbox.take() else {
             return Ok(());

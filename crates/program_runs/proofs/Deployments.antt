@@ -8,17 +8,13 @@ use Rattle.filing_model.specs.Request.{Request, firsts}
 use Rattle.filing_world.specs.World.{numbered}
 use Rattle.filing_world.specs.Headline.{AreFilers}
 use Rattle.outbox_tables.specs.Entries.{Contents, empty}
-use Rattle.sqlite_wal.specs.Recovery.{Image}
-use Rattle.database_places.specs.Moves.{lies_after}
 use Rattle.database_places.specs.Places.{IsHonest}
-use Rattle.database_places.specs.Recorded.{Recorded}
-use Rattle.outbox_process.specs.Process.{lying as lying_after}
 use Rattle.programs.specs.Happenings.{Situation, at_first, AreRegistered}
 use Rattle.programs.specs.Fronts.{Passing, HappenBehind, IsReachedBehind}
 use Rattle.program_runs.specs.Beside.{Service, InTurn, DoTogether}
 use Rattle.program_runs.specs.Deeds.{Deed, Added, Wrote, Heard, Asked, AreDone, Becomes}
 use Rattle.program_runs.specs.Registers.{LieRequests}
-use Rattle.program_runs.specs.Runs.{LieOutbox, AreNotGone, IsNotGone}
+use Rattle.program_runs.specs.Runs.{LieOutbox, AreNotGone}
 use Rattle.program_runs.specs.Deployment.{OutboxTurn, Whole, Killed, AreOutboxTurns, IsOutboxTurn}
 use Rattle.program_runs.specs.Deployment.{IntakeTurn, Done, Stopped, IsIntakeTurn, AreOfIntakeTurn, AreOfIntakeTurns}
 use Rattle.program_runs.specs.Deployment.{AreIntakeTurns, Deployment, bare, AnyRuns, AnyDeployment}
@@ -55,39 +51,37 @@ module _ {D : Type 0} (g : Ghosts D) (honest : IsHonest g) where
   -- ---- one outbox
 
   -- what runs left
-  record AreDeeds (Are : List Deed → Type 0) (it : Contents) (lying lying' : Option Image) : Type 0 where
+  record AreDeeds (Are : List Deed → Type 0) (it : Contents) (lying lying' : Option (Option (Files D))) : Type 0 where
     pub deeds : List Deed
     pub are : Are deeds
     pub after : Contents
     pub done : AreDone it deeds after
-    pub there : LieOutbox lying' after
-    pub stays : IsNotGone lying lying'
+    pub there : LieOutbox g lying' after
+    pub stays : AreNotGone lying lying'
 
-  one_turn : (turn : OutboxTurn g) (lying lying' : Option Image) (it : Contents) → LieOutbox lying it
-      → IsOutboxTurn g it.filer turn lying lying'
+  one_turn : (turn : OutboxTurn g) (lying lying' : Option (Option (Files D))) (it : Contents)
+      → LieOutbox g lying it → IsOutboxTurn g it.filer turn lying lying'
       → AreDeeds (AreOfTurn g turn) it lying lying'
   one_turn (Whole r) lying lying' it lies is =
-      let first : lying_after lying r.old ≡ lying =
-      ap (λ (p : Recorded D). lies_after g lying p.moves) is.unmoved in
-      let by = run lying r.task r.net r.net' r.out r.out' r.old r.new r.result it honest (record {
+      let by = run r.task r.net r.net' r.out r.out' r.old r.new r.result it honest (record {
         closed = is.closed;
         certain = is.began;
-        there = subst (λ l. LieOutbox l it) (sym first) lies;
-      }) is.is_for is.does is.sure in
+        there = subst (λ l. LieOutbox g l it) (sym is.found) lies;
+      }) is.is_for is.does is.certain in
       record {
         deeds = by.deeds;
         are = by.are;
         after = by.after;
         done = by.done;
-        there = subst (λ l. LieOutbox l by.after) is.left by.lies.there;
-        stays = λ gone. sym first ∙ by.stays (is.left ∙ gone);
+        there = subst (λ l. LieOutbox g l by.after) is.left by.lies.there;
+        stays = λ gone. sym is.found ∙ by.stays (is.left ∙ gone);
       }
   one_turn (Killed deeds) lying lying' it lies is =
       let left = is it refl lies in
       record { deeds = deeds; are = refl; after = left.0; done = left.1; there = left.2; stays = left.3 }
 
-  turns_done : (turns : List (OutboxTurn g)) (lying lying' : Option Image) (it : Contents) → LieOutbox lying it
-      → AreOutboxTurns g it.filer turns lying lying'
+  turns_done : (turns : List (OutboxTurn g)) (lying lying' : Option (Option (Files D))) (it : Contents)
+      → LieOutbox g lying it → AreOutboxTurns g it.filer turns lying lying'
       → AreDeeds (AreOfAll (AreOfTurn g) turns) it lying lying'
   turns_done [] lying lying' it lies is =
       record {
@@ -95,7 +89,7 @@ module _ {D : Type 0} (g : Ghosts D) (honest : IsHonest g) where
         are = refl;
         after = it;
         done = refl;
-        there = subst (λ l. LieOutbox l it) (sym is) lies;
+        there = subst (λ l. LieOutbox g l it) (sym is) lies;
         stays = λ gone. sym is ∙ gone;
       }
   turns_done (turn ∷ turns) lying lying' it lies is =
@@ -173,17 +167,18 @@ module _ {D : Type 0} (g : Ghosts D) (honest : IsHonest g) where
 
   -- ---- all of them
 
-  record OfOne (Are : List Deed → Type 0) (old : Situation) (lying lying' : Option Image) (n : ℕ) : Type 0 where
+  record OfOne (Are : List Deed → Type 0) (old : Situation) (lying lying' : Option (Option (Files D))) (n : ℕ)
+      : Type 0 where
     pub deeds : List Deed
     pub are : (it : Contents) → numbered old.outboxes n ≡ Some it → Are deeds
     pub last : Contents
     pub done : (it : Contents) → numbered old.outboxes n ≡ Some it → AreDone it deeds last
     pub none : numbered old.outboxes n ≡ None → deeds ≡ []
-    pub there : (it : Contents) → numbered old.outboxes n ≡ Some it → LieOutbox lying' last
-    pub stays : (it : Contents) → numbered old.outboxes n ≡ Some it → IsNotGone lying lying'
+    pub there : (it : Contents) → numbered old.outboxes n ≡ Some it → LieOutbox g lying' last
+    pub stays : (it : Contents) → numbered old.outboxes n ≡ Some it → AreNotGone lying lying'
 
-  of_one : (old : Situation) (turns : List (OutboxTurn g)) (lying lying' : Option Image) (n : ℕ)
-      → ((it : Contents) → numbered old.outboxes n ≡ Some it → LieOutbox lying it)
+  of_one : (old : Situation) (turns : List (OutboxTurn g)) (lying lying' : Option (Option (Files D))) (n : ℕ)
+      → ((it : Contents) → numbered old.outboxes n ≡ Some it → LieOutbox g lying it)
       → ((it : Contents) → numbered old.outboxes n ≡ Some it → AreOutboxTurns g it.filer turns lying lying')
       → (o : Option Contents) → numbered old.outboxes n ≡ o → OfOne (AreOfAll (AreOfTurn g) turns) old lying lying' n
   of_one old turns lying lying' n holds are None is = record {
@@ -211,16 +206,16 @@ module _ {D : Type 0} (g : Ghosts D) (honest : IsHonest g) where
   held : (deployment : Deployment g) (old new : Situation) (last : ℕ → Contents)
       → ((n : ℕ) (it : Contents) → numbered old.outboxes n ≡ Some it → numbered new.outboxes n ≡ Some (last n))
       → ((n : ℕ) → numbered old.outboxes n ≡ None → numbered new.outboxes n ≡ None)
-      → ((n : ℕ) (it : Contents) → numbered old.outboxes n ≡ Some it → LieOutbox (deployment.boxes n) (last n))
+      → ((n : ℕ) (it : Contents) → numbered old.outboxes n ≡ Some it → LieOutbox g (deployment.boxes n) (last n))
       → (n : ℕ) (now : Contents) → numbered new.outboxes n ≡ Some now → (o : Option Contents)
-      → numbered old.outboxes n ≡ o → LieOutbox (deployment.boxes n) now
+      → numbered old.outboxes n ≡ o → LieOutbox g (deployment.boxes n) now
   held deployment old new last some none there n now here None was =
       let no : None ≡ Some now = sym (none n was) ∙ here in
       absurd (cc)
   held deployment old new last some none there n now here (Some it) was =
       let one : Some (last n) ≡ Some now = sym (some n it was) ∙ here in
       let same : last n ≡ now = (cc) in
-      subst (λ (c : Contents). LieOutbox (deployment.boxes n) c) same (there n it was)
+      subst (λ (c : Contents). LieOutbox g (deployment.boxes n) c) same (there n it was)
 
   pub any : {S N : Type 0} (s : Streams S N) → Reaches → AnyRuns g s
   any s reaches limit filers before situation old new intake outboxes are bound happened holds serves runs =

@@ -15,21 +15,20 @@ use Rattle.filing_model.proofs.Firsts.{firsts-firsts}
 use Rattle.filing_model.proofs.Lists.{append_nil}
 use Rattle.table_rows.specs.Standing.{HasCommitted}
 use Rattle.table_rows.proofs.CleanLemmas.{always_clean}
-use Rattle.register_tables.specs.Registers.{Book, IsRegisterOf}
+use Rattle.register_tables.specs.Registers.{IsRegisterOf, LeavesRegister}
 use Rattle.intake_core.specs.Group.{Decided, LeavesSome, after}
-use Rattle.intake_core.specs.Held.{with_all, with_request_at}
 use Rattle.database_places.specs.Places.{IsHonest}
 use Rattle.program_runs.specs.Grouped.{AreSome, HoldSome}
 use Rattle.database_places.specs.Left.{EndsIn}
 use Rattle.database_places.proofs.Leaving.{ends_with_one}
-use Rattle.program_runs.proofs.Registering.{LeavesRegister, hold, requests_left, rests, sound_if}
+use Rattle.program_runs.proofs.Registering.{hold, rests, sound_if}
 
 -- ---- some of those that were to be decided
 
 -- those that got an answer
 abbrev answered : List Decided → List Request
 answered [] = []
-answered ((r, Ok a) ∷ ds) = r.0 ∷ answered ds
+answered ((r, Ok a) ∷ ds) = r ∷ answered ds
 answered ((r, Err e) ∷ ds) = answered ds
 
 some_later : (some front all : List Request) → AreSome some all → AreSome some (front ++ all)
@@ -51,43 +50,28 @@ some_all : (all rest : List Request) → AreSome all (all ++ rest)
 some_all [] rest = tt
 some_all (r ∷ all) rest = ([], all ++ rest, refl, some_all all rest)
 
-some_answered : (ds : List Decided) → AreSome (answered ds) (map (λ d. d.0.0) ds)
+some_answered : (ds : List Decided) → AreSome (answered ds) (map (λ d. d.0) ds)
 some_answered [] = tt
-some_answered ((r, Ok a) ∷ ds) = ([], map (λ d. d.0.0) ds, refl, some_answered ds)
-some_answered ((r, Err e) ∷ ds) = some_later (answered ds) (r.0 ∷ []) (map (λ d. d.0.0) ds) (some_answered ds)
+some_answered ((r, Ok a) ∷ ds) = ([], map (λ d. d.0) ds, refl, some_answered ds)
+some_answered ((r, Err e) ∷ ds) = some_later (answered ds) (r ∷ []) (map (λ d. d.0) ds) (some_answered ds)
 
-map_join : (xs ys : List Decided) → map (λ d. d.0.0) (xs ++ ys) ≡ map (λ d. d.0.0) xs ++ map (λ d. d.0.0) ys
+map_join : (xs ys : List Decided) → map (λ d. d.0) (xs ++ ys) ≡ map (λ d. d.0) xs ++ map (λ d. d.0) ys
 map_join [] ys = refl
-map_join (x ∷ xs) ys = ap (λ l. x.0.0 ∷ l) (map_join xs ys)
-
--- one more behind several that are as they are kept
-firsts_more : (F : List Request) (r : Request) (rs : List Request)
-    → firsts (firsts (F ++ r ∷ []) ++ rs) ≡ firsts (F ++ r ∷ rs)
-firsts_more F r rs =
-    firsts_alike (firsts (F ++ r ∷ [])) (F ++ r ∷ []) (firsts-firsts (F ++ r ∷ [])) rs
-    ∙ ap firsts (append_assoc F (r ∷ []) rs)
+map_join (x ∷ xs) ys = ap (λ l. x.0 ∷ l) (map_join xs ys)
 
 -- what is held after them is what was held and those that got an answer
-after_is : (book : Book) (ds : List Decided) → firsts book.requests ≡ book.requests
-    → (after book ds).requests ≡ firsts (book.requests ++ answered ds)
-after_is book [] are = sym are ∙ ap firsts (sym (append_nil book.requests))
-after_is book ((r, Ok a) ∷ ds) are =
-    after_is (with_request_at book r) ds (firsts-firsts (book.requests ++ r.0 ∷ []))
-    ∙ firsts_more book.requests r.0 (answered ds)
-after_is book ((r, Err e) ∷ ds) are = after_is book ds are
-
--- and with all of several
-all_is : (book : Book) (ds : List Decided) → firsts book.requests ≡ book.requests
-    → (with_all book (map (λ d. d.0) ds)).requests ≡ firsts (book.requests ++ map (λ d. d.0.0) ds)
-all_is book [] are = sym are ∙ ap firsts (sym (append_nil book.requests))
-all_is book (d ∷ ds) are =
-    all_is (with_request_at book d.0) ds (firsts-firsts (book.requests ++ d.0.0 ∷ []))
-    ∙ firsts_more book.requests d.0.0 (map (λ d. d.0.0) ds)
+after_is : (F : List Request) (ds : List Decided) → firsts F ≡ F → after F ds ≡ firsts (F ++ answered ds)
+after_is F [] are = sym are ∙ ap firsts (sym (append_nil F))
+after_is F ((r, Ok a) ∷ ds) are =
+    after_is (firsts (F ++ r ∷ [])) ds (firsts-firsts (F ++ r ∷ []))
+    ∙ firsts_alike (firsts (F ++ r ∷ [])) (F ++ r ∷ []) (firsts-firsts (F ++ r ∷ [])) (answered ds)
+    ∙ ap firsts (append_assoc F (r ∷ []) (answered ds))
+after_is F ((r, Err e) ∷ ds) are = after_is F ds are
 
 -- a crash left these requests and some of those
 pub record LeavesFew (old_style : ℕ) (F : List Request) (ds : List Decided) (trees : Trees) : Type 0 where
   pub some : List Request
-  pub are : AreSome some (map (λ d. d.0.0) ds)
+  pub are : AreSome some (map (λ d. d.0) ds)
   pub leaves : LeavesRegister old_style (firsts (F ++ some)) trees
 
 few_none : (old_style : ℕ) (F : List Request) (ds : List Decided) (trees : Trees) → firsts F ≡ F
@@ -98,48 +82,40 @@ few_none old_style F ds trees are leaves = record {
   leaves = subst (λ G. LeavesRegister old_style G trees) (sym (ap firsts (append_nil F) ∙ are)) leaves;
 }
 
-few_some : (old_style : ℕ) (book : Book) (ds : List Decided) (trees : Trees) → firsts book.requests ≡ book.requests
-    → LeavesSome old_style book ds trees → LeavesFew old_style book.requests ds trees
-few_some old_style book ds trees are it =
-    let F = book.requests in
-    let more = map (λ d. d.0.0) (it.next ∷ it.more) in
-    let split : map (λ d. d.0.0) ds
-    ≡ map (λ d. d.0.0) it.before ++ (more ++ map (λ d. d.0.0) it.rest) =
-    ap (map (λ d. d.0.0)) (it.are ∙ append_assoc it.before (it.next ∷ it.more) it.rest)
+few_some : (old_style : ℕ) (F : List Request) (ds : List Decided) (trees : Trees) → firsts F ≡ F
+    → LeavesSome old_style F ds trees → LeavesFew old_style F ds trees
+few_some old_style F ds trees are it =
+    let more = it.next.0 ∷ map (λ d. d.0) it.more in
+    let split : map (λ d. d.0) ds
+    ≡ map (λ d. d.0) it.before ++ (more ++ map (λ d. d.0) it.rest) =
+    ap (map (λ d. d.0)) (it.are ∙ append_assoc it.before (it.next ∷ it.more) it.rest)
     ∙ map_join it.before (it.next ∷ it.more ++ it.rest)
-    ∙ ap (λ l. map (λ d. d.0.0) it.before ++ (it.next.0.0 ∷ l)) (map_join it.more it.rest) in
-    let mid : (after book it.before).requests ≡ firsts (F ++ answered it.before) = after_is book it.before are in
-    let held : firsts (after book it.before).requests ≡ (after book it.before).requests =
-    ap firsts mid ∙ firsts-firsts (F ++ answered it.before) ∙ sym mid in
-    let same : (with_all (after book it.before) (map (λ d. d.0) (it.next ∷ it.more))).requests
-    ≡ firsts (F ++ (answered it.before ++ more)) =
-    all_is (after book it.before) (it.next ∷ it.more) held
-    ∙ ap (λ G. firsts (G ++ more)) mid
+    ∙ ap (λ l. map (λ d. d.0) it.before ++ (it.next.0 ∷ l)) (map_join it.more it.rest) in
+    let same : firsts (after F it.before ++ more) ≡ firsts (F ++ (answered it.before ++ more)) =
+    ap (λ G. firsts (G ++ more)) (after_is F it.before are)
     ∙ firsts_alike (firsts (F ++ answered it.before)) (F ++ answered it.before)
     (firsts-firsts (F ++ answered it.before)) more
     ∙ ap firsts (append_assoc F (answered it.before) more) in
     record {
       some = answered it.before ++ more;
       are = subst (AreSome (answered it.before ++ more)) (sym split)
-          (some_more (answered it.before) more (map (λ d. d.0.0) it.before) (more ++ map (λ d. d.0.0) it.rest)
-          (some_answered it.before) (some_all more (map (λ d. d.0.0) it.rest)));
-      leaves = subst (λ G. LeavesRegister old_style G trees) same (requests_left old_style _ trees it.leaves);
+          (some_more (answered it.before) more (map (λ d. d.0) it.before) (more ++ map (λ d. d.0) it.rest)
+          (some_answered it.before) (some_all more (map (λ d. d.0) it.rest)));
+      leaves = subst (λ G. LeavesRegister old_style G trees) same it.leaves;
     }
 
 module _ {D : Type 0} (g : Ghosts D) (honest : IsHonest g) (stays : SeenMayStay g) where
-  pub outlives_group : (old new : Held (FileStore D g)) (old_style : ℕ) (book : Book) (ds : List Decided)
-      {Commits : Trees → Type 0} → firsts book.requests ≡ book.requests
-      → HasCommitted (IsRegisterOf old_style book.requests) (file_state old) → IsTrue (file_state old).is_open
-      → Survives (file_state old) (file_state new) Commits
-      → ((db : Trees) → Commits db → LeavesSome old_style book ds db) → (files : Files D) → EndsIn new files
-      → HoldSome g files old_style book.requests ds
-  outlives_group old new old_style book ds are stands is_open survives commits files ends =
-      let F = book.requests in
+  pub outlives_group : (old new : Held (FileStore D g)) (old_style : ℕ) (F : List Request) (ds : List Decided)
+      {Commits : Trees → Type 0} → firsts F ≡ F → HasCommitted (IsRegisterOf old_style F) (file_state old)
+      → IsTrue (file_state old).is_open → Survives (file_state old) (file_state new) Commits
+      → ((db : Trees) → Commits db → LeavesSome old_style F ds db) → (files : Files D) → EndsIn new files
+      → HoldSome g files old_style F ds
+  outlives_group old new old_style F ds are stands is_open survives commits files ends =
       let one =
       ends_with_one honest stays new files ends {X = λ db. LeavesFew old_style F ds db}
       (λ db allowed. elim (survives.crash (always_clean honest new) db allowed) [
         | inl was ↦ few_none old_style F ds db are (rests g honest stays old old_style F stands is_open db was)
-        | inr done ↦ few_some old_style book ds db are (commits db done)
+        | inr done ↦ few_some old_style F ds db are (commits db done)
       ])
       (λ db few. sound_if old_style (firsts (F ++ few.some)) db few.leaves) in
       record {

@@ -1,20 +1,16 @@
 -- What lies in a place after a visit of `outbox`.
-use Rattle.std.proofs.Common.{◌≡◌, ◌∙◌, ℕ, List, [], Option, Some, None, Result, Ok, Err, refl, sym, ap, subst, inl}
+use Rattle.std.proofs.Common.{◌≡◌, ◌∙◌, ℕ, true, List, [], Option, Some, None, Result, Ok, Err, refl, sym, subst, inl}
 use Rattle.std.proofs.Common.{inr}
 use Rattle.sqlite_disk.specs.declared.Disk.{Ghosts}
 use Rattle.sqlite_disk.specs.declared.Files.{Files}
 use Rattle.sqlite_store.specs.declared.store.FileStore.{FileStore}
-use Rattle.sqlite_wal.specs.Recovery.{Image}
 use Rattle.sqlite.specs.Files.{over_files}
 use Rattle.sqlite.specs.declared.error.Error.{Error}
 use Rattle.filing_model.specs.Outbox.{Entry}
 use Rattle.outbox_tables.specs.Entries.{Contents, contents_of}
 use Rattle.outbox_core.specs.OutboxParts.{OutboxParts, HasEntries}
 use Rattle.outbox_process.specs.Dials.{Traffic}
-use Rattle.table_rows.proofs.CleanLemmas.{always_clean}
-use Rattle.database_places.specs.Moves.{IsRight, LieBytes, lies_after}
 use Rattle.database_places.specs.Places.{IsHonest, Lie}
-use Rattle.database_places.specs.Recorded.{Recorded}
 use Rattle.outbox_process.specs.declared.beginning.Beginning.TheVariants.{Found}
 use Rattle.outbox_process.specs.declared.errand.Done.{Done}
 use Rattle.outbox_process.specs.declared.errand.Errand.{Errand}
@@ -22,8 +18,8 @@ use Rattle.outbox_process.specs.Beginning.{HasContents}
 use Rattle.outbox_process.specs.declared.beginning.Beginning.{Beginning}
 use Rattle.outbox_process.specs.declared.fault.NotOpened.{NotOpened}
 use Rattle.outbox_process.specs.declared.fault.Why.{Why}
-use Rattle.outbox_process.specs.Process.{Parts, HoldOutbox, IsClean, IsSure, Keeps, KeepsBy, OpensProcess, lying}
-use Rattle.outbox_process.specs.Process.{ClosesProcess, PerformsErrand}
+use Rattle.outbox_process.specs.Process.{Parts, HoldOutboxWithLog, Keeps, KeepsBy, OpensProcess, PerformsErrand}
+use Rattle.outbox_process.specs.Process.{ClosesProcess}
 use Rattle.program_runs.specs.Deeds.{Deed, AreDone}
 use Rattle.program_runs.specs.Runs.{LiesClosed, IsRunBy}
 use Rattle.program_runs.proofs.Results.{not_err}
@@ -35,12 +31,53 @@ some_lie lying Are lies none =
     let no : Some (Some lies.0) ≡ Some None = sym lies.1 ∙ none in
     absurd (cc)
 
-pub bytes_lie : {X : Type 0} (lying : Option Image) (Are : Image → Type 0) → LieBytes lying Are → lying ≡ None → X
-bytes_lie lying Are lies none =
-    let no : Some lies.0 ≡ None = sym lies.1 ∙ none in
-    absurd (cc)
-
 module _ {D : Type 0} {g : Ghosts D} where
+  pub keeps_of : (process : Parts g) (it : Contents) → process.outbox ≡ None
+      → Lie process.lying (λ files. HoldOutboxWithLog g files it) → Keeps process it
+  keeps_of process it closed lies = λ certain. subst (λ o. KeepsBy {g = g} o process.lying it) (sym closed) lies
+
+  -- what is kept by a process that is closed lies there
+  pub kept_lies : (process : Parts g) (it : Contents) → process.outbox ≡ None → process.is_certain ≡ true
+      → Keeps process it → Lie process.lying (λ files. HoldOutboxWithLog g files it)
+  kept_lies process it closed certain keeps = subst (λ o. KeepsBy {g = g} o process.lying it) closed (keeps certain)
+
+  -- deeds lead to an outbox that lies there
+  pub run_by : (it after : Contents) (old new : Parts g) (Are : List Deed → Type 0) (deeds : List Deed) → Are deeds
+      → AreDone it deeds after → new.outbox ≡ None → new.is_certain ≡ true → Keeps new after → IsRunBy it old new Are
+  run_by it after old new Are deeds are done closed certain keeps =
+      let lie = kept_lies new after closed certain keeps in
+      record {
+        deeds = deeds;
+        are = are;
+        after = after;
+        done = done;
+        lies = record { closed = closed; certain = certain; there = inl lie };
+        stays = λ none. some_lie new.lying (λ files. HoldOutboxWithLog g files after) lie none;
+      }
+
+  -- what lay there lies there after an opening that was refused
+  pub refused : (beginning : Beginning) (refusal : NotOpened) (it : Contents) (old new : Parts g)
+      (Are : List Deed → Type 0) → Are [] → IsHonest g → LiesClosed old it
+      → OpensProcess g beginning old new (Err refusal) → new.is_certain ≡ true → IsRunBy it old new Are
+  refused beginning refusal it old new Are none honest lies opens certain = elim lies.there [
+    | inl there ↦
+        run_by it it old new Are [] none refl opens.refused.2 certain
+        ((opens.unharmed honest).kept it (keeps_of old it lies.closed there))
+    | inr no_files ↦
+        record {
+          deeds = [];
+          are = none;
+          after = it;
+          done = refl;
+          lies = record {
+            closed = opens.refused.2;
+            certain = certain;
+            there = inr (opens.vacant honest lies.closed no_files.0 certain, no_files.1);
+          };
+          stays = λ _. no_files.0;
+        }
+  ]
+
   -- what an errand makes of the entries of an outbox, if it had these before it
   pub record Brings (before after : OutboxParts (FileStore D g)) (it : Contents) (Are : List Deed
       → Type 0) : Type 0 where
@@ -51,84 +88,23 @@ module _ {D : Type 0} {g : Ghosts D} where
     pub has : HasEntries over_files after entries
     pub filer : after.filer ≡ before.filer
 
-module _ {D : Type 0} {g : Ghosts D} (start : Option Image) where
-  pub keeps_of : (process : Parts g) (it : Contents) → process.outbox ≡ None
-      → LieBytes (lying start process) (λ image. HoldOutbox image it) → Keeps start process it
-  keeps_of process it closed lies = λ sure. subst (λ o. KeepsBy {g = g} o (lying start process) it) (sym closed) lies
-
-  -- what is kept by a process that is closed lies there
-  pub kept_lies : (process : Parts g) (it : Contents) → process.outbox ≡ None → IsSure start process
-      → Keeps start process it → LieBytes (lying start process) (λ image. HoldOutbox image it)
-  kept_lies process it closed sure keeps =
-      subst (λ o. KeepsBy {g = g} o (lying start process) it) closed (keeps sure)
-
-  -- deeds lead to an outbox that lies there
-  pub run_by : (it after : Contents) (old new : Parts g) (Are : List Deed → Type 0) (deeds : List Deed) → Are deeds
-      → AreDone it deeds after → new.outbox ≡ None → IsSure start new → Keeps start new after
-      → IsRunBy start it old new Are
-  run_by it after old new Are deeds are done closed sure keeps =
-      let lie = kept_lies new after closed sure keeps in
-      record {
-        deeds = deeds;
-        are = are;
-        after = after;
-        done = done;
-        lies = record { closed = closed; certain = sure.1; there = inl lie };
-        stays = λ none. bytes_lie (lying start new) (λ image. HoldOutbox image after) lie none;
-      }
-
-  -- what lay there lies there after an opening that was refused
-  pub refused : (beginning : Beginning) (refusal : NotOpened) (it : Contents) (old new : Parts g)
-      (Are : List Deed → Type 0) → Are [] → LiesClosed start old it → OpensProcess g beginning old new (Err refusal)
-      → IsSure start new → IsRunBy start it old new Are
-  refused beginning refusal it old new Are none lies opens sure = elim lies.there [
-    | inl there ↦
-        run_by it it old new Are [] none refl opens.refused.2 sure
-        (opens.unharmed.kept start it (keeps_of old it lies.closed there))
-    | inr no_files ↦
-        record {
-          deeds = [];
-          are = none;
-          after = it;
-          done = refl;
-          lies = record {
-            closed = opens.refused.2;
-            certain = sure.1;
-            there = inr (opens.vacant start sure lies.closed no_files.0, no_files.1);
-          };
-          stays = λ _. no_files.0;
-        }
-  ]
-
   -- what is done with a process that is open, if it kept these contents before
   pub record Goes (old new : Parts g) (it : Contents) (Are : List Deed → Type 0) : Type 0 where
     pub deeds : List Deed
     pub are : Are deeds
     pub after : Contents
     pub done : AreDone it deeds after
-    pub keeps : Keeps start new after
-
-  -- what is sure after an errand was sure before
-  pub performed_before : (what : Errand) (net net' : Traffic) (out out' : Option (List ℕ)) (old new : Parts g)
-      (came : Result Done Why) → IsHonest g → PerformsErrand what net net' out out' old new came → IsSure start new
-      → IsSure start old
-  performed_before what net net' out out' old new came honest performs sure = (
-    (
-      subst (IsRight g start) performs.place sure.0.0,
-      subst (λ o. IsClean {g = g} o) (sym performs.was) (always_clean honest performs.before.conn),
-    ),
-    sym performs.certain ∙ sure.1,
-  )
+    pub keeps : Keeps new after
 
   -- an errand, if it brings each outbox to another one by such deeds
   pub performed : (what : Errand) (net net' : Traffic) (out out' : Option (List ℕ)) (old new : Parts g)
-      (came : Result Done Why) (it : Contents) (Are : List Deed → Type 0) → IsHonest g
-      → (performs : PerformsErrand what net net' out out' old new came) → Keeps start old it → IsSure start new
+      (came : Result Done Why) (it : Contents) (Are : List Deed → Type 0)
+      → (performs : PerformsErrand what net net' out out' old new came) → Keeps old it → new.is_certain ≡ true
       → (HasEntries over_files performs.before it.entries → performs.before.filer ≡ it.filer
       → Brings performs.before performs.after it Are) → Goes old new it Are
-  performed what net net' out out' old new came it Are honest performs keeps sure brings =
-      let before = performed_before what net net' out out' old new came honest performs sure in
-      let by = subst (λ o. KeepsBy {g = g} o (lying start old) it) performs.was (keeps before) in
+  performed what net net' out out' old new came it Are performs keeps sure brings =
+      let certain : old.is_certain ≡ true = sym performs.certain ∙ sure in
+      let by = subst (λ o. KeepsBy {g = g} o old.lying it) performs.was (keeps certain) in
       let brought = brings by.0.0 by.0.1 in
       let after = contents_of it.filer brought.entries in
       let has : HasContents over_files performs.after after = (brought.has, brought.filer ∙ by.0.1) in
@@ -137,24 +113,18 @@ module _ {D : Type 0} {g : Ghosts D} (start : Option Image) where
         are = brought.are;
         after = after;
         done = brought.done;
-        keeps = λ _. subst (λ o. KeepsBy {g = g} o (lying start new) after) (sym performs.is) (
-          has,
-          ap (λ (r : Recorded D). lies_after g start r.moves) performs.place ∙ by.1,
-        );
+        keeps = λ _. subst (λ o. KeepsBy {g = g} o new.lying after) (sym performs.is) (has, performs.lying ∙ by.1);
       }
 
   -- The outbox that lay there was opened, something was done with it, and it was closed.
   pub visited : (old opened done new : Parts g) (closed : Result (Unit {0}) Error) (it : Contents)
-      (Are : List Deed → Type 0) → LiesClosed start old it → OpensProcess g Found old opened (Ok tt)
-      → ClosesProcess g done new closed → IsSure start new → (IsSure start done → IsSure start opened)
-      → (Keeps start opened it → IsSure start done → Goes opened done it Are) → IsRunBy start it old new Are
-  visited old opened done new closed it Are lies opens closes sure before goes =
-      let done_sure : IsSure start done = (closes.leaves.faithful start sure.0, closes.leaves.certain sure.1) in
-      elim lies.there [
-        | inl there ↦
-            let by = goes (opens.keeps start it (keeps_of old it lies.closed there)) done_sure in
-            run_by it by.after old new Are by.deeds by.are by.done closes.is_closed sure
-            (closes.leaves.kept start by.after by.keeps)
-        | inr none ↦
-            absurd (not_err tt _ (opens.absent start (before done_sure).0 lies.closed refl none.0))
-      ]
+      (Are : List Deed → Type 0) → IsHonest g → LiesClosed old it → OpensProcess g Found old opened (Ok tt)
+      → ClosesProcess g done new closed → new.is_certain ≡ true
+      → (Keeps opened it → done.is_certain ≡ true → Goes opened done it Are) → IsRunBy it old new Are
+  visited old opened done new closed it Are honest lies opens closes certain goes = elim lies.there [
+    | inl there ↦
+        let leaves = closes.leaves honest in
+        let by = goes (opens.keeps honest it (keeps_of old it lies.closed there)) (leaves.certain certain) in
+        run_by it by.after old new Are by.deeds by.are by.done closes.is_closed certain (leaves.kept by.after by.keeps)
+    | inr none ↦ absurd (not_err tt _ (opens.absent lies.closed refl none.0))
+  ]

@@ -82,7 +82,7 @@ module _ {D : Type 0} (g : Ghosts D) where
           → (db : Trees) → recovers conn.store db → LeavesOutbox it db
       rests conn it stands is_open db allowed = record {
         db = (file_state conn).now;
-        is = leaves_now stays conn is_open (stands.committed is_open) db allowed;
+        is = leaves_now honest stays conn is_open (stands.committed is_open) db allowed;
         outbox = stands.now is_open;
       }
 

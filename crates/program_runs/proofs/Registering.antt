@@ -8,7 +8,6 @@ use Rattle.sqlite_store.specs.FileStore.{recovers}
 use Rattle.sqlite_trees.specs.Tree.{Trees}
 use Rattle.sqlite_schema.specs.declared.schema.Schema.{Schema}
 use Rattle.sqlite_catalog.specs.Listing.{IsSound}
-use Rattle.sqlite.specs.Effect.{Database}
 use Rattle.sqlite.specs.Held.{Held}
 use Rattle.sqlite.specs.State.{Survives}
 use Rattle.sqlite.specs.Files.{image_of, over_files, file_state, HoldsDatabase}
@@ -16,7 +15,7 @@ use Rattle.filing_model.specs.Request.{Request}
 use Rattle.table_rows.specs.Standing.{HasCommitted, CommitsNothing}
 use Rattle.table_rows.proofs.CleanLemmas.{always_clean}
 use Rattle.register_tables.specs.declared.fault.OpenFault.{OpenFault}
-use Rattle.register_tables.specs.Registers.{Book, IsBookOf, IsRegisterOf, LeavesBook}
+use Rattle.register_tables.specs.Registers.{IsRegisterOf, LeavesRegister}
 use Rattle.register_store.specs.Store.{StoreParts, HasRequests}
 use Rattle.register_store.specs.Files.{HoldRegister}
 use Rattle.register_store.specs.Calls.{OpensOrGivesBack}
@@ -27,17 +26,6 @@ use Rattle.intake_process.specs.Process.{HoldRegisterWithLog}
 use Rattle.program_runs.specs.StoppedRegisters.{HoldEitherRegister, OpensAsRegister}
 use Rattle.database_places.proofs.Finding.{found_there}
 use Rattle.database_places.proofs.Leaving.{closed_with_log, ends_with_one, leaves_now}
-
--- an open after a crash that left these trees finds the rows of these requests
-pub record LeavesRegister (old_style : ℕ) (F : List Request) (trees : Trees) : Type 0 where
-  pub db : Database
-  pub is : trees ≡ db.trees
-  pub register : IsRegisterOf old_style F db
-
--- whatever their moments are
-pub requests_left : (old_style : ℕ) (book : Book) (trees : Trees) → LeavesBook old_style book trees
-    → LeavesRegister old_style book.requests trees
-requests_left old_style book trees l = record { db = l.db; is = l.is; register = l.holds.register }
 
 pub sound_if : (old_style : ℕ) (F : List Request) (trees : Trees) → LeavesRegister old_style F trees
     → (schema : Schema) × IsSound schema trees
@@ -70,10 +58,7 @@ module _ {D : Type 0} (g : Ghosts D) where
         → OpensOrGivesBack over_files conn result
         → IfOk result (λ store. (store.old_style ≡ old_style) × HasRequests over_files store F)
     opened_store conn old_style F rows (Ok store) opens =
-        let book : IsBookOf old_style (record { requests = F; moments = rows.rows.moments }) (file_state conn).now =
-        record { register = rows; one_each = rows.rows.one_each; received = rows.rows.received } in
-        let only = opens.outcome.only (always_clean honest store.conn) old_style _ book in
-        (only.0, only.1.requests)
+        opens.outcome.only (always_clean honest store.conn) old_style F rows
     opened_store conn old_style F rows (Err refusal) opens = tt
 
     -- files that hold the register are found so
@@ -120,7 +105,7 @@ module _ {D : Type 0} (g : Ghosts D) where
           → (db : Trees) → recovers conn.store db → LeavesRegister old_style F db
       rests conn old_style F stands is_open db allowed = record {
         db = (file_state conn).now;
-        is = leaves_now stays conn is_open (stands.committed is_open) db allowed;
+        is = leaves_now honest stays conn is_open (stands.committed is_open) db allowed;
         register = stands.now is_open;
       }
 

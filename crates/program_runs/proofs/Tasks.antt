@@ -2,11 +2,10 @@
 use Rattle.std.proofs.Common.{◌≡◌, ◌≢◌, ◌∙◌, ℕ, Bool, true, false, List, [], ◌∷◌, ◌++◌, map, Option, Some, None, Result}
 use Rattle.std.proofs.Common.{Ok, Err, refl, sym, ap, subst, inl, inr, true≢false}
 use Rattle.std.specs.Borrow.{Bor}
-use Rattle.std.specs.Prelude.{◌==◌}
+use Rattle.std.specs.Prelude.{◌==◌, IsSome}
 use Rattle.sqlite_disk.specs.declared.Disk.{Ghosts}
 use Rattle.sqlite.specs.Files.{over_files}
 use Rattle.sqlite_store.specs.declared.store.FileStore.{FileStore}
-use Rattle.sqlite_wal.specs.Recovery.{Image}
 use Rattle.filing_model.specs.Prefix.{IsPrefixOf}
 use Rattle.sqlite.specs.Effect.{Database}
 use Rattle.sqlite.specs.Schema.{Schema}
@@ -31,7 +30,7 @@ use Rattle.outbox_process.specs.declared.errand.Which.{Which}
 use Rattle.outbox_process.specs.declared.errand.Which.TheVariants.{Next, Entry, All}
 use Rattle.outbox_process.specs.declared.target.Target.{Target}
 use Rattle.outbox_process.specs.Errands.{DoesErrand, Sends, answer}
-use Rattle.outbox_process.specs.Process.{Parts, HoldOutbox, IsSure, Keeps, OpensProcess, ClosesProcess, lying}
+use Rattle.outbox_process.specs.Process.{Parts, HoldOutboxWithLog, Keeps, OpensProcess, ClosesProcess}
 use Rattle.outbox_commands.specs.Puts.{PutsInTurn, PutsOne, PutsReports, PutsThem, ended_as, put_of}
 use Rattle.outbox_commands.specs.Status.{status_by}
 use Rattle.outbox_commands.specs.Tasks.{Does, MakesOutbox, MigratesOutbox}
@@ -46,8 +45,7 @@ use Rattle.program_runs.specs.Runs.{LiesClosed, IsRunBy, putting, AreOfPutting, 
 use Rattle.program_runs.specs.Runs.{AreOfRun, IsFor}
 use Rattle.program_runs.proofs.Carried.{no_deeds, put_deeds}
 use Rattle.program_runs.proofs.Joining.{done_join}
-use Rattle.program_runs.proofs.Lies.{Brings, Goes, performed, performed_before, visited, keeps_of, kept_lies, refused}
-use Rattle.program_runs.proofs.Lies.{run_by, bytes_lie}
+use Rattle.program_runs.proofs.Lies.{Brings, Goes, performed, visited, keeps_of, kept_lies, refused, run_by, some_lie}
 use Rattle.program_runs.proofs.Looks.{looks, ask_brings}
 use Rattle.program_runs.proofs.Puts.{AreBy, put_brings}
 use Rattle.program_runs.proofs.Results.{not_err}
@@ -122,37 +120,35 @@ module _ {D : Type 0} {g : Ghosts D} where
       let does = puts.performs.does.0 in
       answered (deed_of target report) deeds does.1.came out out' does.0 puts.came does.1.told does.2 puts.ends are
 
-module _ {D : Type 0} {g : Ghosts D} (start : Option Image) where
   -- nothing was done
-  stayed : (old new : Parts g) (it : Contents) (Are : List Deed → Type 0) → Are [] → LiesClosed start old it → new ≡ old
-      → IsRunBy start it old new Are
+  stayed : (old new : Parts g) (it : Contents) (Are : List Deed → Type 0) → Are [] → LiesClosed old it → new ≡ old
+      → IsRunBy it old new Are
   stayed old new it Are none lies same = record {
     deeds = [];
     are = none;
     after = it;
     done = refl;
-    lies = subst (λ p. LiesClosed start p it) (sym same) lies;
-    stays = λ gone. sym (ap (lying start) same) ∙ gone;
+    lies = subst (λ p. LiesClosed p it) (sym same) lies;
+    stays = λ gone. sym (ap (λ (p : Parts g). p.lying) same) ∙ gone;
   }
 
   -- ---- one errand
 
   -- An outbox was visited, if the errand brings each outbox to another one by such deeds.
   visits : (what : Errand) (strict : Bool) (net net' : Traffic) (out out' : Option (List ℕ)) (old new : Parts g)
-      (status : ℕ) (it : Contents) (Are : List Deed → Type 0) → IsHonest g → LiesClosed start old it
-      → VisitsOutbox g strict what net net' out out' old new status → IsSure start new
+      (status : ℕ) (it : Contents) (Are : List Deed → Type 0) → IsHonest g → LiesClosed old it
+      → VisitsOutbox g strict what net net' out out' old new status → new.is_certain ≡ true
       → ((before after : OutboxParts (FileStore D g)) (came : Result Done Why)
       → HasEntries over_files before it.entries → before.filer ≡ it.filer
       → DoesErrand over_files what net net' before after out out' came → Brings before after it Are)
-      → (net' ≡ net → Are []) → IsRunBy start it old new Are
+      → (net' ≡ net → Are []) → IsRunBy it old new Are
   visits what strict net net' out out' old new status it Are honest lies visit certain brings none = elim visit [
-    | inl does ↦ visited start old does.opened does.done new does.closed it Are lies does.opens does.closes certain
-        (performed_before start what net net' out out' does.opened does.done does.came honest does.performs)
-        (λ keeps sure. performed start what net net' out out' does.opened does.done does.came it Are honest
-        does.performs keeps sure (λ has filer.
+    | inl does ↦ visited old does.opened does.done new does.closed it Are honest lies does.opens does.closes certain
+        (λ keeps sure. performed what net net' out out' does.opened does.done does.came it Are does.performs keeps sure
+        (λ has filer.
         brings does.performs.before does.performs.after does.came has filer does.performs.does))
     | inr refusal ↦
-        refused start Found refusal.0.refusal it old new Are (none refusal.1) lies refusal.0.opens certain
+        refused Found refusal.0.refusal it old new Are (none refusal.1) honest lies refusal.0.opens certain
   ]
 
   -- by what is sent
@@ -173,14 +169,13 @@ module _ {D : Type 0} {g : Ghosts D} (start : Option Image) where
   -- a report was put in, or that failed
   put_one : (target : Target) (report : ReportFile) (net : Traffic) (out out' : Option (List ℕ)) (old new : Parts g)
       (ended : Result (Unit {0}) Why) (it : Contents) → IsHonest g
-      → (puts : PutsOne (put_of target report) net out out' old new ended) → Keeps start old it → IsSure start new
-      → Goes start old new it (AreBy puts.performs.does.0.1.came (deed_of target report))
+      → (puts : PutsOne (put_of target report) net out out' old new ended) → Keeps old it → new.is_certain ≡ true
+      → Goes old new it (AreBy puts.performs.does.0.1.came (deed_of target report))
   put_one target report net out out' old new ended it honest puts keeps sure =
-      let leaves = puts.looks in
-      let done_sure : IsSure start puts.done = (leaves.faithful start sure.0, leaves.certain sure.1) in
+      let leaves = puts.looks honest in
       let told = puts.performs.does.0.1 in
-      let by = performed start (put_of target report) net net out out' old puts.done puts.came it
-      (AreBy told.came (deed_of target report)) honest puts.performs keeps done_sure
+      let by = performed (put_of target report) net net out out' old puts.done puts.came it
+      (AreBy told.came (deed_of target report)) puts.performs keeps (leaves.certain sure)
       (λ has filer.
       put_brings puts.performs.before puts.performs.after it report.key target.number report.body.items told.came
       honest has filer told.puts) in
@@ -189,41 +184,40 @@ module _ {D : Type 0} {g : Ghosts D} (start : Option Image) where
         are = by.are;
         after = by.after;
         done = by.done;
-        keeps = leaves.kept start by.after by.keeps;
+        keeps = leaves.kept by.after by.keeps;
       }
 
-  one_sure : (put : Errand) (net : Traffic) (out out' : Option (List ℕ)) (old new : Parts g)
+  one_certain : (put : Errand) (net : Traffic) (out out' : Option (List ℕ)) (old new : Parts g)
       (ended : Result (Unit {0}) Why) → IsHonest g → PutsOne put net out out' old new ended
-      → IsSure start new → IsSure start old
-  one_sure put net out out' old new ended honest puts sure =
-      performed_before start put net net out out' old puts.done puts.came honest puts.performs
-      (puts.looks.faithful start sure.0, puts.looks.certain sure.1)
+      → new.is_certain ≡ true → old.is_certain ≡ true
+  one_certain put net out out' old new ended honest puts sure =
+      sym puts.performs.certain ∙ (puts.looks honest).certain sure
 
-  turns_sure : (puts : List Errand) (net : Traffic) (out out' : Option (List ℕ)) (old new : Parts g)
+  turns_certain : (puts : List Errand) (net : Traffic) (out out' : Option (List ℕ)) (old new : Parts g)
       (ended : Result (Unit {0}) Why) → IsHonest g → PutsInTurn puts net out out' old new ended
-      → IsSure start new → IsSure start old
-  turns_sure [] net out out' old new ended honest is sure = subst (IsSure start) is.1 sure
-  turns_sure (put ∷ puts) net out out' old new ended honest is sure = elim is [
-    | inl one ↦ one_sure put net out one.0 old one.1 (Ok tt) honest one.2
-        (turns_sure puts net one.0 out' one.1 new ended honest one.3 sure)
-    | inr last ↦ one_sure put net out out' old new (Err last.0) honest last.1 sure
+      → new.is_certain ≡ true → old.is_certain ≡ true
+  turns_certain [] net out out' old new ended honest is sure = sym (ap (λ (p : Parts g). p.is_certain) is.1) ∙ sure
+  turns_certain (put ∷ puts) net out out' old new ended honest is sure = elim is [
+    | inl one ↦ one_certain put net out one.0 old one.1 (Ok tt) honest one.2
+        (turns_certain puts net one.0 out' one.1 new ended honest one.3 sure)
+    | inr last ↦ one_certain put net out out' old new (Err last.0) honest last.1 sure
   ]
 
   -- reports were put in, one after another
   turns : (target : Target) (reports : List ReportFile) (net : Traffic) (out out' : Option (List ℕ)) (old new : Parts g)
       (ended : Result (Unit {0}) Why) (it : Contents) → IsHonest g
-      → PutsInTurn (map (put_of target) reports) net out out' old new ended → Keeps start old it → IsSure start new
-      → Goes start old new it (AreAsEnded (putting target reports) ended)
+      → PutsInTurn (map (put_of target) reports) net out out' old new ended → Keeps old it → new.is_certain ≡ true
+      → Goes old new it (AreAsEnded (putting target reports) ended)
   turns target [] net out out' old new ended it honest is keeps sure = record {
     deeds = [];
     are = (([], refl), λ _. refl);
     after = it;
     done = refl;
-    keeps = subst (λ p. Keeps start p it) (sym is.1) keeps;
+    keeps = subst (λ p. Keeps p it) (sym is.1) keeps;
   }
   turns target (report ∷ reports) net out out' old new ended it honest is keeps sure = elim is [
     | inl one ↦
-        let mid = turns_sure (map (put_of target) reports) net one.0 out' one.1 new ended honest one.3 sure in
+        let mid = turns_certain (map (put_of target) reports) net one.0 out' one.1 new ended honest one.3 sure in
         let first = put_one target report net out one.0 old one.1 (Ok tt) it honest one.2 keeps mid in
         let rest = turns target reports net one.0 out' one.1 new ended first.after honest one.3 first.keeps sure in
         record {
@@ -249,20 +243,18 @@ module _ {D : Type 0} {g : Ghosts D} (start : Option Image) where
   ]
 
   puts_them : (target : Target) (reports : List ReportFile) (net : Traffic) (out out' : Option (List ℕ))
-      (old new : Parts g) (status : ℕ) (it : Contents) → IsHonest g → LiesClosed start old it
-      → (puts : PutsThem g (map (put_of target) reports) net out out' old new status) → IsSure start new
-      → IsRunBy start it old new (AreAsEnded (putting target reports) puts.turns.0)
+      (old new : Parts g) (status : ℕ) (it : Contents) → IsHonest g → LiesClosed old it
+      → (puts : PutsThem g (map (put_of target) reports) net out out' old new status) → new.is_certain ≡ true
+      → IsRunBy it old new (AreAsEnded (putting target reports) puts.turns.0)
   puts_them target reports net out out' old new status it honest lies puts certain =
-      visited start old puts.opened puts.done new puts.closed it (AreAsEnded (putting target reports) puts.turns.0) lies
-      puts.opens puts.closes certain
-      (turns_sure (map (put_of target) reports) net out out' puts.opened puts.done puts.turns.0 honest puts.turns.1)
-      (λ keeps sure.
+      visited old puts.opened puts.done new puts.closed it (AreAsEnded (putting target reports) puts.turns.0) honest
+      lies puts.opens puts.closes certain (λ keeps sure.
       turns target reports net out out' puts.opened puts.done puts.turns.0 it honest puts.turns.1 keeps sure)
 
   put : {X : Type 0} (strict : Bool) (files : List (Bor (List ℕ))) (text : Option (Bor (List ℕ))) (target : Target)
       (net net' : Traffic) (out out' : Option (List ℕ)) (old new : Parts g) (result : Result X NotDone) (it : Contents)
-      → IsHonest g → LiesClosed start old it → PutsReports g strict files text target net net' out out' old new result
-      → IsSure start new → IsRunBy start it old new (AreOfPutting files text target (status_by result))
+      → IsHonest g → LiesClosed old it → PutsReports g strict files text target net net' out out' old new result
+      → new.is_certain ≡ true → IsRunBy it old new (AreOfPutting files text target (status_by result))
   put strict files text target net net' out out' old new result it honest lies puts certain = elim puts [
     | inl two ↦ stayed old new it (AreOfPutting files text target (status_by result))
         (inl (failed_by result fault.ForOne two.1, refl)) lies two.2.0
@@ -280,8 +272,8 @@ module _ {D : Type 0} {g : Ghosts D} (start : Option Image) where
             }
         | inr refusal ↦
             let failed : status_by result ≢ 0 = λ done. why_failed refusal.0.refusal.why (sym refusal.0.says ∙ done) in
-            refused start Found refusal.0.refusal it old new (AreOfPutting files text target (status_by result))
-            (inl (failed, refl)) lies refusal.0.opens certain
+            refused Found refusal.0.refusal it old new (AreOfPutting files text target (status_by result))
+            (inl (failed, refl)) honest lies refusal.0.opens certain
       ]
       | inr none ↦ stayed old new it (AreOfPutting files text target (status_by result))
           (inl (failed_by result none.0 none.1, refl)) lies none.3.0
@@ -291,75 +283,74 @@ module _ {D : Type 0} {g : Ghosts D} (start : Option Image) where
   -- ---- an outbox is made
 
   -- one without entries
-  made : (filer : Bor (List ℕ)) (old between new : Parts g) (closed : Result (Unit {0}) Error) → old.outbox ≡ None
-      → OpensProcess g (Made filer) old between (Ok tt) → ClosesProcess g between new closed
-      → Keeps start new (empty filer.now)
-  made filer old between new closed shut opens closes =
-      closes.leaves.kept start (empty filer.now) (opens.keeps start (empty filer.now) (shut, refl))
+  made : (filer : Bor (List ℕ)) (old between new : Parts g) (closed : Result (Unit {0}) Error) → IsHonest g
+      → old.outbox ≡ None → IsSome old.lying → OpensProcess g (Made filer) old between (Ok tt)
+      → ClosesProcess g between new closed → Keeps new (empty filer.now)
+  made filer old between new closed honest shut there opens closes =
+      (closes.leaves honest).kept (empty filer.now) (opens.keeps honest (empty filer.now) (shut, there, refl))
 
-  pub makes : (filer : Bor (List ℕ)) (old new : Parts g) → old.outbox ≡ None → MakesOutbox g filer old new 0
-      → IsSure start new → LiesClosed start new (empty filer.now) × (lying start new ≢ None)
-  makes filer old new closed is sure = elim is [
+  pub makes : (filer : Bor (List ℕ)) (old new : Parts g) → IsHonest g → old.outbox ≡ None → IsSome old.lying
+      → MakesOutbox g filer old new 0 → new.is_certain ≡ true
+      → LiesClosed new (empty filer.now) × (new.lying ≢ Some None)
+  makes filer old new honest closed there is certain = elim is [
     | inl no_filer ↦ absurd (true≢false (ap (λ (status : ℕ). status == 0) no_filer.2))
     | inr others ↦ elim others [
       | inl done ↦
           let it = empty filer.now in
-          let keeps = made filer old done.0 new done.1 closed done.2 done.3 in
-          let lie = kept_lies start new it done.3.is_closed sure keeps in (
-            record { closed = done.3.is_closed; certain = sure.1; there = inl lie },
-            λ none. bytes_lie (lying start new) (λ image. HoldOutbox image it) lie none,
+          let keeps = made filer old done.0 new done.1 honest closed there done.2 done.3 in
+          let lie = kept_lies new it done.3.is_closed certain keeps in (
+            record { closed = done.3.is_closed; certain = certain; there = inl lie },
+            λ none. some_lie new.lying (λ files. HoldOutboxWithLog g files it) lie none,
           )
       | inr refusal ↦ absurd (why_failed refusal.refusal.why (sym refusal.says))
     ]
   ]
 
   -- it is not made over one that lies there
-  inits : (filer : Bor (List ℕ)) (old new : Parts g) (status : ℕ) (it : Contents) → LiesClosed start old it
-      → filer.now ≡ it.filer → MakesOutbox g filer old new status → IsSure start new
-      → IsRunBy start it old new (λ deeds. deeds ≡ [])
-  inits filer old new status it lies is_for is sure = elim is [
+  inits : (filer : Bor (List ℕ)) (old new : Parts g) (status : ℕ) (it : Contents) → IsHonest g → LiesClosed old it
+      → filer.now ≡ it.filer → MakesOutbox g filer old new status → new.is_certain ≡ true
+      → IsRunBy it old new (λ deeds. deeds ≡ [])
+  inits filer old new status it honest lies is_for is certain = elim is [
     | inl no_filer ↦ stayed old new it (λ deeds. deeds ≡ []) refl lies no_filer.1
     | inr others ↦ elim others [
       | inl done ↦ elim lies.there [
         | inl there ↦
             let hold = there.2 in
-            let before = done.3.leaves.faithful start sure.0 in
-            let read = done.2.read start before lies.closed there.0 there.1 in
+            let read = done.2.read honest lies.closed there.0 there.1 in
             not_bare it hold.db hold.outbox
-            (subst (λ (db : Database). db.schema ≡ no_schema) (read.1.only hold.db hold.held) read.2)
+            (subst (λ (db : Database). db.schema ≡ no_schema) (read.2.only hold.db hold.held) read.3)
         | inr none ↦
             let same : empty filer.now ≡ it = λ i. record { filer = is_for i; entries = sym none.1 i } in
             let keeps =
-            made filer old done.0 new done.1 lies.closed done.2 done.3 in
-            run_by start it it old new (λ deeds. deeds ≡ []) [] refl refl done.3.is_closed sure
-            (subst (Keeps start new) same keeps)
+            made filer old done.0 new done.1 honest lies.closed (subst (λ l. IsSome l) (sym none.0) refl) done.2 done.3
+            in
+            run_by it it old new (λ deeds. deeds ≡ []) [] refl refl done.3.is_closed certain
+            (subst (Keeps new) same keeps)
       ]
       | inr refusal ↦
-          refused start (Made filer) refusal.refusal it old new (λ deeds. deeds ≡ []) refl lies refusal.opens sure
+          refused (Made filer) refusal.refusal it old new (λ deeds. deeds ≡ []) refl honest lies refusal.opens certain
     ]
   ]
 
   -- ---- all tasks
 
   -- an outbox of this version is not migrated
-  migrates : (out out' : Option (List ℕ)) (old new : Parts g) (status : ℕ) (it : Contents) → LiesClosed start old it
-      → MigratesOutbox g out out' old new status → IsSure start new
-      → IsRunBy start it old new (λ deeds. deeds ≡ [])
-  migrates out out' old new status it lies is sure = elim is [
-    | inl done ↦
-        let before = done.3.leaves.faithful start sure.0 in
-        elim lies.there [
-          | inl there ↦ absurd (done.2.current start before refl lies.closed lies.certain it
-              (keeps_of start old it lies.closed there)).0
-          | inr none ↦ absurd (not_err tt _ (done.2.absent start before lies.closed refl none.0))
-        ]
-    | inr refusal ↦ refused start Migrated refusal.0 it old new (λ deeds. deeds ≡ []) refl lies refusal.2 sure
+  migrates : (out out' : Option (List ℕ)) (old new : Parts g) (status : ℕ) (it : Contents) → IsHonest g
+      → LiesClosed old it → MigratesOutbox g out out' old new status → new.is_certain ≡ true
+      → IsRunBy it old new (λ deeds. deeds ≡ [])
+  migrates out out' old new status it honest lies is certain = elim is [
+    | inl done ↦ elim lies.there [
+      | inl there ↦
+          absurd (done.2.current honest refl lies.closed lies.certain it (keeps_of old it lies.closed there)).0
+      | inr none ↦ absurd (not_err tt _ (done.2.absent lies.closed refl none.0))
+    ]
+    | inr refusal ↦ refused Migrated refusal.0 it old new (λ deeds. deeds ≡ []) refl honest lies refusal.2 certain
   ]
 
   -- more is known of the deeds
   with_also : (it : Contents) (old new : Parts g) (Are Also : List Deed → Type 0)
-      → ((deeds : List Deed) → Are deeds → Also deeds) → IsRunBy start it old new Are
-      → IsRunBy start it old new (λ deeds. Are deeds × Also deeds)
+      → ((deeds : List Deed) → Are deeds → Also deeds) → IsRunBy it old new Are
+      → IsRunBy it old new (λ deeds. Are deeds × Also deeds)
   with_also it old new Are Also also by = record {
     deeds = by.deeds;
     are = (by.are, also by.deeds by.are);
@@ -379,24 +370,24 @@ module _ {D : Type 0} {g : Ghosts D} (start : Option Image) where
 
   -- a task that shows something
   shows : (what : Errand) (net net' : Traffic) (out out' : Option (List ℕ)) (old new : Parts g) (status : ℕ)
-      (it : Contents) → IsHonest g → LiesClosed start old it
-      → VisitsOutbox g false what net net' out out' old new status → IsSure start new
+      (it : Contents) → IsHonest g → LiesClosed old it
+      → VisitsOutbox g false what net net' out out' old new status → new.is_certain ≡ true
       → ((before after : OutboxParts (FileStore D g)) (came : Result Done Why)
       → HasEntries over_files before it.entries → before.filer ≡ it.filer
       → DoesErrand over_files what net net' before after out out' came
       → Brings before after it (λ deeds. (deeds ≡ []) × AreOfNetwork net net' deeds))
-      → IsRunBy start it old new (λ deeds. (deeds ≡ []) × AreOfNetwork net net' deeds)
+      → IsRunBy it old new (λ deeds. (deeds ≡ []) × AreOfNetwork net net' deeds)
   shows what net net' out out' old new status it honest lies does certain brings =
       visits what false net net' out out' old new status it (λ deeds. (deeds ≡ []) × AreOfNetwork net net' deeds)
       honest lies does certain brings (λ same. (refl, no_deeds net net' same))
 
   pub run : {X : Type 0} (task : Task) (net net' : Traffic) (out out' : Option (List ℕ)) (old new : Parts g)
-      (result : Result X NotDone) (it : Contents) → IsHonest g → LiesClosed start old it → IsFor it.filer task
-      → Does g task net net' out out' old new result → IsSure start new
-      → IsRunBy start it old new (AreOfRun task net net' (status_by result))
+      (result : Result X NotDone) (it : Contents) → IsHonest g → LiesClosed old it → IsFor it.filer task
+      → Does g task net net' out out' old new result → new.is_certain ≡ true
+      → IsRunBy it old new (AreOfRun task net net' (status_by result))
   run (Init database filer) net net' out out' old new result it honest lies made does certain =
       with_also it old new (λ deeds. deeds ≡ []) (AreOfNetwork net net') (no_connection net net' does.1)
-      (inits filer old new (status_by result) it lies made does.0 certain)
+      (inits filer old new (status_by result) it honest lies made does.0 certain)
   run (Put database files key target strict) net net' out out' old new result it honest lies made does certain =
       let status = status_by result in
       let same = put_net strict files.items key target net net' out out' old new result does in
@@ -405,7 +396,7 @@ module _ {D : Type 0} {g : Ghosts D} (start : Option Image) where
       (put strict files.items key target net net' out out' old new result it honest lies does certain)
   run (Migrate database) net net' out out' old new result it honest lies made does certain =
       with_also it old new (λ deeds. deeds ≡ []) (AreOfNetwork net net') (no_connection net net' does.1)
-      (migrates out out' old new (status_by result) it lies does.0 certain)
+      (migrates out out' old new (status_by result) it honest lies does.0 certain)
   run (Send database peer w strict) net net' out out' old new result it honest lies made does certain =
       visits (errand.Send w) strict net net' out out' old new (status_by result) it
       (λ deeds. AreOfSend w deeds × AreOfNetwork net net' deeds) honest lies does certain

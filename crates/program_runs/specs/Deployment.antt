@@ -9,9 +9,7 @@ use Rattle.filing_world.specs.World.{numbered}
 use Rattle.filing_world.specs.Headline.{AreFilers}
 use Rattle.outbox_tables.specs.Entries.{Contents}
 use Rattle.outbox_process.specs.Dials.{Traffic}
-use Rattle.sqlite_wal.specs.Recovery.{Image}
-use Rattle.database_places.specs.Recorded.{nothing}
-use Rattle.outbox_process.specs.Process.{Parts, IsSure, lying as lying_after}
+use Rattle.outbox_process.specs.Process.{Parts}
 use Rattle.outbox_commands.specs.Tasks.{Does}
 use Rattle.outbox_commands.specs.Status.{status_by}
 use Rattle.outbox_commands.specs.declared.fault.NotDone.{NotDone}
@@ -24,7 +22,7 @@ use Rattle.programs.specs.Fronts.{Passing, HappenBehind, IsReachedBehind}
 use Rattle.program_runs.specs.Beside.{Act, Service, InTurn, deeds_of, services_of, network_of, AreCarried}
 use Rattle.program_runs.specs.Deeds.{Deed, AreDone}
 use Rattle.program_runs.specs.Registers.{LieRequests, AreOfPort, IsLimited}
-use Rattle.program_runs.specs.Runs.{LieOutbox, AreNotGone, IsNotGone, AreOfRun, IsFor}
+use Rattle.program_runs.specs.Runs.{LieOutbox, AreNotGone, AreOfRun, IsFor}
 
 -- these are what turns did, one after another
 abbrev pub AreOfAll : {T X : Type 0} → (T → List X → Type 0) → List T → List X → Type 0
@@ -51,32 +49,31 @@ module _ {D : Type 0} (g : Ghosts D) where
     Whole : OutboxRun → OutboxTurn
     Killed : List Deed → OutboxTurn
 
-  -- It began closed, in a place that had moved nothing, did its task, as its contract says, and it is sure at its end:
-  -- the files that its place gave it were those that lay there, and gave back what was written. It left those bytes. If
-  -- it made an outbox, that is this filer's.
-  pub record IsOutboxRun (filer : List ℕ) (run : OutboxRun) (lying lying' : Option Image) : Type 0 where
+  -- It found these files in its place, closed, did its task, as its contract says, is certain at its end, and left
+  -- those files. If it made an outbox, that is this filer's.
+  pub record IsOutboxRun (filer : List ℕ) (run : OutboxRun) (lying lying' : Option (Option (Files D))) : Type 0 where
     pub closed : run.old.outbox ≡ None
     pub began : run.old.is_certain ≡ true
-    pub unmoved : run.old.place ≡ nothing
+    pub found : run.old.lying ≡ lying
     pub is_for : IsFor filer run.task
     pub does : Does g run.task run.net run.net' run.out run.out' run.old run.new run.result
-    pub sure : IsSure lying run.new
-    pub left : lying_after lying run.new ≡ lying'
+    pub certain : run.new.is_certain ≡ true
+    pub left : run.new.lying ≡ lying'
 
   -- what a run left that was killed after these deeds is this filer's outbox to which they lead, if it was made
-  abbrev pub LeavesDone : List ℕ → List Deed → Option Image → Option Image → Type 0
-  LeavesDone filer deeds lying lying' = (it : Contents) → it.filer ≡ filer → LieOutbox lying it
-      → (after : Contents) × AreDone it deeds after × LieOutbox lying' after × IsNotGone lying lying'
+  abbrev pub LeavesDone : List ℕ → List Deed → Option (Option (Files D)) → Option (Option (Files D)) → Type 0
+  LeavesDone filer deeds lying lying' = (it : Contents) → it.filer ≡ filer → LieOutbox g lying it
+      → (after : Contents) × AreDone it deeds after × LieOutbox g lying' after × AreNotGone lying lying'
 
-  abbrev pub IsOutboxTurn : List ℕ → OutboxTurn → Option Image → Option Image → Type 0
+  abbrev pub IsOutboxTurn : List ℕ → OutboxTurn → Option (Option (Files D)) → Option (Option (Files D)) → Type 0
   IsOutboxTurn filer (Whole run) lying lying' = IsOutboxRun filer run lying lying'
   IsOutboxTurn filer (Killed deeds) lying lying' = LeavesDone filer deeds lying lying'
 
   -- each begins with what the one before it left
-  abbrev pub AreOutboxTurns : List ℕ → List OutboxTurn → Option Image → Option Image → Type 0
+  abbrev pub AreOutboxTurns : List ℕ → List OutboxTurn → Option (Option (Files D)) → Option (Option (Files D)) → Type 0
   AreOutboxTurns filer [] lying lying' = lying' ≡ lying
   AreOutboxTurns filer (turn ∷ turns) lying lying' =
-      (between : Option Image) × IsOutboxTurn filer turn lying between
+      (between : Option (Option (Files D))) × IsOutboxTurn filer turn lying between
       × AreOutboxTurns filer turns between lying'
 
   -- the deeds are those of its task, on the connections of its network
@@ -86,20 +83,20 @@ module _ {D : Type 0} (g : Ghosts D) where
 
   -- ---- all files
 
-  -- the files that lie in the place of the register, and the bytes that lie in the place of each outbox
+  -- what lies in the place of the register, and in the place of each outbox
   pub record Deployment : Type 0 where
     pub register : Option (Option (Files D))
-    pub boxes : ℕ → Option Image
+    pub boxes : ℕ → Option (Option (Files D))
 
   -- no files lie in any place
   abbrev pub bare : Deployment
-  bare = record { register = Some None; boxes = λ outbox. None }
+  bare = record { register = Some None; boxes = λ outbox. Some None }
 
   -- the files hold what the situation has; what is not made yet has no files
   pub record HoldSituation (deployment : Deployment) (situation : Situation) : Type 0 where
     pub register : LieRequests g deployment.register situation.requests
     pub boxes : (outbox : ℕ) (it : Contents) → numbered situation.outboxes outbox ≡ Some it
-        → LieOutbox (deployment.boxes outbox) it
+        → LieOutbox g (deployment.boxes outbox) it
 
   -- What happened, behind fronts or without, in one order that keeps each program's own. The files hold what is kept
   -- then, the headline holds of it, and each confirmed entry is in the register once.
@@ -178,7 +175,7 @@ module _ {D S N : Type 0} (g : Ghosts D) (s : Streams S N) where
     -- what was made is not gone
     pub register_stays : AreNotGone before.register deployment.register
     pub boxes_stay : (outbox : ℕ) (it : Contents) → numbered old.outboxes outbox ≡ Some it
-        → IsNotGone (before.boxes outbox) (deployment.boxes outbox)
+        → AreNotGone (before.boxes outbox) (deployment.boxes outbox)
     pub happen : (acts : List Act) → ((outbox : ℕ) → deeds_of outbox acts ≡ deeds outbox)
         → services_of acts ≡ services → AreCarried (network_of old) acts
         → IsOutcome g limit filers old deployment

@@ -16,5 +16,5 @@ AreSome (r ∷ some) all =
 pub record HoldSome {D : Type 0} (g : Ghosts D) (files : Files D) (old_style : ℕ) (requests : List Request)
     (decided : List Decided) : Type 0 where
   pub some : List Request
-  pub are : AreSome some (map (λ d. d.0.0) decided)
+  pub are : AreSome some (map (λ d. d.0) decided)
   pub held : HoldRegisterWithLog g files old_style (firsts (requests ++ some))

@@ -6,11 +6,10 @@ use Rattle.sqlite_disk.specs.declared.Files.{Files}
 use Rattle.filing_model.specs.Prefix.{IsPrefixOf}
 use Rattle.outbox_tables.specs.Entries.{Contents}
 use Rattle.outbox_process.specs.Dials.{Output, Traffic, Grows}
-use Rattle.outbox_process.specs.Process.{Parts, HoldOutbox, lying}
+use Rattle.outbox_process.specs.Process.{Parts, HoldOutboxWithLog}
 use Rattle.outbox_process.specs.declared.errand.Which.{Which}
 use Rattle.outbox_process.specs.declared.errand.Which.TheVariants.{Next, Entry, All}
-use Rattle.sqlite_wal.specs.Recovery.{Image}
-use Rattle.database_places.specs.Moves.{LieBytes}
+use Rattle.database_places.specs.Places.{Lie}
 use Rattle.outbox_process.specs.declared.target.Target.{Target}
 use Rattle.outbox_commands.specs.Puts.{AreReadFor}
 use Rattle.outbox_commands.specs.declared.putting.ReportFile.{ReportFile}
@@ -18,36 +17,31 @@ use Rattle.outbox_commands.specs.declared.options.Task.{Task}
 use Rattle.outbox_commands.specs.declared.options.Task.TheVariants.{Init, Put, Migrate, Send, Ask, Status, Show, Body}
 use Rattle.program_runs.specs.Deeds.{Deed, Added, Wrote, Heard, Asked, AreDone}
 
--- bytes that hold the outbox of these contents lie there, in the log and the database file together; or no files do, as
--- before an outbox is made, and there are no entries
-abbrev pub LieOutbox : Option Image → Contents → Type 0
-LieOutbox lying it = LieBytes lying (λ image. HoldOutbox image it) ⊎ ((lying ≡ None) × (it.entries ≡ []))
-
--- nothing lies there only if nothing lay there before
-abbrev pub IsNotGone : Option Image → Option Image → Type 0
-IsNotGone old new = new ≡ None → old ≡ None
+-- the outbox of these contents lies there, by the log and the database file together; or no files do, as before an
+-- outbox is made, and there are no entries
+abbrev pub LieOutbox : {D : Type 0} → Ghosts D → Option (Option (Files D)) → Contents → Type 0
+LieOutbox g lying it = Lie lying (λ files. HoldOutboxWithLog g files it) ⊎ ((lying ≡ Some None) × (it.entries ≡ []))
 
 -- no files lie there only if none lay there before
 abbrev pub AreNotGone : {D : Type 0} → Option (Option (Files D)) → Option (Option (Files D)) → Type 0
 AreNotGone old new = new ≡ Some None → old ≡ Some None
 
 -- The process is closed, it is certain what lies in its place, and the outbox of these contents does, or is not made
--- yet. `start` lay there before its first move.
-pub record LiesClosed {D : Type 0} {g : Ghosts D} (start : Option Image) (process : Parts g) (it : Contents)
-    : Type 0 where
+-- yet.
+pub record LiesClosed {D : Type 0} {g : Ghosts D} (process : Parts g) (it : Contents) : Type 0 where
   pub closed : process.outbox ≡ None
   pub certain : process.is_certain ≡ true
-  pub there : LieOutbox (lying start process) it
+  pub there : LieOutbox g process.lying it
 
 -- From what lay in the place these deeds lead to what lies there now.
-pub record IsRunBy {D : Type 0} {g : Ghosts D} (start : Option Image) (it : Contents) (old new : Parts g)
-    (Are : List Deed → Type 0) : Type 0 where
+pub record IsRunBy {D : Type 0} {g : Ghosts D} (it : Contents) (old new : Parts g) (Are : List Deed → Type 0)
+    : Type 0 where
   pub deeds : List Deed
   pub are : Are deeds
   pub after : Contents
   pub done : AreDone it deeds after
-  pub lies : LiesClosed start new after
-  pub stays : IsNotGone (lying start old) (lying start new)
+  pub lies : LiesClosed new after
+  pub stays : AreNotGone old.lying new.lying
 
 -- ---- which deeds
 

@@ -14,8 +14,7 @@ ghost use Rattle.connection_hall.specs.Answers.{Answer};
 ghost use Rattle.gateway_rounds.specs.Ports.{Runs};
 ghost use Rattle.outbox_tables.specs.Entries.{Contents, empty};
 ghost use Rattle.outbox_process.specs.Dials.{Traffic};
-ghost use Rattle.sqlite_wal.specs.Recovery.{Image};
-ghost use Rattle.outbox_process.specs.Process.{Parts, IsSure, lying};
+ghost use Rattle.outbox_process.specs.Process.{Parts};
 ghost use Rattle.outbox_commands.specs.declared.fault.NotDone.{NotDone};
 ghost use Rattle.outbox_commands.specs.declared.options.Task.{Task};
 ghost use Rattle.outbox_commands.specs.declared.options.Task.TheVariants.{Init};
@@ -37,22 +36,22 @@ use programs::fronts::any_fronts;
 use sqlite_disk::Disk;
 
 /// A run of `outbox` on an outbox that lies there, or is not made yet, does deeds of its task, if its process is
-/// sure at the end. They wrote what was written on the connections that its network recorded. If it makes an outbox,
+/// certain at the end. They wrote what was written on the connections that its network recorded. If it makes an outbox,
 /// that is this filer's.
 pub fn a_run_of_outbox_is_deeds<D: Disk>()
     ensures { (task : Task) (net net' : Traffic) (out out' : Option (List ℕ)) (old new : Parts D.Disk)
-        (result : Result (Unit {0}) NotDone) (start : Option Image) (it : Contents) → IsHonest D.Disk
-        → LiesClosed start old it → IsFor it.filer task → Does D.Disk task net net' out out' old new result
-        → IsSure start new → IsRunBy start it old new (AreOfRun task net net' (status_by result)) }
+        (result : Result (Unit {0}) NotDone) (it : Contents) → IsHonest D.Disk → LiesClosed old it → IsFor it.filer task
+        → Does D.Disk task net net' out out' old new result → new.is_certain ≡ true
+        → IsRunBy it old new (AreOfRun task net net' (status_by result)) }
 {}
 
 /// A run of `outbox init` that is done makes an outbox of its filer without entries, if its process is certain at the
 /// end.
 pub fn a_run_of_init_makes_an_outbox<D: Disk>()
     ensures { (database filer : Bor (List ℕ)) (net net' : Traffic) (out out' : Option (List ℕ))
-        (old new : Parts D.Disk) (start : Option Image) → old.outbox ≡ None
+        (old new : Parts D.Disk) → IsHonest D.Disk → old.outbox ≡ None → IsSome old.lying
         → Does {X = Unit {0}} D.Disk (Init database filer) net net' out out' old new (Ok tt)
-        → IsSure start new → LiesClosed start new (empty filer.now) × (lying start new ≢ None) }
+        → new.is_certain ≡ true → LiesClosed new (empty filer.now) × (new.lying ≢ Some None) }
 {}
 
 /// Whatever programs do beside each other, in any order that keeps each one's own, happens one thing after another,

@@ -45,15 +45,15 @@ ghost use Rattle.filing_model.specs.Outbox.{Entry};
 ghost use Rattle.filing_model.specs.Request.{Request, firsts};
 ghost use Rattle.filing_model.specs.Serving.{IsCutShort, Keeping, keeping};
 ghost use Rattle.filing_model.specs.Stopping.{Crash};
+ghost use Rattle.filing_model.specs.Views.{the_request};
 ghost use Rattle.table_rows.specs.declared.fault.StoreFault.{StoreFault};
 ghost use Rattle.table_rows.specs.Standing.{CommitsNothing, HasCommitted};
-ghost use Rattle.register_tables.specs.Registers.{Book, IsRegisterOf};
+ghost use Rattle.register_tables.specs.Registers.{IsRegisterOf};
 ghost use Rattle.register_store.specs.declared.outcome.NewRow.{NewRow};
 ghost use Rattle.filing_model.specs.declared.outcome.Outcome.{Outcome};
-ghost use Rattle.register_store.specs.Store.{StoreParts, HasRequests};
+ghost use Rattle.register_store.specs.Store.{StoreParts, HasRequests, ForNew};
 ghost use Rattle.register_store.specs.Store as register;
 ghost use Rattle.register_store.specs.Calls.{AddsRequest};
-ghost use Rattle.register_store.specs.NewRows.{IsNew, request_of};
 ghost use Rattle.register_store.specs.Files.{HoldRegister};
 ghost use Rattle.intake_core.specs.declared.intake.Intake.{Intake};
 ghost use Rattle.intake_core.specs.declared.intake.Unavailable.{Unavailable};
@@ -125,9 +125,9 @@ pub fn a_register_outlives_its_process<D: Disk + Drop>()
     ensures rest { IsHonest D.Disk → (store : StoreParts (Stored D D.Disk)) (requests : List Request) (files : Files D)
         → IsTrue (register.shows over_files store).is_open → HasRequests over_files store requests
         → EndsIn store.conn files → HoldRegisterWithLog D.Disk files store.old_style requests }
-    ensures durable { IsHonest D.Disk → (store : StoreParts (Stored D D.Disk)) (old_style : ℕ) (book : Book)
-        (files : Files D) → register.IsDurableAs over_files store old_style book
-        → EndsIn store.conn files → HoldRegisterWithLog D.Disk files old_style book.requests }
+    ensures durable { IsHonest D.Disk → (store : StoreParts (Stored D D.Disk)) (old_style : ℕ) (requests : List Request)
+        (files : Files D) → register.IsDurableAs over_files store old_style requests
+        → EndsIn store.conn files → HoldRegisterWithLog D.Disk files old_style requests }
 {}
 
 /// A register that was open as a call began which commits nothing leaves its requests, as a process that ends while it
@@ -146,15 +146,15 @@ pub fn a_register_outlives_an_addition<D: Disk + Drop>()
         (result : Result Outcome StoreFault) (requests : List Request) (files : Files D)
         → AddsRequest over_files row old new result → IsTrue (register.shows over_files old).is_open
         → HasRequests over_files old requests → EndsIn new.conn files
-        → IsNew requests row
-        → HoldEitherRegister D.Disk files old.old_style requests (requests ++ request_of row ∷ []) }
+        → ForNew requests (the_request row.filer.now row.key.now row.target row.body.now) row.judged.now (λ r.
+        HoldEitherRegister D.Disk files old.old_style requests (requests ++ r ∷ [])) }
 {}
 
 /// A register that was open as `Intake::submit` began leaves its requests, or these and the one that was decided.
 pub fn a_register_outlives_a_decision<D: Disk + Drop>()
-    ensures { IsHonest D.Disk → (r : Request) (moment : ℕ) (old new : Intake (Stored D D.Disk))
+    ensures { IsHonest D.Disk → (r : Request) (old new : Intake (Stored D D.Disk))
         (result : Result Answer Unavailable) (requests : List Request) (files : Files D)
-        → DecidesRequest over_files r moment old new result → IsTrue (intake.shows over_files old).is_open
+        → DecidesRequest over_files r old new result → IsTrue (intake.shows over_files old).is_open
         → HoldsRequests over_files old requests → EndsIn (store_of new).conn files
         → HoldEitherRegister D.Disk files (old_style_of old) requests (with_request requests r) }
 {}

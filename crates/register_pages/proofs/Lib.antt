@@ -9,8 +9,3 @@ pub mod Showing
 pub mod Characters
 pub mod ReadingLemmas
 pub mod VisibleLemmas
-pub mod Changing
-pub mod Grouping
-pub mod Growing
-pub mod Saying
-pub mod Sides

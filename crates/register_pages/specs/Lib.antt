@@ -1,10 +1,7 @@
-pub mod Changes
-pub mod Compared
 pub mod Gathering
 pub mod Own
 pub mod Pages
 pub mod Shown
-pub mod ShownChanges
 pub mod Site
 pub mod Reading
 pub mod Short

@@ -1,9 +1,8 @@
 //! The pages of a filing, and its report.
 
-ghost use Rattle.std.specs.Prelude.{◌≡◌, ◌≤◌, ◌++◌, ◌∷◌, [], length, IfOk, OnOk};
+ghost use Rattle.std.specs.Prelude.{◌≤◌, ◌++◌, ◌∷◌, [], length};
 ghost use Rattle.register_pages.specs.Pages.{Report, Writes, filing_page, numbered, report_file};
 ghost use Rattle.register_pages.specs.Pages.{pages_for as pages_for_lem};
-ghost use Rattle.register_pages.specs.Shown.{Holds};
 
 use crate::fault::Missed;
 use crate::folder::{Folder, put, put_report};
@@ -34,11 +33,10 @@ const FEW: usize = 20;
 /// The end of a moment that is the first one of its day.
 const MIDNIGHT: &str = "T00:00:00";
 
-/// Writes the pages of a filing, and its report beside them. The first page has what changed.
+/// Writes the pages of a filing, and its report beside them.
 pub(crate) fn write_filing<F: Folder>(
     alloc: Global,
     filing: &WholeFiling,
-    changes: &Markup,
     about: &Markup,
     folder: &mut F,
     missed: &mut Option<Missed>,
@@ -47,7 +45,7 @@ pub(crate) fn write_filing<F: Folder>(
         (numbered (filing_page filing.now.number) (pages_for_lem 1000 (length filing.now.facts))
         ++ Report (report_file filing.now.number) filing.now.body ∷ []) }
 {
-    write_facts(alloc, filing, changes, about, folder, missed);
+    write_facts(alloc, filing, about, folder, missed);
     let name = names::of_report(alloc, filing.number);
     put_report(folder, missed, name, &filing.body);
 }
@@ -56,7 +54,6 @@ pub(crate) fn write_filing<F: Folder>(
 fn write_facts<F: Folder>(
     alloc: Global,
     filing: &WholeFiling,
-    changes: &Markup,
     about: &Markup,
     folder: &mut F,
     missed: &mut Option<Missed>,
@@ -68,8 +65,7 @@ fn write_facts<F: Folder>(
     let pages = pages_for(MOST_ROWS, rest.len());
     for at in 0..pages {
         let part = Part::new(at + 1, pages);
-        let facts = first(rest, MOST_ROWS);
-        let page = facts_page(alloc, filing, changes, facts, part, about);
+        let page = facts_page(alloc, filing, first(rest, MOST_ROWS), part, about);
         put(
             folder,
             missed,
@@ -80,55 +76,24 @@ fn write_facts<F: Folder>(
     }
 }
 
-/// The beginning of a page of a filing: what it is.
-fn front_of(
-    alloc: Global,
-    filing: &WholeFiling,
-    entity: &Option<String>,
-) -> Result<Markup, AllocError> {
-    let number = filing.number;
-    let title = format!(in alloc; "Filing {number}")?;
-    let mut front = begin(alloc, title.as_str())?;
-    describe(&mut front, alloc, filing, entity)?;
-    Ok(front)
-}
-
-/// The links to the pages before it and behind it.
-fn links_of(alloc: Global, filing: u64, part: Part) -> Result<Markup, AllocError> {
-    let mut links = Markup::new(alloc);
-    let before = names::of_filing(alloc, filing, part.before())?;
-    let next = names::of_filing(alloc, filing, part.next())?;
-    neighbours(&mut links, alloc, part, before.as_str(), next.as_str())?;
-    Ok(links)
-}
-
-/// Adds what the filing changed, if this is its first page.
-fn add_changes(page: &mut Markup, changes: &Markup, part: Part) -> Result<(), AllocError>
-    ensures { part.number ≡ 1 → OnOk result (page.new ≡ page.old ++ changes.now) }
-{
-    if part.number > 1 {
-        return Ok(());
-    }
-    page.piece(changes)
-}
-
-/// A page of a filing: what it is, on the first one what it changed, and facts of it.
+/// A page of a filing: what it is, and facts of it.
 fn facts_page(
     alloc: Global,
     filing: &WholeFiling,
-    changes: &Markup,
     facts: &[Fact],
     part: Part,
     about: &Markup,
 ) -> Result<Markup, AllocError>
     requires { length facts.now ≤ 1000 }
-    ensures { part.number ≡ 1 → IfOk result (Holds changes.now) }
 {
+    let number = filing.number;
+    let title = format!(in alloc; "Filing {number}")?;
+    let mut page = begin(alloc, title.as_str())?;
     let entity = entity_of(alloc, filing.facts())?;
-    let mut page = front_of(alloc, filing, &entity)?;
-    add_changes(&mut page, changes, part)?;
-    let links = links_of(alloc, filing.number, part)?;
-    page.piece(&links)?;
+    describe(&mut page, alloc, filing, &entity)?;
+    let before = names::of_filing(alloc, number, part.before())?;
+    let next = names::of_filing(alloc, number, part.next())?;
+    neighbours(&mut page, alloc, part, before.as_str(), next.as_str())?;
     let mut rows = Markup::new(alloc);
     let entity = match &entity {
         Some(entity) => entity.as_str(),
@@ -146,7 +111,7 @@ fn facts_page(
 }
 
 /// The entity of the first fact, if it has one.
-pub(crate) fn entity_of(alloc: Global, facts: &[Fact]) -> Result<Option<String>, AllocError> {
+fn entity_of(alloc: Global, facts: &[Fact]) -> Result<Option<String>, AllocError> {
     let Some(fact) = facts.first() else {
         return Ok(None);
     };
@@ -202,27 +167,6 @@ fn describe_link(
     page.constant("<dd>Filing ")?;
     filing_link(page, alloc, number)?;
     page.constant("</dd>\n")
-}
-
-/// Adds what else tells a fact apart, behind its concept: the other dimensions, which end that cell, and the cells of
-/// the period and of the unit.
-pub(crate) fn aspects(
-    page: &mut Markup,
-    alloc: Global,
-    entity: &str,
-    fact: &Fact,
-) -> Result<(), AllocError> {
-    let mut scratch = Scratch::new(alloc);
-    match read_tree(alloc, fact.dimensions.as_bytes(), &mut scratch) {
-        Ok(dimensions) => {
-            other_dimensions(page, &dimensions, entity)?;
-            page.constant("</th>")?;
-            period_cell(page, &dimensions)?;
-            unit_cell(page, &dimensions)
-        }
-        Err(Unread::Memory) => Err(AllocError),
-        Err(Unread::NotJson) => Ok(()),
-    }
 }
 
 /// Adds the row of a fact of a filing whose first fact has this entity.

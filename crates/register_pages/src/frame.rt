@@ -4,7 +4,7 @@ ghost use Rattle.std.specs.Prelude.{IfOk, OnOk};
 ghost use Rattle.register_pages.specs.Reading.{AddsText};
 ghost use Rattle.register_pages.specs.Visible.{visible};
 ghost use Rattle.register_store.specs.Moments.{milliseconds_of};
-ghost use Rattle.register_pages.specs.Shown.{Grows, Holds, shown_moment};
+ghost use Rattle.register_pages.specs.Shown.{Holds, shown_moment};
 
 use crate::{Markup, names};
 use register_extracts::{Moment, moment_text};
@@ -19,8 +19,8 @@ const BEFORE_TITLE: &str = "<!DOCTYPE html>\n\
     <meta charset=\"utf-8\">\n\
     <meta name=\"viewport\" content=\"width=device-width, initial-scale=1\">\n\
     <meta http-equiv=\"Content-Security-Policy\" content=\"default-src 'none'; style-src \
-    'sha256-gnm5RLG+/mHnPsfH15XtBs9jCOUYR4zX+N7uOSv+GwU='; script-src \
-    'sha256-Q6oXn7ZzRryt0IuCU3VzsEAt48XSzWG3FAY6EKB81NQ='; connect-src 'self'; img-src data:; \
+    'sha256-8r+CN+aQK4duPyOeA+2iQvXkd6+TSdF0BCo96Py1CAM='; script-src \
+    'sha256-P1vW3KyZtlwI+3ckXRETSx2z3RJ5RwuubrrHj37yXhM='; connect-src 'self'; img-src data:; \
     base-uri 'none'; form-action 'none'\">\n\
     <link rel=\"icon\" href=\"data:,\">\n\
     <title>";
@@ -80,12 +80,6 @@ const AFTER_TITLE: &str = "</title>\n\
     .facts td:nth-child(4)::before { content: \"Unit: \"; }\n\
     .facts td:nth-child(5)::before { content: \"Value: \"; }\n\
     .facts td:nth-child(6)::before { content: \"Decimals: \"; }\n\
-    .changes td:nth-child(5), .changes td:nth-child(6) { display: block; }\n\
-    .changes td:nth-child(2)::before { content: \"Period: \"; }\n\
-    .changes td:nth-child(3)::before { content: \"Unit: \"; }\n\
-    .changes td:nth-child(4)::before { content: \"Change: \"; }\n\
-    .changes td:nth-child(5)::before { content: \"Before: \"; }\n\
-    .changes td:nth-child(6)::before { content: \"Now: \"; }\n\
     .refused td:nth-child(2)::before { content: \"Received: \"; }\n\
     .refused td:nth-child(3)::before { content: \"Sent to replace: \"; }\n\
     .refused td:nth-child(4)::before { content: \"Bytes: \"; }\n\
@@ -116,12 +110,12 @@ const AFTER_TITLE: &str = "</title>\n\
 const SEARCH: &str = "<p id=\"search-box\" hidden><label for=\"search\">Search this table</label> \
     <input id=\"search\" type=\"search\" autocomplete=\"off\"> <span id=\"found\" role=\"status\"></span></p>\n";
 
-/// The script of a page's last table: of its search box, which shows a row if it has each of the words, and of its
-/// columns' heads, by which the rows are sorted. If the table goes on on other pages, it gets their rows first.
+/// The script of the search box, which shows a row if it has each of the words, and of the columns' heads, by which the
+/// rows are sorted. If the table goes on on other pages, it gets their rows first.
 const SCRIPT: &str = "<script>\n\
     (function () {\n\
       \"use strict\";\n\
-      var body = document.querySelector(\"table:last-of-type tbody\");\n\
+      var body = document.querySelector(\"tbody\");\n\
       var box = document.getElementById(\"search\");\n\
       var parts = document.getElementById(\"parts\");\n\
       var found = document.getElementById(\"found\");\n\
@@ -137,7 +131,7 @@ const SCRIPT: &str = "<script>\n\
           var got = await fetch(link.href);\n\
           if (!got.ok) { throw got.status; }\n\
           page = new DOMParser().parseFromString(await got.text(), \"text/html\");\n\
-          var its = Array.from(page.querySelectorAll(\"table:last-of-type tbody tr\"));\n\
+          var its = Array.from(page.querySelectorAll(\"tbody tr\"));\n\
           more = kind === \"next\" ? more.concat(its) : its.concat(more);\n\
         }\n\
         return more;\n\
@@ -178,7 +172,7 @@ const SCRIPT: &str = "<script>\n\
         head.setAttribute(\"aria-sort\", order.way > 0 ? \"ascending\" : \"descending\");\n\
         show();\n\
       }\n\
-      document.querySelectorAll(\"table:last-of-type thead th\").forEach(function (head, at) {\n\
+      document.querySelectorAll(\"thead th\").forEach(function (head, at) {\n\
         var button = document.createElement(\"button\");\n\
         button.type = \"button\";\n\
         button.append.apply(button, Array.from(head.childNodes));\n\
@@ -236,10 +230,10 @@ fn behind_rows(alloc: Global, about: &Markup, search: Search) -> Result<Markup, 
 }
 
 /// Begins a table, of which `head` has the caption and the first row.
-fn begin_table(page: &mut Markup, head: &'static str, search: Search) -> Result<(), AllocError>
-    ensures { OnOk result (Grows page.old page.new) }
-{
-    page.constant(if search == Search::Box { SEARCH } else { "" })?;
+fn begin_table(page: &mut Markup, head: &'static str, search: Search) -> Result<(), AllocError> {
+    if search == Search::Box {
+        page.constant(SEARCH)?;
+    }
     page.constant(head)?;
     page.constant("<tbody>\n")
 }
@@ -253,8 +247,7 @@ pub(crate) fn end_by_table(
     about: &Markup,
     search: Search,
 ) -> Result<Markup, AllocError>
-    ensures rows { IfOk result (λ whole. Holds rows.now whole) }
-    ensures begun { IfOk result (λ whole. Grows page whole) }
+    ensures { IfOk result (λ page. Holds rows.now page) }
 {
     let behind = behind_rows(alloc, about, search)?;
     let mut page = page;

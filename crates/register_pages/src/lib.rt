@@ -4,9 +4,6 @@
 #![tactic(auto)]
 
 mod about;
-mod alike;
-mod change_rows;
-mod changes;
 mod chart;
 mod escaping;
 mod fault;
@@ -25,7 +22,6 @@ mod piece;
 mod reads;
 mod refused;
 mod reports;
-mod said;
 mod short;
 mod site;
 mod words;

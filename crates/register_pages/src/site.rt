@@ -1,6 +1,6 @@
 //! The pages of a register.
 
-ghost use Rattle.std.specs.Prelude.{◌≡◌, ◌≤◌, ◌++◌, ◌^◌, Some, IfErr, IfOk, OnOk};
+ghost use Rattle.std.specs.Prelude.{◌≡◌, ◌≤◌, ◌++◌, ◌^◌, Some, IfErr, OnOk};
 ghost use Rattle.std.specs.Ordering.{nat_cmp};
 ghost use Rattle.std.specs.Cmp.Lexicographic.{slice_cmp};
 ghost use Rattle.std.specs.List.Sorted.{IsStrictlySortedBy};
@@ -16,12 +16,10 @@ ghost use Rattle.register_pages.specs.Faults.{IsWritingWhy};
 ghost use Rattle.register_pages.specs.Gathering.{AreCountsOf, codes_of};
 ghost use Rattle.register_pages.specs.Pages.{Adds, Writes, WritesSite, filing_files, other_files, files_of_filer};
 ghost use Rattle.register_pages.specs.Pages.{files_of_filing};
-ghost use Rattle.register_pages.specs.ShownChanges.{ShowsReplaced};
 ghost use Rattle.register_pages.specs.Site.{WritesPages};
 
 use crate::Markup;
 use crate::about::about_register;
-use crate::change_rows::changes_table;
 use crate::fault::Missed;
 use crate::filer::write_filer;
 use crate::filers::Filers;
@@ -30,12 +28,11 @@ use crate::folder::Folder;
 use crate::found::Found;
 use crate::gathering::gather;
 use crate::others::write_others;
-use register_extracts::{WholeFiling, Why, filing_at};
+use register_extracts::{Why, filing_at};
 use register_rows::Catalogue;
 use register_store::{Counts, StoreFault, Unwatched, read_register};
 use sqlite::{Alter, Connection};
 use std::alloc::Global;
-use xbrl_report::Fact;
 
 /// Writes the register that the database is as pages into a folder: `index.html` with all filers, `filer-CODE.html` of
 /// each, `refused-CODE.html` of each whose reports were refused, `filing-NUMBER.html` of each filing, its report as it
@@ -190,48 +187,10 @@ fn write_numbered<S: Alter, F: Folder>(
 {
     match filing_at(alloc, conn, catalogue, number)? {
         Some(filing) => {
-            let changes = changes_by(alloc, conn, catalogue, &filing)?;
-            write_filing(alloc, &filing, &changes, about, folder, missed);
+            write_filing(alloc, &filing, about, folder, missed);
             Ok(())
         }
         None => Ok(()),
-    }
-}
-
-/// What a filing changed of the one that it replaces; nothing if it replaces none.
-fn changes_by<S: Alter>(
-    alloc: Global,
-    conn: &mut Connection<S>,
-    catalogue: &Catalogue,
-    filing: &WholeFiling,
-) -> Result<Markup, StoreFault>
-    ensures shown { ForRegister S.Store conn.old conn.new (λ _ requests.
-        view_lines catalogue.now ≡ catalogue_of requests
-        → IfOk result (ShowsReplaced (register requests) filing.now.replaces filing.now.facts)) }
-    ensures leaves { MayRead S.Store conn.old conn.new result }
-{
-    match filing.replaces {
-        Some(number) => changes_from(alloc, conn, catalogue, number, filing.facts()),
-        None => Ok(Markup::new(alloc)),
-    }
-}
-
-/// What changed from the facts of the filing of this number to these.
-fn changes_from<S: Alter>(
-    alloc: Global,
-    conn: &mut Connection<S>,
-    catalogue: &Catalogue,
-    number: u64,
-    facts: &[Fact],
-) -> Result<Markup, StoreFault>
-    ensures shown { ForRegister S.Store conn.old conn.new (λ _ requests.
-        view_lines catalogue.now ≡ catalogue_of requests
-        → IfOk result (ShowsReplaced (register requests) (Some number) facts.now)) }
-    ensures leaves { MayRead S.Store conn.old conn.new result }
-{
-    match filing_at(alloc, conn, catalogue, number)? {
-        Some(before) => Ok(changes_table(alloc, before.facts(), facts)?),
-        None => Ok(Markup::new(alloc)),
     }
 }
 

@@ -1,6 +1,6 @@
 -- What the calls of a store do.
 use Rattle.std.specs.Prelude.{◌≡◌, ◌↔◌, ◌+◌, ◌++◌, ◌∷◌, [], ℕ, List, take, map, length, option_map, Option}
-use Rattle.std.specs.Prelude.{Result, Ok, Err}
+use Rattle.std.specs.Prelude.{None, replicate, Result, Ok, Err}
 use Rattle.std.specs.Prelude.{Vec, IsTrue, IfOk, IfSome, OnOk, OnErr}
 use Rattle.std.specs.declared.alloc.Global.{Global}
 use Rattle.sqlite.specs.Store.{Ghosts}
@@ -13,7 +13,7 @@ use Rattle.filing_model.specs.Style.{style_of}
 use Rattle.filing_model.specs.Views.{the_request, view_outcome}
 use Rattle.table_rows.specs.Giving.{OrGivesBack}
 use Rattle.table_rows.specs.Tables.{no_schema}
-use Rattle.table_rows.specs.Standing.{HasCommitted, CommitsNothing}
+use Rattle.table_rows.specs.Standing.{CommitsNothing}
 use Rattle.register_tables.specs.declared.fault.CreateFault.{CreateFault}
 use Rattle.register_tables.specs.declared.fault.CreateFault.TheVariants.{Taken}
 use Rattle.register_tables.specs.declared.fault.OpenFault.{OpenFault}
@@ -23,15 +23,15 @@ use Rattle.register_store.specs.declared.outcome.KeptRow.{KeptRow}
 use Rattle.register_store.specs.declared.outcome.NewRow.{NewRow}
 use Rattle.filing_model.specs.declared.outcome.Outcome.{Outcome}
 use Rattle.register_tables.specs.Earlier.{IsAlone, IsEarlierOf, ForEarlier}
-use Rattle.register_store.specs.Moments.{moments_of}
-use Rattle.register_store.specs.NewRows.{AreNew, IsNew, request_of, with_rows}
+use Rattle.register_store.specs.Moments.{ForMoments, HasMoments, IsDurableWith, SurvivesWith, moments_of}
+use Rattle.register_store.specs.NewRows.{AreNew, request_of}
 use Rattle.register_store.specs.Outcomes.{kept_as, outcomes_behind}
 use Rattle.register_tables.specs.Opening.{SaysRegister}
 use Rattle.register_tables.specs.Refusals.{GivesBackMaking, GivesBackMigrating, GivesBackOpening}
-use Rattle.register_rows.specs.Received.{Received}
 use Rattle.register_rows.specs.Schema.{is_taken, IsDeclared}
-use Rattle.register_store.specs.Store.{StoreParts, shows, ForBook, HandsOut, HasBook, IsDurableAs, SurvivesAs}
-use Rattle.register_tables.specs.Registers.{Book, ForBooks, ForRows, IsBookOf, LeavesBook, without_moments}
+use Rattle.register_store.specs.Store.{StoreParts, shows, ForNew, ForRequests, HandsOut, HasRequests}
+use Rattle.register_store.specs.Store.{IsDurableAs, SurvivesAs}
+use Rattle.register_tables.specs.Registers.{ForRows, IsRegisterOf, LeavesReceived, LeavesRegister}
 
 -- ---- a store is handed out
 
@@ -39,49 +39,48 @@ use Rattle.register_tables.specs.Registers.{Book, ForBooks, ForRows, IsBookOf, L
 -- holds if the database had no table before.
 pub record CreatesStore {S : Type 0} (g : Ghosts S) (conn : Held S) (result : Result (StoreParts S) CreateFault)
     : Type 0 where
-  pub made : HandsOut g result (λ store. (state g conn).now.schema ≡ no_schema
-      → HasBook g store (without_moments []))
+  pub made : HandsOut g result (λ store. (state g conn).now.schema ≡ no_schema → HasRequests g store [])
   pub counts : IfOk result (λ store. (store.kept ≡ 0) × (store.filings ≡ 0) × (store.old_style ≡ 0))
   -- The answer is Taken if and only if one of the names is in use.
   pub taken : (result ≡ Err Taken) ↔ IsTrue (is_taken (state g conn).now.schema)
   -- A crash in the call leaves what one before it could leave, or the empty register; one after it, the empty register.
   pub crash : IfOk result (λ store. Survives (state g conn) (shows g store)
-      (λ trees. (state g conn).now.schema ≡ no_schema → LeavesBook 0 (without_moments []) trees))
-  pub durable : HandsOut g result (λ store. (state g conn).now.schema ≡ no_schema
-      → IsDurableAs g store 0 (without_moments []))
+      (λ trees. (state g conn).now.schema ≡ no_schema → LeavesRegister 0 [] trees))
+  pub durable : HandsOut g result (λ store. (state g conn).now.schema ≡ no_schema → IsDurableAs g store 0 [])
 
 -- What `open` does with a connection: it reads the register that the database holds, and writes nothing.
 pub record OpensStore {S : Type 0} (g : Ghosts S) (conn : Held S) (result : Result (StoreParts S) OpenFault)
     : Type 0 where
-  -- The store has the book that the rows stand for, and there is one such list of requests at most.
+  -- The store has the requests that the rows stand for, and there is one such list at most.
   pub opened : HandsOut g result (λ store. IsDeclared (state g conn).now.schema
-      → (book : Book) × IsBookOf store.old_style book (state g conn).now × HasBook g store book)
-  pub only : HandsOut g result (λ store. ForBooks g conn (λ old_style book. (store.old_style ≡ old_style)
-      × HasBook g store book))
+      → (F : List Request) × IsRegisterOf store.old_style F (state g conn).now × HasRequests g store F)
+  pub only : HandsOut g result (λ store. ForRows g conn (λ old_style F. (store.old_style ≡ old_style)
+      × HasRequests g store F))
   -- However the tables are declared, only a database that says so is opened as a register.
   pub says : HandsOut g result (λ _. SaysRegister g conn)
   pub same : HandsOut g result (λ store. IsUnchanged (state g conn) (shows g store))
-  -- A crash in the call leaves what it could leave before; one after it, this book.
+  -- A crash in the call leaves what it could leave before; one after it, these requests.
   pub crash : IfOk result (λ store. CommitsNothing (state g conn) (shows g store))
-  pub durable : HandsOut g result (λ store. ForBooks g conn (IsDurableAs g store))
+  pub durable : HandsOut g result (λ store. ForRows g conn (IsDurableAs g store))
 
 -- What `migrate` does with a connection: it brings the register that the database holds from an earlier form into the
 -- present one. What is said of the new rows holds if the database has no other tables.
 pub record MigratesStore {S : Type 0} (g : Ghosts S) (conn : Held S) (result : Result (StoreParts S) OpenFault)
     : Type 0 where
-  -- The store has the requests that the rows stood for, none of them with a moment, and there is one such list at most.
+  -- The store has the requests that the rows stood for, and there is one such list at most.
   pub migrated : HandsOut g result (λ store. (form : Earlier) → IsAlone form (state g conn).now.schema
-      → (F : List Request) × IsEarlierOf form store.old_style F (state g conn).now
-      × HasBook g store (without_moments F))
+      → (F : List Request) × IsEarlierOf form store.old_style F (state g conn).now × HasRequests g store F)
   pub only : HandsOut g result (λ store. ForEarlier g conn (λ _ old_style F. (store.old_style ≡ old_style)
-      × HasBook g store (without_moments F)))
+      × HasRequests g store F))
   -- A register in the present form is not migrated.
   pub current : HandsOut g result (λ store. ForRows g conn (λ _ _. ⊥))
   -- A crash in the call leaves what it could leave before, or the migrated rows; one after it, the migrated rows.
   pub crash : IfOk result (λ store. Survives (state g conn) (shows g store)
-      (λ trees. ForEarlier g conn (λ _ old_style F. LeavesBook old_style (without_moments F) trees)))
-  pub durable : HandsOut g result (λ store. ForEarlier g conn (λ _ old_style F.
-      IsDurableAs g store old_style (without_moments F)))
+      (λ trees. ForEarlier g conn (λ _ old_style F. LeavesRegister old_style F trees)))
+  pub durable : HandsOut g result (λ store. ForEarlier g conn (λ _. IsDurableAs g store))
+  -- None of the requests has a moment.
+  pub undated : HandsOut g result (λ store. ForEarlier g conn (λ _ _ F.
+      HasMoments g store (replicate (length F) None)))
 
 -- ---- a store is handed out, or the connection comes back
 
@@ -100,65 +99,83 @@ MigratesOrGivesBack g conn = OrGivesBack (MigratesStore g conn) (GivesBackMigrat
 -- What a call that only reads leaves of a store, whatever it answers: the rows as they were. A crash leaves what it
 -- could leave before.
 pub record KeepsStore {S : Type 0} (g : Ghosts S) (old new : StoreParts S) : Type 0 where
-  pub same : ForBook g old new (HasBook g new)
+  pub same : ForRequests g old new (HasRequests g new)
+  pub moments : ForMoments g old new (λ _. HasMoments g new)
   pub counts : (new.kept ≡ old.kept) × (new.filings ≡ old.filings) × (new.catalogue ≡ old.catalogue)
   pub old_style : new.old_style ≡ old.old_style
   pub crash : CommitsNothing (shows g old) (shows g new)
 
 -- an answer leaves the store open, and durable as it is
 abbrev pub AnswersDurably : {S X E : Type 0} → Ghosts S → StoreParts S → StoreParts S → Result X E → Type 0
-AnswersDurably g old new result = ForBook g old new (λ book. OnOk result (IsDurableAs g new old.old_style book))
+AnswersDurably g old new result = ForRequests g old new (λ F. OnOk result (IsDurableAs g new old.old_style F))
 
 -- What `find` answers of a filer and key, and that it writes nothing.
 pub record FindsRow {S : Type 0} (g : Ghosts S) (filer key : List ℕ) (old new : StoreParts S)
     (result : Result (Option KeptRow) StoreFault) : Type 0 where
-  pub found : ForBook g old new (λ book. (target : Option ℕ) (body : List ℕ)
-      → IfOk result (λ row. option_map (kept_as filer key) row
-      ≡ kept_for (kept book.requests) (the_request filer key target body)))
+  pub found : ForRequests g old new (λ F. (target : Option ℕ) (body : List ℕ)
+      → IfOk result (λ row. option_map (kept_as filer key) row ≡ kept_for (kept F) (the_request filer key target body)))
   -- The style is the earlier one if the request was kept before there were problem details.
-  pub style : ForBook g old new (λ book. (target : Option ℕ) (body : List ℕ)
+  pub style : ForRequests g old new (λ F. (target : Option ℕ) (body : List ℕ)
       → IfOk result (λ row. IfSome row (λ r. r.style
-      ≡ style_of (take old.old_style book.requests) (the_request filer key target body))))
+      ≡ style_of (take old.old_style F) (the_request filer key target body))))
   pub keeps : KeepsStore g old new
   pub durable : AnswersDurably g old new result
 
 -- ---- a store is written to
 
--- What keeping requests with their moments does, in one transaction, whatever is answered: all are kept, one behind
--- another, or none. What is said of the book holds if each request is new after the kept ones and those before it, and
--- was judged after these.
-pub record KeepsRows {S X : Type 0} (g : Ghosts S) (rows : List NewRow) (old new : StoreParts S)
-    (result : Result X StoreFault) : Type 0 where
-  pub added : ForBook g old new (λ book. AreNew book.requests rows → OnOk result (HasBook g new (with_rows book rows)))
-  -- The moments are kept whether or not the requests were new.
-  pub dated : ForBook g old new (λ book.
-      OnOk result (HasCommitted (λ db. Received db (book.moments ++ moments_of rows)) (shows g new)))
+-- What `add` does with a request, in one transaction. What is said of rows holds if its filer and key are not kept yet,
+-- and if it was judged by whether the filing that it is to replace, if any, is free after the kept requests.
+pub record AddsRequest {S : Type 0} (g : Ghosts S) (row : NewRow) (old new : StoreParts S)
+    (result : Result Outcome StoreFault) : Type 0 where
+  pub added : ForRequests g old new (λ F. ForNew F (the_request row.filer.now row.key.now row.target row.body.now)
+      row.judged.now (λ r.
+      IfOk result (λ outcome. (view_outcome outcome ≡ (judged (kept F) r).outcome) × HasRequests g new (F ++ r ∷ []))))
   -- A refusal changes nothing.
-  pub same : ForBook g old new (λ book. OnErr result (HasBook g new book))
+  pub same : ForRequests g old new (λ F. OnErr result (HasRequests g new F))
+  pub count : OnOk result (new.kept ≡ old.kept + 1)
+  pub counts : OnErr result ((new.kept ≡ old.kept) × (new.filings ≡ old.filings))
+  pub old_style : new.old_style ≡ old.old_style
+  -- A crash in the call leaves what one before it could leave, or the rows with this request; one after Ok, these rows.
+  pub crash : SurvivesAs g old new (λ F trees. ForNew F (the_request row.filer.now row.key.now row.target row.body.now)
+      row.judged.now (λ r.
+      LeavesRegister old.old_style (F ++ r ∷ []) trees))
+  pub durable : ForRequests g old new (λ F. ForNew F (the_request row.filer.now row.key.now row.target row.body.now)
+      row.judged.now (λ r.
+      OnOk result (IsDurableAs g new old.old_style (F ++ r ∷ []))))
+
+-- What `add_all` does with requests, in one transaction: all are kept, in order, or none. What is said of rows holds if
+-- each request is new after the kept ones and those before it, and was judged after these.
+pub record AddsRequests {S : Type 0} (g : Ghosts S) (rows : List NewRow) (old new : StoreParts S)
+    (result : Result (Vec Outcome Global) StoreFault) : Type 0 where
+  pub added : ForRequests g old new (λ F. AreNew F rows → IfOk result (λ outcomes.
+      (map view_outcome outcomes.items ≡ outcomes_behind F (map request_of rows))
+      × HasRequests g new (F ++ map request_of rows)))
+  -- A refusal changes nothing.
+  pub same : ForRequests g old new (λ F. OnErr result (HasRequests g new F))
+  pub each : IfOk result (λ outcomes. length outcomes.items ≡ length rows)
   pub count : OnOk result (new.kept ≡ old.kept + length rows)
   pub counts : OnErr result ((new.kept ≡ old.kept) × (new.filings ≡ old.filings))
   pub old_style : new.old_style ≡ old.old_style
-  -- A crash in the call leaves what one before it could leave, or the book with all these requests and their moments,
-  -- and never with some of them; one after Ok, this book.
-  pub crash : SurvivesAs g old new (λ book trees. AreNew book.requests rows
-      → LeavesBook old.old_style (with_rows book rows) trees)
-  pub durable : ForBook g old new (λ book. AreNew book.requests rows
-      → OnOk result (IsDurableAs g new old.old_style (with_rows book rows)))
+  -- A crash in the call leaves what one before it could leave, or the rows with all these requests, and never with some
+  -- of them; one after Ok, these rows.
+  pub crash : SurvivesAs g old new (λ F trees. AreNew F rows
+      → LeavesRegister old.old_style (F ++ map request_of rows) trees)
+  pub durable : ForRequests g old new (λ F. AreNew F rows
+      → OnOk result (IsDurableAs g new old.old_style (F ++ map request_of rows)))
 
--- What `add` does with a request: it is kept, and what became of it is answered.
-pub record AddsRequest {S : Type 0} (g : Ghosts S) (row : NewRow) (old new : StoreParts S)
-    (result : Result Outcome StoreFault) : Type 0 where
-  pub told : ForBook g old new (λ book. IsNew book.requests row → IfOk result (λ outcome.
-      view_outcome outcome ≡ (judged (kept book.requests) (request_of row)).outcome))
-  pub keeps : KeepsRows g (row ∷ []) old new result
-
--- What `add_all` does with requests: they are kept, and what became of each is answered, in order.
-pub record AddsRequests {S : Type 0} (g : Ghosts S) (rows : List NewRow) (old new : StoreParts S)
-    (result : Result (Vec Outcome Global) StoreFault) : Type 0 where
-  pub told : ForBook g old new (λ book. AreNew book.requests rows → IfOk result (λ outcomes.
-      map view_outcome outcomes.items ≡ outcomes_behind book.requests (map request_of rows)))
-  pub each : IfOk result (λ outcomes. length outcomes.items ≡ length rows)
-  pub keeps : KeepsRows g rows old new result
+-- What `add` and `add_all` do with the moments of these requests, beside what `AddsRequests` says: each that is kept
+-- has its own, and those before keep theirs.
+pub record AddsMoments {S X : Type 0} (g : Ghosts S) (rows : List NewRow) (old new : StoreParts S)
+    (result : Result X StoreFault) : Type 0 where
+  pub added : ForMoments g old new (λ _ moments. OnOk result (HasMoments g new (moments ++ moments_of rows)))
+  -- A refusal changes nothing.
+  pub same : ForMoments g old new (λ _ moments. OnErr result (HasMoments g new moments))
+  -- A crash in the call leaves what one before it could leave, or all these requests with their moments; one after Ok,
+  -- these.
+  pub crash : SurvivesWith g old new (λ F moments trees. AreNew F rows
+      → LeavesReceived old.old_style (F ++ map request_of rows) (moments ++ moments_of rows) trees)
+  pub durable : ForMoments g old new (λ F moments. AreNew F rows
+      → OnOk result (IsDurableWith g new old.old_style (F ++ map request_of rows) (moments ++ moments_of rows)))
 
 -- the one outcome of several, or the same fault
 abbrev pub IsOnly : Result (Vec Outcome Global) StoreFault → Result Outcome StoreFault → Type 0
@@ -166,3 +183,16 @@ IsOnly (Ok outcomes) (Ok outcome) = outcomes.items ≡ outcome ∷ []
 IsOnly (Ok outcomes) (Err fault) = ⊥
 IsOnly (Err other) (Ok outcome) = ⊥
 IsOnly (Err other) (Err fault) = other ≡ fault
+
+-- What `keep` does for both, whatever their outcomes are: the clauses are those of `AddsRequests`.
+pub record KeepsRows {S : Type 0} (g : Ghosts S) (rows : List NewRow) (old new : StoreParts S)
+    (result : Result (Unit {0}) StoreFault) : Type 0 where
+  pub added : ForRequests g old new (λ F. AreNew F rows → OnOk result (HasRequests g new (F ++ map request_of rows)))
+  pub same : ForRequests g old new (λ F. OnErr result (HasRequests g new F))
+  pub count : OnOk result (new.kept ≡ old.kept + length rows)
+  pub counts : OnErr result ((new.kept ≡ old.kept) × (new.filings ≡ old.filings))
+  pub old_style : new.old_style ≡ old.old_style
+  pub crash : SurvivesAs g old new (λ F trees. AreNew F rows
+      → LeavesRegister old.old_style (F ++ map request_of rows) trees)
+  pub durable : ForRequests g old new (λ F. AreNew F rows
+      → OnOk result (IsDurableAs g new old.old_style (F ++ map request_of rows)))

@@ -1,5 +1,5 @@
 -- Requests that are to be kept.
-use Rattle.std.specs.Prelude.{◌≡◌, ◌≤◌, true, false, List, [], ◌∷◌, ◌++◌, length, map}
+use Rattle.std.specs.Prelude.{◌≡◌, ◌≤◌, true, false, List, [], ◌∷◌, ◌++◌, length}
 use Rattle.key_string.specs.Filer.{is_filer}
 use Rattle.http_messages.specs.Head.{max_body_len}
 use Rattle.http_messages.specs.Posting.{IsTarget}
@@ -7,18 +7,11 @@ use Rattle.xbrl_report.specs.Judgement.{HasFacts, IsAmendmentJudgement}
 use Rattle.filing_model.specs.Request.{Request, has_key}
 use Rattle.filing_model.specs.Register.{is_free, register}
 use Rattle.filing_model.specs.Views.{the_request}
-use Rattle.register_tables.specs.Registers.{Book}
 use Rattle.register_store.specs.declared.outcome.NewRow.{NewRow}
-use Rattle.register_store.specs.Moments.{moments_of}
 
 -- the request of a row
 abbrev pub request_of : NewRow → Request
 request_of row = the_request row.filer.now row.key.now row.target row.body.now
-
--- the book with the requests of these rows behind its own, and with their moments
-abbrev pub with_rows : Book → List NewRow → Book
-with_rows book rows =
-    record { requests = book.requests ++ map request_of rows; moments = book.moments ++ moments_of rows }
 
 -- A request that may be kept: its filer is a filer code, its target, if any, a number that a filing may have, its body
 -- has at most 1,048,576 bytes, and a valid report has the body's facts. What a key has to be, its type says.

@@ -5,12 +5,13 @@ use Rattle.sqlite.specs.Store.{Ghosts}
 use Rattle.sqlite.specs.Held.{Held, held_code, state}
 use Rattle.sqlite.specs.State.{State, HasCleanDisk, Survives}
 use Rattle.sqlite.specs.Tree.{Trees}
-use Rattle.filing_model.specs.Request.{Request}
-use Rattle.filing_model.specs.Register.{register}
+use Rattle.xbrl_report.specs.declared.judging.Judged.{Judged}
+use Rattle.xbrl_report.specs.Judgement.{IsAmendmentJudgement}
+use Rattle.filing_model.specs.Request.{Request, has_key}
+use Rattle.filing_model.specs.Register.{is_free, register}
 use Rattle.table_rows.specs.Standing.{HasCommitted}
 use Rattle.register_rows.specs.Catalogue.{Entry, catalogue_of}
-use Rattle.register_rows.specs.Received.{Received}
-use Rattle.register_tables.specs.Registers.{Book, IsRegisterOf, LeavesOnlyBook}
+use Rattle.register_tables.specs.Registers.{IsRegisterOf, LeavesOnly}
 
 -- a connection, how many requests are kept, how many of them are filings, how many were kept before there were problem
 -- details, and the catalogue of the filings
@@ -57,31 +58,31 @@ pub record HasRequests {S : Type 0} (g : Ghosts S) (store : StoreParts S) (F : L
   pub within : store.old_style ≤ length F
   pub catalogue_is : store.catalogue ≡ catalogue_of F
 
--- The store has this book: these requests, and, while it is open, the moment of each, which is committed.
-pub record HasBook {S : Type 0} (g : Ghosts S) (store : StoreParts S) (book : Book) : Type 0 where
-  pub requests : HasRequests g store book.requests
-  pub received : HasCommitted (λ db. Received db book.moments) (shows g store)
-  pub one_each : length book.moments ≡ store.kept
-
 -- If the disk is clean at the end, this holds of the requests for which the rows stood before, if they were committed.
 abbrev pub ForRegister : {S : Type 0} → Ghosts S → Held S → Held S → (ℕ → List Request → Type 0) → Type 0
 ForRegister g old new Holds = HasCleanDisk (state g new) → (old_style : ℕ) (F : List Request)
     → HasCommitted (IsRegisterOf old_style F) (state g old) → Holds old_style F
 
--- If the disk is clean at the end, this holds of the book that the store had before.
-abbrev pub ForBook : {S : Type 0} → Ghosts S → StoreParts S → StoreParts S → (Book → Type 0) → Type 0
-ForBook g old new Holds = HasCleanDisk (shows g new) → (book : Book) → HasBook g old book → Holds book
+-- If the disk is clean at the end, this holds of the requests that the store had before.
+abbrev pub ForRequests : {S : Type 0} → Ghosts S → StoreParts S → StoreParts S → (List Request → Type 0) → Type 0
+ForRequests g old new Holds = HasCleanDisk (shows g new) → (F : List Request) → HasRequests g old F → Holds F
 
 -- This holds of the store that a call hands out, if its disk is clean.
 abbrev pub HandsOut : {S E : Type 0} → Ghosts S → Result (StoreParts S) E → (StoreParts S → Type 0) → Type 0
 HandsOut g result Holds = IfOk result (λ store. HasCleanDisk (shows g store) → Holds store)
 
--- the store is open, and a crash now leaves the rows of this book, and no others
-abbrev pub IsDurableAs : {S : Type 0} → Ghosts S → StoreParts S → ℕ → Book → Type 0
-IsDurableAs g store old_style book = IsTrue (shows g store).is_open × LeavesOnlyBook (shows g store) old_style book
+-- This holds of the request, if its filer and key are new after these requests, and if its report was judged by whether
+-- the filing that it is to replace, if any, is free after them.
+abbrev pub ForNew : List Request → Request → Judged → (Request → Type 0) → Type 0
+ForNew F r judged Holds = has_key F r ≡ false
+    → IsAmendmentJudgement r.filer r.body (is_free (register F) r.filer r.target) judged → Holds r
 
--- A crash in the call leaves what one before it could leave, or these trees, which depend on the book before it.
-abbrev pub SurvivesAs : {S : Type 0} → Ghosts S → StoreParts S → StoreParts S → (Book → Trees → Type 0) → Type 0
+-- the store is open, and a crash now leaves the rows of these requests, and no others
+abbrev pub IsDurableAs : {S : Type 0} → Ghosts S → StoreParts S → ℕ → List Request → Type 0
+IsDurableAs g store old_style F = IsTrue (shows g store).is_open × LeavesOnly (shows g store) old_style F
+
+-- A crash in the call leaves what one before it could leave, or these trees, which depend on the requests before it.
+abbrev pub SurvivesAs : {S : Type 0} → Ghosts S → StoreParts S → StoreParts S → (List Request → Trees → Type 0) → Type 0
 SurvivesAs g old new Leaves =
-    Survives (shows g old) (shows g new) (λ trees. (book : Book) → HasBook g old book → IsTrue (shows g old).is_open
-    → Leaves book trees)
+    Survives (shows g old) (shows g new) (λ trees. (F : List Request) → HasRequests g old F
+    → IsTrue (shows g old).is_open → Leaves F trees)

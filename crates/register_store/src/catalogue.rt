@@ -4,8 +4,10 @@ ghost use Rattle.std.specs.Prelude.{◌≡◌, ◌<◌, ◌^◌, ◌+◌, ◌++�
 ghost use Rattle.xbrl_report.specs.Judgement.{HasFacts};
 ghost use Rattle.filing_model.specs.Request.{Request};
 ghost use Rattle.filing_model.specs.Register.{kept};
+ghost use Rattle.filing_model.specs.Views.{the_request};
 ghost use Rattle.register_rows.specs.Catalogue.{HasRoom, catalogue_of, view_lines};
-ghost use Rattle.register_store.specs.NewRows.{AreNew, IsKeepable, IsNew, request_of};
+ghost use Rattle.register_store.specs.NewRows.{AreNew, IsKeepable, request_of};
+ghost use Rattle.register_store.specs.Store.{ForNew};
 
 use crate::outcome::NewRow;
 use register_rows::Catalogue;
@@ -17,7 +19,9 @@ fn note(catalogue: &mut Catalogue, seq: u64, row: &NewRow<'_>)
     requires facts { HasFacts row.now.body.now row.now.judged.now }
     ensures room { (count : ℕ) → HasRoom (suc count) catalogue.old → HasRoom count catalogue.new }
     ensures lines { (F : List Request) → view_lines catalogue.old ≡ catalogue_of F → seq ≡ suc (length (kept F))
-        → IsNew F row.now → view_lines catalogue.new ≡ catalogue_of (F ++ request_of row.now ∷ []) }
+        → ForNew F (the_request row.now.filer.now row.now.key.now row.now.target row.now.body.now)
+        row.now.judged.now (λ r.
+        view_lines catalogue.new ≡ catalogue_of (F ++ r ∷ [])) }
 {
     match row.judged {
         Judged::Valid(report) => catalogue.note(seq, report.facts().len() as u64, row.target),

@@ -1,12 +1,12 @@
 //! The store of a register: its connection, and how much it holds.
 
-ghost use Rattle.std.specs.Prelude.{◌≡◌, ◌≤◌, ◌<◌, ◌^◌, ◌+◌, All, true, length, Ok, option_map};
+ghost use Rattle.std.specs.Prelude.{◌≡◌, ◌≤◌, ◌<◌, ◌^◌, ◌+◌, ◌∷◌, [], All, true, length, Ok, option_map};
 ghost use Rattle.register_rows.specs.Catalogue.{entry_numbered};
 ghost use Rattle.key_string.specs.Filer.{is_filer};
 ghost use Rattle.http_messages.specs.Head.{max_body_len};
 ghost use Rattle.http_messages.specs.Posting.{IsTarget};
 ghost use Rattle.xbrl_report.specs.Judgement.{HasFacts};
-ghost use Rattle.register_store.specs.Calls.{AddsRequest, AddsRequests, CreatesOrGivesBack, CreatesStore};
+ghost use Rattle.register_store.specs.Calls.{AddsMoments, AddsRequest, AddsRequests, CreatesOrGivesBack, CreatesStore};
 ghost use Rattle.register_store.specs.Calls.{FindsRow, KeepsRows};
 ghost use Rattle.register_store.specs.Calls.{MigratesOrGivesBack, MigratesStore, OpensOrGivesBack, OpensStore};
 ghost use Rattle.register_store.specs.NewRows.{IsKeepable};
@@ -222,7 +222,8 @@ impl<S: Alter> Store<S> {
         requires target { IsTarget row.now.target }
         requires facts { HasFacts row.now.body.now row.now.judged.now }
         requires few { self.old.kept < 2 ^ 62 }
-        ensures { AddsRequest S.Store row.now self.old self.new result }
+        ensures adds { AddsRequest S.Store row.now self.old self.new result }
+        ensures moments { AddsMoments S.Store (row.now ∷ []) self.old self.new result }
     {
         let outcome = outcome_of(self.alloc, row.judged, self.filings + 1)?;
         self.keep(from_ref(row))?;
@@ -236,7 +237,8 @@ impl<S: Alter> Store<S> {
     pub fn add_all(&mut self, rows: &[NewRow<'_>]) -> Result<Vec<Outcome>, StoreFault>
         requires rows { All IsKeepable rows.now }
         requires few { self.old.kept + length rows.now ≤ 2 ^ 62 }
-        ensures { AddsRequests S.Store rows.now self.old self.new result }
+        ensures adds { AddsRequests S.Store rows.now self.old self.new result }
+        ensures moments { AddsMoments S.Store rows.now self.old self.new result }
     {
         let outcomes = outcomes_of(self.alloc, rows, self.filings + 1)?;
         self.keep(rows)?;
@@ -248,7 +250,8 @@ impl<S: Alter> Store<S> {
     fn keep(&mut self, rows: &[NewRow<'_>]) -> Result<(), StoreFault>
         requires rows { All IsKeepable rows.now }
         requires few { self.old.kept + length rows.now ≤ 2 ^ 62 }
-        ensures { KeepsRows S.Store rows.now self.old self.new result }
+        ensures keeps { KeepsRows S.Store rows.now self.old self.new result }
+        ensures moments { AddsMoments S.Store rows.now self.old self.new result }
     {
         self.catalogue.reserve(rows.len())?;
         let next = keep_all(&mut self.conn, self.kept + 1, self.filings + 1, rows)?;

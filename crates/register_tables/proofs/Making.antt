@@ -18,7 +18,7 @@ use Rattle.register_rows.specs.Received.{Received}
 use Rattle.register_rows.specs.Register.{HasRows, StandsFor, meta_row, migrated_row}
 use Rattle.register_tables.specs.Making.{create_meta, create_kept, create_finding, create_filing, create_fact}
 use Rattle.register_tables.specs.Making.{create_migrated, create_amends, create_received, making}
-use Rattle.register_tables.specs.Registers.{IsBookOf, LeavesBook, without_moments}
+use Rattle.register_tables.specs.Registers.{IsRegisterOf, LeavesRegister}
 use Rattle.register_tables.proofs.CreateTexts.{creates_meta, creates_kept, creates_finding, creates_filing}
 use Rattle.register_tables.proofs.CreateTexts.{creates_fact, creates_migrated, creates_amends, creates_received}
 use Rattle.register_tables.proofs.CreateTexts.{first_schema, second_schema, third_schema, fourth_schema, fifth_schema}
@@ -144,14 +144,11 @@ stands_for_none db has none = record {
 
 -- where there was no table before, the statements make an empty register
 pub makes_empty : {S : Type 0} (g : Ghosts S) (a z : Held S) → AreDone g making (begun a) z
-    → (state g a).now.schema ≡ no_schema → IsBookOf 0 (without_moments []) (state g z).now
-makes_empty g a z ran none = let made = makes_all g (begun a) z ran none in record {
-  register = record { sound = made.sound; rows = stands_for_none _ made.rows made.received };
-  one_each = refl;
-  received = made.received;
-}
+    → (state g a).now.schema ≡ no_schema → IsRegisterOf 0 [] (state g z).now
+makes_empty g a z ran none = let made = makes_all g (begun a) z ran none in
+    record { sound = made.sound; rows = stands_for_none _ made.rows made.received }
 
 pub leaves_empty : {S : Type 0} (g : Ghosts S) (a : Held S) (trees : Trees) → AreTreesOf g making a trees
-    → (state g a).now.schema ≡ no_schema → LeavesBook 0 (without_moments []) trees
+    → (state g a).now.schema ≡ no_schema → LeavesRegister 0 [] trees
 leaves_empty g a trees m none =
-    record { db = (state g m.last).now; is = m.is; holds = makes_empty g a m.last m.done none }
+    record { db = (state g m.last).now; is = m.is; register = makes_empty g a m.last m.done none }

@@ -19,7 +19,7 @@ use Rattle.register_rows.specs.Received.{Received}
 use Rattle.register_rows.specs.Register.{form_row, migrated_row}
 use Rattle.register_rows.specs.Schema.{IsDeclared, register_tables, meta_table, kept_table, finding_table, filing_table}
 use Rattle.register_rows.specs.Schema.{fact_table, migrated_table, amends_table, received_table}
-use Rattle.register_tables.specs.Registers.{IsBookOf, without_moments}
+use Rattle.register_tables.specs.Registers.{IsRegisterOf}
 use Rattle.register_tables.specs.Walk.{AreAllOf}
 use Rattle.register_tables.proofs.CreateTexts.{creates_migrated, creates_amends, creates_received}
 use Rattle.register_tables.proofs.CreateTexts.{fifth_schema, sixth_schema, seventh_schema, own_indexes}
@@ -35,6 +35,11 @@ pub record HasAll (form old_style : ℕ) (F : List Request) (db : Database) : Ty
   pub amends_is : TableHas db amends_table amends
   pub received_is : TableHas db received_table []
   pub within : old_style ≤ length F
+
+-- it is a register of these requests, and no moment is known of them
+pub record IsCurrent (old_style : ℕ) (F : List Request) (db : Database) : Type 0 where
+  pub register : IsRegisterOf old_style F db
+  pub undated : Received db (replicate (length F) None)
 
 same_four : (F : List Request) (amends : List Row) (old new : Database) → new.trees 1 ≡ old.trees 1
     → new.trees 3 ≡ old.trees 3 → new.trees 5 ≡ old.trees 5 → new.trees 7 ≡ old.trees 7 → AreAllOf F amends old
@@ -60,7 +65,7 @@ no_moments db count none = record {
 
 module _ (old_style : ℕ) (F : List Request) where
   raised_register : (form : ℕ) (old new : Database) → HasAll form old_style F old → IsRaised old new
-      → IsBookOf old_style (without_moments F) new
+      → IsCurrent old_style F new
   raised_register form old new has r =
       let o = r.others in
       let none =
@@ -93,8 +98,7 @@ module _ (old_style : ℕ) (F : List Request) where
             };
           };
         };
-        one_each = length-replicate (length F) None;
-        received = none;
+        undated = none;
       }
 
   -- the fourth form lacks one table
@@ -169,7 +173,7 @@ module _ (old_style : ℕ) (F : List Request) where
     -- inside one transaction
     pub makes_current : (form : Earlier) → AreDone g (migrating form old_style) a z
         → IsAlone form (state g a).now.schema → IsEarlierOf form old_style F (state g a).now
-        → IsBookOf old_style (without_moments F) (state g z).now
+        → IsCurrent old_style F (state g z).now
     makes_current Second (b, p, (c, q, (d, r, (e, s, (last, t, end))))) alone is =
         let one =
         creates_beside fifth_schema create_migrated (record migrated_table { tree = 0 }) (state g a) (state g b) p.0
@@ -187,7 +191,7 @@ module _ (old_style : ℕ) (F : List Request) where
         second_all (state g a).now (state g b).now (state g c).now (state g d).now (state g e).now one two three four
         is in
         let five = raises 2 (state g e) (state g last) t.0 all.schema_is all.meta_is t.1.0 in
-        subst (λ k. IsBookOf old_style (without_moments F) (state g k).now) end
+        subst (λ k. IsCurrent old_style F (state g k).now) end
         (raised_register 2 (state g e).now (state g last).now all five)
     makes_current Third (b, p, (c, q, (last, r, end))) alone is =
         let one =
@@ -198,7 +202,7 @@ module _ (old_style : ℕ) (F : List Request) where
         creates_received refl one.schema_is q.1.0 in
         let all = third_all (state g a).now (state g b).now (state g c).now one two is in
         let three = raises 3 (state g c) (state g last) r.0 all.schema_is all.meta_is r.1.0 in
-        subst (λ k. IsBookOf old_style (without_moments F) (state g k).now) end
+        subst (λ k. IsCurrent old_style F (state g k).now) end
         (raised_register 3 (state g c).now (state g last).now all three)
     makes_current Fourth (b, p, (last, q, end)) alone is =
         let one =
@@ -206,5 +210,5 @@ module _ (old_style : ℕ) (F : List Request) where
         creates_received refl alone p.1.0 in
         let all = fourth_all (state g a).now (state g b).now one is in
         let two = raises 4 (state g b) (state g last) q.0 all.schema_is all.meta_is q.1.0 in
-        subst (λ k. IsBookOf old_style (without_moments F) (state g k).now) end
+        subst (λ k. IsCurrent old_style F (state g k).now) end
         (raised_register 4 (state g b).now (state g last).now all two)

@@ -2,7 +2,8 @@
 use Rattle.std.proofs.Common.{◌≡◌, ◌≢◌, ◌⊎◌, inl, inr, ◌≤◌, ℕ, Bool, true, false, List, [], ◌∷◌, length, Result, Ok}
 use Rattle.std.proofs.Common.{Err}
 use Rattle.std.proofs.Common.{refl, Some, None}
-use Rattle.std.proofs.Common.{sym, ap, subst, ◌∙◌, true≢false, arith, IsTrue}
+use Rattle.std.proofs.Common.{sym, ap, subst, ◌∙◌, true≢false, arith, IsTrue, replicate}
+use Rattle.std.proofs.lemmas.List.{length-replicate}
 use Rattle.sqlite.specs.Schema.{Schema}
 use Rattle.sqlite.specs.Effect.{Database, IsDatabase}
 use Rattle.sqlite.specs.Store.{Ghosts}
@@ -37,12 +38,13 @@ use Rattle.register_tables.specs.Reads.{IsKnown, IsOurs, StopsForDisk}
 use Rattle.register_rows.specs.Register.{form_row}
 use Rattle.register_tables.proofs.Ours.{disk_fails, disk_then, ours_then}
 use Rattle.register_rows.specs.Catalogue.{catalogue_of, view_lines}
-use Rattle.register_tables.specs.Registers.{IsBookOf, IsRegisterOf, LeavesBook, without_moments}
+use Rattle.register_rows.specs.Received.{Received}
+use Rattle.register_tables.specs.Registers.{IsRegisterOf, LeavesRegister, LeavesReceived}
 use Rattle.sqlite.specs.Tree.{Trees}
 use Rattle.register_tables.proofs.CommonLemmas.{has_common}
 use Rattle.register_tables.proofs.CreateTexts.{fifth_schema, sixth_schema, seventh_schema, own_indexes}
 use Rattle.register_tables.proofs.Holding.{earlier_of, holds_earlier}
-use Rattle.register_tables.proofs.Migrates.{makes_current}
+use Rattle.register_tables.proofs.Migrates.{IsCurrent, makes_current}
 use Rattle.register_tables.proofs.Opened.{form_said, form_sound, meta_held}
 use Rattle.register_tables.proofs.OpenLemmas.{common_in}
 
@@ -243,7 +245,7 @@ module _ {S : Type 0} (g : Ghosts S) (a : Held S) where
   pub trees_current : (e : Held S) (form : Earlier) (counts : Counts) (s : IsSurveyed g form counts a e) (old_style : ℕ)
       (F : List Request) (last : Held S) → AreDone g (migrating form counts.old_style) (begun e) last
       → IsAlone form (state g a).now.schema → IsEarlierOf form old_style F (state g a).now
-      → counts.old_style ≡ old_style → IsBookOf old_style (without_moments F) (state g last).now
+      → counts.old_style ≡ old_style → IsCurrent old_style F (state g last).now
   trees_current e form counts s old_style F last done alone is same =
       let there = to_end e form counts s in
       makes_current old_style F g (begun e) last form
@@ -254,21 +256,26 @@ module _ {S : Type 0} (g : Ghosts S) (a : Held S) where
   pub stands_current : (z : Held S) (form : Earlier) (counts : Counts) (m : IsMigrated g form counts a z)
       → z.in_transaction ≡ false → (old_style : ℕ) (F : List Request)
       → IsAlone form (state g a).now.schema → IsEarlierOf form old_style F (state g a).now
-      → counts.old_style ≡ old_style → HasCommitted (IsBookOf old_style (without_moments F)) (state g z)
+      → counts.old_style ≡ old_style → HasCommitted (IsCurrent old_style F) (state g z)
   stands_current z form counts m idle old_style F alone is same =
       let w = m.written in
       let made = trees_current m.mid form counts m.surveyed old_style F w.last w.done alone is same in
       record {
         autocommit = idle;
-        now = λ _. subst (IsBookOf old_style (without_moments F)) (sym w.now_is) made;
+        now = λ _. subst (IsCurrent old_style F) (sym w.now_is) made;
         committed =
             λ _. w.committed_is ∙ sym w.now_is;
       }
 
-  the_register : (old_style : ℕ) (F : List Request) (z : State)
-      → HasCommitted (IsBookOf old_style (without_moments F)) z → HasCommitted (IsRegisterOf old_style F) z
+  the_register : (old_style : ℕ) (F : List Request) (z : State) → HasCommitted (IsCurrent old_style F) z
+      → HasCommitted (IsRegisterOf old_style F) z
   the_register old_style F z has =
       record { autocommit = has.autocommit; now = λ alive. (has.now alive).register; committed = has.committed }
+
+  the_moments : (old_style : ℕ) (F : List Request) (z : State) → HasCommitted (IsCurrent old_style F) z
+      → HasCommitted (λ db. Received db (replicate (length F) None)) z
+  the_moments old_style F z has =
+      record { autocommit = has.autocommit; now = λ alive. (has.now alive).undated; committed = has.committed }
 
   pub migrates : (z : Held S) (form f : Earlier) (counts : Counts) → IsMigrated g form counts a z
       → z.in_transaction ≡ false → IsLive (state g a) → IsAlone f (state g a).now.schema → Migrates g f counts a z
@@ -281,10 +288,12 @@ module _ {S : Type 0} (g : Ghosts S) (a : Held S) where
           let found =
           survey_finds n.mid f counts n.surveyed (alone_begins f (state g a).now.schema alone)
           (live (to_end n.mid f counts n.surveyed).0.was_open).0 in
+          let stands = stands_current z f counts n idle counts.old_style found.0 alone found.1 refl in
           record {
             requests = found.0;
             were = found.1;
-            are = stands_current z f counts n idle counts.old_style found.0 alone found.1 refl;
+            are = the_register counts.old_style found.0 (state g z) stands;
+            undated = the_moments counts.old_style found.0 (state g z) stands;
             kept_is = found.2.0;
             filings_is = found.2.1;
             catalogue_is = found.2.2;
@@ -296,7 +305,7 @@ module _ {S : Type 0} (g : Ghosts S) (a : Held S) where
     it_was : IsMigrated g f counts a z
     it_was = subst (λ k. IsMigrated g k counts a z) (form_only m.mid form counts m.surveyed f old_style F is) m
 
-    pub current_only : HasCommitted (IsBookOf old_style (without_moments F)) (state g z)
+    pub current_only : HasCommitted (IsCurrent old_style F) (state g z)
     current_only =
         stands_current z f counts it_was idle old_style F alone is
         (survey_only it_was.mid f counts it_was.surveyed old_style F is).0
@@ -311,21 +320,28 @@ module _ {S : Type 0} (g : Ghosts S) (a : Held S) where
   -- what a crash leaves of them
   module _ (trees : Trees) (m : MigratesTo g a trees) (f : Earlier) (old_style : ℕ) (F : List Request)
       (alone : IsAlone f (state g a).now.schema) (is : IsEarlierOf f old_style F (state g a).now) where
-    pub leaves_migrated : LeavesBook old_style (without_moments F) trees
-    leaves_migrated = go m.form m.surveyed m.written (form_only m.mid m.form m.counts m.surveyed f old_style F is)
+    pub leaves_undated : LeavesReceived old_style F (replicate (length F) None) trees
+    leaves_undated = go m.form m.surveyed m.written (form_only m.mid m.form m.counts m.surveyed f old_style F is)
       where
         go : (form : Earlier) → IsSurveyed g form m.counts a m.mid
             → AreTreesOf g (migrating form m.counts.old_style) m.mid trees → form ≡ f
-            → LeavesBook old_style (without_moments F) trees
+            → LeavesReceived old_style F (replicate (length F) None) trees
         go form s w same =
             let t = subst (λ k. IsSurveyed g k m.counts a m.mid) same s in
             let v = subst (λ k. AreTreesOf g (migrating k m.counts.old_style) m.mid trees) same w in
+            let current =
+            trees_current m.mid f m.counts t old_style F v.last v.done alone is
+            (survey_only m.mid f m.counts t old_style F is).0 in
             record {
               db = (state g v.last).now;
               is = v.is;
-              holds = trees_current m.mid f m.counts t old_style F v.last v.done alone is
-                  (survey_only m.mid f m.counts t old_style F is).0;
+              register = current.register;
+              one_each = length-replicate (length F) None;
+              received = current.undated;
             }
+
+    pub leaves_migrated : LeavesRegister old_style F trees
+    leaves_migrated = record { db = leaves_undated.db; is = leaves_undated.is; register = leaves_undated.register }
 
   -- ---- a name that is in the way
 

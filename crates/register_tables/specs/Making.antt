@@ -10,7 +10,7 @@ use Rattle.register_tables.specs.declared.schema.create.TheConstants.{CREATE_AME
 use Rattle.register_tables.specs.declared.schema.create.TheConstants.{CREATE_FINDING, CREATE_KEPT, CREATE_META}
 use Rattle.register_tables.specs.declared.schema.create.TheConstants.{CREATE_MIGRATED, CREATE_RECEIVED, INSERT_META}
 use Rattle.register_tables.specs.declared.schema.create.TheConstants.{INSERT_NO_OLD_STYLE}
-use Rattle.register_tables.specs.Registers.{IsBookOf, without_moments}
+use Rattle.register_tables.specs.Registers.{IsRegisterOf}
 
 abbrev pub create_meta : List ℕ
 create_meta = CREATE_META.now
@@ -55,7 +55,7 @@ pub record MakesRegister {S E : Type 0} (g : Ghosts S) (old new : Held S) (resul
   pub autocommit : new.in_transaction ≡ false
   -- If the database had no table before, the rows stand for no request, and they are committed.
   pub made : HasCleanDisk (state g new) → (state g old).now.schema ≡ no_schema
-      → OnOk result (IsTrue (state g new).is_open × IsBookOf 0 (without_moments []) (state g new).now
+      → OnOk result (IsTrue (state g new).is_open × IsRegisterOf 0 [] (state g new).now
       × ((state g new).committed ≡ (state g new).now))
   pub durable : HasCleanDisk (state g new) → OnOk result (IsLasting (state g new))
   -- A refusal wrote nothing and left what was committed, whatever tables there are.

@@ -1,5 +1,5 @@
 -- What a migration reads and writes, and why a database is not migrated.
-use Rattle.std.specs.Prelude.{◌≡◌, ◌⊎◌, ℕ, pos, false, List, [], ◌∷◌, length, Some, None, Result, IsTrue}
+use Rattle.std.specs.Prelude.{◌≡◌, ◌⊎◌, ℕ, pos, false, List, [], ◌∷◌, length, replicate, Some, None, Result, IsTrue}
 use Rattle.std.specs.Prelude.{IfOk, IfErr, OnOk, OnErr}
 use Rattle.sqlite.specs.Store.{Ghosts}
 use Rattle.sqlite.specs.Held.{Held, state}
@@ -28,7 +28,8 @@ use Rattle.register_tables.specs.Making.{create_migrated, create_amends, create_
 use Rattle.register_tables.specs.Opening as opening
 use Rattle.register_tables.specs.Opening.{AreWithin, HasBeside, HasNoForm, IsHeldIn, SaysForm}
 use Rattle.register_tables.specs.Reads.{DiskFails}
-use Rattle.register_tables.specs.Registers.{ForRows, IsBookOf, LeavesOnlyBook, without_moments}
+use Rattle.register_rows.specs.Received.{Received}
+use Rattle.register_tables.specs.Registers.{ForRows, IsRegisterOf, LeavesOnly, LeavesOnlyReceived}
 
 -- ---- what is read
 
@@ -87,7 +88,8 @@ pub record MigratesTo {S : Type 0} (g : Ghosts S) (old : Held S) (trees : Trees)
 pub record Migrates {S : Type 0} (g : Ghosts S) (form : Earlier) (counts : Counts) (old new : Held S) : Type 0 where
   pub requests : List Request
   pub were : IsEarlierOf form counts.old_style requests (state g old).now
-  pub are : HasCommitted (IsBookOf counts.old_style (without_moments requests)) (state g new)
+  pub are : HasCommitted (IsRegisterOf counts.old_style requests) (state g new)
+  pub undated : HasCommitted (λ db. Received db (replicate (length requests) None)) (state g new)
   pub kept_is : counts.kept ≡ length requests
   pub filings_is : counts.filings ≡ length (register requests)
   pub catalogue_is : view_lines counts.catalogue ≡ catalogue_of requests
@@ -137,10 +139,13 @@ pub record MigratesRegister {S : Type 0} (g : Ghosts S) (old new : Held S) (resu
       → is_blocked (state g old).now.schema form ≡ false → IsFailure fault)
   pub neither : HasCleanDisk (state g new) → OnErr result (AddsNothing (state g old) (state g new))
   -- A crash in the call leaves what it could leave before, or what all the statements make. A crash after the call
-  -- leaves the migrated rows, with no moments. Nothing is committed by a call that is refused for what the database
-  -- holds.
+  -- leaves the migrated rows. Nothing is committed by a call that is refused for what the database holds.
   pub crash : Survives (state g old) (state g new) (MigratesTo g old)
   pub unwritten : IfErr result (λ fault. IsFailure fault ⊎ CommitsNothing (state g old) (state g new))
   pub durable : HasCleanDisk (state g new)
       → OnOk result (ForEarlier g old (λ _ old_style F. IsTrue (state g new).is_open
-      × LeavesOnlyBook (state g new) old_style (without_moments F)))
+      × LeavesOnly (state g new) old_style F))
+  -- None of the requests has a moment then.
+  pub undated : HasCleanDisk (state g new)
+      → OnOk result (ForEarlier g old (λ _ old_style F.
+      LeavesOnlyReceived (state g new) old_style F (replicate (length F) None)))

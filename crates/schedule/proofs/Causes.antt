@@ -17,7 +17,7 @@ use Rattle.outbox_tables.specs.declared.fault.OutboxFault.{OutboxFault}
 use Rattle.outbox_tables.specs.declared.fault.OutboxFault.TheVariants as tables
 use Rattle.outbox_core.specs.OutboxParts.{OutboxParts}
 use Rattle.database_places.specs.Closing.{IsNotClosed}
-use Rattle.database_places.specs.Recorded.{Recorded, left}
+use Rattle.database_places.specs.Places as place
 use Rattle.outbox_process.specs.Process.{IsNotOpened}
 use Rattle.outbox_process.specs.declared.beginning.Beginning.TheVariants.{Found}
 use Rattle.outbox_process.specs.declared.fault.Why.{Why}
@@ -47,17 +47,17 @@ of_found tables.Memory e = cc
 of_found _ e = cc
 
 -- the same of an outbox
-pub of_outbox : {D : Type 0} (g : Ghosts D) (old new : Recorded D) (was_taken : Bool) (fault : Why)
+pub of_outbox : {D : Type 0} (g : Ghosts D) (old new : Option (Option (Files D))) (was_taken : Bool) (fault : Why)
     → IsNotOpened g Found old new was_taken fault → outbox_cause fault ≢ cause.Store
 of_outbox g old new was_taken fault is e = elim is [
   | inl files ↦ of_files files.0 (sym (ap outbox_cause files.1) ∙ e)
-  | inr refused ↦ of_found refused.refuses.0 (sym (ap outbox_cause refused.refuses.1) ∙ e)
+  | inr refused ↦ of_found refused.3.0 (sym (ap outbox_cause refused.3.1) ∙ e)
 ]
 
 -- an error of a close says why the outbox, which was open, was not closed
 pub not_closed : {D : Type 0} {g : Ghosts D} (old : Option (OutboxParts (FileStore D g)))
-    (there new : Recorded D) (error : Error) → (old ≡ None → ⊥)
-    → IfSome old (λ outbox. (files : Files D) × (new ≡ left files there) × IsNotClosed outbox.conn files error)
+    (there new : Option (Option (Files D))) (error : Error) → (old ≡ None → ⊥)
+    → IfSome old (λ outbox. (files : Files D) × place.Leaves there new files × IsNotClosed outbox.conn files error)
     → IsNotClosedIn old there new (close_cause error)
-not_closed (Some outbox) there new error closed it = (it.0, error, it.1, it.2, refl)
-not_closed None there new error closed it = absurd (closed refl)
+not_closed (Some outbox) there new error closed left = (left.0, error, left.1, left.2, refl)
+not_closed None there new error closed left = absurd (closed refl)

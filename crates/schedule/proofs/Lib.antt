@@ -1,5 +1,4 @@
-pub mod Drawers
-mod Ending
+pub mod Ending
 pub mod Causes
 pub mod Entries
 pub mod GoingThrough

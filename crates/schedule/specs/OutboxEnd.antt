@@ -3,12 +3,10 @@ use Rattle.std.specs.Prelude.{◌≡◌, ℕ, Bool, true, false, List, Option, S
 use Rattle.sqlite_disk.specs.declared.Disk.{Ghosts}
 use Rattle.sqlite_disk.specs.declared.Files.{Files}
 use Rattle.sqlite_store.specs.declared.store.FileStore.{FileStore}
-use Rattle.sqlite_wal.specs.Recovery.{Image}
 use Rattle.sqlite.specs.declared.error.Error.{Error}
 use Rattle.filing_model.specs.Outbox.{Entry}
 use Rattle.database_places.specs.Closing.{IsNotClosed}
-use Rattle.database_places.specs.Moves.{lies_after}
-use Rattle.database_places.specs.Recorded.{Recorded, left, shown}
+use Rattle.database_places.specs.Places as place
 use Rattle.database_places.specs.declared.drawer.Drawer.{Drawer}
 use Rattle.outbox_tables.specs.Entries.{contents_of}
 use Rattle.outbox_core.specs.OutboxParts.{OutboxParts}
@@ -22,27 +20,18 @@ use Rattle.schedule.specs.declared.ends.outbox_end.OutboxEnd.{OutboxEnd}
 use Rattle.schedule.specs.declared.ends.fault.EndFault.TheVariants.{Reopen}
 
 -- the files that lie in it
-abbrev pub lying_in : {D : Type 0} {g : Ghosts D} → Drawer D g → Option (Option (Files D))
+abbrev pub lying_in : {D : Type 0} → Drawer D → Option (Option (Files D))
 lying_in drawer = Some drawer.files
-
--- what it gave, got and told
-abbrev pub moved_in : {D : Type 0} {g : Ghosts D} → Drawer D g → Recorded D
-moved_in drawer = shown drawer.noted
-
--- the bytes that lie in it
-abbrev pub bytes_in : {D : Type 0} {g : Ghosts D} → Drawer D g → Option Image
-bytes_in {g} drawer = lies_after g None (moved_in drawer).moves
 
 -- ---- what it keeps
 
 -- The process keeps the outbox of this filer with these entries, and is certain of it.
-abbrev pub KeepsSurely : {D : Type 0} {g : Ghosts D} → OutboxProcess D (Drawer D g) g → List ℕ → List Entry → Type 0
+abbrev pub KeepsSurely : {D : Type 0} {g : Ghosts D} → OutboxProcess D (Drawer D) g → List ℕ → List Entry → Type 0
 KeepsSurely {D} {g} process filer entries =
-    (process.is_certain ≡ true) × KeepsBy {g = g} process.outbox (bytes_in process.place) (contents_of filer entries)
+    (process.is_certain ≡ true) × KeepsBy {g = g} process.outbox (lying_in process.place) (contents_of filer entries)
 
 -- it keeps them, unless a fault took it
-abbrev pub KeepsIn : {D : Type 0} {g : Ghosts D} → Option (OutboxProcess D (Drawer D g) g) → List ℕ → List Entry
-    → Type 0
+abbrev pub KeepsIn : {D : Type 0} {g : Ghosts D} → Option (OutboxProcess D (Drawer D) g) → List ℕ → List Entry → Type 0
 KeepsIn (Some process) filer entries = KeepsSurely process filer entries
 KeepsIn None filer entries = Unit {0}
 
@@ -50,7 +39,7 @@ abbrev pub Keeps : {D : Type 0} {g : Ghosts D} → OutboxEnd D g → List ℕ �
 Keeps end filer entries = KeepsIn end.process filer entries
 
 -- whether its outbox is open
-abbrev pub is_up_in : {D : Type 0} {g : Ghosts D} → Option (OutboxProcess D (Drawer D g) g) → Bool
+abbrev pub is_up_in : {D : Type 0} {g : Ghosts D} → Option (OutboxProcess D (Drawer D) g) → Bool
 is_up_in (Some process) = is_some process.outbox
 is_up_in None = false
 
@@ -58,7 +47,7 @@ abbrev pub is_up : {D : Type 0} {g : Ghosts D} → OutboxEnd D g → Bool
 is_up end = is_up_in end.process
 
 -- whether a fault took it
-abbrev pub is_taken_in : {D : Type 0} {g : Ghosts D} → Option (OutboxProcess D (Drawer D g) g) → Bool
+abbrev pub is_taken_in : {D : Type 0} {g : Ghosts D} → Option (OutboxProcess D (Drawer D) g) → Bool
 is_taken_in process = not (is_some process)
 
 abbrev pub is_taken : {D : Type 0} {g : Ghosts D} → OutboxEnd D g → Bool
@@ -69,7 +58,7 @@ abbrev pub gives_none : {S : Type 0} → Option (OutboxParts S) → Bool
 gives_none (Some outbox) = outbox.has_failed
 gives_none None = true
 
-abbrev pub is_asleep_in : {D : Type 0} {g : Ghosts D} → Option (OutboxProcess D (Drawer D g) g) → Bool
+abbrev pub is_asleep_in : {D : Type 0} {g : Ghosts D} → Option (OutboxProcess D (Drawer D) g) → Bool
 is_asleep_in (Some process) = gives_none process.outbox
 is_asleep_in None = true
 
@@ -81,37 +70,38 @@ abbrev pub IfOpen : {S : Type 0} → Option (OutboxParts S) → (Bool → Type 0
 IfOpen (Some outbox) Holds = Holds outbox.has_failed
 IfOpen None Holds = Unit {0}
 
-abbrev pub IfUp : {D : Type 0} {g : Ghosts D} → Option (OutboxProcess D (Drawer D g) g) → (Bool → Type 0) → Type 0
+abbrev pub IfUp : {D : Type 0} {g : Ghosts D} → Option (OutboxProcess D (Drawer D) g) → (Bool → Type 0) → Type 0
 IfUp (Some process) Holds = IfOpen process.outbox Holds
 IfUp None Holds = Unit {0}
 
 -- ---- why it is not opened or closed
 
 -- the outbox that was to lie there was not opened, for a fault of this cause
-abbrev pub IsNotOpenedIn : {D : Type 0} → Ghosts D → Recorded D → Recorded D → EndFault → Type 0
+abbrev pub IsNotOpenedIn : {D : Type 0} → Ghosts D → Option (Option (Files D)) → Option (Option (Files D)) → EndFault
+    → Type 0
 IsNotOpenedIn g old new why =
     (was_taken : Bool) × (fault : Why) × IsNotOpened g Found old new was_taken fault × (why ≡ outbox_cause fault)
 
 -- the outbox was open, and was not closed for an error of this cause; what the close left lies there
-abbrev pub IsNotClosedIn : {D : Type 0} {g : Ghosts D} → Option (OutboxParts (FileStore D g)) → Recorded D → Recorded D
-    → EndFault → Type 0
+abbrev pub IsNotClosedIn : {D : Type 0} {g : Ghosts D} → Option (OutboxParts (FileStore D g))
+    → Option (Option (Files D)) → Option (Option (Files D)) → EndFault → Type 0
 IsNotClosedIn (Some outbox) old new why =
-    (files : Files _) × (error : Error) × (new ≡ left files old) × IsNotClosed outbox.conn files error
+    (files : Files _) × (error : Error) × place.Leaves old new files × IsNotClosed outbox.conn files error
     × (why ≡ close_cause error)
 IsNotClosedIn None old new why = ⊥
 
 -- What was left in the drawer is given up with the process.
-abbrev pub IsNotStoppedBy : {D : Type 0} {g : Ghosts D} → Option (OutboxProcess D (Drawer D g) g) → EndFault → Type 0
+abbrev pub IsNotStoppedBy : {D : Type 0} {g : Ghosts D} → Option (OutboxProcess D (Drawer D) g) → EndFault → Type 0
 IsNotStoppedBy {D} (Some process) why =
-    (last : Recorded D) × IsNotClosedIn process.outbox (moved_in process.place) last why
+    (left : Option (Option (Files D))) × IsNotClosedIn process.outbox (lying_in process.place) left why
 IsNotStoppedBy None why = why ≡ Reopen
 
 abbrev pub IsNotStopped : {D : Type 0} {g : Ghosts D} → OutboxEnd D g → EndFault → Type 0
 IsNotStopped end why = IsNotStoppedBy end.process why
 
-abbrev pub IsNotStartedBy : {D : Type 0} {g : Ghosts D} → Option (OutboxProcess D (Drawer D g) g) → EndFault → Type 0
+abbrev pub IsNotStartedBy : {D : Type 0} {g : Ghosts D} → Option (OutboxProcess D (Drawer D) g) → EndFault → Type 0
 IsNotStartedBy {D} {g} (Some process) why =
-    (last : Recorded D) × IsNotOpenedIn g (moved_in process.place) last why
+    (left : Option (Option (Files D))) × IsNotOpenedIn g (lying_in process.place) left why
 IsNotStartedBy None why = why ≡ Reopen
 
 abbrev pub IsNotStarted : {D : Type 0} {g : Ghosts D} → OutboxEnd D g → EndFault → Type 0

@@ -22,22 +22,22 @@ use Rattle.schedule.specs.OutboxEnd.{lying_in}
 use Rattle.schedule.specs.declared.ends.fault.EndFault.{EndFault}
 
 -- The process keeps these requests, none of which is old-style, and is certain of it.
-abbrev pub KeepsSurely : {D : Type 0} {g : Ghosts D} → IntakeProcess D (Drawer D g) g → ℕ → List Request → Type 0
+abbrev pub KeepsSurely : {D : Type 0} {g : Ghosts D} → IntakeProcess D (Drawer D) g → ℕ → List Request → Type 0
 KeepsSurely {D} {g} process limit requests =
     (process.is_certain ≡ true) × KeepsBy {g = g} process.intake (lying_in process.place) limit 0 requests
 
 -- the process keeps these requests, unless a fault took it
-abbrev pub Keeps : {D : Type 0} {g : Ghosts D} → Option (IntakeProcess D (Drawer D g) g) → ℕ → List Request → Type 0
+abbrev pub Keeps : {D : Type 0} {g : Ghosts D} → Option (IntakeProcess D (Drawer D) g) → ℕ → List Request → Type 0
 Keeps (Some process) limit requests = KeepsSurely process limit requests
 Keeps None limit requests = Unit {0}
 
 -- whether its register is open
-abbrev pub is_up : {D : Type 0} {g : Ghosts D} → Option (IntakeProcess D (Drawer D g) g) → Bool
+abbrev pub is_up : {D : Type 0} {g : Ghosts D} → Option (IntakeProcess D (Drawer D) g) → Bool
 is_up (Some process) = is_some process.intake
 is_up None = false
 
 -- whether a fault took it
-abbrev pub is_taken : {D : Type 0} {g : Ghosts D} → Option (IntakeProcess D (Drawer D g) g) → Bool
+abbrev pub is_taken : {D : Type 0} {g : Ghosts D} → Option (IntakeProcess D (Drawer D) g) → Bool
 is_taken process = not (is_some process)
 
 -- whether it gives no answer: its register is closed, or the database refused a call before
@@ -67,7 +67,7 @@ IsNotStopped None lying why = ⊥
 -- A connection was served after these requests, to its end or up to a stop, and the process keeps those that are kept
 -- after it.
 pub record ServesPart {D : Type 0} {g : Ghosts D} (limit : ℕ) (before : List Request) (from to : Wire) (crash : Crash)
-    (process : IntakeProcess D (Drawer D g) g) (part : Partly) : Type 0 where
+    (process : IntakeProcess D (Drawer D) g) (part : Partly) : Type 0 where
   pub after : List Request
   pub keeps : KeepsSurely process limit after
   pub serves : ServesConnectionUntil (keeping limit [] before after) from to crash part.marks.items part.ended

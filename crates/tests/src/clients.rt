@@ -2,7 +2,7 @@
 //! register is in files in memory.
 
 use connection_hall::{Bounds, Why};
-use database_places::{Opening, PageCache, Record};
+use database_places::{Opening, PageCache};
 use desk::{Desk, Reopener};
 use example_texts::front;
 use gateway_rounds::Port;
@@ -71,7 +71,6 @@ fn served(
         alloc,
         calls: play.calls,
         files: None,
-        noted: Record::new(),
     });
     let mut watch = Reopener {
         refusals: play.refusals,

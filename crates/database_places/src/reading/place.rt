@@ -4,16 +4,14 @@ ghost use Rattle.std.specs.Prelude.{◌≡◌, Some, None, false, IsTrue, IfOk, 
 ghost use Rattle.found_files.specs.Openings.{IsNext};
 ghost use Rattle.database_places.specs.Faults.{is_absence};
 ghost use Rattle.database_places.specs.Places.{Leaves};
-ghost use Rattle.database_places.specs.Recorded.{shown, nothing, given, left};
 
 use crate::place::Place;
 use crate::reading::ReadingFile;
 use crate::reading::fault::fault_of;
 use crate::reading::opening::open_for_reading;
-use crate::record::Record;
-use crate::system::{first_page, has_log, is_empty, is_missing, len, seed};
+use crate::system::SystemPlace;
 use command_line::DatabaseFault;
-use found_files::{Found, Openings};
+use found_files::Found;
 use sqlite_disk::{Disk, Files};
 use std::alloc::Global;
 use std::fs::{self, OpenOptions};
@@ -24,62 +22,50 @@ use std::io;
 /// name's own files stay as they are, a log with all that is in it too. Nothing is made or removed beside them.
 #[derive(Drop)]
 pub struct ReadingPlace<'a, 'r> {
-    rt: &'r HostRuntime,
-    name: &'a str,
-    openings: Openings<'r>,
-    noted: Record<ReadingFile<'r>>,
+    /// The same files, which it does not take.
+    system: SystemPlace<'a, 'r>,
 }
 
 impl<'a, 'r> ReadingPlace<'a, 'r> {
     /// The place of the file of this name, whose openings find this.
     pub fn new(rt: &'r HostRuntime, name: &'a str, found: &'r Found) -> ReadingPlace<'a, 'r>
-        ensures file { result.name ≡ name.entry }
-        ensures found { result.openings.found ≡ found.entry }
-        ensures first { result.openings.opened ≡ 0 }
-        ensures unmoved { shown result.noted ≡ nothing }
+        ensures file { result.system.name ≡ name.entry }
+        ensures found { result.system.openings.found ≡ found.entry }
+        ensures first { result.system.openings.opened ≡ 0 }
     {
         ReadingPlace {
-            rt,
-            name,
-            openings: Openings::new(found),
-            noted: Record::new(),
+            system: SystemPlace::new(rt, name, found),
         }
     }
 }
 
 impl<'r> Place<ReadingFile<'r>> for ReadingPlace<'_, 'r> {
-    ghost recorded = { λ place. shown place.noted };
-
     ghost lying = { λ _. None };
 
-    ghost file = { λ place. Some place.name.now };
+    ghost file = { λ place. Some place.system.name.now };
 
     fn seed(&self) -> Option<u64> {
-        seed(self.rt)
+        self.system.seed()
     }
 
-    fn is_missing(&mut self) -> bool {
-        let told = is_missing(self.rt, self.name);
-        self.noted.tell_missing(told);
-        told
+    fn is_missing(&self) -> bool {
+        self.system.is_missing()
     }
 
-    fn is_empty(&mut self) -> bool {
-        let told = is_empty(self.rt, self.name);
-        self.noted.tell_empty(told);
-        told
+    fn is_empty(&self) -> bool {
+        self.system.is_empty()
     }
 
     fn first_page(&self, alloc: Global) -> Vec<u8> {
-        first_page(alloc, self.rt, self.name)
+        self.system.first_page(alloc)
     }
 
     fn len(&self) -> u64 {
-        len(self.rt, self.name)
+        self.system.len()
     }
 
     fn has_log(&self) -> bool {
-        has_log(self.rt, self.name)
+        self.system.has_log()
     }
 
     // None was made.
@@ -88,29 +74,23 @@ impl<'r> Place<ReadingFile<'r>> for ReadingPlace<'_, 'r> {
     fn take(&mut self) -> Result<Files<ReadingFile<'r>>, DatabaseFault>
         ensures log { IfOk result (λ files. IsTrue (⟦<ReadingFile<'r> as Disk>⟧.is_usable files.log)) }
         ensures database { IfOk result (λ files. IsTrue (⟦<ReadingFile<'r> as Disk>⟧.is_usable files.db)) }
-        ensures next { IfOk result (IsNext self.old.openings self.new.openings) }
-        ensures refused { OnErr result (self.new.openings ≡ self.old.openings) }
-        ensures given { IfOk result (λ files. shown self.new.noted ≡ given files (shown self.old.noted)) }
-        ensures kept { OnErr result (shown self.new.noted ≡ shown self.old.noted) }
+        ensures next { IfOk result (IsNext self.old.system.openings self.new.system.openings) }
+        ensures refused { OnErr result (self.new.system.openings ≡ self.old.system.openings) }
         ensures made { IfErr result (λ fault. is_absence fault ≡ false) }
-        ensures named { self.new.name ≡ self.old.name }
+        ensures named { self.new.system.name ≡ self.old.system.name }
     {
-        match open_for_reading(self.rt, self.name, &mut self.openings) {
-            Ok(files) => {
-                self.noted.give(&files);
-                Ok(files)
-            }
-            Err(error) => Err(fault_of(self.rt, self.name, &error)),
+        let (rt, name) = (self.system.rt, self.system.name);
+        match open_for_reading(rt, name, &mut self.system.openings) {
+            Ok(files) => Ok(files),
+            Err(error) => Err(fault_of(rt, name, &error)),
         }
     }
 
     // What was written in memory ends here, and the file is unlocked.
     fn leave(&mut self, files: Files<ReadingFile<'r>>)
-        ensures got { shown self.new.noted ≡ left files.entry (shown self.old.noted) }
         ensures left { Leaves None None files.entry }
-        ensures named { self.new.name.now ≡ self.old.name.now }
+        ensures named { self.new.system.name.now ≡ self.old.system.name.now }
     {
-        self.noted.leave(&files);
         drop(files);
     }
 }

@@ -5,11 +5,13 @@ ghost use Rattle.std.specs.Prelude.{IsTrue, IfOk, OnOk, None, MatchResult};
 ghost use Rattle.std.specs.List.{AllZip, zip};
 ghost use Rattle.filing_model.specs.Request.{Request, has_key};
 ghost use Rattle.intake_core.specs.Calls.{IsRequest};
-ghost use Rattle.intake_core.specs.Group.{DecidesEachIf, LastsIf, asked_at};
+ghost use Rattle.intake_core.specs.Group.{DecidesEachIf};
 ghost use Rattle.intake_core.specs.Looked.{AreNewIf, TellsWhether, WasOpen};
+ghost use Rattle.intake_core.specs.Moments.{DatesEachIf};
 ghost use Rattle.intake_core.specs.Together.{AddsGroup, AddsResults, AddsResultsIf, AnswersGroup, AreNewBehind};
 ghost use Rattle.intake_core.specs.Together.{AreRowsOf, IsJudgedAlone, KeepsFirst, LooksUp, RefusesGroup};
-ghost use Rattle.intake_core.specs.Held.{store_of, limit_of, shows, has_stopped, ForBook};
+ghost use Rattle.intake_core.specs.Together.{in_milliseconds};
+ghost use Rattle.intake_core.specs.Held.{store_of, limit_of, shows, has_stopped, ForRequests};
 
 use super::{Intake, Unavailable};
 use crate::{Request, answer_by, name_of};
@@ -93,10 +95,11 @@ impl<S: Alter> Intake<S> {
         requires moments { length moments.now ≡ length requests.now }
         ensures each { IfOk result (λ results. length results.items ≡ length requests.now) }
         ensures decides { MatchResult result (λ results. DecidesEachIf S.Store (WasOpen S.Store are_new self.old)
-            (AreNewIf are_new requests.now) (zip (asked_at requests.now moments.now) results.items) self.old self.new)
+            (AreNewIf are_new requests.now) (zip requests.now results.items) self.old self.new)
             (λ _. self.new ≡ self.old) }
-        ensures lasts { IfOk result (λ results. LastsIf S.Store (AreNewIf are_new requests.now)
-            (zip (asked_at requests.now moments.now) results.items) self.old self.new) }
+        ensures dates { IfOk result (λ results. DatesEachIf S.Store (WasOpen S.Store are_new self.old)
+            (AreNewIf are_new requests.now) (zip requests.now results.items) (in_milliseconds moments.now) self.old
+            self.new) }
     {
         if requests.is_empty() {
             return Ok(Vec::new(self.alloc));
@@ -111,8 +114,8 @@ impl<S: Alter> Intake<S> {
     /// Tells whether a request is new or a repeat, by its filer and key, and what a repeat gets. Nothing is written,
     /// and nothing else is decided: a refusal of the database is left to the call that decides.
     pub fn look_up(&mut self, request: &Request<'_>) -> Looked
-        ensures tells { ForBook S.Store self.old self.new (λ book.
-            TellsWhether S.Store book.requests request.now self.old self.new result) }
+        ensures tells { ForRequests S.Store self.old self.new (λ requests.
+            TellsWhether S.Store requests request.now self.old self.new result) }
         ensures looks { LooksUp S.Store self.old self.new }
         ensures down { has_stopped self.old ≡ true → (result ≡ Looked.Unknown) × (self.new ≡ self.old) }
     {
@@ -136,7 +139,8 @@ impl<S: Alter> Intake<S> {
         requires requests { All IsRequest requests.now }
         requires moments { length moments.now ≡ length requests.now }
         requires room { vec_len results.old + length requests.now ≤ vec_capacity results.old }
-        ensures { AddsResults S.Store (asked_at requests.now moments.now) self.old self.new results.old results.new }
+        ensures { AddsResults S.Store requests.now (in_milliseconds moments.now) self.old self.new results.old
+            results.new }
     {
         let start = results.len();
         for at in 0..requests.len() {
@@ -162,7 +166,8 @@ impl<S: Alter> Intake<S> {
         requires room { vec_len results.old + length requests.now ≤ vec_capacity results.old }
         ensures { (count : ℕ) × (0 < count) × (count ≤ length requests.now)
             × AddsResultsIf S.Store (WasOpen S.Store are_new self.old) (AreNewIf are_new requests.now)
-            (take count (asked_at requests.now moments.now)) self.old self.new results.old results.new }
+            (take count requests.now) (take count (in_milliseconds moments.now)) self.old self.new results.old
+            results.new }
     {
         if self.is_down {
             return self.submit_each(requests, moments, results);
@@ -188,7 +193,8 @@ impl<S: Alter> Intake<S> {
         requires requests { All IsRequest requests.now }
         requires moments { length moments.now ≡ length requests.now }
         requires room { vec_len results.old + length requests.now ≤ vec_capacity results.old }
-        ensures { AddsResults S.Store (asked_at requests.now moments.now) self.old self.new results.old results.new }
+        ensures { AddsResults S.Store requests.now (in_milliseconds moments.now) self.old self.new results.old
+            results.new }
     {
         for (at, request) in requests.iter().enumerate() {
             let result = self.submit_request(request, moments[at]);
@@ -221,8 +227,8 @@ impl<S: Alter> Intake<S> {
         requires requests { All IsRequest requests.now }
         requires moments { length moments.now ≡ length requests.now }
         requires some { 0 < length requests.now }
-        ensures { KeepsFirst S.Store (WasOpen S.Store are_new self.old) (AreNewIf are_new requests.now)
-            (asked_at requests.now moments.now) self.old self.new result }
+        ensures { KeepsFirst S.Store (WasOpen S.Store are_new self.old) (AreNewIf are_new requests.now) requests.now
+            (in_milliseconds moments.now) self.old self.new result }
     {
         match self.judge_group(requests, are_new) {
             // What could not be looked up or judged is tried again by each request for itself.
@@ -252,7 +258,7 @@ impl<S: Alter> Intake<S> {
         requires moments { length moments.now ≡ length requests.now }
         requires judged { AllZip IsJudgedAlone requests.now judged.now }
         requires limit { (store_of self.old).kept + length requests.now ≤ limit_of self.old }
-        ensures { AddsGroup S.Store (asked_at requests.now moments.now) self.old self.new result }
+        ensures { AddsGroup S.Store requests.now (in_milliseconds moments.now) self.old self.new result }
     {
         let rows = rows_of(self.alloc, requests, moments, judged)?;
         self.store.add_all(&rows)
@@ -289,9 +295,9 @@ impl<S: Alter> Intake<S> {
         ensures few { IfOk result (λ judged. length judged.items ≤ length requests.now) }
         ensures judged { IfOk result (λ judged.
             AllZip IsJudgedAlone (take (length judged.items) requests.now) judged.items) }
-        ensures new { ForBook S.Store self.old self.new (λ book. AreNewIf are_new requests.now book.requests
+        ensures new { ForRequests S.Store self.old self.new (λ F. AreNewIf are_new requests.now F
             → IfOk result (λ judged. 0 < length judged.items
-            → AreNewBehind book.requests (take (length judged.items) requests.now)
+            → AreNewBehind F (take (length judged.items) requests.now)
             × (WasOpen S.Store are_new self.old → IsTrue (shows S.Store self.new).is_open))) }
         ensures limit { IfOk result (λ judged. 0 < length judged.items
             → (store_of self.new).kept + length judged.items ≤ limit_of self.new) }
@@ -320,10 +326,10 @@ impl<S: Alter> Intake<S> {
         ensures own { IfOk result (λ joins. joins ≡ true → has_key before.now request.now ≡ false) }
         ensures limit { IfOk result (λ joins. joins ≡ true
             → (store_of self.new).kept + length before.now < limit_of self.new) }
-        ensures new { ForBook S.Store self.old self.new (λ book. IfOk result (λ joins. joins ≡ true
-            → (is_new ≡ true → has_key book.requests request.now ≡ false) → (has_key book.requests request.now ≡ false)
+        ensures new { ForRequests S.Store self.old self.new (λ requests. IfOk result (λ joins. joins ≡ true
+            → (is_new ≡ true → has_key requests request.now ≡ false) → (has_key requests request.now ≡ false)
             × (WasOpen S.Store is_new self.old → IsTrue (shows S.Store self.new).is_open))) }
-        ensures is_open { ForBook S.Store self.old self.new (λ _. IsTrue (shows S.Store self.old).is_open
+        ensures is_open { ForRequests S.Store self.old self.new (λ requests. IsTrue (shows S.Store self.old).is_open
             → OnOk result (IsTrue (shows S.Store self.new).is_open)) }
         ensures looks { LooksUp S.Store self.old self.new }
     {

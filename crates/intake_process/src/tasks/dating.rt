@@ -6,8 +6,7 @@ ghost use Rattle.filing_model.specs.Register.{kept, register};
 ghost use Rattle.register_extracts.specs.Faults.{IsReadingWhy};
 ghost use Rattle.register_extracts.specs.Moments.{moment_of};
 ghost use Rattle.register_store.specs.Calls.{KeepsStore};
-ghost use Rattle.register_store.specs.Moments.{milliseconds_of};
-ghost use Rattle.register_store.specs.Store.{ForBook};
+ghost use Rattle.register_store.specs.Moments.{ForMoments, milliseconds_of};
 ghost use Rattle.intake_process.specs.Listing.{moment_line, moment_lines};
 ghost use Rattle.intake_process.specs.Tasks.{AnswersQuestion};
 
@@ -35,9 +34,9 @@ pub(crate) fn list_moments<S: Alter, O: Write>(
 
 /// A line for each filing of a filer.
 fn moment_lines<S: Alter>(alloc: Global, store: &mut Store<S>, filer: &str) -> Result<String, Why>
-    ensures lines { ForBook S.Store store.old store.new (λ book. IfOk result (λ text.
+    ensures lines { ForMoments S.Store store.old store.new (λ requests moments. IfOk result (λ text.
         string_bytes text
-        ≡ moment_lines (kept book.requests) book.moments (listings filer.now None (register book.requests)))) }
+        ≡ moment_lines (kept requests) moments (listings filer.now None (register requests)))) }
     ensures keeps { KeepsStore S.Store store.old store.new }
     ensures fails { IfErr result IsReadingWhy }
 {
@@ -57,8 +56,8 @@ pub(crate) fn received<S: Alter>(
     store: &mut Store<S>,
     number: u64,
 ) -> Result<Option<Moment>, StoreFault>
-    ensures moment { ForBook S.Store store.old store.new (λ book.
-        IfOk result (λ moment. milliseconds_of moment ≡ moment_of (kept book.requests) book.moments number)) }
+    ensures moment { ForMoments S.Store store.old store.new (λ requests moments.
+        IfOk result (λ moment. milliseconds_of moment ≡ moment_of (kept requests) moments number)) }
     ensures keeps { KeepsStore S.Store store.old store.new }
 {
     match store.place_of(number) {

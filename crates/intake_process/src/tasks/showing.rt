@@ -3,7 +3,7 @@
 ghost use Rattle.std.specs.Prelude.{◌≡◌, string_bytes, IfOk, IfErr};
 ghost use Rattle.intake_process.specs.Showing.{fact_lines, shown_lines};
 ghost use Rattle.register_store.specs.Calls.{KeepsStore};
-ghost use Rattle.register_store.specs.Store.{ForBook};
+ghost use Rattle.register_store.specs.Moments.{ForMoments};
 ghost use Rattle.filing_model.specs.Register.{kept};
 ghost use Rattle.register_extracts.specs.Faults.{IsReadingWhy};
 ghost use Rattle.register_extracts.specs.Moments.{moment_of};
@@ -48,9 +48,8 @@ fn shown_lines<S: Alter>(
     moments: bool,
     facts: &[Fact],
 ) -> Result<String, Why>
-    ensures lines { ForBook S.Store store.old store.new (λ book. IfOk result (λ text.
-        string_bytes text
-        ≡ shown_lines moments number (moment_of (kept book.requests) book.moments number) facts.now)) }
+    ensures lines { ForMoments S.Store store.old store.new (λ requests received. IfOk result (λ text.
+        string_bytes text ≡ shown_lines moments number (moment_of (kept requests) received number) facts.now)) }
     ensures keeps { KeepsStore S.Store store.old store.new }
     ensures fails { IfErr result IsReadingWhy }
 {

@@ -10,8 +10,8 @@ ghost use Rattle.table_rows.specs.Rows.{counted_from};
 ghost use Rattle.register_rows.specs.Register.{kept_row, amends_rows, joined_from};
 ghost use Rattle.register_store.specs.Numbered.{facts_numbered};
 ghost use Rattle.register_store.specs.Calls.{AnswersDurably, KeepsStore};
-ghost use Rattle.register_store.specs.Store.{shows, ForBook, ForRegister};
-ghost use Rattle.register_tables.specs.Registers.{LeavesOnlyBook};
+ghost use Rattle.register_store.specs.Store.{shows, ForRequests, ForRegister};
+ghost use Rattle.register_tables.specs.Registers.{LeavesOnly};
 
 use crate::decode::completed::{read_filings, read_requests};
 use crate::decode::facts::read_facts;
@@ -48,7 +48,7 @@ fn read_both<S: Alter>(conn: &mut Connection<S>) -> Result<Both, StoreFault>
 impl<S: Alter> Store<S> {
     /// The kept requests, in the order in which they were completed.
     pub fn requests(&mut self) -> Result<Vec<Completed>, StoreFault>
-        ensures rows { ForBook S.Store self.old self.new (λ book. IfOk result (λ rows. rows.items ≡ book.requests)) }
+        ensures rows { ForRequests S.Store self.old self.new (λ F. IfOk result (λ rows. rows.items ≡ F)) }
         ensures keeps { KeepsStore S.Store self.old self.new }
         ensures durable { AnswersDurably S.Store self.old self.new result }
     {
@@ -58,8 +58,7 @@ impl<S: Alter> Store<S> {
 
     /// The registered requests under their numbers, ascending.
     pub fn all_filings(&mut self) -> Result<Vec<Registered>, StoreFault>
-        ensures rows { ForBook S.Store self.old self.new (λ book.
-            IfOk result (λ rows. rows.items ≡ register book.requests)) }
+        ensures rows { ForRequests S.Store self.old self.new (λ F. IfOk result (λ rows. rows.items ≡ register F)) }
         ensures keeps { KeepsStore S.Store self.old self.new }
         ensures durable { AnswersDurably S.Store self.old self.new result }
     {
@@ -70,8 +69,8 @@ impl<S: Alter> Store<S> {
     /// The filings of a filer, each with how many facts it has, which filing it replaces and which one replaces it,
     /// ascending by number. A filer that never came has none.
     pub fn filings(&mut self, filer: &str) -> Result<Vec<FilingRow>, StoreFault>
-        ensures rows { ForBook S.Store self.old self.new (λ book.
-            IfOk result (λ rows. map view_row rows.items ≡ listings filer.now None (register book.requests))) }
+        ensures rows { ForRequests S.Store self.old self.new (λ F.
+            IfOk result (λ rows. map view_row rows.items ≡ listings filer.now None (register F))) }
         ensures keeps { KeepsStore S.Store self.old self.new }
         ensures durable { AnswersDurably S.Store self.old self.new result }
     {
@@ -81,9 +80,8 @@ impl<S: Alter> Store<S> {
 
     /// The filer's filing of this number as `filings` lists it, or `None` if the filer has no such filing.
     pub fn filing(&mut self, filer: &str, number: u64) -> Result<Option<FilingRow>, StoreFault>
-        ensures row { ForBook S.Store self.old self.new (λ book.
-            IfOk result (λ row. map view_row (option_to_list row)
-            ≡ listings filer.now (Some number) (register book.requests))) }
+        ensures row { ForRequests S.Store self.old self.new (λ F.
+            IfOk result (λ row. map view_row (option_to_list row) ≡ listings filer.now (Some number) (register F))) }
         ensures keeps { KeepsStore S.Store self.old self.new }
         ensures durable { AnswersDurably S.Store self.old self.new result }
     {
@@ -97,13 +95,11 @@ impl<S: Alter> Store<S> {
     /// The facts of the filing of this number, in the byte order of their identifiers, or `None` if there is no such
     /// filing.
     pub fn facts(&mut self, number: u64) -> Result<Option<Vec<Fact>>, StoreFault>
-        ensures facts { ForBook S.Store self.old self.new (λ book.
-            IfOk result (λ facts. option_map (λ list. list.items) facts
-            ≡ facts_numbered number (register book.requests))) }
+        ensures facts { ForRequests S.Store self.old self.new (λ F.
+            IfOk result (λ facts. option_map (λ list. list.items) facts ≡ facts_numbered number (register F))) }
         ensures keeps { KeepsStore S.Store self.old self.new }
-        ensures durable { ForBook S.Store self.old self.new (λ book.
-            IsTrue (shows S.Store self.new).is_open
-            → LeavesOnlyBook (shows S.Store self.new) self.old.old_style book) }
+        ensures durable { ForRequests S.Store self.old self.new (λ F.
+            IsTrue (shows S.Store self.new).is_open → LeavesOnly (shows S.Store self.new) self.old.old_style F) }
     {
         if number == 0 || self.filings < number {
             return Ok(None);

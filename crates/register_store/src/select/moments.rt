@@ -7,8 +7,7 @@ ghost use Rattle.sqlite.specs.declared.types.Value.TheVariants.{Int};
 ghost use Rattle.sqlite.specs.Order.{column};
 ghost use Rattle.register_rows.specs.Received.{IsMoment, all_moments, received_rows};
 ghost use Rattle.register_store.specs.Calls.{AnswersDurably, KeepsStore};
-ghost use Rattle.register_store.specs.Moments.{milliseconds_of, moment_in};
-ghost use Rattle.register_store.specs.Store.{ForBook};
+ghost use Rattle.register_store.specs.Moments.{ForMoments, milliseconds_of, moment_in};
 
 use crate::select::reads;
 use crate::store::Store;
@@ -60,8 +59,8 @@ impl<S: Alter> Store<S> {
     /// The moments at which the kept requests came, one for each, in the order in which they were completed. It is
     /// `None` for those that were kept before there were moments.
     pub fn moments(&mut self) -> Result<Vec<Option<Moment>>, StoreFault>
-        ensures moments { ForBook S.Store self.old self.new (λ book.
-            IfOk result (λ list. map milliseconds_of list.items ≡ book.moments)) }
+        ensures moments { ForMoments S.Store self.old self.new (λ _ moments.
+            IfOk result (λ list. map milliseconds_of list.items ≡ moments)) }
         ensures keeps { KeepsStore S.Store self.old self.new }
         ensures durable { AnswersDurably S.Store self.old self.new result }
     {
@@ -72,8 +71,8 @@ impl<S: Alter> Store<S> {
     /// The moment at which the kept request at this place came, where the first one is at 1. It is `None` if the
     /// request was kept before there were moments, or if there is no such request.
     pub fn moment_at(&mut self, seq: u64) -> Result<Option<Moment>, StoreFault>
-        ensures moment { ForBook S.Store self.old self.new (λ book.
-            IfOk result (λ moment. milliseconds_of moment ≡ moment_in book.moments seq)) }
+        ensures moment { ForMoments S.Store self.old self.new (λ _ moments.
+            IfOk result (λ moment. milliseconds_of moment ≡ moment_in moments seq)) }
         ensures keeps { KeepsStore S.Store self.old self.new }
         ensures durable { AnswersDurably S.Store self.old self.new result }
     {

@@ -7,7 +7,7 @@ ghost use Rattle.register_store.specs.Found.{IsPlaced};
 ghost use Rattle.register_rows.specs.Catalogue.{catalogue_of, view_lines};
 ghost use Rattle.sqlite.specs.declared.types.Value.TheVariants.{Text};
 ghost use Rattle.register_store.specs.Calls.{AnswersDurably, KeepsStore};
-ghost use Rattle.register_store.specs.Store.{ForBook, ForRegister};
+ghost use Rattle.register_store.specs.Store.{ForRequests, ForRegister};
 
 use crate::select::catalogued::{is_unreplaced, place_of};
 use crate::select::reads;
@@ -69,8 +69,8 @@ pub(crate) fn has_filing<S: Alter>(
 impl<S: Alter> Store<S> {
     /// Whether the filer may replace the filing of this number: it is the filer's, and none replaces it.
     pub fn replaceable(&mut self, filer: &str, number: u64) -> Result<bool, StoreFault>
-        ensures answer { ForBook S.Store self.old self.new (λ book.
-            IfOk result (λ free. free ≡ is_replaceable (register book.requests) filer.now number)) }
+        ensures answer { ForRequests S.Store self.old self.new (λ F.
+            IfOk result (λ free. free ≡ is_replaceable (register F) filer.now number)) }
         ensures keeps { KeepsStore S.Store self.old self.new }
         ensures durable { AnswersDurably S.Store self.old self.new result }
     {

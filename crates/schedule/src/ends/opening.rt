@@ -2,7 +2,7 @@
 
 ghost use Rattle.std.specs.Prelude.{◌≡◌, ◌≢◌, [], ℕ, List, true, None, is_some, IfOk, IfErr, OnOk, Err};
 ghost use Rattle.filing_model.specs.Outbox.{Entry as Item};
-ghost use Rattle.schedule.specs.OutboxEnd.{KeepsSurely, IsNotOpenedIn, IsNotClosedIn, moved_in};
+ghost use Rattle.schedule.specs.OutboxEnd.{KeepsSurely, IsNotOpenedIn, IsNotClosedIn, lying_in};
 
 use crate::ends::fault::EndFault;
 use crate::ends::honest::Honest;
@@ -32,7 +32,7 @@ pub(crate) fn open<D: Honest>(
         → OnOk result (KeepsSurely process.new filer entries) }
     ensures up { OnOk result (is_some process.new.outbox ≡ true) }
     ensures refused { IfErr result
-        (IsNotOpenedIn D.Disk (moved_in process.old.place) (moved_in process.new.place)) }
+        (IsNotOpenedIn D.Disk (lying_in process.old.place) (lying_in process.new.place)) }
     ensures store { result ≢ Err EndFault.Store }
 {
     match process.open(alloc, Beginning::Found) {
@@ -47,7 +47,7 @@ pub(crate) fn close<D: Honest>(process: &mut OutboxProcess<D, Drawer<D>>) -> Res
         → OnOk result (KeepsSurely process.new filer entries) }
     ensures closed { process.new.outbox ≡ None }
     ensures refused { IfErr result
-        (IsNotClosedIn process.old.outbox (moved_in process.old.place) (moved_in process.new.place)) }
+        (IsNotClosedIn process.old.outbox (lying_in process.old.place) (lying_in process.new.place)) }
     ensures store { result ≢ Err EndFault.Store }
 {
     match process.close() {

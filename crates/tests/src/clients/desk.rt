@@ -1,11 +1,10 @@
 //! A place in memory whose disk refuses at some call, and what is seen of the register that lies there.
 
-ghost use Rattle.std.specs.Prelude.{◌≡◌, None};
+ghost use Rattle.std.specs.Prelude.{None};
 ghost use Rattle.database_places.specs.Places.{Leaves};
-ghost use Rattle.database_places.specs.Recorded.{shown, left};
 
 use command_line::DatabaseFault;
-use database_places::{Place, Record};
+use database_places::Place;
 use intake_process::{Closed, Observer, Totals, Went};
 use sqlite::Files;
 use sqlite_disk::{Crash, Fuse, Memory};
@@ -18,7 +17,6 @@ pub struct Desk {
     pub alloc: Global,
     pub calls: u64,
     pub files: Option<Files<Fuse<Memory>>>,
-    pub noted: Record<Fuse<Memory>>,
 }
 
 impl Desk {
@@ -39,8 +37,6 @@ impl Desk {
 }
 
 impl Place<Fuse<Memory>> for Desk {
-    ghost recorded = { λ desk. shown desk.noted };
-
     ghost lying = { λ _. None };
 
     ghost file = { λ _. None };
@@ -49,14 +45,11 @@ impl Place<Fuse<Memory>> for Desk {
         Some(1)
     }
 
-    fn is_missing(&mut self) -> bool {
-        let told = self.files.is_none();
-        self.noted.tell_missing(told);
-        told
+    fn is_missing(&self) -> bool {
+        self.files.is_none()
     }
 
-    fn is_empty(&mut self) -> bool {
-        self.noted.tell_empty(false);
+    fn is_empty(&self) -> bool {
         false
     }
 
@@ -77,7 +70,6 @@ impl Place<Fuse<Memory>> for Desk {
     fn take(&mut self) -> Result<Files<Fuse<Memory>>, DatabaseFault> {
         let files = self.taken();
         if files.may_be_used() {
-            self.noted.give(&files);
             Ok(files)
         } else {
             Err(DatabaseFault::Disk)
@@ -85,10 +77,8 @@ impl Place<Fuse<Memory>> for Desk {
     }
 
     fn leave(&mut self, files: Files<Fuse<Memory>>)
-        ensures got { shown self.new.noted ≡ left files (shown self.old.noted) }
         ensures left { Leaves None None files }
     {
-        self.noted.leave(&files);
         self.files = Some(files);
     }
 }

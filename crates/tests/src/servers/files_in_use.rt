@@ -1,8 +1,7 @@
 //! Files that another program has for a while, in a place that waits for them, on a clock that the test turns.
 
-ghost use Rattle.std.specs.Prelude.{◌≡◌, None};
+ghost use Rattle.std.specs.Prelude.{None};
 ghost use Rattle.database_places.specs.Places.{Leaves};
-ghost use Rattle.database_places.specs.Recorded.{shown, left};
 
 use command_line::DatabaseFault;
 use database_places::{Drawer, Place, WaitingPlace};
@@ -55,8 +54,6 @@ struct Taken<'a> {
 }
 
 impl Place<Memory> for Taken<'_> {
-    ghost recorded = { λ taken. shown taken.drawer.noted };
-
     ghost lying = { λ _. None };
 
     ghost file = { λ _. None };
@@ -65,11 +62,11 @@ impl Place<Memory> for Taken<'_> {
         self.drawer.seed()
     }
 
-    fn is_missing(&mut self) -> bool {
+    fn is_missing(&self) -> bool {
         self.drawer.is_missing()
     }
 
-    fn is_empty(&mut self) -> bool {
+    fn is_empty(&self) -> bool {
         self.drawer.is_empty()
     }
 
@@ -100,7 +97,6 @@ impl Place<Memory> for Taken<'_> {
     }
 
     fn leave(&mut self, files: Files<Memory>)
-        ensures got { shown self.new.drawer.noted ≡ left files (shown self.old.drawer.noted) }
         ensures left { Leaves None None files }
     {
         self.drawer.leave(files);

@@ -12,5 +12,4 @@ returns g c = (
         record { quiet = c.into_store.ensures.quiet; sound = c.into_store.ensures.sound };
     numbered = c.into_store.ensures.numbered;
   },
-  c.leave.ensures.got,
 )

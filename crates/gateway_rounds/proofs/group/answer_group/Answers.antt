@@ -1,7 +1,7 @@
-use Rattle.std.proofs.Common.{◌<◌, ◌∙◌, List, length, refl, arith, take_all}
+use Rattle.std.proofs.Common.{◌<◌, ◌∙◌, List, length, refl, arith}
 use Rattle.gateway_rounds.specs.declared.new.New.{New}
 use Rattle.gateway_rounds.specs.Groups.{IsAskedIn}
-use Rattle.gateway_rounds.proofs.Telling.{filed_each, is_there, none_filed, one_filed, one_longer, one_of}
+use Rattle.gateway_rounds.proofs.Telling.{is_there, none_filed, one_filed, one_longer, one_of}
 use Rattle.gateway_rounds.proofs.group.answer_group.Goals as goal
 
 pub loop-at-init : goal.loop-at-init
@@ -36,9 +36,3 @@ loop-at-preserved g c =
           c.answer_one.ensures.takes;
       group = c.answer_one.ensures.group ∙ c.loop-at.invariant.group;
     }
-
-pub returns : goal.returns
-returns g c =
-    let group : List New = c.args.port.now.group.items in
-    filed_each g.T.Stream g.S.Store _ _ group c.args.intake.now c.loop-at.intake c.loop-at.at
-    (take_all c.loop-at.at group (omega (arith, c.loop-at-test.false, c.len-at-end.ensures))) c.loop-at.invariant.filed

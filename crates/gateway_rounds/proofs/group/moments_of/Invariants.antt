@@ -1,10 +1,6 @@
 use Rattle.std.proofs.Common.{◌≡◌, vec_len}
-use Rattle.std.specs.List.{All}
 use Rattle.gateway_rounds.proofs.group.moments_of.Given as goal
 
 -- one for each turn
 abbrev pub invariant-loop : goal.invariant-loop
-invariant-loop l = record {
-  many : vec_len l.moments ≡ l.counter;
-  same : All (λ it. it ≡ l.moment) l.moments.items;
-}
+invariant-loop l = vec_len l.moments ≡ l.counter

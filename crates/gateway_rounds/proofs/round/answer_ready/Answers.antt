@@ -19,15 +19,12 @@ file_group-requires-clause-apart g c =
     are_apart c.args.port.now.next (places_in c.answer_at_once-left.new.port.group.items)
     c.answer_at_once-left.ensures.group_order
 
-pub file_group-requires-clause-moment : goal.file_group-requires-clause-moment
-file_group-requires-clause-moment g c = c.answer_at_once-left.ensures.next ∙ c.date.ensures.dated
-
 pub returns : goal.returns
 returns g c =
     let setting : KeepsSetting g.S.Store c.args.intake.now c.date.new.self =
     rw c.date.ensures.rest (record { clean = λ clean. clean; limit = refl; old_style = refl }) in
     round_done g.T.Stream g.S.Store _ _ _ c.answer_at_once-left.new.port.group.items c.answer_at_once-left.result
-    c.unwrap_or-port.result c.args.moment.milliseconds c.args.intake.now c.date.new.self
-    c.answer_at_once-left.new.intake c.file_group.new.intake setting c.date.ensures.holds c.date.ensures.dated
-    c.answer_at_once-left.ensures c.file_group.ensures
+    c.unwrap_or-port.result c.args.intake.now c.date.new.self c.answer_at_once-left.new.intake c.file_group.new.intake
+    setting
+    c.date.ensures.holds c.answer_at_once-left.ensures c.file_group.ensures
     (λ place is. c.unwrap_or-port.ensures ∙ ap (λ left. unwrap_or left 0) is)

@@ -10,4 +10,4 @@ returns-in-Repeat-clause-looks g c =
     (the_request c.args.filer.now c.args.key c.args.target c.args.request.now.body.now) c.in-Repeat.answer
     c.requires.asked c.closes.ensures c.decided_by.ensures.given c.args.intake.now looked.new.self
     looked.ensures.looks
-    (λ clean book holds. let tells = c.in-Repeat.ensures.tells clean book holds in (tells.0, tells.1))
+    (λ clean before holds. let tells = c.in-Repeat.ensures.tells clean before holds in (tells.0, tells.1))

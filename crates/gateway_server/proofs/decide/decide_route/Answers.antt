@@ -1,9 +1,9 @@
-use Rattle.std.proofs.Common.{ℕ, Option, refl, subst, sym}
+use Rattle.std.proofs.Common.{refl, subst, sym}
 use Rattle.std.specs.declared.alloc.AllocError.{AllocError}
 use Rattle.intake_core.specs.Held.{limit_of, old_style_in}
-use Rattle.filing_model.specs.Text.{Route, ListFilings}
+use Rattle.filing_model.specs.Text.{Route}
 use Rattle.gateway_server.specs.Decided.{Decides, rejection_reply}
-use Rattle.gateway_server.proofs.Decisions.{Decides-told, bare_filing, bare_list}
+use Rattle.gateway_server.proofs.Decisions.{Decides-told, bare_filing}
 use Rattle.gateway_server.proofs.Statuses.{phrase-parts, phrase-rejection_reply}
 use Rattle.gateway_server.proofs.decide.decide_route.Goals as goal
 
@@ -23,34 +23,6 @@ returns-in-Reject-clause-phrase g c =
 
 pub returns-in-Reject-clause-leaves : goal.returns-in-Reject-clause-leaves
 returns-in-Reject-clause-leaves g c = rw c.in-Reject.is refl
-
-pub returns-in-ListFilings-default-None-clause-decided : goal.returns-in-ListFilings-default-None-clause-decided
-returns-in-ListFilings-default-None-clause-decided g c = λ clean before h.
-    let told = c.list.ensures.decided clean before h in (
-      told.0,
-      told.1,
-      told.2,
-      rw c.in-ListFilings-default-None.is (subst (λ (to : Route).
-          Decides (limit_of c.args.intake.now) (old_style_in c.args.intake.now before) before told.0 to c.list.result)
-          (sym (bare_list c.args.is_bare _ _))
-          (subst (λ (number : Option ℕ). Decides (limit_of c.args.intake.now) (old_style_in c.args.intake.now before)
-          before told.0 (ListFilings c.in-ListFilings-default-None.filer.now number) c.list.result)
-          (sym (rw c.in-ListFilings-default-None.is at c.in-ListFilings-default-None.field-1-is)) told.3)),
-    )
-
-pub returns-in-ListFilings-default-Some-clause-decided : goal.returns-in-ListFilings-default-Some-clause-decided
-returns-in-ListFilings-default-Some-clause-decided g c = λ clean before h.
-    let told = c.show.ensures.decided clean before h in (
-      told.0,
-      told.1,
-      told.2,
-      rw c.in-ListFilings-default-Some.is (subst (λ (to : Route).
-          Decides (limit_of c.args.intake.now) (old_style_in c.args.intake.now before) before told.0 to c.show.result)
-          (sym (bare_list c.args.is_bare _ _))
-          (subst (λ (number : Option ℕ). Decides (limit_of c.args.intake.now) (old_style_in c.args.intake.now before)
-          before told.0 (ListFilings c.in-ListFilings-default-Some.filer.now number) c.show.result)
-          (sym (rw c.in-ListFilings-default-Some.is at c.in-ListFilings-default-Some.field-1-is)) told.3)),
-    )
 
 pub returns-in-FileReport-clause-decided : goal.returns-in-FileReport-clause-decided
 returns-in-FileReport-clause-decided g c = λ clean before h.

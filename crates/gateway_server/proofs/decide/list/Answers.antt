@@ -6,7 +6,6 @@ use Rattle.filing_model.specs.Listing.{Listing, listings}
 use Rattle.filing_model.specs.Register.{register}
 use Rattle.filing_model.specs.Reply.{list_reply, unavailable}
 use Rattle.filing_model.specs.Views.{view_row}
-use Rattle.register_tables.specs.Registers.{Book}
 use Rattle.intake_core.specs.Held.{limit_of, old_style_in}
 use Rattle.gateway_server.proofs.Statuses.{phrase-list_reply, phrase-parts, phrase-unavailable}
 use Rattle.gateway_server.proofs.Decisions.{Decides-listed_unavailable, DecidesNothing-told, DecidesNothing-refused}
@@ -14,12 +13,11 @@ use Rattle.gateway_server.proofs.decide.list.Goals as goal
 
 pub returns-in-Ok-clause-decided : goal.returns-in-Ok-clause-decided
 returns-in-Ok-clause-decided g c = λ clean before h.
-    let book : Book = record { requests = before; moments = h.moments } in
     let rows : List Listing = listings c.args.filer.now None (register before) in
     let same : map view_row c.deref.result.now ≡ rows =
-    ap (map view_row) c.deref.ensures.value ∙ c.in-Ok.ensures.rows clean book h.book in (
+    ap (map view_row) c.deref.ensures.value ∙ c.in-Ok.ensures.rows clean before h in (
       before,
-      record { moments = h.moments; book = c.in-Ok.ensures.kept clean book h.book },
+      c.in-Ok.ensures.kept clean before h,
       ap (λ n. take n before) c.in-Ok.ensures.setting.old_style,
       record {
         fit = tt;
@@ -40,10 +38,7 @@ returns-in-Ok-clause-leaves g c = DecidesNothing-told _ _ _ _ refl c.in-Ok.ensur
 pub returns-in-Err-clause-decided : goal.returns-in-Err-clause-decided
 returns-in-Err-clause-decided g c = λ clean before h. (
   before,
-  record {
-    moments = h.moments;
-    book = c.in-Err.ensures.kept clean (record { requests = before; moments = h.moments }) h.book;
-  },
+  c.in-Err.ensures.kept clean before h,
   ap (λ n. take n before) c.in-Err.ensures.setting.old_style,
   Decides-listed_unavailable (limit_of c.args.intake.now) (old_style_in c.args.intake.now before) before
       c.args.filer.now None c.unavailable.result c.unavailable.ensures,

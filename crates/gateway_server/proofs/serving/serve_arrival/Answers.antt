@@ -17,9 +17,9 @@ use Rattle.gateway_server.proofs.serving.serve_arrival.Goals as goal
 
 pub returns-in-Ok-Message-clause-serves : goal.returns-in-Ok-Message-clause-serves
 returns-in-Ok-Message-clause-serves g c = λ clean now kept.
-    let held = rw c.date.ensures.rest at c.date.ensures.holds (record { requests = now; moments = kept.moments }) kept.book in
+    let held = rw c.date.ensures.rest at c.date.ensures.holds now kept in
     let serves = rw c.date.ensures.rest at c.serve_message.ensures.serves in
-    let served = serves clean now (record { moments = kept.moments; book = held }) in (
+    let served = serves clean now held in (
       served.0,
       served.1,
       served.2,

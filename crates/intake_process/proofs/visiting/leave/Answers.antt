@@ -16,8 +16,7 @@ returns-then-came_to_others g c =
     let mid = g.P.Place.lying c.give_up.new.place in
     let new = g.P.Place.lying c.remove_new_log.new.place in
     given_in old new c.args.conn (is_refused c.args.done.now) c.give_up.ensures.0 (sym c.if-not-is_refused.ensures)
-    (kept_lying old mid new c.give_up.ensures.0 c.give_up.ensures.1 c.remove_new_log.ensures.keeps)
-    c.give_up.ensures.2
+    (kept_lying old mid new c.give_up.ensures.0 c.give_up.ensures.1 c.remove_new_log.ensures) c.give_up.ensures.2
 
 pub returns-else-came_to_others : goal.returns-else-came_to_others
 returns-else-came_to_others g c =

@@ -14,8 +14,8 @@ returns-in_err-reports g c =
 
 pub returns-in-Err : goal.returns-in-Err
 returns-in-Err g c =
-    let r = refused g.D.Disk Found (parts g.P.Place.recorded c.args.process.now)
-    (parts g.P.Place.recorded c.open.new.process) c.in-Err.refusal c.in-Err.ensures in
+    let r = refused g.D.Disk Found (parts g.P.Place.lying c.args.process.now) (parts g.P.Place.lying c.open.new.process)
+    c.in-Err.refusal c.in-Err.ensures in
     inr (
       sym c.if-not-is_for_one.ensures,
       inl (
@@ -29,7 +29,7 @@ returns-in-Err g c =
 
 pub returns : goal.returns
 returns g c =
-    let before = parts g.P.Place.recorded c.open.new.process in
+    let before = parts g.P.Place.lying c.open.new.process in
     inr (
       sym c.if-not-is_for_one.ensures,
       inl (
@@ -39,9 +39,9 @@ returns g c =
         c.put_each-done.ensures.traffic,
         inl (record {
           opened = before;
-          opens = opened g.D.Disk Found (parts g.P.Place.recorded c.args.process.now) before c.open.result
+          opens = opened g.D.Disk Found (parts g.P.Place.lying c.args.process.now) before c.open.result
               c.in_default.not-Err c.open.ensures;
-          done = parts g.P.Place.recorded c.put_each-done.new.process;
+          done = parts g.P.Place.lying c.put_each-done.new.process;
           turns = c.put_each-done.ensures.puts;
           closed = c.close.ensures.0;
           closes = c.close.ensures.1;

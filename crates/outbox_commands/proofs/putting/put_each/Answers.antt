@@ -11,15 +11,15 @@ loop-report-preserved g c =
     let report = c.in-Some.report in
     let mid = g.O.Write.contents c.loop-report.output in
     let out' = g.O.Write.contents c.put_one.new.output in
-    let between = parts g.P.Place.recorded c.loop-report.process in
-    let new = parts g.P.Place.recorded c.put_one.new.process in
+    let between = parts g.P.Place.lying c.loop-report.process in
+    let new = parts g.P.Place.lying c.put_one.new.process in
     let one =
     subst (λ net. PutsOne (put_of c.args.target report) net mid out' between new (Ok tt))
     c.loop-report.invariant.traffic
     c.in_default.ensures.puts in record {
       puts = next_put (g.N.Dial.traffic c.args.network.now) (put_of c.args.target) c.args.reports.items
           c.loop-report.yielded report (g.O.Write.contents c.args.output.now) mid out'
-          (parts g.P.Place.recorded c.args.process.now) between new c.loop-report.invariant.puts one;
+          (parts g.P.Place.lying c.args.process.now) between new c.loop-report.invariant.puts one;
       traffic = c.put_one.ensures.traffic ∙ c.loop-report.invariant.traffic;
       opened = c.put_one.ensures.stays_open;
     }
@@ -36,14 +36,14 @@ returns-in-Err-clause-puts g c =
     report c.in-Some.is c.next.ensures.steps in
     let mid = g.O.Write.contents c.loop-report.output in
     let out' = g.O.Write.contents c.put_one.new.output in
-    let between = parts g.P.Place.recorded c.loop-report.process in
-    let new = parts g.P.Place.recorded c.put_one.new.process in
+    let between = parts g.P.Place.lying c.loop-report.process in
+    let new = parts g.P.Place.lying c.put_one.new.process in
     let one =
     subst (λ net. PutsOne (put_of c.args.target report) net mid out' between new (Err c.in-Err.why))
     c.loop-report.invariant.traffic c.in-Err.ensures.puts in (
       Err c.in-Err.why,
       next_failed (g.N.Dial.traffic c.args.network.now) (put_of c.args.target) items c.loop-report.yielded report
-          (g.O.Write.contents c.args.output.now) mid out' (parts g.P.Place.recorded c.args.process.now) between new
+          (g.O.Write.contents c.args.output.now) mid out' (parts g.P.Place.lying c.args.process.now) between new
           c.in-Err.why turn.0 turn.1 (YieldsList-so_far road c.loop-report.yielded at c.loop-report.yielded_by)
           c.loop-report.invariant.puts one,
       c.fault_of_put.ensures,

@@ -1,4 +1,5 @@
 use Rattle.std.proofs.Common.{IsSome, Ok, Err, sym, ap, subst}
+use Rattle.database_places.specs.Places.{IsHonest}
 use Rattle.outbox_process.specs.Process.{parts, Leaves}
 use Rattle.outbox_commands.specs.Puts.{ended_as}
 use Rattle.outbox_commands.proofs.Turns.{puts_one, some_open, stays}
@@ -7,16 +8,16 @@ use Rattle.outbox_commands.proofs.putting.put_one.Goals.{then-is_random, else-is
 
 pub returns-in-Ok-clause-puts : goal.returns-in-Ok-clause-puts
 returns-in-Ok-clause-puts g c =
-    let done = parts g.P.Place.recorded c.perform-came.new.self in
+    let done = parts g.P.Place.lying c.perform-came.new.self in
     puts_one c.args.report.key c.args.target c.args.report.body (g.N.Dial.traffic c.args.network.now)
     (g.N.Dial.traffic c.perform-came.new.network) (g.O.Write.contents c.args.output.now)
-    (g.O.Write.contents c.perform-came.new.output) (parts g.P.Place.recorded c.args.process.now) done
-    (parts g.P.Place.recorded c.if-is_random.process) c.perform-came.result (Ok tt) c.perform-came.ensures
+    (g.O.Write.contents c.perform-came.new.output) (parts g.P.Place.lying c.args.process.now) done
+    (parts g.P.Place.lying c.if-is_random.process) c.perform-came.result (Ok tt) c.perform-came.ensures
     (elim c.if-is_random.branch [
-      | then-is_random w ↦ subst (λ p. Leaves done (parts g.P.Place.recorded p)) (sym w.process-is)
+      | then-is_random w ↦ subst (λ p. IsHonest g.D.Disk → Leaves done (parts g.P.Place.lying p)) (sym w.process-is)
           w.tell_same.ensures.kept
-      | else-is_random w ↦ subst (λ p. Leaves done (parts g.P.Place.recorded p)) (sym w.process-is)
-          (stays done)
+      | else-is_random w ↦ subst (λ p. IsHonest g.D.Disk → Leaves done (parts g.P.Place.lying p)) (sym w.process-is)
+          (λ honest. stays done)
     ])
     (sym (ap ended_as c.in-Ok.is))
 
@@ -30,16 +31,16 @@ returns-in-Ok-clause-stays_open g c =
 
 pub returns-in-Err-clause-puts : goal.returns-in-Err-clause-puts
 returns-in-Err-clause-puts g c =
-    let done = parts g.P.Place.recorded c.perform-came.new.self in
+    let done = parts g.P.Place.lying c.perform-came.new.self in
     puts_one c.args.report.key c.args.target c.args.report.body (g.N.Dial.traffic c.args.network.now)
     (g.N.Dial.traffic c.perform-came.new.network) (g.O.Write.contents c.args.output.now)
-    (g.O.Write.contents c.perform-came.new.output) (parts g.P.Place.recorded c.args.process.now) done
-    (parts g.P.Place.recorded c.if-is_random.process) c.perform-came.result (Err c.in-Err.why) c.perform-came.ensures
+    (g.O.Write.contents c.perform-came.new.output) (parts g.P.Place.lying c.args.process.now) done
+    (parts g.P.Place.lying c.if-is_random.process) c.perform-came.result (Err c.in-Err.why) c.perform-came.ensures
     (elim c.if-is_random.branch [
-      | then-is_random w ↦ subst (λ p. Leaves done (parts g.P.Place.recorded p)) (sym w.process-is)
+      | then-is_random w ↦ subst (λ p. IsHonest g.D.Disk → Leaves done (parts g.P.Place.lying p)) (sym w.process-is)
           w.tell_same.ensures.kept
-      | else-is_random w ↦ subst (λ p. Leaves done (parts g.P.Place.recorded p)) (sym w.process-is)
-          (stays done)
+      | else-is_random w ↦ subst (λ p. IsHonest g.D.Disk → Leaves done (parts g.P.Place.lying p)) (sym w.process-is)
+          (λ honest. stays done)
     ])
     (sym (ap ended_as c.in-Err.is))
 

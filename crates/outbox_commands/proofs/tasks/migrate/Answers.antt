@@ -9,7 +9,7 @@ use Rattle.outbox_commands.proofs.tasks.migrate.Goals as goal
 pub returns-then-is_current : goal.returns-then-is_current
 returns-then-is_current g c =
     let told = c.in-Err.refusal in
-    let r = not_migrated (parts g.P.Place.recorded c.args.process.now) (parts g.P.Place.recorded c.open.new.process)
+    let r = not_migrated (parts g.P.Place.lying c.args.process.now) (parts g.P.Place.lying c.open.new.process)
     c.requires told c.in-Err.ensures in
     inr (
       r.refusal,
@@ -23,7 +23,7 @@ returns-then-is_current g c =
 pub returns-in-Err : goal.returns-in-Err
 returns-in-Err g c =
     let told = c.in-Err.refusal in
-    let r = not_migrated (parts g.P.Place.recorded c.args.process.now) (parts g.P.Place.recorded c.open.new.process)
+    let r = not_migrated (parts g.P.Place.lying c.args.process.now) (parts g.P.Place.lying c.open.new.process)
     c.requires told c.in-Err.ensures in
     inr (
       r.refusal,
@@ -36,11 +36,11 @@ returns-in-Err g c =
 
 pub returns : goal.returns
 returns g c =
-    let migrated = parts g.P.Place.recorded c.open.new.process in
+    let migrated = parts g.P.Place.lying c.open.new.process in
     inl (
       migrated,
       c.close.ensures.0,
-      opened g.D.Disk Migrated (parts g.P.Place.recorded c.args.process.now) migrated c.open.result c.in_default.not-Err
+      opened g.D.Disk Migrated (parts g.P.Place.lying c.args.process.now) migrated c.open.result c.in_default.not-Err
           c.open.ensures,
       c.close.ensures.1,
       c.show_line-shown.ensures,

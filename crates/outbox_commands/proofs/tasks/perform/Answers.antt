@@ -1,6 +1,5 @@
 use Rattle.std.proofs.Common.{map, string_bytes, refl, sym, ◌∙◌, ap, subst}
 use Rattle.finding_lines.specs.Linting.{LintsReports}
-use Rattle.database_places.specs.Recorded.{shown}
 use Rattle.outbox_commands.specs.declared.options.Asked.TheVariants.{Lint}
 use Rattle.outbox_commands.specs.Status.{ended_status}
 use Rattle.outbox_commands.proofs.Performed.{as_none, as_asked, as_reading, as_writing}
@@ -15,15 +14,13 @@ pub returns-then-opens_for_reading : goal.returns-then-opens_for_reading
 returns-then-opens_for_reading g c =
     as_reading (map string_bytes c.args.words.now) c.in-Ok-Some.field-0 c.in-Ok-Some.ensures.read c.in-Ok-Some.asked
     c.in-Outbox.task c.in-Outbox.wait c.access.result c.opens_for_reading.result c.in-Ok-Some.field-0-is c.in-Outbox.is
-    c.access.ensures c.opens_for_reading.ensures c.if-opens_for_reading.true (shown c.new-place.result.noted)
-    c.new-place.ensures.unmoved c.perform_in.ensures
+    c.access.ensures c.opens_for_reading.ensures c.if-opens_for_reading.true c.perform_in.ensures
 
 pub returns-in-Outbox : goal.returns-in-Outbox
 returns-in-Outbox g c =
     as_writing (map string_bytes c.args.words.now) c.in-Ok-Some.field-0 c.in-Ok-Some.ensures.read c.in-Ok-Some.asked
     c.in-Outbox.task c.in-Outbox.wait c.access.result c.opens_for_reading.result c.in-Ok-Some.field-0-is c.in-Outbox.is
     c.access.ensures c.opens_for_reading.ensures c.if-opens_for_reading.false
-    (shown c.new-place-else-opens_for_reading.result.noted) c.new-place-else-opens_for_reading.ensures.unmoved
     c.perform_in-else-opens_for_reading.ensures
 
 pub returns-in-Ok : goal.returns-in-Ok

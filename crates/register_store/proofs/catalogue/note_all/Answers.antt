@@ -32,7 +32,7 @@ each-preserved c =
           let before = new_before F first row all in
           let last = new_last F first row all in
           c.note.ensures.lines (F ++ map request_of first) (c.each.invariant.lines F was place before)
-          (omega (arith, c.each.invariant.at, place, kept_many F first before, size)) last
+          (omega (arith, c.each.invariant.at, place, kept_many F first before, size)) last.key last.judged
           ∙ ap catalogue_of (sym (requests_more F first row)
           ∙ ap (λ rows. F ++ map request_of rows) (sym longer));
     }

@@ -1,4 +1,6 @@
-use Rattle.std.proofs.Common.{◌≡◌, inl, inr, not, true, false, Err, IsTrue, refl, sym, ap, ◌∙◌, rules, arith}
+use Rattle.std.proofs.Common.{◌≡◌, inl, inr, not, true, false, None, Err, IsTrue, refl, sym, ap, ◌∙◌, rules, arith}
+use Rattle.std.proofs.Common.{length}
+use Rattle.std.proofs.lemmas.List.{length-replicate}
 use Rattle.sqlite.specs.Held.{state}
 use Rattle.sqlite.specs.State.{HasCleanDisk}
 use Rattle.sqlite.proofs.StateLemmas.{survives_then, survives_weaker}
@@ -41,6 +43,7 @@ returns-then-is_blocked g c = record {
       (λ _ db none. absurd none) c.read_earlier.ensures.leaves.survives;
   unwritten = inr c.read_earlier.ensures.leaves.survives;
   durable = λ clean. tt;
+  undated = λ clean. tt;
 }
 
 pub returns-in-Ok : goal.returns-in-Ok
@@ -97,19 +100,29 @@ returns-in-Ok g c =
           c.read_earlier.ensures.leaves.survives c.write.ensures.crash;
       unwritten = tt;
       durable = λ clean form old_style F alone is.
-          let done = ran clean in
-          let stands =
-          current_only g.S.Store c.args.conn.now c.write.new.conn done.0 form c.in_ok-found.found.counts done.1
-          c.write.ensures.autocommit old_style F alone is in
+          let found = only clean form old_style F alone is in
           let alive = (c.in-Ok.ensures.written clean).is_open in (
             alive,
             λ trees left. record {
               db = (state g.S.Store c.write.new.conn).now;
               is =
                   c.in-Ok.ensures.durable clean trees left;
-              holds = stands.now alive;
+              register = found.1.now alive;
             },
           );
+      undated = λ clean form old_style F alone is trees left.
+          let done = ran clean in
+          let stands =
+          current_only g.S.Store c.args.conn.now c.write.new.conn done.0 form c.in_ok-found.found.counts done.1
+          c.write.ensures.autocommit old_style F alone is in
+          let current = stands.now (c.in-Ok.ensures.written clean).is_open in
+          record {
+            db = (state g.S.Store c.write.new.conn).now;
+            is = c.in-Ok.ensures.durable clean trees left;
+            register = current.register;
+            one_each = length-replicate (length F) None;
+            received = current.undated;
+          };
     }
 
 pub returns-in-Err : goal.returns-in-Err
@@ -158,6 +171,7 @@ returns-in-Err g c = record {
       c.read_earlier.ensures.leaves.survives c.write.ensures.crash;
   unwritten = inl (search rules);
   durable = λ clean. tt;
+  undated = λ clean. tt;
 }
 
 pub returns-in_err-found : goal.returns-in_err-found
@@ -180,4 +194,5 @@ returns-in_err-found g c =
           (λ _ db none. absurd none) c.read_earlier.ensures.leaves.survives;
       unwritten = inr c.read_earlier.ensures.leaves.survives;
       durable = λ clean. tt;
+      undated = λ clean. tt;
     })

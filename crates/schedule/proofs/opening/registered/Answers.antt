@@ -12,7 +12,7 @@ returns-in-Some-clause-list g c = λ limit requests keeps.
     let kept =
     subst (λ i. KeepsBy {g = g.D.Disk} i (lying_in c.args.process.now.place) limit 0 requests)
     (sym c.in-Some.ensures.value) keeps.1 in
-    c.register.ensures.rows (always_clean g.met.D.Honest.honest c.register.new.self.store.conn) _ kept.0.holds.book
+    c.register.ensures.rows (always_clean g.met.D.Honest.honest c.register.new.self.store.conn) requests kept.0.holds
 
 pub returns-in-Some-clause-kept : goal.returns-in-Some-clause-kept
 returns-in-Some-clause-kept g c = λ limit requests keeps.
@@ -23,10 +23,7 @@ returns-in-Some-clause-kept g c = λ limit requests keeps.
       keeps.0,
       (
         record {
-          holds = record {
-            moments = kept.0.holds.moments;
-            book = told.kept (always_clean g.met.D.Honest.honest c.register.new.self.store.conn) _ kept.0.holds.book;
-          };
+          holds = told.kept (always_clean g.met.D.Honest.honest c.register.new.self.store.conn) requests kept.0.holds;
           limit_is = told.setting.limit ∙ kept.0.limit_is;
           old_style_is = told.setting.old_style ∙ kept.0.old_style_is;
         },

@@ -1,14 +1,14 @@
-use Rattle.std.proofs.Common.{◌≡◌, ◌+◌, ◌∷◌, length, take, drop, get_or, Ok, true≢false, sym, ap, ◌∙◌}
+use Rattle.std.proofs.Common.{◌≡◌, ◌+◌, ◌∷◌, List, length, take, drop, get_or, Ok, true≢false, sym, ap, ◌∙◌}
 use Rattle.std.proofs.Common.{arith, rules}
 use Rattle.std.proofs.lemmas.List.{drop_more}
 use Rattle.std.specs.Option.{is_some}
 use Rattle.std.specs.Vec.Iter.{into_iter_items}
 use Rattle.filing_model.specs.declared.served.Style.TheVariants.{Problem}
+use Rattle.filing_model.specs.Request.{Request}
 use Rattle.filing_model.specs.Style.{style_of}
 use Rattle.filing_model.specs.Views.{view_outcome}
 use Rattle.intake_core.specs.Cache.{IsKeptIn, IsNameIfAny}
-use Rattle.register_tables.specs.Registers.{Book}
-use Rattle.intake_core.specs.Held.{HoldsBook, old_style_of}
+use Rattle.intake_core.specs.Held.{HoldsRequests, old_style_of}
 use Rattle.intake_core.proofs.Answering.{AnswersFirst, Tells, answers_all, answers_more}
 use Rattle.intake_core.proofs.Deciding.{IfSome-made}
 use Rattle.intake_core.proofs.intake.Intake.answer_group.Goals as goal
@@ -31,11 +31,11 @@ loop-request-preserved g c =
           let fewer = rw w.in-Some.is at c.next.ensures.len in
           let named : IsNameIfAny c.request-item.result w.ok-name.result =
           rw w.ok-name.ensures.value (IfSome-made w.name_of.result _ w.name_of.ensures) in
-          let same : (book : Book) → HoldsBook g.S.Store c.loop-request.self book
-          → IsKeptIn book.requests (record { request = c.request-item.result; outcome = view_outcome o })
-          → Problem ≡ style_of (take (old_style_of c.loop-request.self) book.requests) c.request-item.result
-          → HoldsBook g.S.Store w.remember.new.self book =
-          λ book held is styled. w.remember.ensures.same book held named is styled in
+          let same : (requests : List Request) → HoldsRequests g.S.Store c.loop-request.self requests
+          → IsKeptIn requests (record { request = c.request-item.result; outcome = view_outcome o })
+          → Problem ≡ style_of (take (old_style_of c.loop-request.self) requests) c.request-item.result
+          → HoldsRequests g.S.Store w.remember.new.self requests =
+          λ requests held is styled. w.remember.ensures.same requests held named is styled in
           let first : o ≡ get_or outcomes i o = cc in
           let tells : Tells o (Ok w.answer_by.result) = (w.answer_by.ensures.0, w.answer_by.ensures.1) in
           let answers : AnswersFirst g.S.Store (i + 1) rs outcomes c.args.self.now w.remember.new.self

@@ -35,22 +35,20 @@ loop-at-preserved g c =
           rw (longer, c.push_reserved.ensures.items, c.in_ok-reserve.ensures.items)
           (all_zipped_more IsJudgedAlone before c.loop-at.group.items r c.in_ok-judged.judged c.loop-at.invariant.judged
           judged);
-      new = λ clean book h holds.
-          let F = book.requests in
+      new = λ clean F h holds.
           let cleaned = looks.setting.clean clean in
-          let held = c.loop-at.invariant.looks.same cleaned book h in
-          let fresh = c.in_ok-may_join.ensures.new clean book held joins
+          let held = c.loop-at.invariant.looks.same cleaned F h in
+          let fresh = c.in_ok-may_join.ensures.new clean F held joins
           (λ found. new_at F all at r (holds found) c.loop-at-test.true c.index-requests-at.is) in
           subst (AreNewBehind F) (sym longer)
-          (new_more F before r (c.loop-at.invariant.new cleaned book h holds)
+          (new_more F before r (c.loop-at.invariant.new cleaned F h holds)
           (has_key-neither F before r fresh.0 (c.in_ok-may_join.ensures.own joins)));
-      is_open = λ clean book h holds opened some.
-          let F = book.requests in
+      is_open = λ clean F h holds opened some.
           let cleaned = looks.setting.clean clean in
-          let held = c.loop-at.invariant.looks.same cleaned book h in
-          let fresh = c.in_ok-may_join.ensures.new clean book held joins
+          let held = c.loop-at.invariant.looks.same cleaned F h in
+          let fresh = c.in_ok-may_join.ensures.new clean F held joins
           (λ found. new_at F all at r (holds found) c.loop-at-test.true c.index-requests-at.is) in
-          fresh.1 (λ found. c.loop-at.invariant.is_open cleaned book h holds opened (inl found));
+          fresh.1 (λ found. c.loop-at.invariant.is_open cleaned F h holds opened (inl found));
       limit = λ some.
           omega (
             arith,

@@ -22,4 +22,4 @@ returns g c =
     subst (AreRowsOf c.args.requests.now c.args.moments.now c.args.judged.now) (sym c.deref.ensures.value)
     c.in_ok-rows.ensures in
     adds_group c.args.requests.now c.args.moments.now c.args.judged.now c.deref.result.now c.args.self.now _
-    c.add_all.result are c.requires.judged refl refl refl refl c.add_all.ensures
+    c.add_all.result are c.requires.judged refl refl refl refl c.add_all.ensures.adds c.add_all.ensures.moments

@@ -1,11 +1,12 @@
-use Rattle.std.proofs.Common.{rules}
+use Rattle.std.proofs.Common.{refl, rules}
+use Rattle.intake_core.proofs.Dating.{keeps_moments}
 use Rattle.intake_core.proofs.intake.Intake.list.Goals as goal
 
 pub returns : goal.returns
 returns g c = record {
   rows = search rules;
   kept = search rules;
-  next = search rules;
+  moments = keeps_moments c.args.self.now _ c.filings-result.ensures.keeps refl;
   setting = search rules;
   crash = search rules;
   durable = search rules;
@@ -19,7 +20,7 @@ pub returns-in_err-result : goal.returns-in_err-result
 returns-in_err-result g c = record {
   rows = search rules;
   kept = search rules;
-  next = search rules;
+  moments = keeps_moments c.args.self.now _ c.filings-result.ensures.keeps refl;
   setting = search rules;
   crash = search rules;
   durable = search rules;

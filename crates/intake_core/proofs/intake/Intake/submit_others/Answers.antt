@@ -1,11 +1,11 @@
-use Rattle.std.proofs.Common.{◌≡◌, ◌+◌, ◌-◌, take, drop, length, vec_len, subst, sym, ap, arith}
+use Rattle.std.proofs.Common.{◌≡◌, ◌+◌, ◌-◌, take, drop, length, vec_len, subst, sym, ap, ◌∙◌, arith}
 use Rattle.std.proofs.Common.{true≢false}
-use Rattle.std.proofs.lemmas.List.{length-drop, take_all}
+use Rattle.std.proofs.lemmas.List.{drop-map, length-drop, take_all}
 use Rattle.std.proofs.lemmas.Slice.{between_to_end}
-use Rattle.intake_core.specs.Group.{asked_at}
-use Rattle.intake_core.specs.Together.{AddsResults}
+use Rattle.register_rows.specs.declared.moment.Moment.{Moment}
+use Rattle.intake_core.specs.Together.{AddsResults, in_milliseconds}
+use Rattle.intake_core.proofs.Dating.{length_milliseconds}
 use Rattle.intake_core.proofs.Group.{adds_next, adds_none, adds_weaker}
-use Rattle.intake_core.proofs.Together.{drop_asked_by, length_asked}
 use Rattle.intake_core.proofs.intake.Intake.submit_others.Goals as goal
 use Rattle.intake_core.proofs.intake.Intake.submit_others.Goals.{then-at-len, else-at-len}
 
@@ -22,9 +22,8 @@ loop-at-init g c =
 pub loop-at-preserved : goal.loop-at-preserved
 loop-at-preserved g c =
     let all = c.args.requests.now in
-    let moments = c.args.moments.now in
-    let asked = asked_at all moments in
-    let many : length asked ≡ length all = length_asked all moments c.requires.moments in
+    let ms = in_milliseconds c.args.moments.now in
+    let long_ms : length ms ≡ length all = length_milliseconds c.args.moments.now ∙ c.requires.moments in
     let at = c.loop-at.at in
     let start = c.len-start.result in
     let held = c.loop-at.invariant in
@@ -34,31 +33,22 @@ loop-at-preserved g c =
           let adds = adds_weaker (λ _ is. absurd (true≢false (sym is))) (λ F _ is. absurd (true≢false (sym is)))
           next.3 in
           let here : vec_len c.loop-at.results - start ≡ at = omega (arith, w.if-at-len.true, c.len.ensures) in
-          let before : AddsResults g.S.Store (take at asked) c.args.self.now c.loop-at.self c.args.results.now
-          c.loop-at.results =
-          subst (λ n. AddsResults g.S.Store (take n asked) c.args.self.now c.loop-at.self c.args.results.now
-          c.loop-at.results) here held.adds in
-          let there =
-          drop_asked_by at all _ moments _ (between_to_end all at (length all) (omega arith))
-          (between_to_end moments at (length moments) (omega arith)) in
-          let left : length (drop at asked) ≡ length asked - at = length-drop at asked in
+          let before : AddsResults g.S.Store (take at all) (take at ms) c.args.self.now c.loop-at.self
+          c.args.results.now c.loop-at.results =
+          subst (λ n. AddsResults g.S.Store (take n all) (take n ms) c.args.self.now c.loop-at.self
+          c.args.results.now c.loop-at.results) here held.adds in
+          let rest : drop at ms ≡ in_milliseconds (drop at c.args.moments.now) =
+          drop-map (λ (t : Moment). t.milliseconds) at c.args.moments.now in
           let done =
-          adds_next asked at next.0 c.args.self.now c.loop-at.self w.submit_next.new.self c.args.results.now
-          c.loop-at.results w.submit_next.new.results before adds
-          (omega (
-            arith,
-            next.2,
-            ap length there,
-            left,
-            many,
-            length-drop at all,
-            c.loop-at-test.true,
-            ap length (between_to_end all at (length all) (omega arith)),
-          )) there in
+          adds_next all ms at next.0 c.args.self.now c.loop-at.self w.submit_next.new.self c.args.results.now
+          c.loop-at.results w.submit_next.new.results long_ms before adds next.2
+          (between_to_end all at (length all) (omega arith))
+          (ap in_milliseconds (between_to_end c.args.moments.now at (length c.args.moments.now) (omega arith))
+          ∙ sym rest) (omega (arith, c.loop-at-test.true)) in
           let more : at + next.0 ≡ vec_len w.submit_next.new.results - start =
           omega (arith, done.0, here, held.begun) in
           rw (w.self-is, w.results-is) (record {
-            adds = subst (λ n. AddsResults g.S.Store (take n asked) c.args.self.now w.submit_next.new.self
+            adds = subst (λ n. AddsResults g.S.Store (take n all) (take n ms) c.args.self.now w.submit_next.new.self
                 c.args.results.now w.submit_next.new.results) more done.1;
             begun = omega (arith, done.0, held.begun);
             past = omega (arith, more, next.1);
@@ -74,13 +64,18 @@ loop-at-preserved g c =
 
 pub returns : goal.returns
 returns g c =
-    let asked = asked_at c.args.requests.now c.args.moments.now in
+    let all = c.args.requests.now in
+    let ms = in_milliseconds c.args.moments.now in
     let held = c.loop-at.invariant in
     let many = vec_len c.loop-at.results - c.len-start.result in
-    subst (λ bs. AddsResults g.S.Store bs c.args.self.now c.loop-at.self c.args.results.now c.loop-at.results)
-    (take_all many asked (omega (
+    subst (λ rs. AddsResults g.S.Store rs ms c.args.self.now c.loop-at.self c.args.results.now c.loop-at.results)
+    (take_all many all (omega (arith, held.past, c.loop-at-test.false)))
+    (subst (λ ms. AddsResults g.S.Store (take many all) ms c.args.self.now c.loop-at.self c.args.results.now
+    c.loop-at.results)
+    (take_all many ms (omega (
       arith,
       held.past,
       c.loop-at-test.false,
-      length_asked c.args.requests.now c.args.moments.now c.requires.moments,
-    ))) held.adds
+      length_milliseconds c.args.moments.now,
+      c.requires.moments,
+    ))) held.adds)

@@ -5,7 +5,7 @@ use Rattle.intake_process.proofs.process.IntakeProcess.answer_port.Goals as goal
 
 pub returns-in-Some : goal.returns-in-Some
 returns-in-Some g c = (
-  subst (λ i. AnswersPortBy g.T.Stream c.args.moment.milliseconds (port g.K.Sockets.traffic c.args.port.now)
+  subst (λ i. AnswersPortBy g.T.Stream (port g.K.Sockets.traffic c.args.port.now)
       (port g.K.Sockets.traffic c.answer_by-by.new.port) i (Some c.answer_by-by.new.intake) c.answer_by-by.result)
       (sym c.in-Some.is) (
         c.answer_by-by.new.intake,

@@ -42,7 +42,7 @@ returns-then-is_of_others g c =
     (not_begun (is_found c.args.opening) old mid new c.in-Ok.conn c.in-Err-begin.back c.give_up.ensures.0
     c.in-Err-begin.why c.in-Ok.ensures.opens.comes c.in-Err-begin.ensures.refused
     (kept_lying mid (g.P.Place.lying c.give_up.new.place) new c.give_up.ensures.0 c.give_up.ensures.1
-    c.remove_new_log.ensures.keeps) c.give_up.ensures.2)
+    c.remove_new_log.ensures) c.give_up.ensures.2)
     (there (is_found c.args.opening) old _ c.in-Ok.conn c.in-Ok.ensures.opens)
 
 pub returns-else-is_of_others : goal.returns-else-is_of_others

@@ -14,7 +14,7 @@ returns-in_err-text g c =
     (search rules)
     (answers_failed g.S.Store (List c.args.filer true) out out c.args.store.now new.conn
     (kept_store g.S.Store c.args.store.now new c.in_err-text.ensures.keeps) (λ _. tt) tt tt
-    (λ clean book has. refl) c.in_err-text.field-0.0
+    (λ clean F has moments dated. refl) c.in_err-text.field-0.0
     (reading_prints c.in_err-text.field-0.0 c.in_err-text.ensures.fails) (inr refl))
 
 pub returns : goal.returns
@@ -24,6 +24,7 @@ returns g c =
     let new = c.moment_lines.new.store in
     answers g.S.Store (List c.args.filer true) out out' c.args.store.now new.conn
     (kept_store g.S.Store c.args.store.now new c.in_ok-text.ensures.keeps) (string_bytes c.in_ok-text.text)
-    (λ clean book has. ap Some (sym (c.in_ok-text.ensures.lines clean book has))) tt c.print.result
+    (λ clean F has moments dated. ap Some (sym (c.in_ok-text.ensures.lines clean F has moments dated))) tt
+    c.print.result
     (subst (λ text. OnOk c.print.result (Appends out out' text)) c.as_bytes.ensures.value c.print.ensures.printed)
     c.print.ensures.fault

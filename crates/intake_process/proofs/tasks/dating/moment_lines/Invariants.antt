@@ -2,7 +2,7 @@ use Rattle.std.proofs.Common.{◌≡◌, map, string_bytes, take}
 use Rattle.filing_model.specs.Register.{kept}
 use Rattle.filing_model.specs.Views.{view_row}
 use Rattle.register_store.specs.Calls.{KeepsStore}
-use Rattle.register_store.specs.Store.{ForBook}
+use Rattle.register_store.specs.Moments.{ForMoments}
 use Rattle.intake_process.specs.Listing.{moment_lines}
 use Rattle.intake_process.proofs.tasks.dating.moment_lines.Given as goal
 
@@ -10,6 +10,6 @@ abbrev pub invariant-loop-row : goal.invariant-loop-row
 invariant-loop-row g l = record {
   begun : KeepsStore g.S.Store l.fn.store l.initial.store;
   keeps : KeepsStore g.S.Store l.initial.store l.store;
-  lines : ForBook g.S.Store l.fn.store l.store (λ book. string_bytes l.text
-      ≡ moment_lines (kept book.requests) book.moments (map view_row (take l.row-index l.row-items)));
+  lines : ForMoments g.S.Store l.fn.store l.store (λ requests moments.
+      string_bytes l.text ≡ moment_lines (kept requests) moments (map view_row (take l.row-index l.row-items)));
 }

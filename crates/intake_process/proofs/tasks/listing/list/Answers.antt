@@ -14,7 +14,7 @@ returns-in-Err g c =
     let out = g.O.Write.contents c.args.output.now in
     answers_not g.S.Store (List c.args.filer false) out out c.args.store.now c.filings.new.self.conn
     (kept_store g.S.Store c.args.store.now c.filings.new.self c.in-Err.ensures.keeps) (why.List c.in-Err.fault) refl tt
-    (λ clean book has. tt) (inr refl)
+    (λ clean F has moments dated. tt) (inr refl)
 
 pub returns-in_err-text : goal.returns-in_err-text
 returns-in_err-text g c =
@@ -24,7 +24,7 @@ returns-in_err-text g c =
     (search rules)
     (answers_not g.S.Store (List c.args.filer false) out out c.args.store.now new.conn
     (kept_store g.S.Store c.args.store.now new c.in-Ok.ensures.keeps) why.Memory refl tt
-    (λ clean book has. refl) (inr refl))
+    (λ clean F has moments dated. refl) (inr refl))
 
 pub returns : goal.returns
 returns g c =
@@ -32,8 +32,8 @@ returns g c =
     let out' = g.O.Write.contents c.print.new.output in
     answers g.S.Store (List c.args.filer false) out out' c.args.store.now c.filings.new.self.conn
     (kept_store g.S.Store c.args.store.now c.filings.new.self c.in-Ok.ensures.keeps) c.in_ok-text.text.items
-    (λ clean book has. ap Some (sym (c.in_ok-text.ensures ∙ ap (λ rows. line (list_reply rows).content)
+    (λ clean F has moments dated. ap Some (sym (c.in_ok-text.ensures ∙ ap (λ rows. line (list_reply rows).content)
     (ap (map view_row) c.deref.ensures.value
-    ∙ c.in-Ok.ensures.rows clean book has)))) tt c.print.result
+    ∙ c.in-Ok.ensures.rows clean F has)))) tt c.print.result
     (subst (λ text. OnOk c.print.result (Appends out out' text)) c.deref-2.ensures.value c.print.ensures.printed)
     c.print.ensures.fault

@@ -11,8 +11,7 @@ returns-clause-served g c =
     let from = wire g.R.Source g.W.Sink c.args.reader.now c.args.writer.now in
     let to = wire g.R.Source g.W.Sink c.serve.new.reader c.serve.new.writer in
     let marks = c.serve.result.marks.items in
-    let t = c.serve.ensures.serves (memory_is_clean c.serve.new.intake.store.conn) []
-    (record { moments = []; book = c.in_ok-intake.ensures.empty }) in
+    let t = c.serve.ensures.serves (memory_is_clean c.serve.new.intake.store.conn) [] c.in_ok-intake.ensures.empty in
     let none : old_style_in c.in_ok-intake.intake [] ≡ [] = ap (λ n. take n []) c.in_ok-intake.ensures.problem in
     record {
       marks = marks;

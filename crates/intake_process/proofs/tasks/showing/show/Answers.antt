@@ -20,11 +20,11 @@ returns-in_err-text g c =
     (answers_failed g.S.Store (Show c.args.number c.args.moments) out out old new.conn
     (kept_store g.S.Store old new (keeps_then g.S.Store c.in_ok-facts.ensures.keeps c.in_err-text.ensures.keeps))
     (λ _. tt) tt tt
-    (λ clean book has. ap is_some (shown_as g.S.Store c.args.number c.args.moments old mid new
+    (λ clean F has moments dated. ap is_some (shown_as g.S.Store c.args.number c.args.moments old mid new
     c.deref.result.now
-    (λ clean book has. ap Some c.deref.ensures.value ∙ ap (option_map (λ list. list.items)) (sym c.in-Some.is)
-    ∙ c.in_ok-facts.ensures.facts clean book has)
-    c.in_ok-facts.ensures.keeps c.in_err-text.ensures.keeps clean book has)) c.in_err-text.field-0.0
+    (λ clean F has. ap Some c.deref.ensures.value ∙ ap (option_map (λ list. list.items)) (sym c.in-Some.is)
+    ∙ c.in_ok-facts.ensures.facts clean F has)
+    c.in_ok-facts.ensures.keeps c.in_err-text.ensures.keeps clean F has moments dated)) c.in_err-text.field-0.0
     (reading_prints c.in_err-text.field-0.0 c.in_err-text.ensures.fails) (inr refl))
 
 pub returns : goal.returns
@@ -38,8 +38,8 @@ returns g c =
     (kept_store g.S.Store old new (keeps_then g.S.Store c.in_ok-facts.ensures.keeps c.in_ok-text.ensures.keeps))
     (string_bytes c.in_ok-text.text)
     (shown_text g.S.Store c.args.number c.args.moments old mid new c.deref.result.now
-    (λ clean book has. ap Some c.deref.ensures.value ∙ ap (option_map (λ list. list.items)) (sym c.in-Some.is)
-    ∙ c.in_ok-facts.ensures.facts clean book has)
+    (λ clean F has. ap Some c.deref.ensures.value ∙ ap (option_map (λ list. list.items)) (sym c.in-Some.is)
+    ∙ c.in_ok-facts.ensures.facts clean F has)
     c.in_ok-facts.ensures.keeps c.in_ok-text.ensures.keeps (string_bytes c.in_ok-text.text)
     c.in_ok-text.ensures.lines) tt c.print.result
     (subst (λ text. OnOk c.print.result (Appends out out' text)) c.as_bytes.ensures.value c.print.ensures.printed)

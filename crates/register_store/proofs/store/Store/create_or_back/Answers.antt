@@ -1,9 +1,8 @@
-use Rattle.std.proofs.Common.{[], refl, sym, ◌∙◌, rules, arith}
+use Rattle.std.proofs.Common.{refl, sym, ◌∙◌, rules, arith}
 use Rattle.sqlite.specs.Held.{state}
 use Rattle.sqlite.proofs.StateLemmas.{survives_weaker}
 use Rattle.register_tables.proofs.Making.{none_registered, leaves_empty}
-use Rattle.register_tables.specs.Registers.{without_moments}
-use Rattle.register_store.proofs.StoreLemmas.{has_found, none_listed}
+use Rattle.register_store.proofs.StoreLemmas.{none_listed}
 use Rattle.register_store.proofs.store.Store.create_or_back.Goals as goal
 
 pub returns-in-Ok : goal.returns-in-Ok
@@ -11,25 +10,23 @@ returns-in-Ok g c = record {
   outcome = record {
     made = λ clean none.
         let made = c.in-Ok.ensures.makes.made clean none in
-        has_found g.S.Store _ (without_moments []) (record {
-          autocommit = c.make_register.ensures.makes.autocommit;
-          now = λ _. made.1;
-          committed =
-              λ _. made.2;
-        }) refl (rw none_registered refl) (omega arith) (c.new.ensures ∙ sym none_listed) refl;
+        record {
+          stands = record {
+            autocommit = c.make_register.ensures.makes.autocommit;
+            now = λ _. made.1;
+            committed =
+                λ _. made.2;
+          };
+          kept_is = refl;
+          filings_is = rw none_registered refl;
+          within = omega arith;
+          catalogue_is = c.new.ensures ∙ sym none_listed;
+        };
     counts = search rules;
     taken = search rules;
     crash = survives_weaker (state g.S.Store c.args.conn) (state g.S.Store c.make_register.new.conn) _ _
         (λ _ trees made. leaves_empty g.S.Store c.args.conn trees made) c.make_register.ensures.makes.crash;
-    durable = λ clean none.
-        let made = c.in-Ok.ensures.makes.made clean none in (
-          made.0,
-          λ trees left. record {
-            db = (state g.S.Store c.make_register.new.conn).now;
-            is = c.in-Ok.ensures.makes.durable clean trees left;
-            holds = made.1;
-          },
-        );
+    durable = search rules;
   };
   back = search rules;
 }

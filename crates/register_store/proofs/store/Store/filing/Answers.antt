@@ -6,9 +6,8 @@ use Rattle.register_store.proofs.store.Store.filing.Goals.{then-branch, else-bra
 use Rattle.register_store.proofs.store.Store.filing.Goals as goal
 
 pub returns-clause-row : goal.returns-clause-row
-returns-clause-row g c clean book has =
-    let had = (rw (← c.self.view_is) at has).requests in
-    let F = book.requests in
+returns-clause-row g c clean F has =
+    let had = rw (← c.self.view_is) at has in
     let filer = c.args.filer.now in
     let n = c.args.number in
     let told = c.in_ok-has_filing.ensures.found clean c.self.inside.old_style F had.stands had.catalogue_is in
@@ -23,8 +22,8 @@ returns-clause-keeps g c =
     rw (← c.self.view_is) (keeps_store g.S.Store _ c.has_filing.new.conn c.has_filing.ensures.leaves)
 
 pub returns-clause-durable : goal.returns-clause-durable
-returns-clause-durable g c clean book = rw (← c.self.view_is) (λ had.
-    answers_last g.S.Store _ c.has_filing.new.conn book had clean c.if-branch.result
+returns-clause-durable g c clean F = rw (← c.self.view_is) (λ had.
+    answers_last g.S.Store _ c.has_filing.new.conn F had clean c.if-branch.result
     (concluded c.if-branch.result c.in_ok-has_filing.ensures.leaves)
     (g.met.S.Store.settled c.has_filing.new.conn.store))
 

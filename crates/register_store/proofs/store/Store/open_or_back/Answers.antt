@@ -1,58 +1,53 @@
 use Rattle.std.proofs.Common.{◌≤◌, length, not, ap, sym, ◌∙◌, subst, rules}
-use Rattle.register_tables.specs.Registers.{Book, IsBookOf}
-use Rattle.sqlite.specs.Effect.{Database}
+use Rattle.table_rows.specs.Standing.{HasCommitted}
+use Rattle.register_tables.specs.Registers.{IsRegisterOf}
 use Rattle.sqlite.specs.Held.{state}
-use Rattle.register_store.proofs.StoreLemmas.{has_found}
+use Rattle.register_store.proofs.StoreLemmas.{leaves}
 use Rattle.register_store.proofs.store.Store.open_or_back.Goals as goal
 
 pub returns-in-Ok : goal.returns-in-Ok
-returns-in-Ok g c =
-    let new = state g.S.Store c.read_register.new.conn in
-    record {
-      outcome = record {
-        opened = λ clean d.
-            let found = c.in-Ok.ensures.found clean d in
-            let rows = found.1.rows in
-            let book : Book = record { requests = found.0; moments = rows.moments } in
-            let is : IsBookOf _ book (state g.S.Store c.args.conn).now =
-            record { register = found.1; one_each = rows.one_each; received = rows.received } in (
-              book,
-              is,
-              has_found g.S.Store _ book (record {
-                autocommit = found.2.autocommit;
-                now = λ _. subst (IsBookOf _ book) (sym (c.in-Ok.ensures.same clean).0.now_is) is;
-                committed = found.2.committed;
-              }) found.3 found.4 rows.within found.5 rows.one_each,
-            );
-        only = λ clean old_style book is.
-            let found = c.in-Ok.ensures.only clean old_style book.requests is.register in
-            let same = sym found.0 in (
-              found.0,
-              has_found g.S.Store _ book (record {
-                autocommit = found.1.autocommit;
-                now = λ _. subst (λ n. IsBookOf n book new.now) same
-                    (subst (IsBookOf old_style book) (sym (c.in-Ok.ensures.same clean).0.now_is) is);
-                committed = found.1.committed;
-              }) found.2 found.3 (subst (λ n. n ≤ length book.requests) same is.register.rows.within) found.4
-                  is.one_each,
-            );
-        says = c.in-Ok.ensures.says;
-        same = search rules;
-        crash = search rules;
-        durable = λ clean old_style book is.
-            let alive = (c.in-Ok.ensures.same clean).0.is_open in
-            let found = c.in-Ok.ensures.only clean old_style book.requests is.register in (
-              alive,
-              λ trees left. record {
-                db = new.now;
-                is = g.met.S.Store.settled c.read_register.new.conn.store trees alive left
-                    ∙ ap (λ (d : Database). d.trees) (found.1.committed alive);
-                holds = subst (IsBookOf old_style book) (sym (c.in-Ok.ensures.same clean).0.now_is) is;
-              },
-            );
-      };
-      back = search rules;
-    }
+returns-in-Ok g c = record {
+  outcome = record {
+    opened = λ clean d.
+        let found = c.in-Ok.ensures.found clean d in (
+          found.0,
+          found.1,
+          record {
+            stands = found.2;
+            kept_is = found.3;
+            filings_is = found.4;
+            within =
+                found.1.rows.within;
+            catalogue_is = found.5;
+          },
+        );
+    only = λ clean old_style F is.
+        let found = c.in-Ok.ensures.only clean old_style F is in
+        let same = found.0 in (
+          same,
+          record {
+            stands = subst (λ n. HasCommitted (IsRegisterOf n F) (state g.S.Store c.read_register.new.conn))
+                (sym same) found.1;
+            kept_is = found.2;
+            filings_is = found.3;
+            within =
+                subst (λ n. n ≤ length F) (sym same) is.rows.within;
+            catalogue_is = found.4;
+          },
+        );
+    says = c.in-Ok.ensures.says;
+    same = search rules;
+    crash = search rules;
+    durable = λ clean old_style F is.
+        let alive = (c.in-Ok.ensures.same clean).0.is_open in
+        let new = c.read_register.new.conn in (
+          alive,
+          λ trees left. leaves old_style F (state g.S.Store new) (c.in-Ok.ensures.only clean old_style F is).1
+              alive trees (g.met.S.Store.settled new.store trees alive left),
+        );
+  };
+  back = search rules;
+}
 
 pub returns-in-Err : goal.returns-in-Err
 returns-in-Err g c =

@@ -8,9 +8,8 @@ use Rattle.register_store.proofs.store.Store.replaceable.Goals.{then-is_own, els
 use Rattle.register_store.proofs.store.Store.replaceable.Goals as goal
 
 pub returns-clause-answer : goal.returns-clause-answer
-returns-clause-answer g c clean book has =
-    let had = (rw (← c.self.view_is) at has).requests in
-    let F = book.requests in
+returns-clause-answer g c clean F has =
+    let had = rw (← c.self.view_is) at has in
     let filer = c.args.filer.now in
     let n = c.args.number in
     let told = c.in_ok-is_own.ensures.found clean c.self.inside.old_style F had.stands had.catalogue_is in
@@ -28,8 +27,8 @@ returns-clause-keeps g c =
     rw (← c.self.view_is) (keeps_store g.S.Store _ c.has_filing.new.conn c.has_filing.ensures.leaves)
 
 pub returns-clause-durable : goal.returns-clause-durable
-returns-clause-durable g c clean book = rw (← c.self.view_is) (λ had.
-    answers_last g.S.Store _ c.has_filing.new.conn book had clean {E =
+returns-clause-durable g c clean F = rw (← c.self.view_is) (λ had.
+    answers_last g.S.Store _ c.has_filing.new.conn F had clean {E =
     StoreFault} (Ok c.if-is_own.result) c.in_ok-is_own.ensures.leaves
     (g.met.S.Store.settled c.has_filing.new.conn.store))
 

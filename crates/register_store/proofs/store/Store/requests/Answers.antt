@@ -6,10 +6,9 @@ use Rattle.table_rows.proofs.OutcomeLemmas.{concluded}
 use Rattle.register_store.proofs.store.Store.requests.Goals as goal
 
 pub returns-clause-rows : goal.returns-clause-rows
-returns-clause-rows g c clean book has =
-    let had = rw (← c.self.view_is) at has in
-    let told = c.in_ok-both.ensures.read clean c.self.inside.old_style book.requests had.requests.stands in
-    IfOk-weaker c.read_requests.result _ _ (λ list h. h ∙ requests_of_kept book.requests
+returns-clause-rows g c clean F has =
+    let told = c.in_ok-both.ensures.read clean c.self.inside.old_style F (rw (← c.self.view_is) at has).stands in
+    IfOk-weaker c.read_requests.result _ _ (λ list h. h ∙ requests_of_kept F
     ∙ told.0) (c.read_requests.ensures _ (c.deref.ensures.value ∙ told.1) (c.deref-2.ensures.value ∙ told.2))
 
 pub returns-clause-keeps : goal.returns-clause-keeps
@@ -17,8 +16,8 @@ returns-clause-keeps g c =
     rw (← c.self.view_is) (keeps_store g.S.Store _ c.read_both.new.conn c.read_both.ensures.leaves)
 
 pub returns-clause-durable : goal.returns-clause-durable
-returns-clause-durable g c clean book = rw (← c.self.view_is) (λ had.
-    answers_last g.S.Store _ c.read_both.new.conn book had clean c.read_requests.result
+returns-clause-durable g c clean F = rw (← c.self.view_is) (λ had.
+    answers_last g.S.Store _ c.read_both.new.conn F had clean c.read_requests.result
     (concluded c.read_requests.result c.in_ok-both.ensures.leaves)
     (g.met.S.Store.settled c.read_both.new.conn.store))
 

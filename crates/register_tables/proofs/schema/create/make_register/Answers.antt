@@ -2,7 +2,7 @@ use Rattle.std.proofs.Common.{not, [], refl, sym, ap, subst, ◌∙◌, IsTrue}
 use Rattle.sqlite.specs.Held.{state}
 use Rattle.sqlite.proofs.StateLemmas.{survives_weaker}
 use Rattle.table_rows.proofs.StepLemmas.{nothing_yet}
-use Rattle.register_tables.specs.Registers.{IsBookOf, without_moments}
+use Rattle.register_tables.specs.Registers.{IsRegisterOf}
 use Rattle.register_tables.proofs.Making.{makes_empty}
 use Rattle.register_tables.proofs.schema.create.make_register.Goals as goal
 
@@ -33,7 +33,7 @@ returns-in-Ok-clause-makes g c =
           let all = writes.written clean in
           let register = makes_empty g.S.Store c.args.conn.now all.last all.done none in (
             all.is_open,
-            subst (IsBookOf 0 (without_moments [])) (sym all.now_is) register,
+            subst (IsRegisterOf 0 []) (sym all.now_is) register,
             all.committed_is ∙ sym all.now_is,
           );
       durable = writes.durable;

@@ -1,5 +1,5 @@
 use Rattle.std.proofs.Common.{◌≡◌, Some, Err, sym, subst, rules}
-use Rattle.schedule.specs.OutboxEnd.{IsNotStartedBy, moved_in}
+use Rattle.schedule.specs.OutboxEnd.{IsNotStartedBy, lying_in}
 use Rattle.schedule.proofs.ends.outbox_end.OutboxEnd.start.Goals as goal
 
 pub returns-in_err-open-clause-refused : goal.returns-in_err-open-clause-refused
@@ -7,4 +7,4 @@ returns-in_err-open-clause-refused g c =
     let told : c.from_residual.result ≡ Err c.in_err-open.field-0.0 = search rules in
     let up : c.args.self.now.process ≡ Some c.in-Some.process = search rules in
     rw told (subst (λ p. IsNotStartedBy p c.in_err-open.field-0.0) (sym up)
-    (moved_in c.open.new.process.place, c.in_err-open.ensures.refused))
+    (lying_in c.open.new.process.place, c.in_err-open.ensures.refused))
