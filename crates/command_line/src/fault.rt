@@ -36,10 +36,10 @@ pub enum DatabaseFault {
     /// The database has pages that only auto_vacuum needs.
     #[error("it has auto_vacuum, and cannot be read with that: {0} makes a database without it")]
     AutoVacuum(Restore),
-    /// The sum of a page is wrong, or what the page says.
+    /// The checksum of a page is wrong, or what the page says.
     #[error("the checksum or the structure of a page is wrong: keep the file and the log beside it, and restore a copy")]
     Damaged,
-    /// The pages have room for sums, and SQLite, which does not know of them, wrote some.
+    /// The pages have room for checksums, and SQLite, which does not know of them, wrote some.
     #[error("SQLite wrote it without the checksums of its pages: {0} makes a database that opens")]
     Unsummed(Restore),
     /// Another program has the database open.
